@@ -1,0 +1,5 @@
+pub mod Faults
+pub mod Streams
+pub mod Memory
+pub mod Fakes
+pub mod Whole

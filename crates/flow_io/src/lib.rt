@@ -1,0 +1,31 @@
+//! Where bytes come from and where they go, with contracts that say what was read and written.
+//!
+//! A [`Source`] may tell the bytes that it has left and a [`Sink`] those that it holds: then a
+//! contract can speak of them. Each counts its faults, so that no call can blame a read or a write
+//! that did not fail. [`SteadySource`] and [`SteadySink`] are in memory and never fail;
+//! [`MemorySource`] and [`MemorySink`] are too, and fail at stated calls. [`StdSource`] and
+//! [`StdSink`] go round a reader and a writer of the system, of which nothing is known.
+//!
+//! A read or a write costs as much as the bytes that it moves. Only [`read_all`] and the makers of
+//! the sinks in memory take memory.
+#![tactic(auto)]
+
+mod calls;
+mod memory_sink;
+mod memory_source;
+mod sink;
+mod source;
+mod standard;
+mod steady;
+mod whole;
+
+pub use memory_sink::MemorySink;
+pub use memory_source::MemorySource;
+pub use sink::{Sink, WriteFailed};
+pub use source::{ReadFailed, Source};
+pub use standard::{StdSink, StdSource};
+pub use steady::{Memory, SteadySink, SteadySource};
+pub use whole::{ReadAllFault, WholeInput, read_all};
+
+#[cfg(test)]
+mod tests;

@@ -1,0 +1,28 @@
+ghost use Rattle.std.specs.Prelude.{◌≡◌, ◌≤◌, ◌<◌, ◌↔◌, ℕ, List, [], Option, length, take, IfOk, IfSome, OnErr};
+ghost use Rattle.flow_io.specs.Faults.{HasCause};
+ghost use Rattle.flow_io.specs.Streams.{Takes};
+
+/// A read failed. The source's count of faults says so too.
+#[derive(Clone, Copy, Debug, PartialEq, Eq)]
+pub struct ReadFailed;
+
+/// Where bytes come from.
+pub trait Source {
+    // The bytes that reads will give from here on, where the source tells them.
+    ghost rest: { Self → Option (List ℕ) };
+
+    // How many calls have failed. It never falls, and stands still at the end of a u64.
+    ghost faults: { Self → ℕ };
+
+    /// Reads some bytes into the front of `into`, and answers how many: at most its length.
+    ///
+    /// 0 for an `into` that isn't empty is the end of the input. `ReadFailed` comes only where the
+    /// count of faults rose; the bytes that are left are then as before.
+    fn read(&mut self, into: &mut [u8]) -> Result<usize, ReadFailed>
+        ensures bound { IfOk result (λ count. count ≤ length into.new) }
+        ensures taken { IfOk result (λ count. Takes (rest self.old) (rest self.new) (take count into.new)) }
+        ensures end { IfOk result
+            (λ count. 0 < length into.new → IfSome (rest self.old) (λ left. (count ≡ 0) ↔ (left ≡ []))) }
+        ensures stays { OnErr result (rest self.new ≡ rest self.old) }
+        ensures cause { HasCause (faults self.old) (faults self.new) result };
+}
