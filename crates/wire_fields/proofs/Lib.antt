@@ -1,0 +1,3 @@
+pub mod Spelling
+mod StdBytes
+mod Taken

@@ -1,0 +1,5 @@
+use Rattle.wire_fields.proofs.Spelling.{All-signed}
+use Rattle.wire_fields.proofs.laws.signed_bytes.Goals as goal
+
+pub returns : goal.returns
+returns c = All-signed

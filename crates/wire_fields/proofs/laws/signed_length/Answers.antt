@@ -1,0 +1,5 @@
+use Rattle.wire_fields.proofs.Spelling.{length-signed}
+use Rattle.wire_fields.proofs.laws.signed_length.Goals as goal
+
+pub returns : goal.returns
+returns c = length-signed

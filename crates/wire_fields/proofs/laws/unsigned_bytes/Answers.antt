@@ -1,0 +1,5 @@
+use Rattle.wire_fields.proofs.Spelling.{All-unsigned}
+use Rattle.wire_fields.proofs.laws.unsigned_bytes.Goals as goal
+
+pub returns : goal.returns
+returns c = All-unsigned

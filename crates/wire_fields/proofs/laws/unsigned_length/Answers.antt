@@ -1,0 +1,5 @@
+use Rattle.wire_fields.proofs.Spelling.{length-unsigned}
+use Rattle.wire_fields.proofs.laws.unsigned_length.Goals as goal
+
+pub returns : goal.returns
+returns c = length-unsigned

@@ -1,0 +1,19 @@
+//! Numbers and slices at a cursor: how each field of a record is read and written.
+//!
+//! This is the one place that knows how a number is spelled in bytes: big-endian, in 1, 2, 4, 8 or 16
+//! bytes, and in two's complement where it has a sign. Contracts name the spelling, `unsigned size n` and
+//! `signed size z`, and never the bytes; what is known of all spellings stands in [`laws`].
+//!
+//! A [`Cursor`] reads from borrowed bytes and copies none but those of the number that it answers. The
+//! `put_` functions append to a vector that has the room already, so they can't fail.
+#![tactic(auto)]
+
+mod conversions;
+pub mod laws;
+mod reading;
+#[cfg(test)]
+mod tests;
+mod writing;
+
+pub use reading::Cursor;
+pub use writing::{put_bytes, put_i32, put_i64, put_i128, put_u8, put_u16, put_u32, put_u64};
