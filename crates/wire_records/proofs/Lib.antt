@@ -1,0 +1,5 @@
+pub mod Spelled
+pub mod Fronts
+pub mod Bodies
+pub mod Codes
+pub mod OneAnswer

@@ -1,0 +1,5 @@
+use Rattle.wire_records.proofs.OneAnswer.{command_read}
+use Rattle.wire_records.proofs.laws.command_is_read.Goals as goal
+
+pub returns : goal.returns
+returns c = command_read

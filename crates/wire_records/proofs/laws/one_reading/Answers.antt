@@ -1,0 +1,5 @@
+use Rattle.wire_records.proofs.OneAnswer.{reading_unique}
+use Rattle.wire_records.proofs.laws.one_reading.Goals as goal
+
+pub returns : goal.returns
+returns c = reading_unique

@@ -1,0 +1,5 @@
+pub mod Records
+pub mod Framing
+pub mod Commands
+pub mod Refusals
+pub mod Laws

@@ -1,0 +1,38 @@
+-- What a record is, and how it is spelled in bytes.
+use Rattle.std.specs.Prelude.{◌≡◌, ◌≢◌, ◌<◌, ◌≤◌, ◌^◌, ℕ, List, ◌++◌, length, codes}
+use Rattle.std.specs.List.{flat_map}
+use Rattle.wire_fields.specs.Numbers.{unsigned}
+
+-- a tag, and a body
+pub record Record : Type 0 where
+  pub tag : ℕ
+  pub body : List ℕ
+
+-- a record whose tag is a byte, and whose body has at most so many bytes
+pub record IsRecord (limit : ℕ) (r : Record) : Type 0 where
+  pub tag : r.tag < 256
+  pub body : length r.body ≤ limit
+
+-- how a record begins: the tag, and the length of the body in four bytes
+unfoldable pub head : ℕ → ℕ → List ℕ
+head tag n = unsigned 1 tag ++ unsigned 4 n
+
+-- its bytes: the tag and the length of the body, and then the body
+unfoldable pub spelling : Record → List ℕ
+spelling r = head r.tag (length r.body) ++ r.body
+
+-- five bytes are there, a tag and this length of a body
+abbrev pub StatesLength : ℕ → List ℕ → Type 0
+StatesLength n bytes = (n < 2 ^ 32) × (tag : ℕ) × (tag < 256) × (rest : List ℕ) × (bytes ≡ head tag n ++ rest)
+
+-- the bytes don't begin with a whole record
+abbrev pub HasNoFront : ℕ → List ℕ → Type 0
+HasNoFront limit bytes = (r : Record) (rest : List ℕ) → IsRecord limit r → bytes ≢ spelling r ++ rest
+
+-- the magic of a command file
+abbrev pub command_magic : List ℕ
+command_magic = codes "FLOWCMD1"
+
+-- a command file of these records
+abbrev pub command_file : List Record → List ℕ
+command_file records = command_magic ++ flat_map spelling records

@@ -1,0 +1,19 @@
+-- The number of each refusal, as a reply spells it.
+use Rattle.std.specs.Prelude.{ℕ}
+use Rattle.wire_records.specs.declared.reply.Refusal.{Refusal}
+use Rattle.wire_records.specs.declared.reply.Refusal.TheVariants.{UnknownTag, BadBody, AssetLimit, TickerTaken, BadTicker, AccountLimit, NoAccount, NoAsset, ZeroAmount, TotalLimit, NotFree, NotBuilt}
+
+-- the code of a refusal
+abbrev pub code_of : Refusal → ℕ
+code_of UnknownTag = 1
+code_of BadBody = 2
+code_of AssetLimit = 3
+code_of TickerTaken = 4
+code_of BadTicker = 5
+code_of AccountLimit = 6
+code_of NoAccount = 7
+code_of NoAsset = 8
+code_of ZeroAmount = 9
+code_of TotalLimit = 10
+code_of NotFree = 11
+code_of NotBuilt = 20

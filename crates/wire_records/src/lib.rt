@@ -1,0 +1,19 @@
+//! The records of a command file, read where they lie: framing, commands, and the names of replies.
+//!
+//! A record is a tag, a length and a body. [`next_record`] takes one off the front of borrowed bytes,
+//! and [`RecordView::command`] says which command it spells; neither copies or allocates anything.
+//! [`write_command`] writes the one record of a command. What holds of all spellings stands in [`laws`].
+#![tactic(auto)]
+
+mod command;
+pub mod laws;
+mod record;
+mod reply;
+#[cfg(test)]
+mod tests;
+mod write;
+
+pub use command::{BodyFault, Command, CommandView};
+pub use record::{Framed, RecordView, next_record};
+pub use reply::{Refusal, Reply};
+pub use write::{Memory, put_head, write_command};

@@ -1,0 +1,102 @@
+//! Records at the front of bytes.
+ghost use Rattle.std.specs.Prelude.{◌≡◌, ◌<◌, ◌^◌, ◌++◌, length, IfSome, IfNone};
+ghost use Rattle.wire_records.specs.Records.{head, spelling};
+ghost use Rattle.wire_records.specs.Framing.{IsFront};
+
+use std::marker::Model;
+use wire_fields::Cursor;
+
+/// A whole record in borrowed bytes. Contracts see it as its tag and its body. Each of its calls is of
+/// constant cost and allocates nothing; what it hands out lives as long as the borrowed bytes.
+#[derive(Drop)]
+pub struct RecordView<'a> {
+    tag: u8,
+    body: &'a [u8],
+    bytes: &'a [u8],
+}
+
+impl<'a> Model for RecordView<'a> {
+    ghost use Rattle.std.specs.Prelude.{◌≡◌};
+    ghost use Rattle.wire_records.specs.Records.{Record, spelling};
+
+    ghost Value = { Record };
+
+    ghost view = { λ r. record { tag = r.tag; body = r.body.now } };
+
+    ghost invariant = { λ r. r.bytes.now ≡ spelling (record { tag = r.tag; body = r.body.now }) };
+}
+
+impl<'a> RecordView<'a> {
+    /// The tag, a byte of any value.
+    pub fn tag(&self) -> u8
+        ensures { result ≡ self.now.tag }
+    {
+        self.tag
+    }
+
+    /// The body.
+    pub fn body(&self) -> &'a [u8]
+        ensures { result.now ≡ self.now.body }
+    {
+        self.body
+    }
+
+    /// The whole record, as it stands in the borrowed bytes: tag, length and body.
+    pub fn bytes(&self) -> &'a [u8]
+        ensures { result.now ≡ spelling self.now }
+    {
+        self.bytes
+    }
+}
+
+/// What stands at the front of bytes.
+#[derive(Drop)]
+pub enum Framed<'a> {
+    /// A whole record, and the number of bytes that it takes.
+    Whole(RecordView<'a>, usize),
+    /// No bytes.
+    End,
+    /// Five bytes are there, and the length of a body that they state is above the limit; this is that
+    /// length, in bytes. Whether so many bytes follow makes no difference.
+    TooLarge(u32),
+    /// Some bytes, but less than a whole record: fewer than five, or a body within the limit that isn't
+    /// all there.
+    Short,
+}
+
+// A tag and the length of a body.
+fn take_head(cursor: &mut Cursor<'_>) -> Option<(u8, u32)>
+    ensures stated { IfSome result (λ found. cursor.old ≡ head found.0 found.1 ++ cursor.new) }
+    ensures fits { IfSome result (λ found. (found.0 < 256) × (found.1 < 2 ^ 32)) }
+    ensures few { IfNone result (length cursor.old < 5) }
+{
+    let tag = cursor.take_u8()?;
+    let length = cursor.take_u32()?;
+    Some((tag, length))
+}
+
+/// What stands at the front of `bytes`, where a body may have at most `limit` bytes. What follows the
+/// front isn't looked at. Constant cost, and nothing is allocated.
+pub fn next_record<'a>(bytes: &'a [u8], limit: u32) -> Framed<'a>
+    ensures { IsFront result limit bytes.now }
+{
+    if bytes.is_empty() {
+        return Framed::End;
+    }
+    let mut cursor = Cursor::new(bytes);
+    let (tag, length) = match take_head(&mut cursor) {
+        None => return Framed::Short,
+        Some(head) => head,
+    };
+    if length > limit {
+        return Framed::TooLarge(length);
+    }
+    match cursor.take(length as usize) {
+        None => Framed::Short,
+        Some(body) => {
+            let taken = 5 + body.len();
+            let bytes = &bytes[..taken];
+            Framed::Whole(RecordView { tag, body, bytes }, taken)
+        }
+    }
+}

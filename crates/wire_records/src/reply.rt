@@ -1,0 +1,71 @@
+//! What a command is answered.
+ghost use Rattle.std.specs.Prelude.{◌≡◌};
+
+/// The reply to a command other than a batch.
+#[derive(Clone, Copy, Debug, PartialEq, Eq)]
+pub enum Reply {
+    /// It was done.
+    Done,
+    /// The number of the new asset, from 0.
+    Asset(u16),
+    /// The number of the new account, from 1.
+    Account(u32),
+    /// The number of the new order, from 1.
+    Order(u64),
+    /// Nothing was changed, for this reason.
+    Refused(Refusal),
+}
+
+/// Why a command is refused: the first of these that holds, in the order stated for its command. A refused
+/// command changes nothing.
+#[derive(Clone, Copy, Debug, PartialEq, Eq)]
+pub enum Refusal {
+    /// The tag is no command's.
+    UnknownTag,
+    /// The body isn't that of the tag.
+    BadBody,
+    /// 64 assets are there.
+    AssetLimit,
+    /// An asset has this ticker.
+    TickerTaken,
+    /// The ticker isn't valid.
+    BadTicker,
+    /// 65,536 accounts are there.
+    AccountLimit,
+    /// The account isn't there.
+    NoAccount,
+    /// The asset isn't there.
+    NoAsset,
+    /// The amount is 0.
+    ZeroAmount,
+    /// The total after the deposit would pass its limit.
+    TotalLimit,
+    /// The amount is above what is free.
+    NotFree,
+    /// The command of this tag isn't built yet.
+    NotBuilt,
+}
+
+impl Refusal {
+    ghost use Rattle.wire_records.specs.Refusals.{code_of};
+
+    /// The number of the refusal, as a reply spells it: 1 to 11, or 20. Each refusal has its own.
+    pub fn code(&self) -> u8
+        ensures { result ≡ code_of self.now }
+    {
+        match self {
+            Refusal::UnknownTag => 1,
+            Refusal::BadBody => 2,
+            Refusal::AssetLimit => 3,
+            Refusal::TickerTaken => 4,
+            Refusal::BadTicker => 5,
+            Refusal::AccountLimit => 6,
+            Refusal::NoAccount => 7,
+            Refusal::NoAsset => 8,
+            Refusal::ZeroAmount => 9,
+            Refusal::TotalLimit => 10,
+            Refusal::NotFree => 11,
+            Refusal::NotBuilt => 20,
+        }
+    }
+}

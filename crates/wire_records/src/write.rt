@@ -1,0 +1,105 @@
+//! How a command is written.
+ghost use Rattle.std.specs.Prelude.{◌≡◌, ◌+◌, ◌++◌, ◌≤◌, [], length, OnOk, OnErr, vec_len, vec_capacity};
+ghost use Rattle.wire_fields.specs.Numbers.{unsigned};
+ghost use Rattle.wire_records.specs.Records.{head, spelling};
+ghost use Rattle.wire_records.specs.Commands.{record_of, IsCommand};
+
+use crate::Command;
+use std::alloc::AllocError;
+use wire_fields::{put_bytes, put_u8, put_u16, put_u32, put_u64};
+
+/// There is no memory for what was asked. Nothing was changed.
+#[derive(Clone, Copy, Debug, PartialEq, Eq)]
+pub struct Memory;
+
+impl From<AllocError> for Memory {
+    fn from(_error: AllocError) -> Memory {
+        Memory
+    }
+}
+
+// The longest record of a command takes as many bytes.
+const LONGEST: usize = 19;
+
+/// Appends how a record begins: the tag, and the length in bytes of the body, which the caller appends
+/// next. `out` has room for the 5 bytes, so nothing is allocated.
+pub fn put_head(out: &mut Vec<u8>, tag: u8, length: u32)
+    requires { vec_len out.old + 5 ≤ vec_capacity out.old }
+    ensures written { out.new.items ≡ out.old.items ++ head tag length }
+    ensures len { vec_len out.new ≡ vec_len out.old + 5 }
+    ensures capacity { vec_capacity out.new ≡ vec_capacity out.old }
+{
+    put_u8(out, tag);
+    put_u32(out, length);
+}
+
+// A record of a ticker.
+fn put_ticker(out: &mut Vec<u8>, tag: u8, ticker: [u8; 8])
+    requires { vec_len out.old + 13 ≤ vec_capacity out.old }
+    ensures written { out.new.items ≡ out.old.items ++ spelling (record { tag = tag; body = ticker }) }
+    ensures size { length ticker ≡ 8 }
+{
+    put_head(out, tag, 8);
+    put_bytes(out, &ticker);
+}
+
+// A record without a body.
+fn put_bare(out: &mut Vec<u8>, tag: u8)
+    requires { vec_len out.old + 5 ≤ vec_capacity out.old }
+    ensures { out.new.items ≡ out.old.items ++ spelling (record { tag = tag; body = [] }) }
+{
+    put_head(out, tag, 0);
+}
+
+// A record of an account and an amount of money.
+fn put_money(out: &mut Vec<u8>, tag: u8, account: u32, ticks: u64)
+    requires { vec_len out.old + 17 ≤ vec_capacity out.old }
+    ensures { out.new.items ≡ out.old.items
+        ++ spelling (record { tag = tag; body = unsigned 4 account ++ unsigned 8 ticks }) }
+{
+    put_head(out, tag, 12);
+    put_u32(out, account);
+    put_u64(out, ticks);
+}
+
+// A record of an account and units of an asset.
+fn put_units(out: &mut Vec<u8>, tag: u8, account: u32, asset: u16, units: u64)
+    requires { vec_len out.old + 19 ≤ vec_capacity out.old }
+    ensures { out.new.items ≡ out.old.items
+        ++ spelling (record { tag = tag; body = unsigned 4 account ++ (unsigned 2 asset ++ unsigned 8 units) }) }
+{
+    put_head(out, tag, 14);
+    put_u32(out, account);
+    put_u16(out, asset);
+    put_u64(out, units);
+}
+
+#[tactic(auto, unfolding(crate::specs::Commands::body_of))]
+/// Appends the record of a command, at most 19 bytes. After `Memory` the bytes are as before. The cost is
+/// that of the bytes, and of a move of `out` where it has to grow.
+pub fn write_command(command: &Command, out: &mut Vec<u8>) -> Result<(), Memory>
+    ensures written { OnOk result (out.new.items ≡ out.old.items ++ spelling (record_of command.now)) }
+    ensures stays { OnErr result (out.new.items ≡ out.old.items) }
+
+    // So the record is this command's, and by the laws it is framed and read as it, whatever follows it.
+    ensures fits { OnOk result (IsCommand command.now) }
+{
+    out.reserve(LONGEST)?;
+    match *command {
+        Command::AddAsset { ticker } => put_ticker(out, 1, ticker),
+        Command::OpenAccount => put_bare(out, 2),
+        Command::DepositMoney { account, ticks } => put_money(out, 3, account, ticks),
+        Command::DepositAsset {
+            account,
+            asset,
+            units,
+        } => put_units(out, 4, account, asset, units),
+        Command::WithdrawMoney { account, ticks } => put_money(out, 5, account, ticks),
+        Command::WithdrawAsset {
+            account,
+            asset,
+            units,
+        } => put_units(out, 6, account, asset, units),
+    }
+    Ok(())
+}
