@@ -1,0 +1,5 @@
+use Rattle.journal_records.proofs.Spelled.{pair_unique}
+use Rattle.journal_records.proofs.laws.one_pair.Goals as goal
+
+pub returns : goal.returns
+returns c = pair_unique

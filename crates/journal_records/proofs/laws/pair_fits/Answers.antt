@@ -1,0 +1,5 @@
+use Rattle.journal_records.proofs.Spelled.{pair_room}
+use Rattle.journal_records.proofs.laws.pair_fits.Goals as goal
+
+pub returns : goal.returns
+returns c = pair_room

@@ -1,0 +1,12 @@
+//! The records of a journal: a command record as it was given, and the record of its one reply.
+//!
+//! [`reserve_plain`] takes the memory of a pair before anything else is done, and [`write_plain`] then
+//! can't fail. What holds of all spellings stands in [`laws`].
+#![tactic(auto)]
+
+pub mod laws;
+mod plain;
+#[cfg(test)]
+mod tests;
+
+pub use plain::{reserve_plain, write_plain};
