@@ -1,0 +1,5 @@
+use Rattle.ticker_table.proofs.Places.{one_number}
+use Rattle.ticker_table.proofs.laws.one_number.Goals as goal
+
+pub returns : goal.returns
+returns c = λ tickers i j ticker sound. one_number tickers sound.distinct i j ticker

@@ -1,0 +1,3 @@
+pub mod Tickers
+pub mod Adding
+pub mod Laws

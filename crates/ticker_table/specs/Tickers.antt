@@ -1,0 +1,30 @@
+-- What a ticker is, and what a table of them is: a list, in which a ticker's number is its place.
+use Rattle.std.specs.Prelude.{◌≡◌, ◌≢◌, ℕ, ◌≤◌, ◌⊎◌, List, ◌++◌, length, replicate, slice_get, Some, All, AllPairs}
+use Rattle.std.specs.Char.{IsAsciiUppercase, IsAsciiDigit}
+
+-- a character of a ticker's name: `A` to `Z`, a digit, `.` (46) or `-` (45)
+abbrev pub IsNameCharacter : ℕ → Type 0
+IsNameCharacter c = IsAsciiUppercase c ⊎ IsAsciiDigit c ⊎ (c ≡ 46) ⊎ (c ≡ 45)
+
+-- eight bytes that are a valid ticker: a name of one or more such characters, and then spaces (32)
+pub record IsTicker (bytes : List ℕ) : Type 0 where
+  pub name : List ℕ
+  pub spaces : ℕ
+  pub spelled : bytes ≡ name ++ replicate spaces 32
+  pub named : 1 ≤ length name
+  pub characters : All IsNameCharacter name
+  pub whole : length bytes ≡ 8
+
+-- the ticker with this number is this one
+abbrev pub HasNumber : List (List ℕ) → ℕ → List ℕ → Type 0
+HasNumber tickers number ticker = slice_get tickers number ≡ Some ticker
+
+-- how many tickers there may be
+abbrev pub ticker_limit : ℕ
+ticker_limit = 64
+
+-- what may stand in a table: valid tickers, each once, and not too many
+pub record AreTickers (tickers : List (List ℕ)) : Type 0 where
+  pub valid : All IsTicker tickers
+  pub distinct : AllPairs ◌≢◌ tickers
+  pub few : length tickers ≤ ticker_limit

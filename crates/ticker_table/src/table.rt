@@ -1,0 +1,112 @@
+//! The table of tickers, and why one isn't added.
+ghost use Rattle.std.specs.Prelude.{◌≡◌, ℕ, ◌≤◌, ◌↔◌, List, [], ◌∷◌, ◌++◌, length, slice_get, Contains, Some, IsNone, IfSome, IfOk, OnOk, OnErr, IsErrOf};
+
+use crate::MOST_TICKERS;
+use crate::spelling::is_ticker;
+use indexmap::IndexSet;
+use std::alloc::Global;
+use std::marker::Model;
+
+/// Why a ticker isn't added.
+#[derive(Clone, Copy, Debug, PartialEq, Eq)]
+pub enum TickerFault {
+    /// It isn't a name of one or more of `A` to `Z`, digits, `.` and `-`, filled up with spaces.
+    BadTicker,
+    /// It is there already, with this number.
+    Taken(u16),
+    /// There are [`MOST_TICKERS`] already.
+    Full,
+    /// There was no memory for it.
+    Memory,
+}
+
+/// The tickers in the order in which they were added. A ticker's number is its place, from 0.
+#[derive(Drop)]
+pub struct TickerTable {
+    tickers: IndexSet<[u8; 8]>,
+}
+
+impl Model for TickerTable {
+    ghost use Rattle.std.specs.Prelude.{List, ℕ};
+    ghost use Rattle.ticker_table.specs.Tickers.{AreTickers};
+
+    ghost Value = { List (List ℕ) };
+
+    ghost view = { λ t. t.tickers.keys };
+
+    ghost invariant = { λ t. AreTickers t.tickers.keys };
+}
+
+impl TickerTable {
+    ghost use Rattle.ticker_table.specs.Tickers.{IsTicker, HasNumber, AreTickers, ticker_limit};
+    ghost use Rattle.ticker_table.specs.Adding.{IsAddable};
+
+    /// A table with no tickers. It takes no memory before the first is added.
+    pub fn new(alloc: Global) -> TickerTable
+        ensures { result ≡ [] }
+    {
+        TickerTable {
+            tickers: IndexSet::new(alloc),
+        }
+    }
+
+    /// How many tickers there are, at most [`MOST_TICKERS`].
+    pub fn len(&self) -> u16
+        ensures count { result ≡ length self.now }
+        ensures tickers { AreTickers self.now }
+    {
+        self.tickers.len() as u16
+    }
+
+    /// The ticker with this number, or `None` where there are no more than `number` tickers.
+    pub fn ticker(&self, number: u16) -> Option<[u8; 8]>
+        ensures value { result ≡ slice_get self.now number }
+        ensures none { IsNone result ↔ (length self.now ≤ number) }
+    {
+        self.tickers.get_index(number as usize).copied()
+    }
+
+    /// The number of this ticker, or `None` where it isn't there.
+    pub fn find(&self, ticker: &[u8; 8]) -> Option<u16>
+        ensures found { IfSome result (λ number. HasNumber self.now number ticker.now) }
+        ensures exact { (number : ℕ) → HasNumber self.now number ticker.now → result ≡ Some number }
+        ensures none { IsNone result ↔ (¬ Contains self.now ticker.now) }
+    {
+        let number = self.tickers.get_index_of(ticker)?;
+        Some(number as u16)
+    }
+
+    /// Adds a ticker, whose number is then the number of tickers before. An `Err` leaves the table as it was.
+    ///
+    /// A ticker that isn't valid is refused first, then one that is there already, and then a full table.
+    pub fn add(&mut self, ticker: [u8; 8]) -> Result<u16, TickerFault>
+        ensures added { IfOk result (λ number. (number ≡ length self.old) × (self.new ≡ self.old ++ ticker ∷ [])) }
+        ensures addable { OnOk result (IsAddable self.old ticker) }
+
+        ensures bad_ticker { IsErrOf result TickerFault.BadTicker ↔ (¬ IsTicker ticker) }
+        ensures taken { (number : ℕ) → IsErrOf result (TickerFault.Taken number)
+            ↔ (IsTicker ticker × HasNumber self.old number ticker) }
+        ensures full { IsErrOf result TickerFault.Full
+            ↔ (IsTicker ticker × (¬ Contains self.old ticker) × (length self.old ≡ ticker_limit)) }
+
+        // Without memory nothing is added: the ticker could have been.
+        ensures memory { IsErrOf result TickerFault.Memory → IsAddable self.old ticker }
+        ensures stays { OnErr result (self.new ≡ self.old) }
+        ensures tickers { AreTickers self.new }
+    {
+        let number = self.len();
+        if !is_ticker(&ticker) {
+            return Err(TickerFault::BadTicker);
+        }
+        if let Some(taken) = self.find(&ticker) {
+            return Err(TickerFault::Taken(taken));
+        }
+        if number == MOST_TICKERS {
+            return Err(TickerFault::Full);
+        }
+        match self.tickers.insert(ticker) {
+            Ok(_) => Ok(number),
+            Err(_) => Err(TickerFault::Memory),
+        }
+    }
+}
