@@ -1,0 +1,9 @@
+pub mod Added
+pub mod Balance
+pub mod Bounds
+pub mod Holdings
+pub mod Moves
+pub mod Standing
+pub mod ListLemmas
+pub mod SumsKept
+pub mod Totals

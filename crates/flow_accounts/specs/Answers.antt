@@ -1,0 +1,81 @@
+-- Which answer a call gets. The causes of a call's faults and of its acceptance exclude one
+-- another, and one of them always holds: so each answer comes exactly where its cause holds.
+use Rattle.std.specs.Prelude.{◌≡◌, ℕ, ◌<◌, ℤ, pos, ◌+ℤ◌, ◌-ℤ◌, ◌≤ℤ◌, ◌<ℤ◌}
+use Rattle.flow_accounts.specs.declared.fault.AccountFault.{AccountFault}
+use Rattle.flow_accounts.specs.declared.fault.AccountFault.TheVariants.{NoAccount, NoAsset, Zero, TotalLimit, Full, NotFree, Memory}
+use Rattle.flow_accounts.specs.Balances.{Balances, IsAccount, IsAsset, account_count, grains, money_of, units_of, total_units_of}
+use Rattle.flow_accounts.specs.Lawful.{most_accounts, money_limit, unit_limit}
+
+-- why no account is opened: as many as there may be are there, or else there is no memory
+abbrev pub RefusesAccount : Balances → AccountFault → Type 0
+RefusesAccount b Full = account_count b ≡ most_accounts
+RefusesAccount b Memory = account_count b < most_accounts
+RefusesAccount b _ = ⊥
+
+-- a deposit of money is accepted: its account is there, it isn't 0, and the total stays within its
+-- limit
+pub record AcceptsMoneyDeposit (b : Balances) (account ticks : ℕ) : Type 0 where
+  pub account_there : IsAccount b account
+  pub not_zero : 0 < ticks
+  pub within_limit : (b.total_money +ℤ grains ticks) ≤ℤ money_limit
+
+-- why a deposit of money isn't accepted
+abbrev pub RefusesMoneyDeposit : Balances → ℕ → ℕ → AccountFault → Type 0
+RefusesMoneyDeposit b account ticks NoAccount = ¬ IsAccount b account
+RefusesMoneyDeposit b account ticks Zero = IsAccount b account × (ticks ≡ 0)
+RefusesMoneyDeposit b account ticks TotalLimit =
+    IsAccount b account × (0 < ticks) × (money_limit <ℤ (b.total_money +ℤ grains ticks))
+RefusesMoneyDeposit b account ticks _ = ⊥
+
+-- a deposit of units is accepted: its account and asset are there, it isn't 0, and the total stays
+-- within its limit
+pub record AcceptsUnitDeposit (b : Balances) (account asset units : ℕ) : Type 0 where
+  pub account_there : IsAccount b account
+  pub asset_there : IsAsset b asset
+  pub not_zero : 0 < units
+  pub within_limit : (total_units_of b asset +ℤ pos units) ≤ℤ unit_limit
+
+-- why a deposit of units isn't accepted
+abbrev pub RefusesUnitDeposit : Balances → ℕ → ℕ → ℕ → AccountFault → Type 0
+RefusesUnitDeposit b account asset units NoAccount = ¬ IsAccount b account
+RefusesUnitDeposit b account asset units NoAsset = IsAccount b account × (¬ IsAsset b asset)
+RefusesUnitDeposit b account asset units Zero =
+    IsAccount b account × IsAsset b asset × (units ≡ 0)
+RefusesUnitDeposit b account asset units TotalLimit =
+    IsAccount b account × IsAsset b asset × (0 < units) ×
+    (unit_limit <ℤ (total_units_of b asset +ℤ pos units))
+RefusesUnitDeposit b account asset units _ = ⊥
+
+-- a withdrawal of money is accepted: its account is there, it isn't 0, and so much isn't reserved
+pub record AcceptsMoneyWithdrawal (b : Balances) (account ticks : ℕ) (reserved : ℤ) : Type 0 where
+  pub account_there : IsAccount b account
+  pub not_zero : 0 < ticks
+  pub free : grains ticks ≤ℤ (money_of b account -ℤ reserved)
+
+-- why a withdrawal of money isn't accepted
+abbrev pub RefusesMoneyWithdrawal : Balances → ℕ → ℕ → ℤ → AccountFault → Type 0
+RefusesMoneyWithdrawal b account ticks reserved NoAccount = ¬ IsAccount b account
+RefusesMoneyWithdrawal b account ticks reserved Zero = IsAccount b account × (ticks ≡ 0)
+RefusesMoneyWithdrawal b account ticks reserved (NotFree free) =
+    IsAccount b account × (0 < ticks) × (free ≡ money_of b account -ℤ reserved) × (free <ℤ grains ticks)
+RefusesMoneyWithdrawal b account ticks reserved _ = ⊥
+
+-- a withdrawal of units is accepted: its account and asset are there, it isn't 0, and so much isn't
+-- reserved
+pub record AcceptsUnitWithdrawal (b : Balances) (account asset units : ℕ) (reserved : ℤ) : Type 0 where
+  pub account_there : IsAccount b account
+  pub asset_there : IsAsset b asset
+  pub not_zero : 0 < units
+  pub free : pos units ≤ℤ (units_of b account asset -ℤ reserved)
+
+-- why a withdrawal of units isn't accepted
+abbrev pub RefusesUnitWithdrawal : Balances → ℕ → ℕ → ℕ → ℤ → AccountFault → Type 0
+RefusesUnitWithdrawal b account asset units reserved NoAccount = ¬ IsAccount b account
+RefusesUnitWithdrawal b account asset units reserved NoAsset =
+    IsAccount b account × (¬ IsAsset b asset)
+RefusesUnitWithdrawal b account asset units reserved Zero =
+    IsAccount b account × IsAsset b asset × (units ≡ 0)
+RefusesUnitWithdrawal b account asset units reserved (NotFree free) =
+    IsAccount b account × IsAsset b asset × (0 < units) ×
+    (free ≡ units_of b account asset -ℤ reserved) × (free <ℤ pos units)
+RefusesUnitWithdrawal b account asset units reserved _ = ⊥

@@ -1,0 +1,103 @@
+-- The balances of all accounts, and what a command makes of them.
+use Rattle.std.specs.Prelude.{ℕ, ◌-◌, ◌*◌, ◌^◌, ◌<◌, ◌≤◌, ℤ, pos, ◌+ℤ◌, List, [], ◌∷◌, ◌++◌, length, map, replicate, slice_index_or, slice_set}
+
+-- an account: its money in grains, and its units of each asset
+pub record Account : Type 0 where
+  pub money : ℤ
+  pub units : List ℤ
+
+-- all accounts, and the totals of deposits less withdrawals: of money in grains, of each asset in
+-- units
+pub record Balances : Type 0 where
+  pub accounts : List Account
+  pub total_money : ℤ
+  pub total_units : List ℤ
+
+-- no account and no asset
+abbrev pub no_balances : Balances
+no_balances = record { accounts = []; total_money = pos 0; total_units = [] }
+
+-- how many accounts there are
+abbrev pub account_count : Balances → ℕ
+account_count b = length b.accounts
+
+-- how many assets there are
+abbrev pub asset_count : Balances → ℕ
+asset_count b = length b.total_units
+
+-- accounts are numbered from 1
+abbrev pub IsAccount : Balances → ℕ → Type 0
+IsAccount b account = (0 < account) × (account ≤ account_count b)
+
+-- assets are numbered from 0
+abbrev pub IsAsset : Balances → ℕ → Type 0
+IsAsset b asset = asset < asset_count b
+
+-- a tick is 2^32 grains
+abbrev pub grains : ℕ → ℤ
+grains ticks = pos (2 ^ 32 * ticks)
+
+-- an account that holds nothing, with a balance of 0 for each asset
+abbrev pub empty_account : ℕ → Account
+empty_account assets = record { money = pos 0; units = replicate assets (pos 0) }
+
+-- the account of a number that is there
+abbrev pub account_of : Balances → ℕ → Account
+account_of b account = slice_index_or b.accounts (account - 1) (empty_account 0)
+
+-- the money that an account holds, in grains
+abbrev pub money_of : Balances → ℕ → ℤ
+money_of b account = (account_of b account).money
+
+-- the units of an asset in an account
+abbrev pub units_in : Account → ℕ → ℤ
+units_in a asset = slice_index_or a.units asset (pos 0)
+
+-- the units of an asset that an account holds
+abbrev pub units_of : Balances → ℕ → ℕ → ℤ
+units_of b account asset = units_in (account_of b account) asset
+
+-- the total of an asset, in units
+abbrev pub total_units_of : Balances → ℕ → ℤ
+total_units_of b asset = slice_index_or b.total_units asset (pos 0)
+
+-- an account of zeros is appended
+abbrev pub open_account : Balances → Balances
+open_account b = record b { accounts = b.accounts ++ empty_account (asset_count b) ∷ [] }
+
+-- an account after an asset was appended
+abbrev pub with_asset : Account → Account
+with_asset a = record a { units = a.units ++ pos 0 ∷ [] }
+
+-- an asset is appended, of which all balances and the total are 0
+abbrev pub add_asset : Balances → Balances
+add_asset b = record {
+  accounts = map with_asset b.accounts;
+  total_money = b.total_money;
+  total_units = b.total_units ++ pos 0 ∷ [];
+}
+
+-- the money of an account changes by the amount, and no total does
+abbrev pub move_money : Balances → ℕ → ℤ → Balances
+move_money b account amount =
+    let a = account_of b account in
+    record b { accounts = slice_set b.accounts (account - 1) (record a { money = a.money +ℤ amount }) }
+
+-- the units of an account change by the amount, and no total does
+abbrev pub move_units : Balances → ℕ → ℕ → ℤ → Balances
+move_units b account asset amount =
+    let a = account_of b account in
+    let units = slice_set a.units asset (units_of b account asset +ℤ amount) in
+    record b { accounts = slice_set b.accounts (account - 1) (record a { units = units }) }
+
+-- the money of an account and the total of money change by the amount
+abbrev pub change_money : Balances → ℕ → ℤ → Balances
+change_money b account amount =
+    record (move_money b account amount) { total_money = b.total_money +ℤ amount }
+
+-- the units of an account and the asset's total change by the amount
+abbrev pub change_units : Balances → ℕ → ℕ → ℤ → Balances
+change_units b account asset amount =
+    record (move_units b account asset amount) {
+      total_units = slice_set b.total_units asset (total_units_of b asset +ℤ amount);
+    }

@@ -1,0 +1,61 @@
+-- What an operation on the balances changes, and what it leaves.
+use Rattle.std.specs.Prelude.{◌≡◌, ◌≢◌, ℕ, ◌+◌, ℤ, pos, ◌+ℤ◌}
+use Rattle.flow_accounts.specs.Balances.{Balances, IsAccount, account_count, asset_count, money_of, units_of, total_units_of}
+use Rattle.flow_accounts.specs.Sums.{money_of_all, units_of_all}
+
+-- no balance and no sum over the accounts changes
+pub record KeepsBalances (old new : Balances) : Type 0 where
+  pub money : (account : ℕ) → money_of new account ≡ money_of old account
+  pub units : (account asset : ℕ) → units_of new account asset ≡ units_of old account asset
+  pub money_sum : money_of_all new ≡ money_of_all old
+  pub unit_sums : (asset : ℕ) → units_of_all new asset ≡ units_of_all old asset
+
+-- one account has the amount of money more, so all accounts together have it more, and no other
+-- balance changes
+pub record ChangesMoneyOf (account : ℕ) (amount : ℤ) (old new : Balances) : Type 0 where
+  pub accounts : account_count new ≡ account_count old
+  pub assets : asset_count new ≡ asset_count old
+  pub money : money_of new account ≡ money_of old account +ℤ amount
+  pub others : (other : ℕ) → IsAccount old other → other ≢ account →
+      money_of new other ≡ money_of old other
+  pub units : (any asset : ℕ) → units_of new any asset ≡ units_of old any asset
+  pub money_sum : money_of_all new ≡ money_of_all old +ℤ amount
+  pub unit_sums : (asset : ℕ) → units_of_all new asset ≡ units_of_all old asset
+
+-- one account has the amount of units of one asset more, so all accounts together have it more, and
+-- no other balance changes
+pub record ChangesUnitsOf (account asset : ℕ) (amount : ℤ) (old new : Balances) : Type 0 where
+  pub accounts : account_count new ≡ account_count old
+  pub assets : asset_count new ≡ asset_count old
+  pub units : units_of new account asset ≡ units_of old account asset +ℤ amount
+  pub others : (other s : ℕ) → IsAccount old other → other ≢ account →
+      units_of new other s ≡ units_of old other s
+  pub other_assets : (s : ℕ) → s ≢ asset → units_of new account s ≡ units_of old account s
+  pub money : (any : ℕ) → money_of new any ≡ money_of old any
+  pub unit_sum : units_of_all new asset ≡ units_of_all old asset +ℤ amount
+  pub other_sums : (s : ℕ) → s ≢ asset → units_of_all new s ≡ units_of_all old s
+  pub money_sum : money_of_all new ≡ money_of_all old
+
+-- the total of one asset changes by the amount, and no other total does
+pub record ChangesTotalOf (asset : ℕ) (amount : ℤ) (old new : Balances) : Type 0 where
+  pub total : total_units_of new asset ≡ total_units_of old asset +ℤ amount
+  pub others : (s : ℕ) → s ≢ asset → total_units_of new s ≡ total_units_of old s
+  pub money : new.total_money ≡ old.total_money
+
+-- one more account is there, which holds nothing
+pub record OpensAccount (old new : Balances) : Type 0 where
+  pub kept : KeepsBalances old new
+  pub accounts : account_count new ≡ account_count old + 1
+  pub assets : asset_count new ≡ asset_count old
+  pub money : money_of new (account_count new) ≡ pos 0
+  pub units : (asset : ℕ) → units_of new (account_count new) asset ≡ pos 0
+
+-- one more asset is there, of which nobody holds a unit
+pub record AddsAsset (old new : Balances) : Type 0 where
+  pub kept : KeepsBalances old new
+  pub accounts : account_count new ≡ account_count old
+  pub assets : asset_count new ≡ asset_count old + 1
+  pub units : (account : ℕ) → IsAccount old account → units_of new account (asset_count old) ≡ pos 0
+  pub unit_sum : units_of_all new (asset_count old) ≡ pos 0
+  pub total : total_units_of new (asset_count old) ≡ pos 0
+  pub totals : (asset : ℕ) → total_units_of new asset ≡ total_units_of old asset

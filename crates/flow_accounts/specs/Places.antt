@@ -1,0 +1,32 @@
+-- What the fields of an `Accounts` stand for. Each account and the totals have 64 places for units,
+-- of which as many as there are assets are in use.
+use Rattle.std.specs.Prelude.{◌≡◌, ℕ, ◌≤◌, ℤ, pos, List, length, map, take, slice_index_or}
+use Rattle.std.specs.List.{All}
+use Rattle.flow_accounts.specs.declared.Holding.{Holding}
+use Rattle.flow_accounts.specs.declared.Accounts.TheInside.{Inside}
+use Rattle.flow_accounts.specs.Balances.{Account, Balances}
+use Rattle.flow_accounts.specs.Lawful.{AreLawful}
+
+-- an account, of whose places for units the first are in use
+abbrev pub account_in : ℕ → Holding → Account
+account_in assets h = record { money = h.money; units = take assets h.units }
+
+-- the balances that the fields stand for
+abbrev pub balances_in : Inside → Balances
+balances_in a = record {
+  accounts = map (account_in a.assets) a.accounts.items;
+  total_money = a.total_money;
+  total_units = take a.assets a.total_units;
+}
+
+-- there are 64 places, and those that aren't in use are 0
+pub record HasSpare (assets : ℕ) (places : List ℤ) : Type 0 where
+  pub places_made : length places ≡ 64
+  pub zero_beyond : (k : ℕ) → assets ≤ k → slice_index_or places k (pos 0) ≡ pos 0
+
+-- what the fields keep
+pub record AreKept (a : Inside) : Type 0 where
+  pub lawful : AreLawful (balances_in a)
+  pub few_assets : a.assets ≤ 64
+  pub totals : HasSpare a.assets a.total_units
+  pub accounts : All (λ h. HasSpare a.assets h.units) a.accounts.items

@@ -1,0 +1,31 @@
+ghost use Rattle.std.specs.Prelude.{◌≡◌};
+ghost use Rattle.flow_accounts.specs.declared.fault.AccountFault.TheVariants.{Memory};
+
+use std::alloc::AllocFailed;
+
+/// Why a call on accounts refuses. A refused call changes nothing.
+#[derive(Clone, Copy, Debug, PartialEq, Eq)]
+pub enum AccountFault {
+    /// The account is 0 or above the count of accounts.
+    NoAccount,
+    /// The asset isn't below the count of assets.
+    NoAsset,
+    /// The amount is 0.
+    Zero,
+    /// The total after the deposit would pass its limit.
+    TotalLimit,
+    /// As many accounts as there may be are there.
+    Full,
+    /// The withdrawal is above what is free: the balance less what is reserved, in grains or units.
+    NotFree(i128),
+    /// There is no memory for another account.
+    Memory,
+}
+
+impl<T: Drop> From<AllocFailed<T>> for AccountFault {
+    ghost from_gives = { λ _ fault. fault ≡ Memory };
+
+    fn from(_failed: AllocFailed<T>) -> AccountFault {
+        AccountFault::Memory
+    }
+}

@@ -1,0 +1,44 @@
+ghost use Rattle.std.specs.Prelude.{◌≡◌, ◌+◌, ◌<◌, IfOk, IfErr, OnOk, OnErr};
+
+use crate::places::no_units;
+use crate::{AccountFault, Accounts, Holding, MOST_ACCOUNTS};
+
+impl Accounts {
+    ghost use Rattle.flow_accounts.specs.Balances.{account_count, asset_count, add_asset, open_account};
+    ghost use Rattle.flow_accounts.specs.Lawful.{AreLawful, most_accounts, most_assets};
+    ghost use Rattle.flow_accounts.specs.Answers.{RefusesAccount};
+
+    /// Adds an asset, of which all balances and the total are 0. Its number is the count of assets
+    /// before. It grows nothing: each account has the place already.
+    pub fn add_asset(&mut self)
+        requires { asset_count self.old < most_assets }
+        ensures added { self.new ≡ add_asset self.old }
+        ensures lawful { AreLawful self.new }
+    {
+        self.assets += 1;
+    }
+
+    /// Opens an account that holds nothing, and answers its number, which is the new count of
+    /// accounts.
+    ///
+    /// `Full` exactly where 65,536 accounts are there; else `Memory` where there is no room for one
+    /// more. No other fault comes, and after a fault nothing has changed.
+    pub fn add_account(&mut self) -> Result<u32, AccountFault>
+        ensures number { IfOk result (λ number. number ≡ account_count self.old + 1) }
+        ensures not_full { OnOk result (account_count self.old < most_accounts) }
+        ensures refused { IfErr result (RefusesAccount self.old) }
+        ensures ok { OnOk result (self.new ≡ open_account self.old) }
+        ensures err { OnErr result (self.new ≡ self.old) }
+        ensures lawful { AreLawful self.new }
+    {
+        let count = self.count();
+        if count == MOST_ACCOUNTS {
+            return Err(AccountFault::Full);
+        }
+        self.accounts.push(Holding {
+            money: 0,
+            units: no_units(),
+        })?;
+        Ok(count + 1)
+    }
+}

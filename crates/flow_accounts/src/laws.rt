@@ -1,0 +1,63 @@
+//! Laws of the operations on balances. Each function does nothing: its contract is the law, over
+//! all balances.
+
+ghost use Rattle.flow_accounts.specs.Laws.{AccountsOpenEmpty, AssetsStartAtZero, MoneyMoves, NoBalanceIsNegative, UnitsMove, MoneyChanges, UnitsChange, TotalsStaySums, SumsBoundBalances, ChangesFitNearSums, ChangesFitAtSums};
+
+/// An account that is opened holds nothing, and no balance or sum changes.
+pub fn accounts_open_empty()
+    ensures { AccountsOpenEmpty }
+{}
+
+/// Of an asset that is added nobody holds a unit, and no balance or sum changes.
+pub fn assets_start_at_zero()
+    ensures { AssetsStartAtZero }
+{}
+
+/// Money moved changes one balance by the amount, and so the sum over all accounts.
+pub fn money_moves()
+    ensures { MoneyMoves }
+{}
+
+/// Units moved change one balance by the amount, and so the sum of their asset.
+pub fn units_move()
+    ensures { UnitsMove }
+{}
+
+/// A deposit or withdrawal of money changes one balance by the amount, and so the sum.
+pub fn money_changes()
+    ensures { MoneyChanges }
+{}
+
+/// A deposit or withdrawal of units changes one balance and one total by the amount, and so the sum
+/// of the asset.
+pub fn units_change()
+    ensures { UnitsChange }
+{}
+
+/// Totals that are the sums over all accounts stay so through openings, new assets, deposits and
+/// withdrawals.
+pub fn totals_stay_sums()
+    ensures { TotalsStaySums }
+{}
+
+/// No account has less than nothing.
+pub fn no_balance_is_negative()
+    ensures { NoBalanceIsNegative }
+{}
+
+/// No account has more than all accounts together.
+pub fn sums_bound_balances()
+    ensures { SumsBoundBalances }
+{}
+
+/// Where all accounts together hold at most 2^123 grains, and 2^61 units of an asset, more than the
+/// totals, each deposit and withdrawal that is accepted fits.
+pub fn changes_fit_near_sums()
+    ensures { ChangesFitNearSums }
+{}
+
+/// Where the totals are the sums over all accounts, each deposit and withdrawal that is accepted
+/// fits.
+pub fn changes_fit_at_sums()
+    ensures { ChangesFitAtSums }
+{}

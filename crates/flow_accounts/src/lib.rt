@@ -1,0 +1,175 @@
+//! The accounts of a market: the money and the units of each asset that every account holds, and
+//! the totals of all deposits less all withdrawals.
+//!
+//! Money is kept in grains, and 2^32 grains are a tick. It is deposited and withdrawn in whole
+//! ticks, and moved in grains when a batch is settled. Assets are kept in whole units. Accounts are
+//! numbered from 1, assets from 0.
+//!
+//! No balance is ever negative. A total may be: what an account gained in a settlement it may
+//! withdraw, though nobody deposited it. Whoever settles only among the accounts keeps each total
+//! equal to the sum of its balances, by the [`laws`].
+//!
+//! # Limits
+//!
+//! There are at most 65,536 accounts and 64 assets. No deposit takes the total of money above 2^100
+//! grains, or that of an asset above 2^60 units. A balance stays below 2^124 grains or 2^62 units,
+//! a total above -2^124 grains or -2^62 units; the calls state what their callers have to see to
+//! for that.
+//!
+//! # Costs
+//!
+//! Every call takes the same time however many accounts and assets there are, but that opening an
+//! account sometimes moves all of them to a larger block. An account takes 528 bytes, with the
+//! places for all 64 assets in it. The block doubles as it grows, so it has up to twice the bytes
+//! of its accounts, and 33 MiB for 65,536 of them; while it is moved, the smaller one is there too.
+//! Nothing but [`Accounts::add_account`] takes memory.
+#![tactic(auto)]
+
+ghost use Rattle.std.specs.Prelude.{◌≡◌, SomeIff};
+
+mod deposits;
+mod fault;
+mod growth;
+pub mod laws;
+mod places;
+mod settlement;
+#[cfg(test)]
+mod tests;
+mod withdrawals;
+
+pub use fault::AccountFault;
+use std::alloc::Global;
+use std::marker::Model;
+use std::mem::size_of;
+
+/// How many accounts there may be.
+pub const MOST_ACCOUNTS: u32 = 65_536;
+
+/// How many assets there may be.
+pub const MOST_ASSETS: u16 = 64;
+
+// The places for units, one for each asset that there may be.
+const PLACES: usize = 64;
+
+// One tick in grains.
+const GRAINS_PER_TICK: i128 = 1 << 32;
+
+// No deposit takes the total of money above this, in grains.
+const MONEY_LIMIT: i128 = 1 << 100;
+
+// No deposit takes the total of an asset above this, in units.
+const UNIT_LIMIT: i128 = 1 << 60;
+
+// What an account holds. Of the places for units as many are in use as there are assets; the others
+// are 0.
+#[derive(Clone, Copy, Debug)]
+struct Holding {
+    money: i128,
+    units: [i64; PLACES],
+}
+
+const _: () = prove!(size_of::<Holding>() == 528);
+
+/// All accounts with their balances, and the totals of deposits less withdrawals.
+///
+/// Contracts see one value: a list of accounts, each with its money and a list of its units by
+/// asset; the total of money; and the list of the assets' totals.
+#[derive(Debug, Drop)]
+pub struct Accounts {
+    accounts: Vec<Holding>,
+    assets: u16,
+    total_money: i128,
+    total_units: [i64; PLACES],
+}
+
+impl Model for Accounts {
+    ghost use Rattle.flow_accounts.specs.Balances.{Balances};
+
+    ghost Value = { Balances };
+
+    ghost use Rattle.flow_accounts.specs.Places.{balances_in, AreKept};
+
+    ghost view = { balances_in };
+
+    ghost invariant = { AreKept };
+}
+
+impl Accounts {
+    ghost use Rattle.flow_accounts.specs.Balances.{no_balances, account_count, asset_count, IsAccount, IsAsset, money_of, units_of, total_units_of};
+    ghost use Rattle.flow_accounts.specs.Lawful.{AreLawful, IsMoneyTotal};
+
+    /// No account and no asset, with a total of 0. It takes no memory: `alloc` is for the accounts
+    /// that are opened later.
+    pub fn new(alloc: Global) -> Accounts
+        ensures empty { result ≡ no_balances }
+        ensures lawful { AreLawful result }
+    {
+        Accounts {
+            accounts: Vec::new(alloc),
+            assets: 0,
+            total_money: 0,
+            total_units: places::no_units(),
+        }
+    }
+
+    /// How many accounts there are, at most 65,536. They are numbered from 1 to this.
+    pub fn count(&self) -> u32
+        ensures count { result ≡ account_count self.now }
+        ensures lawful { AreLawful self.now }
+    {
+        self.accounts.len() as u32
+    }
+
+    /// How many assets there are, at most 64. They are numbered from 0.
+    pub fn assets(&self) -> u16
+        ensures count { result ≡ asset_count self.now }
+        ensures lawful { AreLawful self.now }
+    {
+        self.assets
+    }
+
+    /// The money of an account in grains, or `None` exactly where the account isn't there.
+    pub fn money(&self, account: u32) -> Option<i128>
+        ensures { SomeIff result (IsAccount self.now account) (money_of self.now account) }
+    {
+        if self.has_account(account) {
+            Some(self.money_held(account))
+        } else {
+            None
+        }
+    }
+
+    /// The units of an asset that an account holds, or `None` exactly where the account or the
+    /// asset isn't there.
+    pub fn units(&self, account: u32, asset: u16) -> Option<i64>
+        ensures { SomeIff result (IsAccount self.now account × IsAsset self.now asset)
+            (units_of self.now account asset) }
+    {
+        if self.has_account(account) && self.has_asset(asset) {
+            Some(self.units_held(account, asset))
+        } else {
+            None
+        }
+    }
+
+    /// All deposits of money less all withdrawals, in grains. It is at most 2^100, above -2^124,
+    /// and may be negative.
+    pub fn total_money(&self) -> i128
+        ensures total { result ≡ self.now.total_money }
+        ensures within { IsMoneyTotal result }
+    {
+        self.total_money
+    }
+
+    /// All deposits of an asset less all withdrawals, in units, or `None` exactly where the asset
+    /// isn't there. It is at most 2^60, above -2^62, and may be negative.
+    pub fn total_units(&self, asset: u16) -> Option<i64>
+        ensures { SomeIff result (IsAsset self.now asset) (total_units_of self.now asset) }
+    {
+        if self.has_asset(asset) {
+            Some(self.units_total(asset))
+        } else {
+            None
+        }
+    }
+}

@@ -1,0 +1,110 @@
+ghost use Rattle.std.specs.Prelude.{◌≡◌, ◌↔◌, IsTrue, slice_set, pos, ◌+ℤ◌, ◌≤ℤ◌};
+ghost use Rattle.flow_accounts.specs.Balances.{grains};
+ghost use Rattle.flow_accounts.specs.Places.{HasSpare};
+
+use crate::{Accounts, GRAINS_PER_TICK, PLACES};
+
+// Ticks in grains.
+pub(crate) fn grains_of(ticks: u64) -> i128
+    ensures { result ≡ grains ticks }
+{
+    i128::from(ticks) * GRAINS_PER_TICK
+}
+
+// Places for units, none of them in use.
+pub(crate) fn no_units() -> [i64; PLACES]
+    ensures { HasSpare 0 result }
+{
+    [0; PLACES]
+}
+
+impl Accounts {
+    ghost use Rattle.flow_accounts.specs.Balances.{IsAccount, IsAsset, money_of, units_of, total_units_of, change_money, change_units};
+    ghost use Rattle.flow_accounts.specs.Lawful.{AreLawful, IsMoneyBalance, IsUnitBalance, IsMoneyTotal, IsUnitTotal, money_limit, unit_limit};
+    ghost use Rattle.flow_accounts.specs.Fits.{MoneyFits, UnitsFit};
+
+    pub(crate) fn has_account(&self, account: u32) -> bool
+        ensures there { IsTrue result ↔ IsAccount self.now account }
+        ensures lawful { AreLawful self.now }
+    {
+        account != 0 && account as usize <= self.accounts.len()
+    }
+
+    pub(crate) fn has_asset(&self, asset: u16) -> bool
+        ensures { IsTrue result ↔ IsAsset self.now asset }
+    {
+        asset < self.assets
+    }
+
+    pub(crate) fn money_held(&self, account: u32) -> i128
+        requires { IsAccount self.now account }
+        ensures value { result ≡ money_of self.now account }
+        ensures balance { IsMoneyBalance result }
+    {
+        self.accounts[account as usize - 1].money
+    }
+
+    pub(crate) fn units_held(&self, account: u32, asset: u16) -> i64
+        requires account { IsAccount self.now account }
+        requires asset { IsAsset self.now asset }
+        ensures value { result ≡ units_of self.now account asset }
+        ensures balance { IsUnitBalance result }
+    {
+        self.accounts[account as usize - 1].units[asset as usize]
+    }
+
+    pub(crate) fn units_total(&self, asset: u16) -> i64
+        requires { IsAsset self.now asset }
+        ensures value { result ≡ total_units_of self.now asset }
+        ensures total { IsUnitTotal result }
+    {
+        self.total_units[asset as usize]
+    }
+
+    // Changes the money of an account and the total.
+    pub(crate) fn change_money(&mut self, account: u32, amount: i128)
+        requires account { IsAccount self.old account }
+        requires not_negative { pos 0 ≤ℤ (money_of self.old account +ℤ amount) }
+        requires within_limit { (self.old.total_money +ℤ amount) ≤ℤ money_limit }
+        requires fits { MoneyFits self.old account amount }
+        ensures changed { self.new ≡ change_money self.old account amount }
+        ensures lawful { AreLawful self.new }
+    {
+        let total = self.total_money() + amount;
+        self.add_money(account, amount);
+        self.set_total_money(total);
+    }
+
+    // Changes the units of an account and the total of the asset.
+    pub(crate) fn change_units(&mut self, account: u32, asset: u16, amount: i64)
+        requires account { IsAccount self.old account }
+        requires asset { IsAsset self.old asset }
+        requires not_negative { pos 0 ≤ℤ (units_of self.old account asset +ℤ amount) }
+        requires within_limit { (total_units_of self.old asset +ℤ amount) ≤ℤ unit_limit }
+        requires fits { UnitsFit self.old account asset amount }
+        ensures changed { self.new ≡ change_units self.old account asset amount }
+        ensures lawful { AreLawful self.new }
+    {
+        let total = self.units_total(asset) + amount;
+        self.add_units(account, asset, amount);
+        self.set_total_units(asset, total);
+    }
+
+    fn set_total_money(&mut self, total: i128)
+        requires { IsMoneyTotal total }
+        ensures set { self.new ≡ record self.old { total_money = total } }
+        ensures lawful { AreLawful self.new }
+    {
+        self.total_money = total;
+    }
+
+    fn set_total_units(&mut self, asset: u16, total: i64)
+        requires asset { IsAsset self.old asset }
+        requires total { IsUnitTotal total }
+        ensures set { self.new ≡
+            record self.old { total_units = slice_set self.old.total_units asset total } }
+        ensures lawful { AreLawful self.new }
+    {
+        self.total_units[asset as usize] = total;
+    }
+}

@@ -1,0 +1,35 @@
+ghost use Rattle.std.specs.Prelude.{◌≡◌, ◌^◌, pos, ◌+ℤ◌, ◌≤ℤ◌, ◌<ℤ◌};
+
+use crate::Accounts;
+
+impl Accounts {
+    ghost use Rattle.flow_accounts.specs.Balances.{IsAccount, IsAsset, money_of, units_of, move_money, move_units};
+    ghost use Rattle.flow_accounts.specs.Lawful.{AreLawful};
+
+    /// Changes the money of an account by so many grains, which may be negative, when a batch is
+    /// settled. The total stays.
+    pub fn add_money(&mut self, account: u32, amount: i128)
+        requires account { IsAccount self.old account }
+        requires not_negative { pos 0 ≤ℤ (money_of self.old account +ℤ amount) }
+        requires fits { (money_of self.old account +ℤ amount) <ℤ pos (2 ^ 124) }
+        ensures moved { self.new ≡ move_money self.old account amount }
+        ensures lawful { AreLawful self.new }
+    {
+        let holding = &mut self.accounts[account as usize - 1];
+        holding.money += amount;
+    }
+
+    /// Changes the units of an asset in an account by the amount, which may be negative, when a
+    /// batch is settled. The total stays.
+    pub fn add_units(&mut self, account: u32, asset: u16, amount: i64)
+        requires account { IsAccount self.old account }
+        requires asset { IsAsset self.old asset }
+        requires not_negative { pos 0 ≤ℤ (units_of self.old account asset +ℤ amount) }
+        requires fits { (units_of self.old account asset +ℤ amount) <ℤ pos (2 ^ 62) }
+        ensures moved { self.new ≡ move_units self.old account asset amount }
+        ensures lawful { AreLawful self.new }
+    {
+        let holding = &mut self.accounts[account as usize - 1];
+        holding.units[asset as usize] += amount;
+    }
+}

@@ -1,0 +1,132 @@
+ghost use Rattle.std.specs.Prelude.{◌≡◌, ◌↔◌, IsOk, IfOk, OnOk, OnErr, IfErr, pos, neg_ℤ, ◌≤ℤ◌};
+
+use crate::places::grains_of;
+use crate::{AccountFault, Accounts};
+
+impl Accounts {
+    ghost use Rattle.flow_accounts.specs.Balances.{grains, IsAccount, IsAsset, money_of, units_of, change_money, change_units};
+    ghost use Rattle.flow_accounts.specs.Lawful.{AreLawful};
+    ghost use Rattle.flow_accounts.specs.Answers.{AcceptsMoneyWithdrawal, RefusesMoneyWithdrawal, AcceptsUnitWithdrawal, RefusesUnitWithdrawal};
+    ghost use Rattle.flow_accounts.specs.Fits.{MoneyFits, UnitsFit};
+
+    /// Withdraws ticks: the account's money and the total of money fall by them. `reserved` is what
+    /// the account's orders may still need of its money, in grains: from 0 to the balance.
+    ///
+    /// The first of these that holds refuses it, and then nothing changes: `NoAccount`, where the
+    /// account isn't there; `Zero`, for 0 ticks; `NotFree`, where the ticks are above the grains
+    /// that are free, the balance less `reserved`, which it carries. The caller sees to it that a
+    /// withdrawal that isn't refused leaves the total above -2^124 grains, as for
+    /// [`Accounts::deposit_money`].
+    pub fn withdraw_money(
+        &mut self,
+        account: u32,
+        ticks: u64,
+        reserved: i128,
+    ) -> Result<(), AccountFault>
+        requires not_negative { pos 0 ≤ℤ reserved }
+        requires covered { IsAccount self.old account → reserved ≤ℤ money_of self.old account }
+        requires fits { AcceptsMoneyWithdrawal self.old account ticks reserved →
+            MoneyFits self.old account (neg_ℤ (grains ticks)) }
+        ensures accepted { IsOk result ↔ AcceptsMoneyWithdrawal self.old account ticks reserved }
+        ensures refused { IfErr result (RefusesMoneyWithdrawal self.old account ticks reserved) }
+        ensures ok { OnOk result (self.new ≡ change_money self.old account (neg_ℤ (grains ticks))) }
+        ensures err { OnErr result (self.new ≡ self.old) }
+        ensures lawful { AreLawful self.new }
+    {
+        let amount = self.money_withdrawal(account, ticks, reserved)?;
+        self.change_money(account, amount);
+        Ok(())
+    }
+
+    /// Withdraws units of an asset: the account's units and the asset's total fall by them.
+    /// `reserved` is what the account's orders may still need of the asset, in units: from 0 to the
+    /// balance.
+    ///
+    /// The first of these that holds refuses it, and then nothing changes: `NoAccount` and
+    /// `NoAsset`, where the account or the asset isn't there; `Zero`, for 0 units; `NotFree`, where
+    /// they are above the units that are free, the balance less `reserved`, which it carries. The
+    /// caller sees to it that a withdrawal that isn't refused leaves the asset's total above -2^62
+    /// units.
+    pub fn withdraw_units(
+        &mut self,
+        account: u32,
+        asset: u16,
+        units: u64,
+        reserved: i128,
+    ) -> Result<(), AccountFault>
+        requires not_negative { pos 0 ≤ℤ reserved }
+        requires covered { IsAccount self.old account → IsAsset self.old asset →
+            reserved ≤ℤ units_of self.old account asset }
+        requires fits { AcceptsUnitWithdrawal self.old account asset units reserved →
+            UnitsFit self.old account asset (neg_ℤ (pos units)) }
+        ensures accepted { IsOk result ↔ AcceptsUnitWithdrawal self.old account asset units reserved }
+        ensures refused { IfErr result (RefusesUnitWithdrawal self.old account asset units reserved) }
+        ensures ok { OnOk result (self.new ≡ change_units self.old account asset (neg_ℤ (pos units))) }
+        ensures err { OnErr result (self.new ≡ self.old) }
+        ensures lawful { AreLawful self.new }
+    {
+        let amount = self.unit_withdrawal(account, asset, units, reserved)?;
+        self.change_units(account, asset, amount);
+        Ok(())
+    }
+
+    // The grains that a withdrawal that is accepted adds, which are negative, or why it isn't.
+    fn money_withdrawal(
+        &self,
+        account: u32,
+        ticks: u64,
+        reserved: i128,
+    ) -> Result<i128, AccountFault>
+        requires not_negative { pos 0 ≤ℤ reserved }
+        requires covered { IsAccount self.now account → reserved ≤ℤ money_of self.now account }
+        ensures accepted { IsOk result ↔ AcceptsMoneyWithdrawal self.now account ticks reserved }
+        ensures refused { IfErr result (RefusesMoneyWithdrawal self.now account ticks reserved) }
+        ensures amount { IfOk result (λ amount. amount ≡ neg_ℤ (grains ticks)) }
+        ensures lawful { AreLawful self.now }
+    {
+        if !self.has_account(account) {
+            return Err(AccountFault::NoAccount);
+        }
+        if ticks == 0 {
+            return Err(AccountFault::Zero);
+        }
+        let amount = grains_of(ticks);
+        let free = self.money_held(account) - reserved;
+        if amount > free {
+            return Err(AccountFault::NotFree(free));
+        }
+        Ok(-amount)
+    }
+
+    // The units that a withdrawal that is accepted adds, which are negative, or why it isn't.
+    fn unit_withdrawal(
+        &self,
+        account: u32,
+        asset: u16,
+        units: u64,
+        reserved: i128,
+    ) -> Result<i64, AccountFault>
+        requires not_negative { pos 0 ≤ℤ reserved }
+        requires covered { IsAccount self.now account → IsAsset self.now asset →
+            reserved ≤ℤ units_of self.now account asset }
+        ensures accepted { IsOk result ↔ AcceptsUnitWithdrawal self.now account asset units reserved }
+        ensures refused { IfErr result (RefusesUnitWithdrawal self.now account asset units reserved) }
+        ensures amount { IfOk result (λ amount. amount ≡ neg_ℤ (pos units)) }
+        ensures lawful { AreLawful self.now }
+    {
+        if !self.has_account(account) {
+            return Err(AccountFault::NoAccount);
+        }
+        if !self.has_asset(asset) {
+            return Err(AccountFault::NoAsset);
+        }
+        if units == 0 {
+            return Err(AccountFault::Zero);
+        }
+        let units_free = i128::from(self.units_held(account, asset)) - reserved;
+        if i128::from(units) > units_free {
+            return Err(AccountFault::NotFree(units_free));
+        }
+        Ok(-(units as i64))
+    }
+}
