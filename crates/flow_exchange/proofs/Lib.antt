@@ -1,0 +1,9 @@
+pub mod Soundness
+pub mod Growth
+pub mod Serving
+pub mod Totals
+pub mod Running
+pub mod NewAssets
+pub mod OneReading
+pub mod OneJournal
+pub mod Completing

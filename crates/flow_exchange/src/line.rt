@@ -1,0 +1,46 @@
+//! The line that a status prints.
+ghost use Rattle.std.specs.Prelude.{OnOk, ◌++◌, decimal};
+ghost use Rattle.flow_io.specs.Faults.{HasCause};
+ghost use Rattle.flow_io.specs.Streams.{Grows};
+
+use crate::Status;
+use flow_io::{Sink, WriteFailed};
+use itoa::Buffer;
+
+// A number between two texts.
+fn write_number<N: Sink>(
+    notes: &mut N,
+    before: &[u8],
+    number: u64,
+    after: &[u8],
+) -> Result<(), WriteFailed>
+    ensures written { OnOk result (Grows (N.held notes.old) (N.held notes.new) (before.now ++ decimal number ++ after.now)) }
+    ensures cause { HasCause (N.faults notes.old) (N.faults notes.new) result }
+{
+    let mut buffer = Buffer::new();
+    notes.write(before)?;
+    notes.write(buffer.format(number).as_bytes())?;
+    notes.write(after)
+}
+
+impl Status {
+    ghost use Rattle.flow_exchange.specs.Statuses.{line_of};
+
+    /// Writes the line of the status, with its line feed, and nothing for `Done`. Where a write fails,
+    /// what is left of the line is let go. Takes no memory.
+    pub fn write_line<N: Sink>(&self, notes: &mut N) -> Result<(), WriteFailed>
+        ensures written { OnOk result (Grows (N.held notes.old) (N.held notes.new) (line_of self.now)) }
+        ensures cause { HasCause (N.faults notes.old) (N.faults notes.new) result }
+    {
+        match *self {
+            Status::Done => notes.write(b""),
+            Status::Usage => notes.write(b"flow: usage\n"),
+            Status::NotFlow => notes.write(b"flow: not a flow file\n"),
+            Status::Torn(place) => write_number(notes, b"flow: torn at byte ", place, b"\n"),
+            Status::ReadFault => notes.write(b"flow: read failed\n"),
+            Status::WriteFault => notes.write(b"flow: write failed\n"),
+            Status::NoMemory => notes.write(b"flow: no memory\n"),
+            Status::TooLong(limit) => write_number(notes, b"flow: more than ", limit, b" bytes\n"),
+        }
+    }
+}

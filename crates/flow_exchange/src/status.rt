@@ -1,0 +1,69 @@
+//! How the program ends.
+ghost use Rattle.std.specs.Prelude.{◌≡◌};
+
+use crate::Ending;
+
+/// How the program ends. Each status has one exit number and one line on standard error, but for
+/// `Done`, which has none.
+#[derive(Clone, Copy, Debug, PartialEq, Eq)]
+pub enum Status {
+    /// All was done.
+    Done,
+    /// The words are no form of the command line.
+    Usage,
+    /// The input is no command file: it doesn't begin with the magic.
+    NotFlow,
+    /// The input breaks off or states too long a record; the broken record begins at this byte, from 0.
+    Torn(u64),
+    /// A read of the input failed.
+    ReadFault,
+    /// A write of the output failed.
+    WriteFault,
+    /// There is no memory for what was asked.
+    NoMemory,
+    /// The input has more than this many bytes.
+    TooLong(u64),
+}
+
+impl Status {
+    ghost use Rattle.flow_exchange.specs.Statuses.{exit_of};
+
+    /// The number that the program exits with.
+    pub fn exit(&self) -> u8
+        ensures { result ≡ exit_of self.now }
+    {
+        match self {
+            Status::Done => 0,
+            Status::Usage => 1,
+            Status::NotFlow => 2,
+            Status::Torn(_) => 3,
+            Status::ReadFault => 4,
+            Status::WriteFault => 5,
+            Status::NoMemory => 6,
+            Status::TooLong(_) => 8,
+        }
+    }
+}
+
+impl From<Ending> for Status {
+    ghost use Rattle.flow_exchange.specs.Statuses.{status_of};
+
+    ghost from_gives = { λ ending status. status ≡ status_of ending };
+
+    fn from(ending: Ending) -> Status {
+        match ending {
+            Ending::End => Status::Done,
+            Ending::NotFlow => Status::NotFlow,
+            Ending::Torn(place) => Status::Torn(place),
+            Ending::TooLong(limit) => Status::TooLong(limit),
+        }
+    }
+}
+
+/// Why a run broke off.
+#[derive(Clone, Copy, Debug, PartialEq, Eq)]
+pub(crate) enum Stop {
+    ReadFault,
+    WriteFault,
+    NoMemory,
+}

@@ -1,0 +1,312 @@
+//! Whole runs over sources and sinks in memory. The bytes are from the format's tables, by hand.
+
+use crate::{Status, flow, flow_limited};
+use flow_io::{MemorySink, MemorySource, SteadySink, SteadySource, read_all};
+use std::alloc::Global;
+use std::process::Abort;
+use std::test::Fail;
+use wire_records::{Command, write_command};
+
+fn words(alloc: Global, texts: &[&str]) -> Result<Vec<String>, Fail> {
+    let mut words = Vec::new(alloc);
+    for text in texts {
+        words.push(String::from_str(alloc, text)?)?;
+    }
+    Ok(words)
+}
+
+// Runs a file whole, and compares what it comes to.
+fn expect_run(
+    rt: &impl Abort,
+    alloc: Global,
+    input: &[u8],
+    journal: &[u8],
+    status: Status,
+    line: &[u8],
+) -> Result<(), Fail> {
+    let mut source = SteadySource::new(Vec::from_slice(alloc, input)?);
+    let mut out = SteadySink::new(alloc, 4096)?;
+    let mut notes = SteadySink::new(alloc, 64)?;
+    let run = words(alloc, &["run"])?;
+    let found = flow(alloc, &run, &mut source, &mut out, &mut notes);
+    assert_eq!(rt; found, status);
+    assert_eq!(rt; out.bytes(), journal);
+    assert_eq!(rt; notes.bytes(), line);
+    Ok(())
+}
+
+#[test]
+fn runs_small_files(rt: HostRuntime) -> Result<(), Fail> {
+    let alloc = rt.alloc();
+    let one = b"FLOWJNL1\x02\0\0\0\0\x82\0\0\0\x04\0\0\0\x01";
+    expect_run(&rt, alloc, b"FLOWCMD1\x02\0\0\0\0", one, Status::Done, b"")?;
+    expect_run(&rt, alloc, b"FLOWCMD1", b"FLOWJNL1", Status::Done, b"")?;
+    let other = b"flow: not a flow file\n";
+    expect_run(&rt, alloc, b"FLOWCMD", b"", Status::NotFlow, other)?;
+    expect_run(&rt, alloc, b"", b"", Status::NotFlow, other)?;
+    expect_run(&rt, alloc, b"FLOWJNL1", b"", Status::NotFlow, other)?;
+    let torn = b"flow: torn at byte 13\n";
+    let short = b"FLOWCMD1\x02\0\0\0\0\x03\0\0\0";
+    expect_run(&rt, alloc, short, one, Status::Torn(13), torn)?;
+    let long = b"FLOWCMD1\x02\0\0\0\0\x03\0\0\x04\x01";
+    expect_run(&rt, alloc, long, one, Status::Torn(13), torn)?;
+    let far = b"FLOWCMD1\xFF\xFF\xFF\xFF\xFF";
+    expect_run(
+        &rt,
+        alloc,
+        far,
+        b"FLOWJNL1",
+        Status::Torn(8),
+        b"flow: torn at byte 8\n",
+    )?;
+    Ok(())
+}
+
+#[test]
+fn refuses_with_one_code(rt: HostRuntime) -> Result<(), Fail> {
+    let alloc = rt.alloc();
+    // An account, five ticks in, six out, five out.
+    expect_run(
+        &rt,
+        alloc,
+        b"FLOWCMD1\x02\0\0\0\0\x03\0\0\0\x0C\0\0\0\x01\0\0\0\0\0\0\0\x05\x05\0\0\0\x0C\0\0\0\x01\0\0\0\0\0\0\0\x06\x05\0\0\0\x0C\0\0\0\x01\0\0\0\0\0\0\0\x05",
+        b"FLOWJNL1\x02\0\0\0\0\x82\0\0\0\x04\0\0\0\x01\x03\0\0\0\x0C\0\0\0\x01\0\0\0\0\0\0\0\x05\x80\0\0\0\0\x05\0\0\0\x0C\0\0\0\x01\0\0\0\0\0\0\0\x06\x84\0\0\0\x01\x0B\x05\0\0\0\x0C\0\0\0\x01\0\0\0\0\0\0\0\x05\x80\0\0\0\0",
+        Status::Done,
+        b"",
+    )?;
+    // An unknown tag, a byte after the fields, an empty body of a ticker, a command that isn't built.
+    expect_run(
+        &rt,
+        alloc,
+        b"FLOWCMD1\x0F\0\0\0\0\x02\0\0\0\x01\0\x01\0\0\0\0\x07\0\0\0\0",
+        b"FLOWJNL1\x0F\0\0\0\0\x84\0\0\0\x01\x01\x02\0\0\0\x01\0\x84\0\0\0\x01\x02\x01\0\0\0\0\x84\0\0\0\x01\x02\x07\0\0\0\0\x84\0\0\0\x01\x14",
+        Status::Done,
+        b"",
+    )?;
+    // A ticker, the same again, two that aren't valid.
+    expect_run(
+        &rt,
+        alloc,
+        b"FLOWCMD1\x01\0\0\0\x08AAPL    \x01\0\0\0\x08AAPL    \x01\0\0\0\x08aapl    \x01\0\0\0\x08        ",
+        b"FLOWJNL1\x01\0\0\0\x08AAPL    \x81\0\0\0\x02\0\0\x01\0\0\0\x08AAPL    \x84\0\0\0\x01\x04\x01\0\0\0\x08aapl    \x84\0\0\0\x01\x05\x01\0\0\0\x08        \x84\0\0\0\x01\x05",
+        Status::Done,
+        b"",
+    )
+}
+
+// The reply records of the journal of these commands, one after the other.
+fn replies(rt: &impl Abort, alloc: Global, commands: &[Command]) -> Result<Vec<u8>, Fail> {
+    let mut input = Vec::from_slice(alloc, b"FLOWCMD1")?;
+    let mut lengths = Vec::new(alloc);
+    for command in commands {
+        let mut record = Vec::new(alloc);
+        write_command(command, &mut record)?;
+        lengths.push(record.len())?;
+        input.extend_from_slice(&record)?;
+    }
+    let mut source = SteadySource::new(input);
+    let mut out = SteadySink::new(alloc, 1 << 21)?;
+    let mut notes = SteadySink::new(alloc, 64)?;
+    let run = words(alloc, &["run"])?;
+    assert_eq!(rt;
+        flow(alloc, &run, &mut source, &mut out, &mut notes),
+        Status::Done
+    );
+    answers(rt, alloc, out.bytes(), &lengths)
+}
+
+// What stands behind each command record of a journal, where these are as long.
+fn answers(
+    rt: &impl Abort,
+    alloc: Global,
+    journal: &[u8],
+    lengths: &[usize],
+) -> Result<Vec<u8>, Fail> {
+    let mut answered = Vec::new(alloc);
+    assert!(rt; journal.len() >= 8);
+    let mut rest = &journal[8..];
+    for length in lengths {
+        assert!(rt; *length <= rest.len());
+        let reply = &rest[*length..];
+        assert!(rt; reply.len() >= 5);
+        let size = 5 + reply[4] as usize;
+        assert!(rt; size <= reply.len());
+        answered.extend_from_slice(&reply[..size])?;
+        rest = &reply[size..];
+    }
+    assert!(rt; rest.is_empty());
+    Ok(answered)
+}
+
+#[test]
+fn keeps_limits(rt: HostRuntime) -> Result<(), Fail> {
+    let alloc = rt.alloc();
+    let deposit = |ticks: u64| Command::DepositMoney { account: 1, ticks };
+    let mut commands = vec![in alloc; Command::OpenAccount]?;
+    let mut expected = Vec::from_slice(alloc, b"\x82\0\0\0\x04\0\0\0\x01")?;
+    for _ in 0..16 {
+        commands.push(deposit(u64::MAX))?;
+        expected.extend_from_slice(b"\x80\0\0\0\0")?;
+    }
+    commands.push(deposit(17))?;
+    commands.push(deposit(16))?;
+    commands.push(deposit(0))?;
+    commands.push(Command::DepositMoney {
+        account: 0,
+        ticks: 1,
+    })?;
+    expected.extend_from_slice(
+        b"\x84\0\0\0\x01\x0A\x80\0\0\0\0\x84\0\0\0\x01\x09\x84\0\0\0\x01\x07",
+    )?;
+    let units = |units: u64| Command::DepositAsset {
+        account: 1,
+        asset: 0,
+        units,
+    };
+    commands.push(units(1))?;
+    commands.push(Command::AddAsset {
+        ticker: *b"AAPL    ",
+    })?;
+    commands.push(units(1 << 60))?;
+    commands.push(units(1))?;
+    expected.extend_from_slice(
+        b"\x84\0\0\0\x01\x08\x81\0\0\0\x02\0\0\x80\0\0\0\0\x84\0\0\0\x01\x0A",
+    )?;
+    let found = replies(&rt, alloc, &commands)?;
+    assert_eq!(rt; found.as_slice(), expected.as_slice());
+    Ok(())
+}
+
+#[test]
+fn counts_assets(rt: HostRuntime) -> Result<(), Fail> {
+    let alloc = rt.alloc();
+    let mut commands = Vec::new(alloc);
+    for tens in b"ABCDEFGHIJKLM" {
+        for ones in b"01234" {
+            let ticker = [*tens, *ones, b' ', b' ', b' ', b' ', b' ', b' '];
+            commands.push(Command::AddAsset { ticker })?;
+        }
+    }
+    let found = replies(&rt, alloc, &commands)?;
+    // 64 replies of 7 bytes, and a refusal of 6.
+    assert_eq!(rt; found.len(), 454);
+    assert!(rt; found.ends_with(b"\x81\0\0\0\x02\0\x3F\x84\0\0\0\x01\x03"));
+    Ok(())
+}
+
+#[test]
+fn counts_accounts(rt: HostRuntime) -> Result<(), Fail> {
+    let alloc = rt.alloc();
+    let mut commands = Vec::new(alloc);
+    for _ in 0..65_537u32 {
+        commands.push(Command::OpenAccount)?;
+    }
+    let found = replies(&rt, alloc, &commands)?;
+    // 65,536 replies of 9 bytes, and a refusal of 6.
+    assert_eq!(rt; found.len(), 589_830);
+    assert!(rt; found.ends_with(b"\x82\0\0\0\x04\0\x01\0\0\x84\0\0\0\x01\x06"));
+    Ok(())
+}
+
+// A file of one record.
+const ONE: &[u8] = b"FLOWCMD1\x02\0\0\0\0";
+
+#[test]
+fn stops_at_the_limit(rt: HostRuntime) -> Result<(), Fail> {
+    let alloc = rt.alloc();
+    let run = words(alloc, &["run"])?;
+    let mut source = SteadySource::new(Vec::from_slice(alloc, ONE)?);
+    let mut out = SteadySink::new(alloc, 64)?;
+    let mut notes = SteadySink::new(alloc, 64)?;
+    let status = flow_limited(alloc, &run, 10, &mut source, &mut out, &mut notes);
+    assert_eq!(rt; status, Status::TooLong(10));
+    assert_eq!(rt; out.bytes(), b"FLOWJNL1".as_slice());
+    assert_eq!(rt; notes.bytes(), b"flow: more than 10 bytes\n".as_slice());
+    Ok(())
+}
+
+#[test]
+fn tells_a_failed_read(rt: HostRuntime) -> Result<(), Fail> {
+    let alloc = rt.alloc();
+    let run = words(alloc, &["run"])?;
+    let third = vec![in alloc; 3u64]?;
+    let mut source = MemorySource::new(Vec::from_slice(alloc, ONE)?, 4, third);
+    let mut out = SteadySink::new(alloc, 64)?;
+    let mut notes = SteadySink::new(alloc, 64)?;
+    let status = flow(alloc, &run, &mut source, &mut out, &mut notes);
+    assert_eq!(rt; status, Status::ReadFault);
+    assert_eq!(rt; out.bytes(), b"".as_slice());
+    assert_eq!(rt; notes.bytes(), b"flow: read failed\n".as_slice());
+    Ok(())
+}
+
+// Half of the piece whose write fails is written.
+fn expect_failed_write(
+    rt: &impl Abort,
+    alloc: Global,
+    call: u64,
+    written: &[u8],
+) -> Result<(), Fail> {
+    let run = words(alloc, &["run"])?;
+    let mut source = SteadySource::new(Vec::from_slice(alloc, ONE)?);
+    let mut out = MemorySink::new(alloc, 64, vec![in alloc; call]?)?;
+    let mut notes = SteadySink::new(alloc, 64)?;
+    let status = flow(alloc, &run, &mut source, &mut out, &mut notes);
+    assert_eq!(rt; status, Status::WriteFault);
+    assert_eq!(rt; out.bytes(), written);
+    assert_eq!(rt; notes.bytes(), b"flow: write failed\n".as_slice());
+    Ok(())
+}
+
+#[test]
+fn tells_a_failed_write(rt: HostRuntime) -> Result<(), Fail> {
+    let alloc = rt.alloc();
+    expect_failed_write(&rt, alloc, 1, b"FLOW")?;
+    expect_failed_write(&rt, alloc, 2, b"FLOWJNL1\x02\0\0\0\0\x82\0")
+}
+
+#[test]
+fn passes_over_a_fault_of_notes(rt: HostRuntime) -> Result<(), Fail> {
+    let alloc = rt.alloc();
+    let run = words(alloc, &["run"])?;
+    let mut source = SteadySource::new(Vec::from_slice(alloc, b"FLOWCMD1\x02")?);
+    let mut out = SteadySink::new(alloc, 64)?;
+    let first = vec![in alloc; 1u64]?;
+    let mut notes = MemorySink::new(alloc, 64, first)?;
+    let status = flow(alloc, &run, &mut source, &mut out, &mut notes);
+    assert_eq!(rt; status, Status::Torn(8));
+    assert_eq!(rt; out.bytes(), b"FLOWJNL1".as_slice());
+    Ok(())
+}
+
+#[test]
+fn wants_its_words(rt: HostRuntime) -> Result<(), Fail> {
+    let alloc = rt.alloc();
+    let lists: [&[&str]; 5] = [&[], &["run", "x"], &["Run"], &[""], &["runs"]];
+    for list in lists {
+        let other = words(alloc, list)?;
+        let mut source = SteadySource::new(Vec::from_slice(alloc, b"FLOWCMD1")?);
+        let mut out = SteadySink::new(alloc, 64)?;
+        let mut notes = SteadySink::new(alloc, 64)?;
+        let status = flow(alloc, &other, &mut source, &mut out, &mut notes);
+        assert_eq!(rt; status, Status::Usage);
+        assert_eq!(rt; out.bytes(), b"".as_slice());
+        assert_eq!(rt; notes.bytes(), b"flow: usage\n".as_slice());
+        let left = read_all(alloc, &mut source, 64)?;
+        assert_eq!(rt; left.bytes.as_slice(), b"FLOWCMD1".as_slice());
+    }
+    let statuses = [
+        (Status::Done, 0),
+        (Status::Usage, 1),
+        (Status::NotFlow, 2),
+        (Status::Torn(1), 3),
+        (Status::ReadFault, 4),
+        (Status::WriteFault, 5),
+        (Status::NoMemory, 6),
+        (Status::TooLong(1), 8),
+    ];
+    for (status, exit) in statuses {
+        assert_eq!(rt; status.exit(), exit);
+    }
+    Ok(())
+}
