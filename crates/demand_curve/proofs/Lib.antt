@@ -1,0 +1,12 @@
+pub mod Distances
+pub mod Limits
+pub mod Quotients
+pub mod Demands
+pub mod Duals
+pub mod DemandLaws
+pub mod RoundingLaws
+pub mod Squares
+pub mod Signed
+pub mod LossLaws
+pub mod GainLaws
+pub mod DualLaws

@@ -1,0 +1,72 @@
+-- Quotients: bounds that single one out, a square over a product, and a difference.
+use Rattle.std.proofs.Common.{◌≡◌, ℕ, ◌+◌, ◌-◌, ◌*◌, ◌/◌, ◌%◌, ◌^◌, ◌≤◌, ◌<◌, ap, ◌∙◌, arith}
+use Rattle.std.proofs.Math.Nat.{div-eq_of_lt-le, add-mul-div_left, div-div-eq-div-mul, mod-lt, div-add-mod, div-le_of_le-mul, lt_of_mul-lt-mul_right, mul-le-mul_left}
+use Rattle.std.proofs.lemmas.Int.{to_z-of_z, to_z_pos}
+use Rattle.std.proofs.lemmas.Grind.{div_ceil_times}
+use Rattle.std.proofs.lemmas.Nat.{mul-le}
+use Rattle.demand_curve.specs.Demand.{rounded_down, rounded_up}
+
+-- n / d times d is at most n, and less than d below it
+pub down_times : (n d : ℕ) → 0 < d → (rounded_down n d * d ≤ n) × (n < rounded_down n d * d + d)
+down_times n d h = omega (arith, div-add-mod n d, mod-lt n h)
+
+-- n / d rounded up, times d, is at least n, and less than d above it
+pub up_times : (n d : ℕ) → 0 < d → (n ≤ rounded_up n d * d) × (rounded_up n d * d < n + d)
+up_times n d h = div_ceil_times n d h
+
+-- a fraction rounded up is at most its upper number
+up_most : (n d m : ℕ) → 0 < d → n ≤ m → rounded_up n d ≤ m
+up_most n d m h most = omega (arith, most, div-add-mod n d, mod-lt n h, mul-le-mul_left (n / d) h)
+
+-- a fraction of at most m, rounded up
+pub up_within : (n d m : ℕ) → 0 < d → n ≤ m * d → rounded_up n d ≤ m
+up_within n d m h most =
+    let below : rounded_up n d < m + 1 = lt_of_mul-lt-mul_right d (omega (arith, div_ceil_times n d h)) in
+    omega (arith, below)
+
+-- a square over twice what is squared or more, rounded up, is at most half of that
+pub square_small : (n d S : ℕ) → 0 < S → n ≤ S → S ≤ 2 ^ 61 → 2 ≤ d → rounded_up (n * n) (d * S) ≤ 2 ^ 60
+square_small n d S positive near small twice =
+    up_within (n * n) (d * S) (2 ^ 60) (omega (arith, mul-le-mul_left d positive, twice)) (omega (arith, mul-le n n S (2 ^ 61) near (omega (arith, near, small)), mul-le-mul_left S twice))
+
+-- a square over a number, rounded up, fits 128 bits with a sign where what is squared is small
+pub square_fits : (n d : ℕ) → n ≤ 2 ^ 61 → 0 < d → rounded_up (n * n) d < 2 ^ 127
+square_fits n d small positive = omega (arith, up_most (n * n) d (2 ^ 122) positive (mul-le n n (2 ^ 61) (2 ^ 61) small small))
+
+-- the square of e = x * S + r over k * S, from the parts x and r
+square_of_parts : (e x r S k : ℕ) → 0 < S → e ≡ x * S + r → (x * x * S + 2 * x * r + r * r / S) / k ≡ e * e / (k * S)
+square_of_parts e x r S k h parts =
+    let whole : e * e ≡ r * r + S * (x * x * S + 2 * x * r) = rw parts (omega arith) in
+    let by_span : e * e / S ≡ r * r / S + (x * x * S + 2 * x * r) = rw whole (add-mul-div_left (r * r) (x * x * S + 2 * x * r) h) in
+    let sum : x * x * S + 2 * x * r + r * r / S ≡ e * e / S = omega (arith, by_span) in
+    rw sum (div-div-eq-div-mul (e * e) S k ∙ ap (λ d. e * e / d) (omega arith))
+
+-- the square of e over k * S, without the square of e
+pub square_over : (e S k : ℕ) → 0 < S → (e / S * (e / S) * S + 2 * (e / S) * (e % S) + e % S * (e % S) / S) / k ≡ e * e / (k * S)
+square_over e S k h = square_of_parts e (e / S) (e % S) S k h (omega (arith, div-add-mod e S))
+
+-- it fits 128 bits where the quotient and S are small
+pub square_parts_fit : (e S : ℕ) → 0 < S → S ≤ 2 ^ 61 → e ≤ 2 ^ 24 * S → e / S * (e / S) * S + 2 * (e / S) * (e % S) + e % S * (e % S) / S < 2 ^ 127
+square_parts_fit e S h most fits =
+    let x : e / S ≤ 2 ^ 24 = div-le_of_le-mul S (omega (arith, fits)) in
+    let r : e % S ≤ 2 ^ 61 = omega (arith, mod-lt e h, most) in
+    let rest : e % S * (e % S) / S ≤ 2 ^ 61 =
+    div-le_of_le-mul S (omega (arith, mul-le (e % S) (e % S) S (2 ^ 61) (omega (arith, mod-lt e h)) r)) in
+    omega (arith, rest, mul-le (e / S * (e / S)) S (2 ^ 48) (2 ^ 61) (mul-le (e / S) (e / S) (2 ^ 24) (2 ^ 24) x x) most, mul-le (e / S) (e % S) (2 ^ 24) (2 ^ 61) x r)
+
+-- a difference over k, where the first part is g + y and g is the second rounded up
+difference_from : (a g y b k : ℕ) → 0 < k → a ≡ g + y → b ≤ g * k → g * k < b + k → (a * k - b) / k ≡ y
+difference_from a g y b k h e p q = rw e (div-eq_of_lt-le k (omega arith) (omega arith))
+
+-- a difference over k, where its second part is rounded up first
+pub difference_over : (a b k : ℕ) → 0 < k → b ≤ a * k → (rounded_up b k ≤ a) × ((a * k - b) / k ≡ a - rounded_up b k)
+difference_over a b k h below =
+    let up = div_ceil_times b k h in
+    let fits : rounded_up b k < a + 1 = lt_of_mul-lt-mul_right k (omega (arith, up)) in
+    (omega (arith, fits), difference_from a (rounded_up b k) (a - rounded_up b k) b k h (omega (arith, fits)) up.0 up.1)
+
+-- both facts on a square, for the code that computes one
+pub ruleset square_steps = (square_over, square_parts_fit)
+
+-- facts for the loss: its square fits, and so do the signed numbers on the way
+pub ruleset loss_steps = (square_fits, square_small, to_z-of_z, to_z_pos)

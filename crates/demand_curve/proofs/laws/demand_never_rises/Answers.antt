@@ -1,0 +1,5 @@
+use Rattle.demand_curve.proofs.RoundingLaws.{never_rises}
+use Rattle.demand_curve.proofs.laws.demand_never_rises.Goals as goal
+
+pub returns : goal.returns
+returns c = never_rises

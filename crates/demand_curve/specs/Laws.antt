@@ -1,0 +1,164 @@
+-- What holds of every demand curve. The functions of the module `laws` ensure these facts.
+use Rattle.std.specs.Prelude.{◌≡◌, ℕ, ◌+◌, ◌-◌, ◌*◌, ◌^◌, ◌<◌, ◌≤◌, ◌⊎◌, ◌↔◌, ℤ, pos, ◌+ℤ◌, ◌-ℤ◌, ◌*ℤ◌, ◌≤ℤ◌}
+use Rattle.demand_curve.specs.Demand.{Terms, IsWithin, IsWithinLimits, distance, span, line, scaled_demand, rounded_down, rounded_up, floor_rate, ceil_rate, IsRounding, loss, scaled_dual, dual_floor}
+use Rattle.demand_curve.specs.Welfare.{scaled_welfare, scaled_gain, signed_line}
+
+-- ---- the demand
+
+-- the span, by the limits that all terms keep
+abbrev pub SpanIsInRange : Type 0
+SpanIsInRange = (t : Terms) → IsWithinLimits t → (2 ^ 32 ≤ span t) × (span t ≤ 2 ^ 61)
+
+-- the demand at a price, where the price is at or above the high limit, at or below the low one, and anywhere
+pub record IsCutAtLimits (t : Terms) (price : ℤ) : Type 0 where
+  pub none_above : t.high ≤ℤ price → scaled_demand t price ≡ 0
+  pub whole_below : price ≤ℤ t.low → scaled_demand t price ≡ t.room * span t
+  pub on_line : price ≤ℤ t.high → line t price ≤ t.room * span t → pos (scaled_demand t price) ≡ signed_line t price
+  pub within_room : scaled_demand t price ≤ t.room * span t
+
+-- nothing is asked for from the high limit on, the whole room up to the low limit, and never more than the room
+abbrev pub DemandIsCutAtLimits : Type 0
+DemandIsCutAtLimits = (t : Terms) → IsWithinLimits t → (price : ℤ) → IsCutAtLimits t price
+
+-- the demand and its roundings at two prices
+pub record IsNoGreater (t : Terms) (lower higher : ℤ) : Type 0 where
+  pub demand : scaled_demand t higher ≤ scaled_demand t lower
+  pub floor : floor_rate t higher ≤ floor_rate t lower
+  pub ceil : ceil_rate t higher ≤ ceil_rate t lower
+
+-- demand never rises as the price rises
+abbrev pub DemandNeverRises : Type 0
+DemandNeverRises =
+    (t : Terms) → IsWithinLimits t → (lower higher : ℤ) → lower ≤ℤ higher → IsNoGreater t lower higher
+
+-- each grain by which the price rises lowers the demand by at most 1/256 of a unit
+abbrev pub DemandMovesLittle : Type 0
+DemandMovesLittle =
+    (t : Terms) → IsWithinLimits t → (price : ℤ) (grains : ℕ)
+    → 256 * scaled_demand t price ≤ 256 * scaled_demand t (price +ℤ pos grains) + grains * span t
+
+-- ---- its roundings
+
+-- the demand lies between its two roundings, each of which is less than 1 away from it
+pub record IsEnclosed (t : Terms) (price : ℤ) : Type 0 where
+  pub floor_below : floor_rate t price * span t ≤ scaled_demand t price
+  pub floor_near : scaled_demand t price < floor_rate t price * span t + span t
+  pub ceil_above : scaled_demand t price ≤ ceil_rate t price * span t
+  pub ceil_near : ceil_rate t price * span t < scaled_demand t price + span t
+  pub floor_first : floor_rate t price ≤ ceil_rate t price
+  pub one_apart : ceil_rate t price ≤ floor_rate t price + 1
+  pub within_room : ceil_rate t price ≤ t.room
+
+-- both roundings enclose the demand and differ by at most one
+abbrev pub RoundingsEncloseDemand : Type 0
+RoundingsEncloseDemand = (t : Terms) → IsWithinLimits t → (price : ℤ) → IsEnclosed t price
+
+-- the demand is the whole rate x
+abbrev pub IsDemand : Terms → ℕ → ℤ → Type 0
+IsDemand t x price = x * span t ≡ scaled_demand t price
+
+-- both roundings are equal exactly where the demand is whole, and then they are the demand
+pub record IsRoundedOnce (t : Terms) (price : ℤ) : Type 0 where
+  pub equal_where_whole : (floor_rate t price ≡ ceil_rate t price) ↔ ((x : ℕ) × IsDemand t x price)
+  pub both_are_demand : (x : ℕ) → IsDemand t x price → (floor_rate t price ≡ x) × (ceil_rate t price ≡ x)
+
+-- a whole demand has one rounding
+abbrev pub WholeDemandIsRoundedOnce : Type 0
+WholeDemandIsRoundedOnce = (t : Terms) → IsWithinLimits t → (price : ℤ) → IsRoundedOnce t price
+
+-- the roundings are the demand rounded down and the demand rounded up, and no others
+abbrev pub RoundingsAreFloorAndCeil : Type 0
+RoundingsAreFloorAndCeil =
+    (t : Terms) → IsWithinLimits t → (price : ℤ) (x : ℕ)
+    → IsRounding t x price ↔ ((x ≡ floor_rate t price) ⊎ (x ≡ ceil_rate t price))
+
+-- a rounding does not pass the room
+abbrev pub RoundingIsWithinRoom : Type 0
+RoundingIsWithinRoom =
+    (t : Terms) → IsWithinLimits t → (price : ℤ) (x : ℕ) → IsRounding t x price → x ≤ t.room
+
+-- a rounding where the demand is cut, to nothing or to the room, is the demand itself
+pub record IsExactAtCuts (t : Terms) (x : ℕ) (price : ℤ) : Type 0 where
+  pub none : t.high ≤ℤ price → x ≡ 0
+  pub room : t.room * span t ≤ line t price → x ≡ t.room
+
+-- at a cut every rounding is the demand
+abbrev pub RoundingIsExactAtCuts : Type 0
+RoundingIsExactAtCuts =
+    (t : Terms) → IsWithinLimits t → (price : ℤ) (x : ℕ) → IsRounding t x price → IsExactAtCuts t x price
+
+-- ---- the loss
+
+-- the loss is 0 exactly where the demand is whole and the rate is it
+abbrev pub LossIsZeroAtDemand : Type 0
+LossIsZeroAtDemand =
+    (t : Terms) → IsWithinLimits t → (price : ℤ) (x : ℕ) → (loss t x price ≡ 0) ↔ IsDemand t x price
+
+-- a rounding loses at most span / (2 * rate), rounded up, which is at most 2^60 grains
+abbrev pub LossIsSmall : Type 0
+LossIsSmall =
+    (t : Terms) → IsWithinLimits t → (price : ℤ) (x : ℕ) → IsRounding t x price
+    → (loss t x price ≤ rounded_up (span t) (2 * t.rate)) × (loss t x price ≤ 2 ^ 60)
+
+-- ---- welfare
+
+-- with y = n/k and e0 the line, 2 * rate * span * (what y gains) is e0 squared less (e0 - span * y) squared; both sides times k * k
+abbrev pub GainIsDifferenceOfSquares : Type 0
+GainIsDifferenceOfSquares =
+    (t : Terms) (price : ℤ) (n k : ℕ)
+    → let e0 : ℤ = signed_line t price *ℤ pos k in
+    let rest : ℤ = e0 -ℤ pos (span t * n) in
+    pos (span t) *ℤ scaled_gain t n k price ≡ e0 *ℤ e0 -ℤ rest *ℤ rest
+
+-- a rounding and its loss together gain at least what any rate n/k within the room gains
+abbrev pub LossCoversBestRate : Type 0
+LossCoversBestRate =
+    (t : Terms) → IsWithinLimits t → (price : ℤ) (x : ℕ) → IsRounding t x price
+    → (n k : ℕ) → n ≤ k * t.room
+    → scaled_gain t n k price
+    ≤ℤ (pos (k * k) *ℤ (scaled_gain t x 1 price +ℤ pos (2 * t.rate * loss t x price)))
+
+-- the same in parts of 1/(M * k * k) of a grain, where M is m times 2 * rate: in these the orders of a book add up
+abbrev pub LossCoversBestRateInParts : Type 0
+LossCoversBestRateInParts =
+    (t : Terms) → IsWithinLimits t → (price : ℤ) (x : ℕ) → IsRounding t x price
+    → (n k : ℕ) → n ≤ k * t.room
+    → (m M : ℕ) → m * (2 * t.rate) ≡ M
+    → (pos m *ℤ scaled_welfare t n k -ℤ pos (M * n * k) *ℤ price)
+    ≤ℤ (pos (k * k) *ℤ (pos m *ℤ scaled_welfare t x 1 -ℤ pos (M * x) *ℤ price +ℤ pos (M * loss t x price)))
+
+-- ---- the dual value
+
+-- the dual value by cases, and in one formula with the signed line e0 and the demand e: e * (2 * e0 - e)
+pub record HasDualValue (t : Terms) (price : ℤ) : Type 0 where
+  pub none : t.high ≤ℤ price → dual_floor t price ≡ 0
+  pub on_line : line t price ≤ t.room * span t
+      → dual_floor t price ≡ rounded_down (line t price * line t price) (2 * t.rate * span t)
+  pub at_room : t.room * span t < line t price
+      → dual_floor t price ≡ t.room * distance t.high price - rounded_up (t.room * t.room * span t) (2 * t.rate)
+  pub formula : pos (scaled_dual t price)
+      ≡ pos (scaled_demand t price) *ℤ (pos 2 *ℤ signed_line t price -ℤ pos (scaled_demand t price))
+  pub most : dual_floor t price ≤ t.room * distance t.high price
+  pub small : IsWithin (2 ^ 78) price → dual_floor t price ≤ 2 ^ 103
+
+-- the dual value is computed by cases
+abbrev pub DualIsByCases : Type 0
+DualIsByCases = (t : Terms) → IsWithinLimits t → (price : ℤ) → HasDualValue t price
+
+-- no rate n/k within the room gains more than the dual value, and the demand itself gains it
+pub record IsGreatestGain (t : Terms) (price : ℤ) : Type 0 where
+  pub bound : (n k : ℕ) → n ≤ k * t.room
+      → (pos (span t) *ℤ scaled_gain t n k price) ≤ℤ pos (k * k * scaled_dual t price)
+  pub reached : pos (span t) *ℤ scaled_gain t (scaled_demand t price) (span t) price
+      ≡ pos (span t * span t * scaled_dual t price)
+
+-- the dual value is the greatest gain at a price
+abbrev pub DualIsGreatestGain : Type 0
+DualIsGreatestGain = (t : Terms) → IsWithinLimits t → (price : ℤ) → IsGreatestGain t price
+
+-- where the price moves, the dual value falls by at least the move times the demand after it
+abbrev pub DualFallsByDemand : Type 0
+DualFallsByDemand =
+    (t : Terms) → IsWithinLimits t → (before after : ℤ)
+    → (pos (scaled_dual t after) +ℤ pos (2 * t.rate * scaled_demand t after) *ℤ (after -ℤ before))
+    ≤ℤ pos (scaled_dual t before)

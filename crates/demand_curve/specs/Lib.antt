@@ -1,0 +1,4 @@
+pub mod Demand
+pub mod Curve
+pub mod Welfare
+pub mod Laws

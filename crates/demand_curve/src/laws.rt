@@ -1,0 +1,96 @@
+//! What holds of every demand curve, for crates that reason about prices and rates.
+//!
+//! Each function does nothing. Its clause is a law, stated in the crate's `specs/Laws.antt` for all terms within
+//! their limits and all prices; a caller has the law after the call. All are free.
+
+ghost use Rattle.demand_curve.specs.Laws.{SpanIsInRange, DemandIsCutAtLimits, DemandNeverRises, DemandMovesLittle, RoundingsEncloseDemand, WholeDemandIsRoundedOnce, RoundingsAreFloorAndCeil, RoundingIsWithinRoom, RoundingIsExactAtCuts, LossIsZeroAtDemand, LossIsSmall, GainIsDifferenceOfSquares, LossCoversBestRate, LossCoversBestRateInParts, DualIsByCases, DualIsGreatestGain, DualFallsByDemand};
+
+/// The span `high - low` is 2^32 to 2^61 grains.
+pub fn span_is_in_range()
+    ensures { SpanIsInRange }
+{}
+
+/// Nothing is asked for from the high limit on, and the whole room up to the low limit. Between, where the
+/// room doesn't cut it, the demand is `rate * (high - price) / span`. It never passes the room.
+pub fn demand_is_cut_at_limits()
+    ensures { DemandIsCutAtLimits }
+{}
+
+/// Demand and its two roundings never rise as the price rises.
+pub fn demand_never_rises()
+    ensures { DemandNeverRises }
+{}
+
+/// A price that moves by one grain moves the demand by at most 1/256 of a unit, and so on for each grain.
+pub fn demand_moves_little()
+    ensures { DemandMovesLittle }
+{}
+
+/// The demand lies between its two roundings, which differ by at most one and don't pass the room.
+pub fn roundings_enclose_demand()
+    ensures { RoundingsEncloseDemand }
+{}
+
+/// Both roundings are equal exactly where the demand is whole, and then they are the demand.
+pub fn whole_demand_is_rounded_once()
+    ensures { WholeDemandIsRoundedOnce }
+{}
+
+/// A rate is a rounding exactly where it is the demand rounded down or the demand rounded up.
+pub fn roundings_are_floor_and_ceil()
+    ensures { RoundingsAreFloorAndCeil }
+{}
+
+/// A rounding does not pass the room.
+pub fn rounding_is_within_room()
+    ensures { RoundingIsWithinRoom }
+{}
+
+/// Where the demand is cut, to nothing or to the room, every rounding is the demand itself.
+pub fn rounding_is_exact_at_cuts()
+    ensures { RoundingIsExactAtCuts }
+{}
+
+/// The loss is 0 exactly where the demand is whole and the rate is it.
+pub fn loss_is_zero_at_demand()
+    ensures { LossIsZeroAtDemand }
+{}
+
+/// A rounding's loss is at most `span / (2 * rate)` rounded up, and at most 2^60 grains.
+pub fn loss_is_small()
+    ensures { LossIsSmall }
+{}
+
+/// What a rate gains is a difference of two squares: with y the rate, e0 the line at the price and S the span,
+/// `2 * rate * S * (high * y - S * y * y / (2 * rate) - price * y)` is `e0 * e0 - (e0 - S * y) * (e0 - S * y)`.
+/// So the demand is the best rate. Here y is the fraction n/k, and for k = 1 a whole rate.
+pub fn gain_is_difference_of_squares()
+    ensures { GainIsDifferenceOfSquares }
+{}
+
+/// A rounding gains, together with its loss, at least what any rate within the room gains at that price,
+/// be it a fraction n/k.
+pub fn loss_covers_best_rate()
+    ensures { LossCoversBestRate }
+{}
+
+/// The same in the parts in which the orders of a book add up: M is any number that 2 * rate divides.
+pub fn loss_covers_best_rate_in_parts()
+    ensures { LossCoversBestRateInParts }
+{}
+
+/// The dual value by cases: none from the high limit on, a square on the line, and at the room what the price
+/// spares less a square; and all three in one formula.
+pub fn dual_is_by_cases()
+    ensures { DualIsByCases }
+{}
+
+/// The dual value is the greatest gain that a rate within the room has at that price.
+pub fn dual_is_greatest_gain()
+    ensures { DualIsGreatestGain }
+{}
+
+/// Where the price moves, the dual value falls by at least the move times the demand after it.
+pub fn dual_falls_by_demand()
+    ensures { DualFallsByDemand }
+{}

@@ -1,0 +1,202 @@
+//! The demand curve of one order: how much it asks for at each price of its portfolio.
+//!
+//! An order has a low and a high limit price, a rate that it asks for at most in a batch, and a room, which is
+//! the rate or what is left of its cap, whichever is less. At a price at or above the high limit it asks for
+//! nothing, at the low limit for the whole rate, and between them for `rate * (high - price) / (high - low)`,
+//! but never for more than its room. This is the piecewise linear demand of Flow Trading (Budish, Cramton, Kyle,
+//! Lee and Malec, 2023); the cut at the room, whole rates and the limits of the numbers are this project's own.
+//!
+//! Prices, losses and values are in grains (2^32 of them are a tick), rates in whole units per batch. A demand is
+//! a fraction: the calls speak of the demand times the span `high - low`, which is a whole number.
+//!
+//! Each call takes constant time and no memory, and always answers. All numbers on the way fit 128 bits.
+//! The definitions are in `specs/Demand.antt`, and what holds of every curve is in the module `laws`.
+#![tactic(auto)]
+
+ghost use Rattle.demand_curve.specs.Demand.{IsWithinLimits};
+
+mod arithmetic;
+pub mod laws;
+#[cfg(test)]
+mod tests;
+
+use arithmetic::{distance, floor_square_over};
+
+/// The demand curve of one order.
+///
+/// Both limits are in -2^60 to 2^60 grains, the high one at least 2^32 and so at most 2^61 above the low one, and
+/// `1 <= room <= rate <= 2^24`. Every value keeps these limits.
+#[derive(Clone, Copy, Debug, PartialEq, Eq)]
+pub struct Curve {
+    /// The low limit price, in grains: up to it the order asks for its whole room.
+    pub low: i64,
+    /// The high limit price, in grains: from it on the order asks for nothing.
+    pub high: i64,
+    /// What the order asks for at most in a batch, in whole units.
+    pub rate: u32,
+    /// What the order may still trade in this batch, in whole units.
+    pub room: u32,
+    ghost within_limits: { IsWithinLimits (record { low = low; high = high; rate = rate; room = room }) },
+}
+
+impl Curve {
+    ghost use Rattle.std.specs.Prelude.{◌≡◌, ◌≤◌, ◌<◌, ◌*◌, ◌^◌, pos, ◌≤ℤ◌, ◌↔◌, IsTrue};
+    ghost use Rattle.demand_curve.specs.Demand.{IsWithin, span, line, distance, scaled_demand, floor_rate, ceil_rate, IsRounding, loss, dual_floor};
+    ghost use Rattle.demand_curve.specs.Curve.{terms};
+
+    /// The demand at a price, times the span `high - low`: 0 to 2^85.
+    ///
+    /// The price is in grains. Constant time, no memory.
+    pub fn scaled(&self, price: i128) -> i128
+        requires { IsWithin (2 ^ 78) price }
+        ensures value { result ≡ pos (scaled_demand (terms self.now) price) }
+        ensures most { result ≤ℤ pos (2 ^ 85) }
+    {
+        self.demand(price) as i128
+    }
+
+    /// The demand at a price rounded down, in whole units per batch: at most the room.
+    ///
+    /// The price is in grains. Constant time, no memory.
+    #[tactic(auto, unfolding(crate::specs::Demand::floor_rate))]
+    pub fn floor_rate(&self, price: i128) -> u32
+        requires { IsWithin (2 ^ 78) price }
+        ensures value { result ≡ floor_rate (terms self.now) price }
+        ensures within_room { result ≤ self.now.room }
+    {
+        (self.demand(price) / self.span()) as u32
+    }
+
+    /// The demand at a price rounded up, in whole units per batch: at most the room.
+    ///
+    /// The price is in grains. Constant time, no memory.
+    #[tactic(auto, using(crate::proofs::Quotients::up_within), unfolding(crate::specs::Demand::ceil_rate))]
+    pub fn ceil_rate(&self, price: i128) -> u32
+        requires { IsWithin (2 ^ 78) price }
+        ensures value { result ≡ ceil_rate (terms self.now) price }
+        ensures within_room { result ≤ self.now.room }
+    {
+        self.demand(price).div_ceil(self.span()) as u32
+    }
+
+    /// Whether a rate, in whole units per batch, is less than 1 above and less than 1 below the demand at a price.
+    ///
+    /// The price is in grains. Constant time, no memory.
+    pub fn is_rounded(&self, x: u32, price: i128) -> bool
+        requires { IsWithin (2 ^ 78) price }
+        ensures { IsTrue result ↔ IsRounding (terms self.now) x price }
+    {
+        let demand = self.demand(price);
+        let span = self.span();
+        let traded = u128::from(x) * span;
+        traded < demand + span && demand < traded + span
+    }
+
+    /// What a rounding loses against the demand, in grains, rounded up: 0 to 2^60.
+    ///
+    /// With d the demand, it is `(x - d)^2 * span / (2 * rate)`. At this price x gains at most so much less than
+    /// any rate within the room. The price is in grains. Constant time, no memory.
+    #[tactic(auto, using(crate::proofs::Quotients::loss_steps), unfolding(crate::specs::Demand::loss))]
+    pub fn loss(&self, x: u32, price: i128) -> i128
+        requires price_in_range { IsWithin (2 ^ 78) price }
+        requires rounded { IsRounding (terms self.now) x price }
+        ensures value { result ≡ pos (loss (terms self.now) x price) }
+        ensures most { result ≤ℤ pos (2 ^ 60) }
+    {
+        let traded = u128::from(x) * self.span();
+        let apart = traded.abs_diff(self.demand(price));
+        (apart * apart).div_ceil(self.double_rate() * self.span()) as i128
+    }
+
+    /// The dual value at a price, in grains, rounded down: the most that the order can gain there, 0 to 2^103.
+    ///
+    /// The price is in grains. Constant time, no memory.
+    pub fn dual_floor(&self, price: i128) -> i128
+        requires { IsWithin (2 ^ 78) price }
+        ensures value { result ≡ pos (dual_floor (terms self.now) price) }
+        ensures most { result ≤ℤ pos (2 ^ 103) }
+    {
+        if self.room_demand() < self.line(price) {
+            self.dual_at_room(price) as i128
+        } else {
+            self.dual_on_line(price) as i128
+        }
+    }
+
+    // The dual value where the line asks for more than the room.
+    fn dual_at_room(&self, price: i128) -> u128
+        requires in_range { IsWithin (2 ^ 78) price }
+        requires cut { (terms self.now).room * span (terms self.now) < line (terms self.now) price }
+        ensures value { result ≡ dual_floor (terms self.now) price }
+        ensures most { result ≤ 2 ^ 103 }
+    {
+        let room = u128::from(self.room);
+        let spared = room * self.below_high(price);
+        spared - (room * room * self.span()).div_ceil(self.double_rate())
+    }
+
+    // The dual value where the room does not cut the line. Where nothing is asked for it is 0.
+    fn dual_on_line(&self, price: i128) -> u128
+        requires in_range { IsWithin (2 ^ 78) price }
+        requires on_line { line (terms self.now) price ≤ (terms self.now).room * span (terms self.now) }
+        ensures value { result ≡ dual_floor (terms self.now) price }
+        ensures most { result ≤ 2 ^ 103 }
+    {
+        floor_square_over(self.line(price), self.span(), self.double_rate())
+    }
+
+    // The demand, times the span.
+    #[tactic(auto, using(crate::proofs::Demands::demand_steps))]
+    fn demand(&self, price: i128) -> u128
+        requires { IsWithin (2 ^ 78) price }
+        ensures value { result ≡ scaled_demand (terms self.now) price }
+        ensures within_room { result ≤ (terms self.now).room * span (terms self.now) }
+        ensures most { result ≤ 2 ^ 85 }
+    {
+        self.line(price).min(self.room_demand())
+    }
+
+    // What the line through the limits asks for, times the span, before the room cuts it.
+    #[tactic(auto, unfolding(crate::specs::Demand::line))]
+    fn line(&self, price: i128) -> u128
+        requires { IsWithin (2 ^ 78) price }
+        ensures value { result ≡ line (terms self.now) price }
+        ensures most { result ≤ 2 ^ 103 }
+    {
+        u128::from(self.rate) * self.below_high(price)
+    }
+
+    // The room, times the span.
+    fn room_demand(&self) -> u128
+        ensures value { result ≡ (terms self.now).room * span (terms self.now) }
+        ensures most { result ≤ 2 ^ 85 }
+    {
+        u128::from(self.room) * self.span()
+    }
+
+    // How far the price is below the high limit, in grains.
+    fn below_high(&self, price: i128) -> u128
+        requires { IsWithin (2 ^ 78) price }
+        ensures value { result ≡ distance (terms self.now).high price }
+        ensures most { result ≤ 2 ^ 79 }
+    {
+        distance(i128::from(self.high), price)
+    }
+
+    // How far the limits are apart, in grains.
+    fn span(&self) -> u128
+        ensures value { result ≡ span (terms self.now) }
+        ensures least { 2 ^ 32 ≤ result }
+        ensures most { result ≤ 2 ^ 61 }
+    {
+        distance(i128::from(self.high), i128::from(self.low))
+    }
+
+    fn double_rate(&self) -> u128
+        ensures value { result ≡ 2 * (terms self.now).rate }
+        ensures least { 2 ≤ result }
+        ensures most { result ≤ 2 ^ 25 }
+    {
+        2 * u128::from(self.rate)
+    }
+}

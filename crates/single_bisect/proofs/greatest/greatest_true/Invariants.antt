@@ -1,0 +1,10 @@
+use Rattle.single_bisect.proofs.GreatestTurns.{IsNarrowed}
+use Rattle.single_bisect.proofs.greatest.greatest_true.Given as goal
+
+abbrev pub invariant-loop-width : goal.invariant-loop-width
+invariant-loop-width g l =
+    let probe = g.P.Probe in
+    IsNarrowed (probe.test l.fn.probe) (probe.test l.probe) (probe.asked l.fn.probe) (probe.asked l.probe) l.fn.low l.fn.high l.above l.width
+
+abbrev pub decreases-loop-width : goal.decreases-loop-width
+decreases-loop-width g l = l.width

@@ -1,0 +1,40 @@
+ghost use Rattle.std.specs.Prelude.{◌+◌, ◌^◌, ◌<◌, ◌≤◌, pos, neg_ℤ, ◌<ℤ◌, ◌≤ℤ◌, IsTrue};
+ghost use Rattle.single_bisect.specs.Places.{IsClosedDownwards, IsGreatestTrue, SameTest};
+
+use crate::places::Probe;
+
+/// The greatest place below `high` at which the probe answers yes.
+///
+/// The caller knows that the probe answers yes at `low`, and that below `high` it answers yes at
+/// every place before one with a yes. It costs at most 63 asks, for any two ends,
+/// and takes no memory.
+pub fn greatest_true<P: Probe>(probe: &mut P, low: i64, high: i64) -> i64
+    requires ends { low <ℤ high }
+    requires low_end { neg_ℤ (pos (2 ^ 62)) ≤ℤ low }
+    requires high_end { high ≤ℤ pos (2 ^ 62) }
+    requires downwards { IsClosedDownwards (P.test probe.old) low high }
+    requires true_at_low { IsTrue (P.test probe.old low) }
+    requires asks_left { P.asked probe.old < 2 ^ 63 }
+
+    ensures greatest { IsGreatestTrue (P.test probe.old) high result }
+    ensures within { low ≤ℤ result }
+
+    ensures test_stays { SameTest (P.test probe.new) (P.test probe.old) }
+    ensures asks_counted { P.asked probe.old ≤ P.asked probe.new }
+    ensures few_asks { P.asked probe.new ≤ P.asked probe.old + 63 }
+{
+    // All places below `high` down to `above` are answered with no, `above - width` with yes.
+    let mut above = high;
+    let mut width = high.abs_diff(low);
+    while width > 1 {
+        let half = width / 2;
+        let middle = above - half as i64;
+        if probe.at(middle) {
+            width = half;
+        } else {
+            above = middle;
+            width -= half;
+        }
+    }
+    above - 1
+}

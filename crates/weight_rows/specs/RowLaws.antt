@@ -1,0 +1,46 @@
+use Rattle.std.specs.Prelude.{◌≡◌, ◌≢◌, ℕ, ◌^◌, ◌<◌, ◌≤◌, ◌↔◌, ℤ, pos, ◌+ℤ◌, ◌-ℤ◌, ◌*ℤ◌, unsigned_abs, List, length, slice_set, All, Contains, Option}
+use Rattle.std.specs.List.{range_with_len}
+use Rattle.weight_rows.specs.declared.entries.Entry.{Entry}
+use Rattle.weight_rows.specs.declared.faults.RowFault.{RowFault}
+use Rattle.weight_rows.specs.Sums.{int_sum_by}
+use Rattle.weight_rows.specs.Rows.{assets_of, IsLawfulRow, weight_in, IsPrice, price_of, IsPricedBy, portfolio_price}
+use Rattle.weight_rows.specs.Faults.{IsSoundBefore, IsFaultOf}
+
+-- at prices of at most 2^62 the price of a lawful row is at most 2^78, in absolute value
+abbrev pub PriceIsBounded : Type 0
+PriceIsBounded =
+    (row : List Entry) (prices : List ℤ) → IsLawfulRow row → All IsPrice prices → unsigned_abs (portfolio_price row prices) ≤ 2 ^ 78
+
+-- where one asset's price changes, the price of a lawful row changes by the asset's weight times as much
+abbrev pub PriceFollowsOnePrice : Type 0
+PriceFollowsOnePrice =
+    (row : List Entry) (prices : List ℤ) (asset : ℕ) (price : ℤ) → IsLawfulRow row → asset < length prices
+    → portfolio_price row (slice_set prices asset price) ≡ portfolio_price row prices +ℤ weight_in row asset *ℤ (price -ℤ price_of prices asset)
+
+-- the price of a lawful row is the sum over all priced assets of the asset's weight times its price
+abbrev pub PriceSumsOverAssets : Type 0
+PriceSumsOverAssets =
+    (row : List Entry) (prices : List ℤ) → IsLawfulRow row → IsPricedBy row prices
+    → portfolio_price row prices ≡ int_sum_by (λ asset. weight_in row asset *ℤ price_of prices asset) (range_with_len 0 (length prices))
+
+-- in a lawful row the weight of an entry's asset is the entry's weight
+abbrev pub EntriesGiveWeights : Type 0
+EntriesGiveWeights = (row : List Entry) → IsLawfulRow row → All (λ e. weight_in row e.asset ≡ e.weight) row
+
+-- in a lawful row exactly the named assets have a weight that isn't 0
+abbrev pub NamedAssetsWeigh : Type 0
+NamedAssetsWeigh =
+    (row : List Entry) (asset : ℕ) → IsLawfulRow row → (weight_in row asset ≢ pos 0) ↔ Contains (assets_of row) asset
+
+-- in a lawful row no asset's weight is above 4,096 in absolute value
+abbrev pub WeightsAreSmall : Type 0
+WeightsAreSmall = (row : List Entry) (asset : ℕ) → IsLawfulRow row → unsigned_abs (weight_in row asset) ≤ 4096
+
+-- a list of entries has one first fault at most
+abbrev pub FirstFaultIsOne : Type 0
+FirstFaultIsOne = (row : List Entry) (one other : Option RowFault) → IsFaultOf row one → IsFaultOf row other → one ≡ other
+
+-- 1 to 16 entries that are sound at each of their places are a lawful row
+abbrev pub SoundEntriesAreLawful : Type 0
+SoundEntriesAreLawful =
+    (row : List Entry) → 1 ≤ length row → length row ≤ 16 → IsSoundBefore row (length row) → IsLawfulRow row

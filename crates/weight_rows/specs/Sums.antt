@@ -1,0 +1,6 @@
+use Rattle.std.specs.Prelude.{ℤ, pos, ◌+ℤ◌, List, [], ◌∷◌}
+
+-- the sum of f over a list, in whole numbers
+abbrev pub int_sum_by : {X : Type 0} → (X → ℤ) → List X → ℤ
+int_sum_by f [] = pos 0
+int_sum_by f (x ∷ xs) = f x +ℤ int_sum_by f xs

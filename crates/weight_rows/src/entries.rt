@@ -1,0 +1,51 @@
+ghost use Rattle.std.specs.Prelude.{◌≡◌};
+
+use std::marker::Model;
+
+/// One asset of a portfolio and how many units of it one unit of the portfolio buys.
+#[derive(Clone, Copy, Debug, PartialEq, Eq, Hash)]
+pub struct Entry {
+    /// The asset's number, counted from 0.
+    pub asset: u16,
+    /// Whole units of the asset per unit of the portfolio; a negative weight sells them.
+    pub weight: i32,
+}
+
+/// Entries in the order in which they were given, lawful as a row or not.
+#[derive(Debug, Drop)]
+pub struct EntryList {
+    entries: Vec<Entry>,
+}
+
+impl Model for EntryList {
+    ghost use Rattle.std.specs.Prelude.{List};
+    ghost use Rattle.weight_rows.specs.declared.entries.Entry.{Entry};
+
+    ghost Value = { List Entry };
+
+    ghost view = { λ list. list.entries.items };
+}
+
+impl EntryList {
+    /// The entries of a vector, whose memory it keeps.
+    pub fn new(entries: Vec<Entry>) -> EntryList
+        ensures { result ≡ entries.items }
+    {
+        EntryList { entries }
+    }
+
+    /// The entries, without copying them.
+    pub fn as_slice(&self) -> &[Entry]
+        ensures { result.now ≡ self.now }
+    {
+        self.entries.as_slice()
+    }
+
+    /// Gives the vector back; takes no memory.
+    pub fn into_vec(self) -> Vec<Entry>
+        ensures { result.items ≡ self }
+    {
+        let EntryList { entries } = self;
+        entries
+    }
+}

@@ -1,0 +1,91 @@
+ghost use Rattle.std.specs.Prelude.{◌≡◌, ◌<◌, ◌≤◌, ◌^◌, ◌*ℤ◌, ◌↔◌, length, unsigned_abs, IsTrue, All};
+ghost use Rattle.weight_rows.specs.Rows.{IsLawfulRow, IsPrice, IsPricedBy, price_of, weight_in, portfolio_price};
+
+use crate::entries::{Entry, EntryList};
+use std::marker::Model;
+
+/// A lawful row: 1 to 16 entries with strictly ascending assets and absolute weights of 1 to 4,096.
+#[derive(Debug, Drop)]
+pub struct WeightRow {
+    list: EntryList,
+}
+
+impl Model for WeightRow {
+    ghost use Rattle.std.specs.Prelude.{List};
+    ghost use Rattle.weight_rows.specs.declared.entries.Entry.{Entry};
+    ghost use Rattle.weight_rows.specs.Rows.{IsLawfulRow};
+
+    ghost Value = { List Entry };
+
+    ghost view = { λ row. row.list };
+
+    ghost invariant = { λ row. IsLawfulRow row.list };
+}
+
+impl WeightRow {
+    /// The row of these entries, which have no fault. It keeps their memory.
+    pub fn new(entries: EntryList) -> WeightRow
+        requires { IsLawfulRow entries }
+        ensures { result ≡ entries }
+    {
+        WeightRow { list: entries }
+    }
+
+    /// The entries, in ascending order of their assets.
+    pub fn entries(&self) -> &[Entry]
+        ensures value { result.now ≡ self.now }
+        ensures lawful { IsLawfulRow self.now }
+    {
+        self.list.as_slice()
+    }
+
+    /// How many units of an asset one unit of the portfolio buys, 0 where the row doesn't name it.
+    /// It costs one pass over the entries.
+    pub fn weight_of(&self, asset: u16) -> i64
+        ensures value { result ≡ weight_in self.now asset }
+        ensures bound { unsigned_abs result ≤ 4096 }
+        ensures lawful { IsLawfulRow self.now }
+    {
+        for entry in self.list.as_slice() {
+            if entry.asset == asset {
+                return i64::from(entry.weight);
+            }
+        }
+        0
+    }
+
+    /// Whether the row names one asset alone.
+    pub fn is_single(&self) -> bool
+        ensures value { IsTrue result ↔ (length self.now ≡ 1) }
+        ensures lawful { IsLawfulRow self.now }
+    {
+        self.list.as_slice().len() == 1
+    }
+
+    /// The price of one unit of the portfolio, in grains: each weight times the price of its asset, summed over
+    /// the row. `prices` has one price per asset, in grains, by the asset's number.
+    ///
+    /// All orders trade at one price per asset (Budish, Cramton, Kyle, Lee and Malec, "Flow Trading", 2023).
+    /// It costs one pass over the entries.
+    pub fn price(&self, prices: &[i64]) -> i128
+        requires priced { IsPricedBy self.now prices.now }
+        requires range { All IsPrice prices.now }
+        ensures value { result ≡ portfolio_price self.now prices.now }
+        ensures bound { unsigned_abs result ≤ 2 ^ 78 }
+        ensures lawful { IsLawfulRow self.now }
+    {
+        let mut sum = 0;
+        for entry in self.list.as_slice() {
+            sum += entry_price(*entry, prices);
+        }
+        sum
+    }
+}
+
+/// What the units of one entry cost.
+fn entry_price(entry: Entry, prices: &[i64]) -> i128
+    requires { entry.asset < length prices.now }
+    ensures { result ≡ entry.weight *ℤ price_of prices.now entry.asset }
+{
+    i128::from(entry.weight) * i128::from(prices[usize::from(entry.asset)])
+}
