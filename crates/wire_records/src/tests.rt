@@ -1,5 +1,6 @@
 //! Records from outside: their bytes are written out by hand from the format.
 use crate::*;
+use std::process::Abort;
 use std::test::Fail;
 
 /// A front, with what its view shows.
@@ -83,129 +84,185 @@ fn fronts_of_bytes(rt: HostRuntime) {
     }
 }
 
+/// Each record spells the command that stands beside it, or has this fault.
+fn are_read_as(rt: &impl Abort, rows: &[(&[u8], Result<CommandView<'_>, BodyFault>)]) {
+    for (bytes, want) in rows {
+        assert_eq!(rt; read(bytes), Some(*want), "{bytes:?}");
+    }
+}
+
 #[test]
-fn records_as_commands(rt: HostRuntime) {
+fn tickers_and_accounts_as_commands(rt: HostRuntime) {
     let bad = Err(BodyFault::BadBody);
+    are_read_as(
+        &rt,
+        &[
+            // A ticker is read as it is: whether it is valid is the market's to say.
+            (
+                b"\x01\0\0\0\x08\x41\x41\x50\x4c\x20\x20\x20\x20",
+                Ok(CommandView::AddAsset(b"AAPL    ")),
+            ),
+            (
+                b"\x01\0\0\0\x08\0\xff a b c",
+                Ok(CommandView::AddAsset(b"\0\xff a b c")),
+            ),
+            (b"\x01\0\0\0\x07AAPL   ", bad),
+            (b"\x01\0\0\0\x09AAPL     ", bad),
+            (b"\x01\0\0\0\0", bad),
+            (b"\x02\0\0\0\0", Ok(CommandView::OpenAccount)),
+            (b"\x02\0\0\0\x01\0", bad),
+        ],
+    );
+}
+
+#[test]
+fn money_deposits_as_commands(rt: HostRuntime) {
+    let bad = Err(BodyFault::BadBody);
+    are_read_as(
+        &rt,
+        &[
+            (
+                b"\x03\0\0\0\x0c\x01\x02\x03\x04\x05\x06\x07\x08\x09\x0a\x0b\x0c",
+                Ok(CommandView::DepositMoney {
+                    account: 16909060,
+                    ticks: 361984551142689548,
+                }),
+            ),
+            (
+                b"\x03\0\0\0\x0c\0\0\0\0\0\0\0\0\0\0\0\0",
+                Ok(CommandView::DepositMoney {
+                    account: 0,
+                    ticks: 0,
+                }),
+            ),
+            (
+                b"\x03\0\0\0\x0b\x01\x02\x03\x04\x05\x06\x07\x08\x09\x0a\x0b",
+                bad,
+            ),
+            (
+                b"\x03\0\0\0\x0d\x01\x02\x03\x04\x05\x06\x07\x08\x09\x0a\x0b\x0c\x0d",
+                bad,
+            ),
+            (b"\x03\0\0\0\0", bad),
+        ],
+    );
+}
+
+#[test]
+fn unit_deposits_as_commands(rt: HostRuntime) {
+    let bad = Err(BodyFault::BadBody);
+    are_read_as(
+        &rt,
+        &[
+            (
+                b"\x04\0\0\0\x0e\x01\x02\x03\x04\x05\x06\x07\x08\x09\x0a\x0b\x0c\x0d\x0e",
+                Ok(CommandView::DepositAsset {
+                    account: 16909060,
+                    asset: 1286,
+                    units: 506664896818842894,
+                }),
+            ),
+            (
+                b"\x04\0\0\0\x0d\x01\x02\x03\x04\x05\x06\x07\x08\x09\x0a\x0b\x0c\x0d",
+                bad,
+            ),
+            (
+                b"\x04\0\0\0\x0f\x01\x02\x03\x04\x05\x06\x07\x08\x09\x0a\x0b\x0c\x0d\x0e\x0f",
+                bad,
+            ),
+            (
+                b"\x04\0\0\0\x0c\x01\x02\x03\x04\x05\x06\x07\x08\x09\x0a\x0b\x0c",
+                bad,
+            ),
+        ],
+    );
+}
+
+#[test]
+fn money_withdrawals_as_commands(rt: HostRuntime) {
+    let bad = Err(BodyFault::BadBody);
+    are_read_as(
+        &rt,
+        &[
+            (
+                b"\x05\0\0\0\x0c\xff\xff\xff\xff\xff\xff\xff\xff\xff\xff\xff\xff",
+                Ok(CommandView::WithdrawMoney {
+                    account: 4294967295,
+                    ticks: 18446744073709551615,
+                }),
+            ),
+            (
+                b"\x05\0\0\0\x0b\x01\x02\x03\x04\x05\x06\x07\x08\x09\x0a\x0b",
+                bad,
+            ),
+            (
+                b"\x05\0\0\0\x0d\x01\x02\x03\x04\x05\x06\x07\x08\x09\x0a\x0b\x0c\x0d",
+                bad,
+            ),
+            (
+                b"\x05\0\0\0\x0e\x01\x02\x03\x04\x05\x06\x07\x08\x09\x0a\x0b\x0c\x0d\x0e",
+                bad,
+            ),
+        ],
+    );
+}
+
+#[test]
+fn unit_withdrawals_as_commands(rt: HostRuntime) {
+    let bad = Err(BodyFault::BadBody);
+    are_read_as(
+        &rt,
+        &[
+            (
+                b"\x06\0\0\0\x0e\0\0\0\x01\0\x3f\x10\0\0\0\0\0\0\0",
+                Ok(CommandView::WithdrawAsset {
+                    account: 1,
+                    asset: 63,
+                    units: 1152921504606846976,
+                }),
+            ),
+            (
+                b"\x06\0\0\0\x0d\x01\x02\x03\x04\x05\x06\x07\x08\x09\x0a\x0b\x0c\x0d",
+                bad,
+            ),
+            (
+                b"\x06\0\0\0\x0f\x01\x02\x03\x04\x05\x06\x07\x08\x09\x0a\x0b\x0c\x0d\x0e\x0f",
+                bad,
+            ),
+            (b"\x06\0\0\0\0", bad),
+        ],
+    );
+}
+
+#[test]
+fn records_without_a_command(rt: HostRuntime) {
     let unbuilt = Err(BodyFault::NotBuilt);
     let unknown = Err(BodyFault::UnknownTag);
-    let rows: [(&[u8], Result<CommandView<'_>, BodyFault>); 40] = [
-        (b"\0\0\0\0\0", unknown),
-        (b"\0\0\0\0\x08AAPL    ", unknown),
-        // A ticker is read as it is: whether it is valid is the market's to say.
-        (
-            b"\x01\0\0\0\x08\x41\x41\x50\x4c\x20\x20\x20\x20",
-            Ok(CommandView::AddAsset(b"AAPL    ")),
-        ),
-        (
-            b"\x01\0\0\0\x08\0\xff a b c",
-            Ok(CommandView::AddAsset(b"\0\xff a b c")),
-        ),
-        (b"\x01\0\0\0\x07AAPL   ", bad),
-        (b"\x01\0\0\0\x09AAPL     ", bad),
-        (b"\x01\0\0\0\0", bad),
-        (b"\x02\0\0\0\0", Ok(CommandView::OpenAccount)),
-        (b"\x02\0\0\0\x01\0", bad),
-        (
-            b"\x03\0\0\0\x0c\x01\x02\x03\x04\x05\x06\x07\x08\x09\x0a\x0b\x0c",
-            Ok(CommandView::DepositMoney {
-                account: 16909060,
-                ticks: 361984551142689548,
-            }),
-        ),
-        (
-            b"\x03\0\0\0\x0c\0\0\0\0\0\0\0\0\0\0\0\0",
-            Ok(CommandView::DepositMoney {
-                account: 0,
-                ticks: 0,
-            }),
-        ),
-        (
-            b"\x03\0\0\0\x0b\x01\x02\x03\x04\x05\x06\x07\x08\x09\x0a\x0b",
-            bad,
-        ),
-        (
-            b"\x03\0\0\0\x0d\x01\x02\x03\x04\x05\x06\x07\x08\x09\x0a\x0b\x0c\x0d",
-            bad,
-        ),
-        (b"\x03\0\0\0\0", bad),
-        (
-            b"\x04\0\0\0\x0e\x01\x02\x03\x04\x05\x06\x07\x08\x09\x0a\x0b\x0c\x0d\x0e",
-            Ok(CommandView::DepositAsset {
-                account: 16909060,
-                asset: 1286,
-                units: 506664896818842894,
-            }),
-        ),
-        (
-            b"\x04\0\0\0\x0d\x01\x02\x03\x04\x05\x06\x07\x08\x09\x0a\x0b\x0c\x0d",
-            bad,
-        ),
-        (
-            b"\x04\0\0\0\x0f\x01\x02\x03\x04\x05\x06\x07\x08\x09\x0a\x0b\x0c\x0d\x0e\x0f",
-            bad,
-        ),
-        (
-            b"\x04\0\0\0\x0c\x01\x02\x03\x04\x05\x06\x07\x08\x09\x0a\x0b\x0c",
-            bad,
-        ),
-        (
-            b"\x05\0\0\0\x0c\xff\xff\xff\xff\xff\xff\xff\xff\xff\xff\xff\xff",
-            Ok(CommandView::WithdrawMoney {
-                account: 4294967295,
-                ticks: 18446744073709551615,
-            }),
-        ),
-        (
-            b"\x05\0\0\0\x0b\x01\x02\x03\x04\x05\x06\x07\x08\x09\x0a\x0b",
-            bad,
-        ),
-        (
-            b"\x05\0\0\0\x0d\x01\x02\x03\x04\x05\x06\x07\x08\x09\x0a\x0b\x0c\x0d",
-            bad,
-        ),
-        (
-            b"\x05\0\0\0\x0e\x01\x02\x03\x04\x05\x06\x07\x08\x09\x0a\x0b\x0c\x0d\x0e",
-            bad,
-        ),
-        (
-            b"\x06\0\0\0\x0e\0\0\0\x01\0\x3f\x10\0\0\0\0\0\0\0",
-            Ok(CommandView::WithdrawAsset {
-                account: 1,
-                asset: 63,
-                units: 1152921504606846976,
-            }),
-        ),
-        (
-            b"\x06\0\0\0\x0d\x01\x02\x03\x04\x05\x06\x07\x08\x09\x0a\x0b\x0c\x0d",
-            bad,
-        ),
-        (
-            b"\x06\0\0\0\x0f\x01\x02\x03\x04\x05\x06\x07\x08\x09\x0a\x0b\x0c\x0d\x0e\x0f",
-            bad,
-        ),
-        (b"\x06\0\0\0\0", bad),
-        // What isn't built yet is so whatever its body holds.
-        (b"\x07\0\0\0\0", unbuilt),
-        (b"\x07\0\0\0\x08AAPL    ", unbuilt),
-        (
-            b"\x07\0\0\0\x21\0\0\0\x01\0\0\0\0\0\0\0\x01\0\0\0\0\0\0\0\x02\0\0\0\x01\0\0\0\0\0\0\0\x01\0",
-            unbuilt,
-        ),
-        (b"\x08\0\0\0\0", unbuilt),
-        (b"\x08\0\0\0\x0c\0\0\0\x01\0\0\0\0\0\0\0\x01", unbuilt),
-        (b"\x09\0\0\0\0", unbuilt),
-        (b"\x09\0\0\0\x04\0\0\0\x01", unbuilt),
-        (b"\x0a\0\0\0\0", unknown),
-        (b"\x0a\0\0\0\x0c\0\0\0\x01\0\0\0\0\0\0\0\x01", unknown),
-        (b"\x0f\0\0\0\0", unknown),
-        (b"\x80\0\0\0\0", unknown),
-        (b"\x82\0\0\0\x04\0\0\0\x01", unknown),
-        (b"\xff\0\0\0\0", unknown),
-        (b"\xff\0\0\0\x04\0\0\0\x01", unknown),
-    ];
-    for (bytes, want) in rows {
-        assert_eq!(rt; read(bytes), Some(want), "{bytes:?}");
-    }
+    are_read_as(
+        &rt,
+        &[
+            (b"\0\0\0\0\0", unknown),
+            (b"\0\0\0\0\x08AAPL    ", unknown),
+            // What isn't built yet is so whatever its body holds.
+            (b"\x07\0\0\0\0", unbuilt),
+            (b"\x07\0\0\0\x08AAPL    ", unbuilt),
+            (
+                b"\x07\0\0\0\x21\0\0\0\x01\0\0\0\0\0\0\0\x01\0\0\0\0\0\0\0\x02\0\0\0\x01\0\0\0\0\0\0\0\x01\0",
+                unbuilt,
+            ),
+            (b"\x08\0\0\0\0", unbuilt),
+            (b"\x08\0\0\0\x0c\0\0\0\x01\0\0\0\0\0\0\0\x01", unbuilt),
+            (b"\x09\0\0\0\0", unbuilt),
+            (b"\x09\0\0\0\x04\0\0\0\x01", unbuilt),
+            (b"\x0a\0\0\0\0", unknown),
+            (b"\x0a\0\0\0\x0c\0\0\0\x01\0\0\0\0\0\0\0\x01", unknown),
+            (b"\x0f\0\0\0\0", unknown),
+            (b"\x80\0\0\0\0", unknown),
+            (b"\x82\0\0\0\x04\0\0\0\x01", unknown),
+            (b"\xff\0\0\0\0", unknown),
+            (b"\xff\0\0\0\x04\0\0\0\x01", unknown),
+        ],
+    );
 }
 
 /// Each command, and then its record.
