@@ -74,7 +74,8 @@ pub fn flow_limited<S: Source, K: Sink, N: Sink>(
         → result ≢ Status.NoMemory
         → IfSome (S.rest source.old) (λ bytes. Completes limit bytes result (K.held out.old) (K.held out.new)) }
 
-    // A fault of notes changes nothing: it is the same where a write to notes failed.
+    // A fault of notes changes nothing: what `complete` says holds where a write to notes failed too.
+    // Want of memory is free there as everywhere.
     ensures apart { Rose (N.faults notes.old) (N.faults notes.new)
         → ¬ Rose (S.faults source.old) (S.faults source.new)
         → ¬ Rose (K.faults out.old) (K.faults out.new)
@@ -109,7 +110,8 @@ pub fn flow_limited<S: Source, K: Sink, N: Sink>(
 /// one line to notes; a fault of notes changes nothing.
 ///
 /// A command costs the same however many accounts there are. Memory: the input, one buffer for a pair,
-/// and 528 bytes for each account.
+/// and 528 bytes for each account. Input and accounts each stand in one block, which doubles as it grows:
+/// it has up to twice these bytes, and while it is moved the smaller one is there too.
 pub fn flow<S: Source, K: Sink, N: Sink>(
     alloc: Global,
     words: &[String],
