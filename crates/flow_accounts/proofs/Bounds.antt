@@ -6,7 +6,7 @@ use Rattle.flow_accounts.specs.Balances.{Account, asset_count, empty_account, un
 use Rattle.flow_accounts.specs.Lawful.{IsLawfulAccount}
 use Rattle.flow_accounts.specs.Laws.{NoBalanceIsNegative, SumsBoundBalances, ChangesFitNearSums, ChangesFitAtSums}
 use Rattle.flow_accounts.proofs.Balance.{money_balance, unit_balance, unit_total}
-use Rattle.flow_accounts.proofs.ListLemmas.{le-int_sum_by}
+use Rattle.list_sums.proofs.SumLemmas.{le-int_sum_by}
 
 -- a lawful account has no negative number of units
 units_positive : (assets asset : ℕ) (a : Account) → IsLawfulAccount assets a → asset < assets → pos 0 ≤ℤ units_in a asset

@@ -2,14 +2,14 @@
 use Rattle.std.proofs.Common.{◌≡◌, ◌≢◌, ℕ, ◌+◌, ◌-◌, ◌<◌, ℤ, pos, ◌+ℤ◌, length, get_or, set, refl, ap, sym, subst, ◌∙◌, arith}
 use Rattle.std.proofs.lemmas.Int.{ints}
 use Rattle.std.proofs.lemmas.List.{get_or-set_same, get_or-set_other, get_or_push, get_or_past, length-set, length-map, length_push}
-use Rattle.std.proofs.lemmas.List.Elements.{recursion_from_All}
-use Rattle.std.specs.List.{AllByRecursion}
+use Rattle.std.specs.List.{All}
 use Rattle.flow_accounts.specs.Balances.{Account, Balances, IsAccount, IsAsset, account_count, asset_count, empty_account, with_asset, account_of, units_in, total_units_of, open_account, add_asset}
 use Rattle.flow_accounts.specs.Changes.{KeepsBalances}
 use Rattle.flow_accounts.specs.Lawful.{AreLawful, IsLawfulAccount}
 use Rattle.flow_accounts.specs.Laws.{AccountsOpenEmpty, AssetsStartAtZero, MoneyMoves, UnitsMove, MoneyChanges, UnitsChange}
 use Rattle.flow_accounts.proofs.Balance.{lawful_account}
-use Rattle.flow_accounts.proofs.ListLemmas.{get_or-push_same, get_or-map_same, get_or-set_kept, int_sum_by-push, int_sum_by-set, int_sum_by-set_same, int_sum_by-map, int_sum_by-zero, zero_at, zero_pushed}
+use Rattle.list_sums.proofs.SumLemmas.{int_sum_by-push, int_sum_by-set, int_sum_by-set_same, int_sum_by-map_same, int_sum_by-zeros}
+use Rattle.flow_accounts.proofs.ListLemmas.{get_or-push_same, get_or-map_same, get_or-set_kept, zero_at, zero_pushed}
 
 -- an account's place
 place : (b : Balances) (account : ℕ) → IsAccount b account → account - 1 < length b.accounts
@@ -121,8 +121,8 @@ asset_kept b =
     record {
       money = λ account. get_or-map_same (λ (x : Account). x.money) with_asset (λ a. refl) b.accounts (empty_account 0) (account - 1);
       units = λ account s. get_or-map_same (λ (x : Account). units_in x s) with_asset (same s) b.accounts (empty_account 0) (account - 1);
-      money_sum = int_sum_by-map (λ (x : Account). x.money) with_asset (λ a. refl) b.accounts;
-      unit_sums = λ s. int_sum_by-map (λ (x : Account). units_in x s) with_asset (same s) b.accounts;
+      money_sum = int_sum_by-map_same (λ (x : Account). x.money) with_asset (λ a. refl) b.accounts;
+      unit_sums = λ s. int_sum_by-map_same (λ (x : Account). units_in x s) with_asset (same s) b.accounts;
     }
 
 -- a lawful account has no units past its assets
@@ -132,14 +132,13 @@ none_past assets a lawful = let one_each = lawful.one_each in get_or_past a.unit
 pub assets_start_at_zero : AssetsStartAtZero
 assets_start_at_zero b lawful =
     let kept = asset_kept b in
-    let none : AllByRecursion (λ (a : Account). units_in a (asset_count b) ≡ pos 0) b.accounts =
-    recursion_from_All (λ (a : Account). units_in a (asset_count b) ≡ pos 0) b.accounts (λ k d within. none_past (asset_count b) _ (lawful.accounts k d within)) in
+    let none : All (λ (a : Account). units_in a (asset_count b) ≡ pos 0) b.accounts = λ k d within. none_past (asset_count b) _ (lawful.accounts k d within) in
     record {
       kept = kept;
       accounts = length-map b.accounts with_asset;
       assets = length_push b.total_units (pos 0);
       units = λ account there. kept.units account (asset_count b) ∙ none_past (asset_count b) (account_of b account) (lawful_account b account lawful there);
-      unit_sum = kept.unit_sums (asset_count b) ∙ int_sum_by-zero (λ (x : Account). units_in x (asset_count b)) b.accounts none;
+      unit_sum = kept.unit_sums (asset_count b) ∙ int_sum_by-zeros (λ (x : Account). units_in x (asset_count b)) b.accounts none;
       total = get_or_push b.total_units (pos 0) (pos 0) (asset_count b) refl;
       totals = zero_pushed b.total_units;
     }

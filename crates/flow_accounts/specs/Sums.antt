@@ -1,11 +1,7 @@
 -- What all accounts hold together.
-use Rattle.std.specs.Prelude.{◌≡◌, ℕ, ℤ, pos, ◌+ℤ◌, List, [], ◌∷◌}
+use Rattle.std.specs.Prelude.{◌≡◌, ℕ, ℤ}
+use Rattle.list_sums.specs.Sums.{int_sum_by}
 use Rattle.flow_accounts.specs.Balances.{Balances, units_in, total_units_of}
-
--- the sum of f over a list
-abbrev pub int_sum_by : {X : Type 0} → (X → ℤ) → List X → ℤ
-int_sum_by f [] = pos 0
-int_sum_by f (x ∷ xs) = f x +ℤ int_sum_by f xs
 
 -- the money of all accounts, in grains
 abbrev pub money_of_all : Balances → ℤ

@@ -1,4 +1,3 @@
-pub mod SumLemmas
 pub mod RowLemmas
 pub mod FaultLemmas
 pub mod RowLawProofs

@@ -1,6 +1,6 @@
 -- The laws of rows.
 use Rattle.std.proofs.Common.{◌≡◌, ◌≢◌, ℕ, zero, suc, ◌<◌, ◌≤◌, ℤ, pos, ◌+ℤ◌, ◌-ℤ◌, ◌*ℤ◌, eqb, cond, List, [], ◌∷◌, length, get_or, set, sym, ap, ◌∙◌, refl, subst, arith, ⊎_elim}
-use Rattle.std.specs.Prelude.{unsigned_abs, All, AllPairs, Contains}
+use Rattle.std.specs.Prelude.{unsigned_abs, All, AllPairs, Contains, slice_index_or}
 use Rattle.std.specs.List.{range_with_len}
 use Rattle.std.proofs.lemmas.Int.{ints}
 use Rattle.std.proofs.Math.IntN.{zero-*ℤ}
@@ -9,10 +9,11 @@ use Rattle.std.proofs.lemmas.Bool.Decides.{eqb_tells}
 use Rattle.std.proofs.lemmas.List.{get_or-set_other, get_or-set_same, get_or_default}
 use Rattle.std.proofs.lemmas.List.Kept.{AllPairs-from_increasing}
 use Rattle.weight_rows.specs.declared.entries.Entry.{Entry}
-use Rattle.weight_rows.specs.Sums.{int_sum_by}
+use Rattle.list_sums.specs.Sums.{int_sum_by}
 use Rattle.weight_rows.specs.Rows.{assets_of, IsLawfulWeight, IsLawfulRow, weight_in, price_of, IsPricedBy, portfolio_price}
 use Rattle.weight_rows.specs.RowLaws.{PriceFollowsOnePrice, PriceSumsOverAssets, EntriesGiveWeights, NamedAssetsWeigh, WeightsAreSmall}
-use Rattle.weight_rows.proofs.SumLemmas.{*ℤ-sub, int_sum_by-same, int_sum_by-add, int_sum_by-zero, int_sum_by-only}
+use Rattle.list_sums.proofs.Products.{*ℤ-sub}
+use Rattle.list_sums.proofs.SumLemmas.{int_sum_by-same, int_sum_by-add, int_sum_by-zeros, int_sum_by-only}
 use Rattle.weight_rows.proofs.RowLemmas.{length-assets_of, asset_at}
 
 -- each asset is below all later ones
@@ -76,7 +77,7 @@ split_cost e row prices asset ascend =
 
 summed : (row : List Entry) (prices : List ℤ) → Ascend row → IsPricedBy row prices → portfolio_price row prices ≡ int_sum_by (cost row prices) (range_with_len 0 (length prices))
 unfolding portfolio_price cost weight_in
-summed [] prices ascend priced = sym (int_sum_by-zero (cost [] prices) (range_with_len 0 (length prices)) (λ asset. zero-*ℤ (price_of prices asset)))
+summed [] prices ascend priced = sym (int_sum_by-zeros (cost [] prices) (range_with_len 0 (length prices)) (λ k d inside. zero-*ℤ (price_of prices (slice_index_or (range_with_len 0 (length prices)) k d))))
 summed (e ∷ row) prices ascend priced =
     let all = range_with_len 0 (length prices) in
     let mine = λ (asset : ℕ). e.weight *ℤ price_of prices asset in

@@ -5,7 +5,8 @@ use Rattle.std.proofs.lemmas.Bool.{eq-eqb, cases_lt}
 use Rattle.std.proofs.lemmas.List.{get_or-map, get_or_past, length-map, at_drop_more, at_drop_all}
 use Rattle.weight_rows.specs.declared.entries.Entry.{Entry}
 use Rattle.weight_rows.specs.Rows.{assets_of, IsLawfulRow, weight_in, IsPrice, price_of, portfolio_price}
-use Rattle.weight_rows.proofs.SumLemmas.{unsigned_abs-add, unsigned_abs-mul_le, int_sum_by_more, unsigned_abs-int_sum_by}
+use Rattle.list_sums.proofs.Products.{unsigned_abs-add, unsigned_abs-mul_le}
+use Rattle.list_sums.proofs.SumLemmas.{int_sum_by_more, unsigned_abs-int_sum_by}
 
 -- ---- the entry at a place
 pub asset_at : (row : List Entry) (i : ℕ) (d : Entry) → i < length row → get_or (assets_of row) i 0 ≡ (get_or row i d).asset

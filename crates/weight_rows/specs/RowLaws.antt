@@ -2,7 +2,7 @@ use Rattle.std.specs.Prelude.{◌≡◌, ◌≢◌, ℕ, ◌^◌, ◌<◌, ◌�
 use Rattle.std.specs.List.{range_with_len}
 use Rattle.weight_rows.specs.declared.entries.Entry.{Entry}
 use Rattle.weight_rows.specs.declared.faults.RowFault.{RowFault}
-use Rattle.weight_rows.specs.Sums.{int_sum_by}
+use Rattle.list_sums.specs.Sums.{int_sum_by}
 use Rattle.weight_rows.specs.Rows.{assets_of, IsLawfulRow, weight_in, IsPrice, price_of, IsPricedBy, portfolio_price}
 use Rattle.weight_rows.specs.Faults.{IsSoundBefore, IsFaultOf}
 

@@ -1,7 +1,7 @@
 use Rattle.std.specs.Prelude.{ℕ, ◌<◌, ◌≤◌, ◌^◌, ◌==◌, if◌then◌else◌, ℤ, pos, ◌*ℤ◌, unsigned_abs, List, [], ◌∷◌, map, length, slice_index_or, All}
 use Rattle.std.specs.List.Sorted.{IsStrictlyIncreasing}
 use Rattle.weight_rows.specs.declared.entries.Entry.{Entry}
-use Rattle.weight_rows.specs.Sums.{int_sum_by}
+use Rattle.list_sums.specs.Sums.{int_sum_by}
 
 -- the assets that the entries name, in their order
 abbrev pub assets_of : List Entry → List ℕ

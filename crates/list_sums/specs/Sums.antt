@@ -1,6 +1,7 @@
+-- The sum of whole numbers over a list.
 use Rattle.std.specs.Prelude.{ℤ, pos, ◌+ℤ◌, List, [], ◌∷◌}
 
--- the sum of f over a list, in whole numbers
+-- the sum of f over the members of a list
 abbrev pub int_sum_by : {X : Type 0} → (X → ℤ) → List X → ℤ
 int_sum_by f [] = pos 0
 int_sum_by f (x ∷ xs) = f x +ℤ int_sum_by f xs

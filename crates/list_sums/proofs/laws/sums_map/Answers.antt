@@ -1,0 +1,5 @@
+use Rattle.list_sums.proofs.SumLemmas.{int_sum_by-map}
+use Rattle.list_sums.proofs.laws.sums_map.Goals as goal
+
+pub returns : goal.returns
+returns g c = int_sum_by-map
