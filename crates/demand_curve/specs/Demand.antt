@@ -15,6 +15,10 @@ pub record Terms : Type 0 where
 abbrev pub IsWithin : ℕ → ℤ → Type 0
 IsWithin bound z = (neg_ℤ (pos bound) ≤ℤ z) × (z ≤ℤ pos bound)
 
+-- the highest rate of an order, in whole units per batch
+abbrev pub most_rate : ℕ
+most_rate = 2 ^ 24
+
 -- the limits that the terms of every order keep; by them the span is at most 2^61 grains
 pub record IsWithinLimits (t : Terms) : Type 0 where
   pub low_in_range : IsWithin (2 ^ 60) t.low
@@ -22,7 +26,7 @@ pub record IsWithinLimits (t : Terms) : Type 0 where
   pub span_least : (t.low +ℤ pos (2 ^ 32)) ≤ℤ t.high
   pub room_least : 1 ≤ t.room
   pub room_most : t.room ≤ t.rate
-  pub rate_most : t.rate ≤ 2 ^ 24
+  pub rate_most : t.rate ≤ most_rate
 
 -- a number where it is not negative, else 0
 abbrev pub or_zero : ℤ → ℕ

@@ -40,8 +40,25 @@ pub enum Refusal {
     ZeroAmount,
     /// The total after the deposit would pass its limit.
     TotalLimit,
-    /// The amount is above what is free.
+    /// The amount, or what a new order needs, is above what is free.
     NotFree,
+    /// A limit price is outside -2^28 to 2^28 ticks, or the low one isn't below the high one.
+    BadLimits,
+    /// The rate is outside 1 to 2^24.
+    BadRate,
+    /// The cap is outside 1 to 2^40.
+    BadCap,
+    /// The entries are no row: there are none or more than 16, assets don't ascend, or an absolute weight is
+    /// outside 1 to 4,096.
+    BadRow,
+    /// 16,384 orders are live.
+    OrderLimit,
+    /// No live order has this number and this account.
+    NoOrder,
+    /// The budget is outside 1 to 65,536.
+    BadBudget,
+    /// 2^24 batches were held.
+    BatchLimit,
     /// The command of this tag isn't built yet.
     NotBuilt,
 }
@@ -49,7 +66,7 @@ pub enum Refusal {
 impl Refusal {
     ghost use Rattle.wire_records.specs.Refusals.{code_of};
 
-    /// The number of the refusal, as a reply spells it: 1 to 11, or 20. Each refusal has its own.
+    /// The number of the refusal, as a reply spells it: 1 to 20. Each refusal has its own.
     pub fn code(&self) -> u8
         ensures { result ≡ code_of self.now }
     {
@@ -65,6 +82,14 @@ impl Refusal {
             Refusal::ZeroAmount => 9,
             Refusal::TotalLimit => 10,
             Refusal::NotFree => 11,
+            Refusal::BadLimits => 12,
+            Refusal::BadRate => 13,
+            Refusal::BadCap => 14,
+            Refusal::BadRow => 15,
+            Refusal::OrderLimit => 16,
+            Refusal::NoOrder => 17,
+            Refusal::BadBudget => 18,
+            Refusal::BatchLimit => 19,
             Refusal::NotBuilt => 20,
         }
     }

@@ -1,0 +1,25 @@
+-- The exact dual of a book, in parts of 1/N of a grain, and the movement of a walk.
+use Rattle.std.specs.Prelude.{◌≡◌, ℕ, ◌+◌, ◌*◌, ◌/◌, ◌≤◌, ℤ, List, [], ◌∷◌, All}
+use Rattle.std.specs.List.{sum_by}
+use Rattle.demand_curve.specs.Demand.{Terms, span, scaled_dual}
+use Rattle.flow_orders.specs.Orders.{Order, terms_of}
+use Rattle.flow_orders.specs.Excess.{price_for}
+use Rattle.flow_orders.specs.Moves.{amount_of, walk_reach}
+use Rattle.flow_orders.specs.Outcomes.{step_of}
+
+-- how many parts of 1/N are one part of 1/(2 * rate * span)
+unfoldable pub share : ℕ → Terms → ℕ
+share N t = N / (2 * t.rate * span t)
+
+-- a positive number that 2 * rate * span of every order divides
+abbrev pub IsCommonPart : ℕ → List Order → Type 0
+IsCommonPart N orders = (1 ≤ N) × All (λ o. share N (terms_of o) * (2 * o.rate * span (terms_of o)) ≡ N) orders
+
+-- the exact dual of a book, in parts of 1/N of a grain
+abbrev pub exact_dual : ℕ → List Order → List ℤ → ℕ
+exact_dual N orders prices = sum_by (λ o. share N (terms_of o) * scaled_dual (terms_of o) (price_for prices o)) orders
+
+-- the movement of a walk: the sum of the amounts moved
+abbrev pub movement_of : List Order → List ℤ → List ℕ → ℕ
+movement_of orders prices [] = 0
+movement_of orders prices (asset ∷ walk) = amount_of orders walk_reach prices asset + movement_of orders (step_of orders prices asset) walk

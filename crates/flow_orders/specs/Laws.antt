@@ -1,0 +1,55 @@
+-- What holds of books of orders, walks and outcomes.
+use Rattle.std.specs.Prelude.{◌≡◌, ℕ, ℤ, ◌+◌, ◌*◌, ◌^◌, ◌≤◌, false, true, List, length, All}
+use Rattle.weight_rows.specs.Rows.{price_of}
+use Rattle.demand_curve.specs.Demand.{IsWithin}
+use Rattle.flow_orders.specs.Orders.{Order, IsOrder}
+use Rattle.flow_orders.specs.Excess.{is_unsettled}
+use Rattle.flow_orders.specs.Turns.{IsInTurn}
+use Rattle.flow_orders.specs.Choice.{absolute_sum}
+use Rattle.flow_orders.specs.Trades.{trades, residual}
+use Rattle.flow_orders.specs.Outcomes.{Outcome, Clearing, Cleared, dual_of, step_of, IsLegalFrom, end_of, IsRightOutcome, most_budget}
+use Rattle.flow_orders.specs.Duals.{IsCommonPart, exact_dual, movement_of}
+use Rattle.flow_orders.specs.Own.{are_single, floor_rates, rates_by_choice, IsOwnOutcome}
+
+-- a batch has at most one own outcome
+abbrev pub OneOwnOutcome : Type 0
+OneOwnOutcome = (orders : List Order) (start : List ℤ) (budget : ℕ) (o p : Outcome)
+    → IsOwnOutcome orders start budget o → IsOwnOutcome orders start budget p → o ≡ p
+
+-- and there is one
+abbrev pub EveryBatchHasAnOwnOutcome : Type 0
+EveryBatchHasAnOwnOutcome = (orders : List Order) (start : List ℤ) (budget : ℕ) → (o : Outcome) × IsOwnOutcome orders start budget o
+
+-- which is a right one
+abbrev pub OwnOutcomesAreRight : Type 0
+OwnOutcomesAreRight = (orders : List Order) (start : List ℤ) (budget : ℕ) (o : Outcome)
+    → All IsOrder orders → All (IsWithin (2 ^ 60)) start → budget ≤ most_budget
+    → IsOwnOutcome orders start budget o → IsRightOutcome orders start budget o
+
+-- where every order names one asset, an own outcome is a clearing at prices within 2^60, and an asset that was settled keeps its price
+abbrev pub OneAssetBooksClear : Type 0
+OneAssetBooksClear = (orders : List Order) (start : List ℤ) (budget : ℕ) (o : Outcome)
+    → All IsOrder orders → are_single orders ≡ true → All (IsWithin (2 ^ 60)) start → IsOwnOutcome orders start budget o
+    → (c : Clearing) × (o ≡ Cleared c) × All (IsWithin (2 ^ 60)) c.prices
+    × ((asset : ℕ) → is_unsettled orders start asset ≡ false → price_of c.prices asset ≡ price_of start asset)
+
+-- rates that are chosen leave no larger sum of absolute residuals than all demands rounded down
+abbrev pub ChosenRatesAreNoWorse : Type 0
+ChosenRatesAreNoWorse = (n : ℕ) (orders : List Order) (prices : List ℤ)
+    → absolute_sum n (residual (trades orders (rates_by_choice n orders prices))) ≤ absolute_sum n (residual (trades orders (floor_rates orders prices)))
+
+-- there is at most one walk in turn of each length
+abbrev pub OneWalkOfEachLength : Type 0
+OneWalkOfEachLength = (orders : List Order) (start : List ℤ) (v w : List ℕ)
+    → IsInTurn (length start) (is_unsettled orders) (step_of orders) start v → IsInTurn (length start) (is_unsettled orders) (step_of orders) start w
+    → length v ≡ length w → v ≡ w
+
+-- a legal walk lowers the exact dual by at least its movement, which is a grain at least for each move; and so its movement is bounded
+pub record WalksLowerTheDual : Type 0 where
+  pub common : (orders : List Order) → All IsOrder orders → (N : ℕ) × IsCommonPart N orders
+  pub exact : (N : ℕ) (orders : List Order) (start : List ℤ) (walk : List ℕ)
+      → All IsOrder orders → IsCommonPart N orders → IsLegalFrom orders start walk
+      → exact_dual N orders (end_of orders start walk) + N * movement_of orders start walk ≤ exact_dual N orders start
+  pub moves : (orders : List Order) (start : List ℤ) (walk : List ℕ) → IsLegalFrom orders start walk → length walk ≤ movement_of orders start walk
+  pub bounded : (orders : List Order) (start : List ℤ) (walk : List ℕ) → All IsOrder orders → IsLegalFrom orders start walk
+      → movement_of orders start walk ≤ dual_of orders start + length orders

@@ -1,0 +1,12 @@
+pub mod Orders
+pub mod Excess
+pub mod Walks
+pub mod Moves
+pub mod Turns
+pub mod Choice
+pub mod Trades
+pub mod Outcomes
+pub mod Own
+pub mod Welfare
+pub mod Duals
+pub mod Laws

@@ -1,0 +1,52 @@
+-- A move of one asset's price.
+use Rattle.std.specs.Prelude.{ℕ, ◌^◌, Bool, not, if◌then◌else◌, ℤ, pos, ◌+ℤ◌, ◌-ℤ◌, List, Option, Some, None, slice_set}
+use Rattle.std.specs.List.{range_with_len}
+use Rattle.weight_rows.specs.Rows.{price_of}
+use Rattle.flow_orders.specs.Orders.{Order}
+use Rattle.flow_orders.specs.Excess.{is_above, is_below}
+use Rattle.flow_orders.specs.Walks.{first_that}
+
+-- a number that was found, else another one
+abbrev pub found_or : ℕ → Option ℕ → ℕ
+found_or other (Some found) = found
+found_or other None = other
+
+-- the least number from 1 to `reach` that passes a test, and `reach` where there is none
+unfoldable pub least_amount : ℕ → (ℕ → Bool) → ℕ
+least_amount reach passes = found_or reach (first_that passes (range_with_len 1 reach))
+
+-- the prices after an asset's price rose by d grains
+abbrev pub risen : List ℤ → ℕ → ℕ → List ℤ
+risen prices asset d = slice_set prices asset (price_of prices asset +ℤ pos d)
+
+-- the prices after an asset's price fell by d grains
+abbrev pub fallen : List ℤ → ℕ → ℕ → List ℤ
+fallen prices asset d = slice_set prices asset (price_of prices asset -ℤ pos d)
+
+-- by how much the price of an asset that is above rises
+abbrev pub rise_of : List Order → ℕ → List ℤ → ℕ → ℕ
+rise_of orders reach prices asset = least_amount reach (λ d. not (is_above orders (risen prices asset d) asset))
+
+-- by how much the price of an asset that is below falls
+abbrev pub fall_of : List Order → ℕ → List ℤ → ℕ → ℕ
+fall_of orders reach prices asset = least_amount reach (λ d. not (is_below orders (fallen prices asset d) asset))
+
+-- the prices after a move of an asset by at most `reach`
+unfoldable pub moved : List Order → ℕ → List ℤ → ℕ → List ℤ
+moved orders reach prices asset =
+    if is_above orders prices asset then risen prices asset (rise_of orders reach prices asset) else
+    (if is_below orders prices asset then fallen prices asset (fall_of orders reach prices asset) else prices)
+
+-- the amount of that move
+unfoldable pub amount_of : List Order → ℕ → List ℤ → ℕ → ℕ
+amount_of orders reach prices asset =
+    if is_above orders prices asset then rise_of orders reach prices asset else
+    (if is_below orders prices asset then fall_of orders reach prices asset else 0)
+
+-- the reach of a move in a walk
+abbrev pub walk_reach : ℕ
+walk_reach = 2 ^ 45
+
+-- the reach of the one move of an asset where each order names one asset
+abbrev pub single_reach : ℕ
+single_reach = 2 ^ 61

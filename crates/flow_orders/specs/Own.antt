@@ -1,0 +1,60 @@
+-- The program's own outcome of a batch: its own prices or walk, and the rates that it chooses.
+use Rattle.std.specs.Prelude.{◌≡◌, ℕ, ◌==◌, nat_lt, Bool, true, false, if◌then◌else◌, ℤ, List, [], ◌∷◌, map, length}
+use Rattle.std.specs.List.{list_all}
+use Rattle.weight_rows.specs.Rows.{weight_in}
+use Rattle.demand_curve.specs.Demand.{floor_rate, ceil_rate}
+use Rattle.flow_orders.specs.Orders.{Order, terms_of}
+use Rattle.flow_orders.specs.Excess.{price_for, is_unsettled}
+use Rattle.flow_orders.specs.Moves.{moved, single_reach}
+use Rattle.flow_orders.specs.Turns.{visits, AreOwnPrices, IsOwnTrace}
+use Rattle.flow_orders.specs.Choice.{chosen_rates}
+use Rattle.flow_orders.specs.Trades.{Trade, trades}
+use Rattle.flow_orders.specs.Outcomes.{Clearing, BatchRule, Cleared, Skipped, fill_of, residuals_of, gap_of, step_of, skipping_at}
+
+-- the prices after one far move of each asset of a list that is unsettled when its turn comes
+abbrev pub moved_once : List Order → List ℕ → List ℤ → List ℤ
+moved_once orders [] prices = prices
+moved_once orders (a ∷ rest) prices = moved_once orders rest (if is_unsettled orders prices a then moved orders single_reach prices a else prices)
+
+-- whether every order names one asset
+abbrev pub are_single : List Order → Bool
+are_single orders = list_all (λ o. length o.row == 1) orders
+
+-- the prices that the program's own rule reaches: each asset moved once where every order names one asset, else the end of a walk in turn
+abbrev pub ArePricesOf : Bool → List Order → List ℤ → ℕ → List ℤ → Type 0
+ArePricesOf true orders start budget end = end ≡ moved_once orders (visits (length start) 0) start
+ArePricesOf false orders start budget end = AreOwnPrices (length start) (is_unsettled orders) (step_of orders) start budget end
+
+-- the demand of an order at prices, rounded down
+abbrev pub floor_at : List ℤ → Order → ℕ
+floor_at prices o = floor_rate (terms_of o) (price_for prices o)
+
+-- whether the demand of an order at prices isn't whole
+abbrev pub is_fraction_at : List ℤ → Order → Bool
+is_fraction_at prices o = nat_lt (floor_at prices o) (ceil_rate (terms_of o) (price_for prices o))
+
+-- all demands, rounded down
+abbrev pub floor_rates : List Order → List ℤ → List ℕ
+floor_rates orders prices = map (floor_at prices) orders
+
+-- rates that are chosen order by order, for a smaller sum of absolute residuals of n assets
+abbrev pub rates_by_choice : ℕ → List Order → List ℤ → List ℕ
+rates_by_choice n orders prices = chosen_rates n (λ o asset. weight_in o.row asset) (floor_at prices) (is_fraction_at prices) orders
+
+-- the rates that the program publishes at prices of n assets: today all demands are rounded down
+abbrev pub own_rates : ℕ → List Order → List ℤ → List ℕ
+own_rates n orders prices = floor_rates orders prices
+
+-- what is published of trades at prices of n assets
+abbrev pub clearing_at : ℕ → List ℤ → List Trade → Clearing
+clearing_at n prices ts = record { prices = prices; fills = map fill_of ts; residuals = residuals_of n ts; gap = gap_of prices ts }
+
+-- the program's own outcome: at its own prices with the rates that it chooses, or the walk in turn of the whole budget
+abbrev pub IsOwnOutcome : BatchRule
+IsOwnOutcome orders start budget (Cleared c) =
+    ArePricesOf (are_single orders) orders start budget c.prices
+    × (c ≡ clearing_at (length start) c.prices (trades orders (own_rates (length start) orders c.prices)))
+IsOwnOutcome orders start budget (Skipped s) =
+    (are_single orders ≡ false)
+    × IsOwnTrace (length start) (is_unsettled orders) (step_of orders) start budget s.trace
+    × (s ≡ skipping_at orders start s.trace)

@@ -1,0 +1,103 @@
+-- The market: what is kept from one command to the next, and what holds of it at all times.
+use Rattle.std.specs.Prelude.{◌≡◌, ℕ, ◌*◌, ◌^◌, ◌<◌, ◌≤◌, ℤ, pos, neg_ℤ, ◌+ℤ◌, ◌-ℤ◌, ◌≤ℤ◌, unsigned_abs, List, [], map, length, All, AllPairs}
+use Rattle.std.specs.Int.{int_min, int_max}
+use Rattle.weight_rows.specs.Rows.{IsPrice}
+use Rattle.ticker_table.specs.Tickers.{AreTickers}
+use Rattle.flow_accounts.specs.Balances.{Account, Balances, IsAccount, IsAsset, account_count, asset_count, money_of}
+use Rattle.flow_accounts.specs.Balances.{units_of, units_in, total_units_of, no_balances, empty_account}
+use Rattle.flow_accounts.specs.Lawful.{most_accounts, money_limit, unit_limit}
+use Rattle.flow_accounts.specs.Sums.{money_of_all, units_of_all}
+use Rattle.flow_orders.specs.Orders.{Order, IsOrder, needed_money, needed_units}
+
+-- no more orders are live
+abbrev pub most_orders : ℕ
+most_orders = 16384
+
+-- no more batches are held
+abbrev pub most_batches : ℕ
+most_batches = 2 ^ 24
+
+-- tickers in the order of their numbers; balances and totals; the exchange's own account; the live orders, ascending; the number
+-- that the next order gets; how many batches were held; and the last cleared price of each asset, 0 where there is none
+pub record Market : Type 0 where
+  pub tickers : List (List ℕ)
+  pub balances : Balances
+  pub exchange : Account
+  pub orders : List Order
+  pub next_order : ℕ
+  pub batches : ℕ
+  pub last_prices : List ℤ
+
+-- the market before the first command
+abbrev pub empty_market : Market
+empty_market = record { tickers = []; balances = no_balances; exchange = empty_account 0; orders = []; next_order = 1; batches = 0; last_prices = [] }
+
+-- a price, cut to the range in which a search starts
+abbrev pub cut_price : ℤ → ℤ
+cut_price price = int_max (neg_ℤ (pos (2 ^ 60))) (int_min (pos (2 ^ 60)) price)
+
+-- the prices at which a batch starts
+abbrev pub start_prices : Market → List ℤ
+start_prices market = map cut_price market.last_prices
+
+-- the money that accounts and exchange hold together
+abbrev pub held_money : Market → ℤ
+held_money m = money_of_all m.balances +ℤ m.exchange.money
+
+-- the units of an asset that accounts and exchange hold together
+abbrev pub held_units : Market → ℕ → ℤ
+held_units m asset = units_of_all m.balances asset +ℤ units_in m.exchange asset
+
+-- the money of an account that its orders don't need
+abbrev pub free_money : Market → ℕ → ℤ
+free_money m account = money_of m.balances account -ℤ needed_money m.orders account
+
+-- the units of an asset in an account that its orders don't need
+abbrev pub free_units : Market → ℕ → ℕ → ℤ
+free_units m account asset = units_of m.balances account asset -ℤ needed_units m.orders account asset
+
+-- there is one ticker, one last price, and in each account one balance for each asset
+pub record HasOneEach (m : Market) : Type 0 where
+  pub tickers : length m.tickers ≡ asset_count m.balances
+  pub prices : length m.last_prices ≡ asset_count m.balances
+  pub accounts : All (λ (a : Account). length a.units ≡ asset_count m.balances) m.balances.accounts
+  pub exchange : length m.exchange.units ≡ asset_count m.balances
+
+-- a live order of a market: it is within the limits, its number was given out, and its account and its assets are there
+pub record IsLiveOrder (m : Market) (o : Order) : Type 0 where
+  pub order : IsOrder o
+  pub numbered : (1 ≤ o.number) × (o.number < m.next_order)
+  pub account : IsAccount m.balances o.account
+  pub assets : All (λ e. IsAsset m.balances e.asset) o.row
+
+-- each account holds at least what its live orders need
+pub record CoversNeeds (b : Balances) (orders : List Order) : Type 0 where
+  pub money : (account : ℕ) → IsAccount b account → needed_money orders account ≤ℤ money_of b account
+  pub units : (account asset : ℕ) → IsAccount b account → IsAsset b asset → needed_units orders account asset ≤ℤ units_of b account asset
+
+-- accounts and exchange together hold the totals
+pub record HoldsTotals (m : Market) : Type 0 where
+  pub money : held_money m ≡ m.balances.total_money
+  pub units : (asset : ℕ) → IsAsset m.balances asset → held_units m asset ≡ total_units_of m.balances asset
+
+-- totals are at most their limits, and the exchange holds no more than its batches can have brought
+pub record IsWithinWidths (m : Market) : Type 0 where
+  pub total_money : m.balances.total_money ≤ℤ money_limit
+  pub total_units : All (λ units. units ≤ℤ unit_limit) m.balances.total_units
+  pub exchange_money : unsigned_abs m.exchange.money ≤ m.batches * 2 ^ 99
+  pub exchange_units : All (λ units. unsigned_abs units ≤ m.batches * 2 ^ 31) m.exchange.units
+
+-- A market is sound.
+pub record IsSound (m : Market) : Type 0 where
+  pub one_each : HasOneEach m
+  pub tickers : AreTickers m.tickers
+  pub live : All (IsLiveOrder m) m.orders
+  pub ascending : AllPairs (λ (o : Order) (later : Order). o.number < later.number) m.orders
+  pub covered : CoversNeeds m.balances m.orders
+  pub totals : HoldsTotals m
+  pub widths : IsWithinWidths m
+  pub prices : All IsPrice m.last_prices
+  pub few_accounts : account_count m.balances ≤ most_accounts
+  pub few_orders : length m.orders ≤ most_orders
+  pub few_batches : m.batches ≤ most_batches
+  pub next : 1 ≤ m.next_order

@@ -1,0 +1,98 @@
+-- The record that each command is spelled as, and what a record is read as.
+use Rattle.std.specs.Prelude.{◌≡◌, ◌<◌, ◌≤◌, ◌^◌, ℕ, List, [], ◌++◌, length, All, Result, Ok, Err}
+use Rattle.std.specs.List.{flat_map}
+use Rattle.wire_fields.specs.Numbers.{unsigned, signed, IsUnsigned, IsSigned}
+use Rattle.weight_rows.specs.declared.entries.Entry.{Entry}
+use Rattle.wire_records.specs.Records.{Record}
+use Rattle.wire_records.specs.Commands.{Request, Command, AddAsset, OpenAccount, DepositMoney, DepositAsset, WithdrawMoney, WithdrawAsset, PlaceOrder, CancelOrder, RunBatch}
+use Rattle.wire_records.specs.declared.command.BodyFault.{BodyFault}
+use Rattle.wire_records.specs.declared.command.BodyFault.TheVariants.{UnknownTag, NotBuilt, BadBody}
+
+-- the tag of each command
+abbrev pub tag_of : Command → ℕ
+tag_of (AddAsset ticker) = 1
+tag_of OpenAccount = 2
+tag_of (DepositMoney account ticks) = 3
+tag_of (DepositAsset account asset units) = 4
+tag_of (WithdrawMoney account ticks) = 5
+tag_of (WithdrawAsset account asset units) = 6
+tag_of (PlaceOrder request) = 7
+tag_of (CancelOrder account number) = 8
+tag_of (RunBatch budget) = 9
+
+-- the bytes of an entry: its asset, and its weight
+unfoldable pub entry_spelling : Entry → List ℕ
+entry_spelling e = unsigned 2 e.asset ++ signed 4 e.weight
+
+-- the bytes of a request: its numbers, how many entries there are, and the entries
+unfoldable pub request_spelling : Request → List ℕ
+request_spelling r =
+    unsigned 4 r.account ++ (signed 8 r.low ++ (signed 8 r.high ++ (unsigned 4 r.rate ++ (unsigned 8 r.cap
+    ++ (unsigned 1 (length r.row) ++ flat_map entry_spelling r.row)))))
+
+-- the body of each command
+unfoldable pub body_of : Command → List ℕ
+body_of (AddAsset ticker) = ticker
+body_of OpenAccount = []
+body_of (DepositMoney account ticks) = unsigned 4 account ++ unsigned 8 ticks
+body_of (DepositAsset account asset units) = unsigned 4 account ++ (unsigned 2 asset ++ unsigned 8 units)
+body_of (WithdrawMoney account ticks) = unsigned 4 account ++ unsigned 8 ticks
+body_of (WithdrawAsset account asset units) = unsigned 4 account ++ (unsigned 2 asset ++ unsigned 8 units)
+body_of (PlaceOrder request) = request_spelling request
+body_of (CancelOrder account number) = unsigned 4 account ++ unsigned 8 number
+body_of (RunBatch budget) = unsigned 4 budget
+
+-- the record of each command
+abbrev pub record_of : Command → Record
+record_of command = record { tag = tag_of command; body = body_of command }
+
+-- an entry whose asset and weight fit their widths
+abbrev pub IsEntry : Entry → Type 0
+IsEntry e = IsUnsigned 2 e.asset × IsSigned 4 e.weight
+
+-- a request whose numbers and entries fit their widths
+pub record IsRequest (r : Request) : Type 0 where
+  pub account : IsUnsigned 4 r.account
+  pub low : IsSigned 8 r.low
+  pub high : IsSigned 8 r.high
+  pub rate : IsUnsigned 4 r.rate
+  pub cap : IsUnsigned 8 r.cap
+  pub count : IsUnsigned 1 (length r.row)
+  pub row : All IsEntry r.row
+
+-- each field of a command fits its width
+abbrev pub IsCommand : Command → Type 0
+IsCommand (AddAsset ticker) = length ticker ≡ 8
+IsCommand OpenAccount = Unit {0}
+IsCommand (DepositMoney account ticks) = IsUnsigned 4 account × IsUnsigned 8 ticks
+IsCommand (DepositAsset account asset units) = IsUnsigned 4 account × IsUnsigned 2 asset × IsUnsigned 8 units
+IsCommand (WithdrawMoney account ticks) = IsUnsigned 4 account × IsUnsigned 8 ticks
+IsCommand (WithdrawAsset account asset units) = IsUnsigned 4 account × IsUnsigned 2 asset × IsUnsigned 8 units
+IsCommand (PlaceOrder request) = IsRequest request
+IsCommand (CancelOrder account number) = IsUnsigned 4 account × IsUnsigned 8 number
+IsCommand (RunBatch budget) = IsUnsigned 4 budget
+
+-- the record is this command's
+pub record Spells (command : Command) (r : Record) : Type 0 where
+  pub fits : IsCommand command
+  pub spelled : r ≡ record_of command
+
+-- a tag of a command, 1 to 9
+abbrev pub IsTag : ℕ → Type 0
+IsTag tag = (1 ≤ tag) × (tag ≤ 9)
+
+-- a tag of a command that isn't built yet, 7 to 9
+abbrev pub IsUnbuiltTag : ℕ → Type 0
+IsUnbuiltTag tag = (7 ≤ tag) × (tag ≤ 9)
+
+-- no command of any tag has this record
+abbrev pub SpellsNone : Record → Type 0
+SpellsNone r = (command : Command) → ¬ Spells command r
+
+-- What a record is read as: the command that it spells, or why there is none to serve. Each record of bytes has
+-- exactly one reading, by the laws.
+abbrev pub IsReadAs : Record → Result Command BodyFault → Type 0
+IsReadAs r (Ok command) = Spells command r × (¬ IsUnbuiltTag r.tag)
+IsReadAs r (Err UnknownTag) = ¬ IsTag r.tag
+IsReadAs r (Err NotBuilt) = IsUnbuiltTag r.tag
+IsReadAs r (Err BadBody) = IsTag r.tag × (¬ IsUnbuiltTag r.tag) × SpellsNone r

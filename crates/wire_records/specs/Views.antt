@@ -1,0 +1,31 @@
+-- What contracts see of the program's own commands and of views of borrowed bytes.
+use Rattle.std.specs.Prelude.{Result, Ok, Err}
+use Rattle.wire_records.specs.Commands.{Command, AddAsset, OpenAccount, DepositMoney, DepositAsset, WithdrawMoney, WithdrawAsset}
+use Rattle.wire_records.specs.declared.command.Command as owned
+use Rattle.wire_records.specs.declared.command.Command.TheVariants as own
+use Rattle.wire_records.specs.declared.command.CommandView.{CommandView}
+use Rattle.wire_records.specs.declared.command.CommandView.TheVariants as view
+use Rattle.wire_records.specs.declared.command.BodyFault.{BodyFault}
+
+-- the command that a value of the program asks for
+abbrev pub command_in : owned.Command → Command
+command_in (own.AddAsset ticker) = AddAsset ticker
+command_in own.OpenAccount = OpenAccount
+command_in (own.DepositMoney account ticks) = DepositMoney account ticks
+command_in (own.DepositAsset account asset units) = DepositAsset account asset units
+command_in (own.WithdrawMoney account ticks) = WithdrawMoney account ticks
+command_in (own.WithdrawAsset account asset units) = WithdrawAsset account asset units
+
+-- the command that a view shows
+abbrev pub command_of : CommandView → Command
+command_of (view.AddAsset ticker) = AddAsset ticker.now
+command_of view.OpenAccount = OpenAccount
+command_of (view.DepositMoney account ticks) = DepositMoney account ticks
+command_of (view.DepositAsset account asset units) = DepositAsset account asset units
+command_of (view.WithdrawMoney account ticks) = WithdrawMoney account ticks
+command_of (view.WithdrawAsset account asset units) = WithdrawAsset account asset units
+
+-- what was read, with the command in place of its view
+abbrev pub reading : Result CommandView BodyFault → Result Command BodyFault
+reading (Ok seen) = Ok (command_of seen)
+reading (Err why) = Err why
