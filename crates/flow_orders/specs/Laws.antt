@@ -1,13 +1,14 @@
 -- What holds of books of orders, walks and outcomes.
-use Rattle.std.specs.Prelude.{◌≡◌, ℕ, ℤ, ◌+◌, ◌*◌, ◌^◌, ◌≤◌, false, true, List, length, All}
-use Rattle.weight_rows.specs.Rows.{price_of}
+use Rattle.std.specs.Prelude.{◌≡◌, ℕ, ℤ, pos, ◌+◌, ◌*◌, ◌^◌, ◌≤◌, ◌+ℤ◌, ◌<ℤ◌, false, true, List, length, map, All}
+use Rattle.weight_rows.specs.Rows.{price_of, IsPricedBy}
 use Rattle.demand_curve.specs.Demand.{IsWithin}
 use Rattle.flow_orders.specs.Orders.{Order, IsOrder}
 use Rattle.flow_orders.specs.Excess.{is_unsettled}
 use Rattle.flow_orders.specs.Turns.{IsInTurn}
 use Rattle.flow_orders.specs.Choice.{absolute_sum}
 use Rattle.flow_orders.specs.Trades.{trades, residual}
-use Rattle.flow_orders.specs.Outcomes.{Outcome, Clearing, Cleared, dual_of, step_of, IsLegalFrom, end_of, IsRightOutcome, most_budget}
+use Rattle.flow_orders.specs.Outcomes.{Outcome, Fill, Clearing, Skipping, Cleared, dual_of, step_of, IsLegalFrom, end_of, IsRightOutcome, IsRightClearing, IsRightSkip, most_budget}
+use Rattle.flow_orders.specs.Welfare.{IsOptimalWithin}
 use Rattle.flow_orders.specs.Duals.{IsCommonPart, exact_dual, movement_of}
 use Rattle.flow_orders.specs.Own.{are_single, floor_rates, rates_by_choice, IsOwnOutcome}
 
@@ -53,3 +54,13 @@ pub record WalksLowerTheDual : Type 0 where
   pub moves : (orders : List Order) (start : List ℤ) (walk : List ℕ) → IsLegalFrom orders start walk → length walk ≤ movement_of orders start walk
   pub bounded : (orders : List Order) (start : List ℤ) (walk : List ℕ) → All IsOrder orders → IsLegalFrom orders start walk
       → movement_of orders start walk ≤ dual_of orders start + length orders
+
+-- a right skip lowers the dual floor by more than its movement less the number of orders, and moves a grain at least for each move of the budget
+abbrev pub RightSkipsLowerTheDual : Type 0
+RightSkipsLowerTheDual = (orders : List Order) (start : List ℤ) (budget : ℕ) (s : Skipping) → All IsOrder orders → IsRightSkip orders start budget s
+    → ((s.end_dual +ℤ pos (movement_of orders start s.trace)) <ℤ (s.start_dual +ℤ pos (length orders))) × (budget ≤ movement_of orders start s.trace)
+
+-- no balanced rates beat the rates of a right clearing by more than its gap
+abbrev pub RightClearingsAreOptimal : Type 0
+RightClearingsAreOptimal = (orders : List Order) (start : List ℤ) (c : Clearing) → All IsOrder orders → All (λ o. IsPricedBy o.row start) orders
+    → IsRightClearing orders start c → IsOptimalWithin c.gap orders (map (λ (f : Fill). f.rate) c.fills)

@@ -1,0 +1,194 @@
+-- A walk lowers the exact dual by at least its movement, and the dual floors tell it up to the number of orders.
+use Rattle.std.proofs.Common.{◌≡◌, ℕ, zero, suc, ◌+◌, ◌*◌, ◌/◌, ◌≤◌, ◌<◌, ◌⊎◌, inl, inr, ℤ, pos, ◌+ℤ◌, ◌-ℤ◌, ◌*ℤ◌, ◌≤ℤ◌, List, [], ◌∷◌, length, get_or, ap, arith}
+use Prim.Native.Nat.{◌∣◌}
+use Rattle.std.specs.Prelude.{All, neg_ℤ}
+use Rattle.std.proofs.Math.Nat.{mul-le-mul_left, mul-le-mul, mul-div_cancel, div-mul_cancel, lt_of_mul-lt-mul_left}
+use Rattle.std.proofs.lemmas.Int.{ints}
+use Rattle.std.proofs.lemmas.List.{length-set}
+use Rattle.std.proofs.lemmas.List.Sums.{sum_by-cons}
+use borrow.Author.Differences.{up, down, product_is}
+use Rattle.weight_rows.specs.Rows.{price_of, portfolio_price}
+use Rattle.demand_curve.specs.Demand.{Terms, span, scaled_dual, dual_floor}
+use Rattle.demand_curve.proofs.Limits.{span_least}
+use Rattle.flow_orders.specs.Orders.{terms_of}
+use Rattle.flow_orders.proofs.Curve.{dual_floor_in_parts}
+use Rattle.flow_orders.specs.Orders.{Order}
+use Rattle.flow_orders.proofs.Book.{IsSound}
+use Rattle.flow_orders.specs.Moves.{risen, fallen}
+use Rattle.flow_orders.specs.Duals.{share, IsCommonPart, exact_dual}
+use Rattle.flow_orders.proofs.BookSums.{own_price}
+use Rattle.flow_orders.proofs.Moves.{IsRise, IsFall}
+use Rattle.flow_orders.proofs.Progress.{AreShares, true_excess, dual_floors, times_keeps, excess_after_rise, excess_after_fall, dual_falls_by_excess}
+
+-- ---- one move
+
+-- a number at most -n, times -d
+pub times_turns : (d n : ℕ) (x : ℤ) → x ≤ℤ neg_ℤ (pos n) → pos (d * n) ≤ℤ (neg_ℤ (pos d) *ℤ x)
+times_turns d n x h =
+    let sides : n + up x ≤ down x = omega (arith, ints, h) in
+    let none : up (neg_ℤ (pos d)) ≡ 0 = omega (arith, ints) in
+    let all : down (neg_ℤ (pos d)) ≡ d = omega (arith, ints) in
+    omega (arith, ints, product_is (neg_ℤ (pos d)) x, ap (λ y. y * up x) none, ap (λ y. y * down x) none, ap (λ y. y * up x) all, ap (λ y. y * down x) all, mul-le-mul_left d sides)
+
+-- an asset's price moves by d grains: a rise or a fall
+abbrev pub IsMove : List Order → List ℤ → ℕ → ℕ → ℕ → List ℤ → Type 0
+IsMove orders prices asset reach d next =
+    (IsRise orders prices asset reach d × (next ≡ risen prices asset d)) ⊎ (IsFall orders prices asset reach d × (next ≡ fallen prices asset d))
+
+module _ (N : ℕ) (orders : List Order) (common : AreShares N orders) (sound : All IsSound orders) where
+  -- E11: a rise by d lowers the exact dual by at least N * d parts
+  pub rise_lowers_dual : (prices : List ℤ) (asset reach d : ℕ) → asset < length prices → IsRise orders prices asset reach d → exact_dual N orders (risen prices asset d) + N * d ≤ exact_dual N orders prices
+  rise_lowers_dual prices asset reach d within move =
+      let p = price_of prices asset in
+      let gap : p +ℤ pos d -ℤ p ≡ pos d = omega (arith, ints) in
+      let fall = rw (gap, own_price prices asset) at (dual_falls_by_excess N orders sound prices asset p (p +ℤ pos d) within) in
+      let excess = excess_after_rise N orders common sound prices asset reach d within move in
+      let least = times_keeps d (pos N) (true_excess N orders (risen prices asset d) asset) excess in
+      omega (arith, ints, fall, least)
+
+  -- and so does a fall by d
+  pub fall_lowers_dual : (prices : List ℤ) (asset reach d : ℕ) → asset < length prices → IsFall orders prices asset reach d → exact_dual N orders (fallen prices asset d) + N * d ≤ exact_dual N orders prices
+  fall_lowers_dual prices asset reach d within move =
+      let p = price_of prices asset in
+      let gap : p -ℤ pos d -ℤ p ≡ neg_ℤ (pos d) = omega (arith, ints) in
+      let fall = rw (gap, own_price prices asset) at (dual_falls_by_excess N orders sound prices asset p (p -ℤ pos d) within) in
+      let excess = excess_after_fall N orders common sound prices asset reach d within move in
+      let least = times_turns d N (true_excess N orders (fallen prices asset d) asset) excess in
+      omega (arith, ints, fall, least)
+
+  -- a move lowers the exact dual by at least N * d parts
+  pub move_lowers_dual : (prices : List ℤ) (asset reach d : ℕ) (next : List ℤ) → asset < length prices → IsMove orders prices asset reach d next → exact_dual N orders next + N * d ≤ exact_dual N orders prices
+  move_lowers_dual prices asset reach d next within move =
+      elim move [
+        | inl rise ↦ rw rise.1 (rise_lowers_dual prices asset reach d within rise.0)
+        | inr fall ↦ rw fall.1 (fall_lowers_dual prices asset reach d within fall.0)
+      ]
+
+-- ---- walks
+
+-- a walk makes a move of each asset in turn; its movement is the sum of the amounts moved
+abbrev pub IsWalk : List Order → ℕ → List ℤ → List ℕ → List ℤ → ℕ → Type 0
+IsWalk orders reach start [] stop movement = (stop ≡ start) × (movement ≡ 0)
+IsWalk orders reach start (asset ∷ assets) stop movement =
+    (next : List ℤ) × (d : ℕ) × (rest : ℕ) × (asset < length start) × IsMove orders start asset reach d next × IsWalk orders reach next assets stop rest × (movement ≡ d + rest)
+
+module _ (orders : List Order) (reach : ℕ) where
+  -- a move is by a grain at least
+  pub move_is_some : (prices : List ℤ) (asset d : ℕ) (next : List ℤ) → IsMove orders prices asset reach d next → 1 ≤ d
+  move_is_some prices asset d next move =
+      elim move [ inl rise ↦ rise.0.least | inr fall ↦ fall.0.least ]
+
+  -- a move keeps the number of prices
+  pub length-move : (prices : List ℤ) (asset d : ℕ) (next : List ℤ) → IsMove orders prices asset reach d next → length next ≡ length prices
+  length-move prices asset d next move =
+      elim move [
+        | inl rise ↦ rw rise.1 (length-set prices asset (price_of prices asset +ℤ pos d))
+        | inr fall ↦ rw fall.1 (length-set prices asset (price_of prices asset -ℤ pos d))
+      ]
+
+  -- a walk moves a grain at least for each asset along it
+  pub movement_at_least : (assets : List ℕ) (start stop : List ℤ) (movement : ℕ) → IsWalk orders reach start assets stop movement → length assets ≤ movement
+  movement_at_least [] start stop movement walk = omega arith
+  movement_at_least (asset ∷ assets) start stop movement (next, d, rest, within, move, walk, sum) =
+      omega (arith, sum, move_is_some start asset d next move, movement_at_least assets next stop rest walk)
+
+  -- E12: a walk lowers the exact dual by at least N times its movement
+  pub walk_lowers_dual : (N : ℕ) → AreShares N orders → All IsSound orders → (assets : List ℕ) (start stop : List ℤ) (movement : ℕ) → IsWalk orders reach start assets stop movement
+      → exact_dual N orders stop + N * movement ≤ exact_dual N orders start
+  walk_lowers_dual N common sound [] start stop movement (same, none) = rw (same, none) (omega arith)
+  walk_lowers_dual N common sound (asset ∷ assets) start stop movement (next, d, rest, within, move, walk, sum) =
+      let first = move_lowers_dual N orders common sound start asset reach d next within move in
+      let others = walk_lowers_dual N common sound assets next stop rest walk in
+      rw sum (joined (exact_dual N orders start) (exact_dual N orders next) (exact_dual N orders stop) first others)
+    where
+      joined : (a b c : ℕ) → b + N * d ≤ a → c + N * rest ≤ b → c + N * (d + rest) ≤ a
+      joined a b c first others = omega (arith, first, others)
+
+-- ---- dual floors
+
+-- the dual floors are the exact duals, each rounded down to whole grains
+pub floors_enclose_dual : (N : ℕ) (orders : List Order) (prices : List ℤ) → 1 ≤ N → AreShares N orders → All IsSound orders
+    → (N * dual_floors orders prices ≤ exact_dual N orders prices) × (exact_dual N orders prices + length orders ≤ N * (dual_floors orders prices + length orders))
+floors_enclose_dual N [] prices some common sound = (omega arith, omega arith)
+floors_enclose_dual N (o ∷ orders) prices some common sound =
+    let share_here : share N (terms_of o) * (2 * (terms_of o).rate * span (terms_of o)) ≡ N = common 0 o (omega arith) in
+    let h : IsSound o = sound 0 o (omega arith) in
+    let one = dual_floor_in_parts (terms_of o) h.limits (portfolio_price o.row prices) (share N (terms_of o)) N share_here some in
+    let others = floors_enclose_dual N orders prices some (λ k d inside. common (suc k) d (omega (arith, inside))) (λ k d inside. sound (suc k) d (omega (arith, inside))) in
+    let floors = sum_by-cons (λ (o : Order). dual_floor (terms_of o) (portfolio_price o.row prices)) o orders in
+    let duals = sum_by-cons (λ (o : Order). share N (terms_of o) * scaled_dual (terms_of o) (portfolio_price o.row prices)) o orders in
+    rw (floors, duals) (joined (dual_floor (terms_of o) (portfolio_price o.row prices)) (dual_floors orders prices) (share N (terms_of o) * scaled_dual (terms_of o) (portfolio_price o.row prices)) (exact_dual N orders prices) (length orders) one others)
+  where
+    joined : (f fs e es n : ℕ) → (N * f ≤ e) × (e < N * f + N) → (N * fs ≤ es) × (es + n ≤ N * (fs + n)) → (N * (f + fs) ≤ e + es) × (e + es + suc n ≤ N * (f + fs + suc n))
+    joined f fs e es n one others = (omega (arith, one, others), omega (arith, one, others))
+
+-- ---- a common number
+
+-- 2 * rate * span of an order
+abbrev pub parts_of : Order → ℕ
+parts_of o = 2 * (terms_of o).rate * span (terms_of o)
+
+-- the product of all of them
+unfoldable pub common_parts : List Order → ℕ
+common_parts [] = 1
+common_parts (o ∷ orders) = parts_of o * common_parts orders
+
+parts-some : (o : Order) → IsSound o → 1 ≤ parts_of o
+parts-some o h =
+    let rate : 1 ≤ (terms_of o).rate = omega (arith, h.limits.room_least, h.limits.room_most) in
+    let whole : 1 ≤ span (terms_of o) = omega (arith, span_least (terms_of o) h.limits) in
+    omega (arith, mul-le-mul rate whole)
+
+-- it isn't 0
+pub common_parts-some : (orders : List Order) → All IsSound orders → 1 ≤ common_parts orders
+unfolding common_parts
+common_parts-some [] sound = omega arith
+common_parts-some (o ∷ orders) sound =
+    let here : 1 ≤ parts_of o = parts-some o (sound 0 o (omega arith)) in
+    let others : 1 ≤ common_parts orders = common_parts-some orders (λ k d inside. sound (suc k) d (omega (arith, inside))) in
+    mul-le-mul here others
+
+-- each order's divides it
+divides : (orders : List Order) (k : ℕ) (d : Order) → k < length orders → (m : ℕ) × (m * parts_of (get_or orders k d) ≡ common_parts orders)
+unfolding common_parts
+divides [] k d inside = absurd (omega (arith, inside))
+divides (o ∷ orders) zero d inside = (common_parts orders, omega arith)
+divides (o ∷ orders) (suc k) d inside =
+    let rest = divides orders k d (omega (arith, inside)) in
+    (parts_of o * rest.0, omega (arith, ap (λ y. parts_of o * y) rest.1))
+
+-- what divides a number is a share of it
+share-divides : (N m : ℕ) (t : Terms) → 1 ≤ 2 * t.rate * span t → m * (2 * t.rate * span t) ≡ N → share N t * (2 * t.rate * span t) ≡ N
+unfolding share
+share-divides N m t some times =
+    let part : N / (2 * t.rate * span t) ≡ m = rw (← times) (mul-div_cancel m some) in
+    rw part times
+
+-- a number that each order's divides is a common one
+pub common_from_divides : (N : ℕ) (orders : List Order) → All (λ o. parts_of o ∣ N) orders → AreShares N orders
+unfolding share
+common_from_divides N orders all k d inside =
+    div-mul_cancel (parts_of (get_or orders k d)) (all k d inside)
+
+-- so every book has a number in whose parts its duals are whole
+pub common_parts-common : (orders : List Order) → All IsSound orders → AreShares (common_parts orders) orders
+common_parts-common orders sound k d inside =
+    let m = divides orders k d inside in
+    share-divides (common_parts orders) m.0 (terms_of (get_or orders k d)) (parts-some (get_or orders k d) (sound k d inside)) m.1
+
+-- there is a common part
+pub common_part_is_there : (orders : List Order) → All IsSound orders → (N : ℕ) × IsCommonPart N orders
+common_part_is_there orders sound = (common_parts orders, (common_parts-some orders sound, common_parts-common orders sound))
+
+-- E12: the dual floors fall by more than the movement less the number of orders
+pub floors_fall : (orders : List Order) (reach : ℕ) → All IsSound orders → 1 ≤ length orders → (assets : List ℕ) (start stop : List ℤ) (movement : ℕ) → IsWalk orders reach start assets stop movement
+    → dual_floors orders stop + movement < dual_floors orders start + length orders
+floors_fall orders reach sound some assets start stop movement walk =
+    let N = common_parts orders in
+    let one : 1 ≤ common_parts orders = common_parts-some orders sound in
+    let common = common_parts-common orders sound in
+    compared (common_parts orders) (dual_floors orders start) (dual_floors orders stop) (exact_dual N orders start) (exact_dual N orders stop) (length orders) movement some
+    (floors_enclose_dual N orders start one common sound).1 (floors_enclose_dual N orders stop one common sound).0 (walk_lowers_dual orders reach N common sound assets start stop movement walk)
+  where
+    compared : (N f g d e n m : ℕ) → 1 ≤ n → d + n ≤ N * (f + n) → N * g ≤ e → e + N * m ≤ d → g + m < f + n
+    compared N f g d e n m some above below fall = lt_of_mul-lt-mul_left N (omega (arith, some, above, below, fall))

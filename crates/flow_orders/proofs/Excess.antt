@@ -1,0 +1,46 @@
+use Rattle.std.proofs.Common.{◌≡◌, ℕ, suc, ◌+◌, ◌*◌, ◌≤◌, ℤ, pos, negsuc, ◌+ℤ◌, ◌*ℤ◌, ◌≤ℤ◌, ap, arith}
+use Rattle.std.specs.Prelude.{neg_ℤ}
+use Rattle.std.proofs.Math.Nat.{mul-le-mul_left}
+use Rattle.std.proofs.lemmas.Int.{ints}
+use borrow.Author.Differences.{up, down, product_is}
+use Rattle.demand_curve.specs.Demand.{Terms, IsWithinLimits, span, scaled_demand, floor_rate, ceil_rate}
+use Rattle.demand_curve.proofs.RoundingLaws.{encloses}
+use Rattle.demand_curve.proofs.DemandLaws.{moves_little}
+use Rattle.flow_orders.specs.Excess.{low_part, high_part}
+use Rattle.flow_orders.proofs.Missing.{roundings_move_little}
+
+-- one grain of an asset, of weight w
+pub part_step : (w : ℤ) (t : Terms) → IsWithinLimits t → (c : ℤ) → (pos 256 *ℤ low_part w t c) ≤ℤ (pos 256 *ℤ high_part w t (c +ℤ w) +ℤ w *ℤ w)
+part_step (pos n) t h c =
+    omega (arith, ints, mul-le-mul_left n (roundings_move_little t h c n))
+part_step (negsuc n) t h c =
+    let back : c +ℤ negsuc n +ℤ pos (suc n) ≡ c = omega (arith, ints) in
+    let step = rw back at (roundings_move_little t h (c +ℤ negsuc n) (suc n)) in
+    omega (arith, ints, mul-le-mul_left (suc n) step)
+
+-- low and high enclose what is asked for, in parts of 1/N of a unit
+pub low_below : (w : ℤ) (t : Terms) → IsWithinLimits t → (c : ℤ) (k N : ℕ) → k * span t ≡ N → (pos N *ℤ low_part w t c) ≤ℤ (w *ℤ pos (k * scaled_demand t c))
+low_below (pos n) t h c k N parts =
+    omega (arith, ints, ap (λ y. n * floor_rate t c * y) parts, mul-le-mul_left (n * k) (encloses t h c).floor_below)
+low_below (negsuc n) t h c k N parts =
+    let most : suc n * k * scaled_demand t c ≤ N * (suc n * ceil_rate t c) = omega (arith, mul-le-mul_left (suc n * k) (encloses t h c).ceil_above, ap (λ y. suc n * ceil_rate t c * y) parts) in
+    let left : pos N *ℤ neg_ℤ (pos (suc n * ceil_rate t c)) ≡ neg_ℤ (pos (N * (suc n * ceil_rate t c))) = turned N (suc n * ceil_rate t c) in
+    rw left (omega (arith, ints, most))
+  where
+    turned : (N m : ℕ) → pos N *ℤ neg_ℤ (pos m) ≡ neg_ℤ (pos (N * m))
+    turned N m =
+        let none : up (neg_ℤ (pos m)) ≡ 0 = omega (arith, ints) in
+        let all : down (neg_ℤ (pos m)) ≡ m = omega (arith, ints) in
+        omega (arith, ints, product_is (pos N) (neg_ℤ (pos m)), ap (λ y. N * y) none, ap (λ y. N * y) all)
+
+-- one grain moves what is asked for by at most w * w / 256
+pub true_step : (w : ℤ) (t : Terms) → IsWithinLimits t → (c : ℤ) (k N : ℕ) → k * span t ≡ N → (pos 256 *ℤ (w *ℤ pos (k * scaled_demand t c))) ≤ℤ (pos 256 *ℤ (w *ℤ pos (k * scaled_demand t (c +ℤ w))) +ℤ pos N *ℤ (w *ℤ w))
+true_step (pos n) t h c k N parts =
+    let step = moves_little t h c n in
+    let all : 256 * n * k * scaled_demand t c ≤ 256 * n * k * scaled_demand t (c +ℤ pos n) + N * n * n = omega (arith, mul-le-mul_left (n * k) step, ap (λ y. n * n * y) parts) in
+    omega (arith, ints, all)
+true_step (negsuc n) t h c k N parts =
+    let back : c +ℤ negsuc n +ℤ pos (suc n) ≡ c = omega (arith, ints) in
+    let step = rw back at (moves_little t h (c +ℤ negsuc n) (suc n)) in
+    let all : 256 * suc n * k * scaled_demand t (c +ℤ negsuc n) ≤ 256 * suc n * k * scaled_demand t c + N * suc n * suc n = omega (arith, mul-le-mul_left (suc n * k) step, ap (λ y. suc n * suc n * y) parts) in
+    omega (arith, ints, all)

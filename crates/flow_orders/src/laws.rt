@@ -1,0 +1,48 @@
+//! What holds of books of orders, whatever code there is. Each law is the contract of a function that does nothing.
+ghost use Rattle.flow_orders.specs.Laws.{OneOwnOutcome, EveryBatchHasAnOwnOutcome, OwnOutcomesAreRight, OneAssetBooksClear, ChosenRatesAreNoWorse, OneWalkOfEachLength, WalksLowerTheDual, RightSkipsLowerTheDual, RightClearingsAreOptimal};
+
+/// A batch has at most one own outcome.
+pub fn one_own_outcome()
+    ensures { OneOwnOutcome }
+{}
+
+/// Every batch has an own outcome.
+pub fn every_batch_has_an_own_outcome()
+    ensures { EveryBatchHasAnOwnOutcome }
+{}
+
+/// An own outcome is right.
+pub fn own_outcomes_are_right()
+    ensures { OwnOutcomesAreRight }
+{}
+
+/// In a book of one-asset orders an own outcome is a clearing, at prices within 2^60 grains, and an asset that was
+/// settled keeps its price.
+pub fn one_asset_books_clear()
+    ensures { OneAssetBooksClear }
+{}
+
+/// Chosen rates leave no larger sum of absolute residuals than all demands rounded down.
+pub fn chosen_rates_are_no_worse()
+    ensures { ChosenRatesAreNoWorse }
+{}
+
+/// There is at most one walk in turn of each length.
+pub fn one_walk_of_each_length()
+    ensures { OneWalkOfEachLength }
+{}
+
+/// A legal walk lowers the exact dual by at least its movement, which is at least a grain for each move.
+pub fn walks_lower_the_dual()
+    ensures { WalksLowerTheDual }
+{}
+
+/// A right skip lowers the dual floor by more than its movement less the number of orders.
+pub fn right_skips_lower_the_dual()
+    ensures { RightSkipsLowerTheDual }
+{}
+
+/// No balanced rates beat those of a right clearing by more than its gap.
+pub fn right_clearings_are_optimal()
+    ensures { RightClearingsAreOptimal }
+{}
