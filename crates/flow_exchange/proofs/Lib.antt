@@ -4,6 +4,6 @@ pub mod Serving
 pub mod Totals
 pub mod Running
 pub mod NewAssets
-pub mod OneReading
 pub mod OneJournal
-pub mod Completing
+pub mod Outcomes
+pub mod Dispatch

@@ -2,10 +2,10 @@ pub mod Market
 pub mod Refusing
 pub mod Step
 pub mod Serving
-pub mod Faulting
 pub mod Journal
 pub mod Totals
-pub mod Reading
 pub mod Laws
 pub mod Statuses
+pub mod Forms
 pub mod Running
+pub mod Program

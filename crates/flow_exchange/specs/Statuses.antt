@@ -1,9 +1,10 @@
--- What each status prints, and the number that the program exits with.
-use Rattle.std.specs.Prelude.{ℕ, List, [], ◌++◌, codes, decimal}
+-- What each status prints, the number that the program exits with, and the status of each ending.
+use Rattle.std.specs.Prelude.{ℕ, List, [], ◌++◌, codes, decimal, Result, Ok, Err}
+use Rattle.flow_io.specs.declared.whole.ReadAllFault.{ReadAllFault}
+use Rattle.flow_io.specs.declared.whole.ReadAllFault.TheVariants as fault
+use Rattle.wire_records.specs.Reading.{Ending, End, Torn, TooLong, Reading, NotFlow, File}
 use Rattle.flow_exchange.specs.declared.status.Status.{Status}
 use Rattle.flow_exchange.specs.declared.status.Status.TheVariants as status
-use Rattle.flow_exchange.specs.declared.ending.Ending.{Ending}
-use Rattle.flow_exchange.specs.declared.ending.Ending.TheVariants as ending
 
 -- the exit number
 abbrev pub exit_of : Status → ℕ
@@ -27,9 +28,23 @@ line_of status.WriteFault = codes "flow: write failed\n"
 line_of status.NoMemory = codes "flow: no memory\n"
 line_of (status.TooLong limit) = codes "flow: more than " ++ decimal limit ++ codes " bytes\n"
 
--- the status of a reading that was served to its end
-abbrev pub status_of : Ending → Status
-status_of ending.End = status.Done
-status_of ending.NotFlow = status.NotFlow
-status_of (ending.Torn place) = status.Torn place
-status_of (ending.TooLong limit) = status.TooLong limit
+-- the status of an ending
+abbrev pub ending_status : ℕ → Ending → Status
+ending_status limit End = status.Done
+ending_status limit (Torn place) = status.Torn place
+ending_status limit TooLong = status.TooLong limit
+
+-- the status of a reading
+abbrev pub reading_status : {V U : Type 0} → ℕ → Reading V U → Status
+reading_status limit NotFlow = status.NotFlow
+reading_status limit (File version units ending) = ending_status limit ending
+
+-- the status of a fault of reading
+abbrev pub fault_status : ReadAllFault → Status
+fault_status fault.Read = status.ReadFault
+fault_status fault.Memory = status.NoMemory
+
+-- the status of what went through, or broke off with one
+abbrev pub status_of : Result (Unit {0}) Status → Status
+status_of (Ok _) = status.Done
+status_of (Err why) = why

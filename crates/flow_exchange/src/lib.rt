@@ -4,7 +4,7 @@
 //! in `out` for the bytes of the source, and when each status comes.
 #![tactic(auto)]
 
-mod ending;
+mod form;
 pub mod laws;
 mod line;
 mod market;
@@ -15,6 +15,6 @@ mod status;
 mod tests;
 mod top;
 
-pub use ending::Ending;
+pub use form::Form;
 pub use status::Status;
 pub use top::{flow, flow_limited};

@@ -1,6 +1,6 @@
 //! The line that a status prints.
-ghost use Rattle.std.specs.Prelude.{OnOk, ◌++◌, decimal};
-ghost use Rattle.flow_io.specs.Faults.{HasCause};
+ghost use Rattle.std.specs.Prelude.{OnOk, IsErr, ◌++◌, decimal};
+ghost use Rattle.flow_io.specs.Faults.{Blames};
 ghost use Rattle.flow_io.specs.Streams.{Grows};
 
 use crate::Status;
@@ -15,7 +15,7 @@ fn write_number<N: Sink>(
     after: &[u8],
 ) -> Result<(), WriteFailed>
     ensures written { OnOk result (Grows (N.held notes.old) (N.held notes.new) (before.now ++ decimal number ++ after.now)) }
-    ensures cause { HasCause (N.faults notes.old) (N.faults notes.new) result }
+    ensures cause { Blames (IsErr result) (N.faults notes.old) (N.faults notes.new) }
 {
     let mut buffer = Buffer::new();
     notes.write(before)?;
@@ -30,7 +30,7 @@ impl Status {
     /// what is left of the line is let go. Takes no memory.
     pub fn write_line<N: Sink>(&self, notes: &mut N) -> Result<(), WriteFailed>
         ensures written { OnOk result (Grows (N.held notes.old) (N.held notes.new) (line_of self.now)) }
-        ensures cause { HasCause (N.faults notes.old) (N.faults notes.new) result }
+        ensures cause { Blames (IsErr result) (N.faults notes.old) (N.faults notes.new) }
     {
         match *self {
             Status::Done => notes.write(b""),

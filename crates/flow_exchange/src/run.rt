@@ -1,17 +1,18 @@
 //! `flow run`: a command file in, a journal out.
-ghost use Rattle.std.specs.Prelude.{◌≡◌, ◌+◌, ◌++◌, ◌↔◌, Ok, OnOk, OnErr, IfErr, IfSome, IsTrue, take};
+ghost use Rattle.std.specs.Prelude.{◌≡◌, ◌≢◌, ◌+◌, ◌++◌, ◌↔◌, Ok, Err, Some, OnOk, OnErr, IfErr, IfSome, IsTrue, [], take, drop};
+ghost use Rattle.flow_io.specs.Faults.{Blames};
 ghost use Rattle.flow_io.specs.Streams.{Grows, GrowsByFront, TakesAtMost};
 ghost use Rattle.wire_records.specs.Records.{command_magic};
-ghost use Rattle.flow_exchange.specs.Market.{empty_market};
-ghost use Rattle.flow_exchange.specs.Serving.{ServesOne, ServesAll, HasWriteFault};
-ghost use Rattle.flow_exchange.specs.Running.{RunsTo, IsReadOut};
-ghost use Rattle.flow_exchange.specs.Faulting.{HasRunFault};
+ghost use Rattle.flow_exchange.specs.Statuses.{status_of};
+ghost use Rattle.flow_exchange.specs.Serving.{ServesOne, ServesAll};
+ghost use Rattle.flow_exchange.specs.Market.{empty_market, IsSound};
+ghost use Rattle.flow_exchange.specs.Program.{Meets};
+ghost use Rattle.flow_exchange.specs.declared.form.Form.TheVariants.{Run};
 
-use crate::Ending;
+use crate::Status;
 use crate::market::Market;
 use crate::session::serve;
-use crate::status::Stop;
-use flow_io::{ReadAllFault, Sink, Source, WholeInput, read_all};
+use flow_io::{Sink, Source, WholeInput, read_all};
 use std::alloc::Global;
 use wire_records::{Framed, RecordView, next_record};
 
@@ -23,19 +24,6 @@ const JOURNAL_MAGIC: [u8; 8] = *b"FLOWJNL1";
 // The longest body of a command record, in bytes.
 const MOST_BODY: u32 = 1024;
 
-impl From<ReadAllFault> for Stop {
-    ghost use Rattle.flow_exchange.specs.Faulting.{stop_of};
-
-    ghost from_gives = { λ fault stop. stop ≡ stop_of fault };
-
-    fn from(fault: ReadAllFault) -> Stop {
-        match fault {
-            ReadAllFault::Read => Stop::ReadFault,
-            ReadAllFault::Memory => Stop::NoMemory,
-        }
-    }
-}
-
 // Whether the bytes begin as a command file.
 fn is_command_file(bytes: &[u8]) -> bool
     ensures { IsTrue result ↔ (take 8 bytes.now ≡ command_magic) }
@@ -44,13 +32,13 @@ fn is_command_file(bytes: &[u8]) -> bool
 }
 
 // Writes the bytes by one call.
-fn put<K: Sink>(out: &mut K, bytes: &[u8]) -> Result<(), Stop>
+fn put<K: Sink>(out: &mut K, bytes: &[u8]) -> Result<(), Status>
     ensures written { OnOk result (Grows (K.held out.old) (K.held out.new) bytes.now) }
     ensures cut { OnErr result (GrowsByFront (K.held out.old) (K.held out.new) bytes.now) }
-    ensures stop { IfErr result (λ stop. stop ≡ Stop.WriteFault) }
-    ensures cause { HasWriteFault (K.faults out.old) (K.faults out.new) result }
+    ensures status { IfErr result (λ status. status ≡ Status.WriteFault) }
+    ensures cause { Blames (result ≡ Err Status.WriteFault) (K.faults out.old) (K.faults out.new) }
 {
-    out.write(bytes).map_err(|_| Stop::WriteFault)
+    out.write(bytes).map_err(|_| Status::WriteFault)
 }
 
 // Serves one record, and writes its pair by one call.
@@ -59,27 +47,28 @@ fn serve_one<K: Sink>(
     asked: &RecordView<'_>,
     pair: &mut Vec<u8>,
     out: &mut K,
-) -> Result<(), Stop>
+) -> Result<(), Status>
     ensures served { ServesOne market.old asked.now market.new (K.held out.old) (K.held out.new) result }
-    ensures cause { HasWriteFault (K.faults out.old) (K.faults out.new) result }
+    ensures cause { Blames (result ≡ Err Status.WriteFault) (K.faults out.old) (K.faults out.new) }
 {
     pair.clear();
-    serve(market, asked, pair).map_err(|_| Stop::NoMemory)?;
+    serve(market, asked, pair).map_err(|_| Status::NoMemory)?;
     put(out, pair)
 }
 
-// Serves the records behind the magic, one after the other, and says how the reading ends.
+// Serves the records behind the magic, one after the other: Ok where the reading ends with the input.
 fn serve_records<K: Sink>(
     input: &WholeInput,
     limit: u64,
     market: &mut Market,
     pair: &mut Vec<u8>,
     out: &mut K,
-) -> Result<Ending, Stop>
+) -> Result<(), Status>
     requires begins { take 8 input.now.bytes.items ≡ command_magic }
-    requires fresh { market.old ≡ empty_market }
-    ensures served { ServesAll limit input.now.bytes.items (IsTrue input.now.more) result (K.held out.old) (K.held out.new) }
-    ensures cause { HasWriteFault (K.faults out.old) (K.faults out.new) result }
+    requires sound { IsSound market.old }
+    ensures served { ServesAll limit market.old 8 (IsTrue input.now.more) (drop 8 input.now.bytes.items)
+        (status_of result) (K.held out.old) (K.held out.new) }
+    ensures cause { Blames (result ≡ Err Status.WriteFault) (K.faults out.old) (K.faults out.new) }
 {
     let bytes = input.bytes.as_slice();
     let mut place = COMMAND_MAGIC.len();
@@ -92,10 +81,10 @@ fn serve_records<K: Sink>(
                 served?;
                 place += taken;
             }
-            Framed::TooLarge(_) => return Ok(Ending::Torn(place as u64)),
-            Framed::Short if !input.more => return Ok(Ending::Torn(place as u64)),
-            Framed::End if !input.more => return Ok(Ending::End),
-            Framed::Short | Framed::End => return Ok(Ending::TooLong(limit)),
+            Framed::TooLarge(_) => return Err(Status::Torn(place as u64)),
+            Framed::Short if !input.more => return Err(Status::Torn(place as u64)),
+            Framed::End if !input.more => return Ok(()),
+            Framed::Short | Framed::End => return Err(Status::TooLong(limit)),
         }
     }
 }
@@ -106,10 +95,11 @@ fn serve_all<K: Sink>(
     input: &WholeInput,
     limit: u64,
     out: &mut K,
-) -> Result<Ending, Stop>
+) -> Result<(), Status>
     requires { take 8 input.now.bytes.items ≡ command_magic }
-    ensures served { ServesAll limit input.now.bytes.items (IsTrue input.now.more) result (K.held out.old) (K.held out.new) }
-    ensures cause { HasWriteFault (K.faults out.old) (K.faults out.new) result }
+    ensures served { ServesAll limit empty_market 8 (IsTrue input.now.more) (drop 8 input.now.bytes.items)
+        (status_of result) (K.held out.old) (K.held out.new) }
+    ensures cause { Blames (result ≡ Err Status.WriteFault) (K.faults out.old) (K.faults out.new) }
 {
     let mut market = Market::new(alloc);
     let mut pair = Vec::new(alloc);
@@ -123,15 +113,19 @@ pub(crate) fn run<S: Source, K: Sink>(
     limit: u64,
     source: &mut S,
     out: &mut K,
-) -> Result<Ending, Stop>
-    ensures runs { IfSome (S.rest source.old) (λ bytes. RunsTo limit bytes result (K.held out.old) (K.held out.new)) }
-    ensures ended { result ≡ Ok Ending.End → IsReadOut (S.rest source.old) (S.rest source.new) }
+) -> Result<(), Status>
+    ensures asked { status_of result ≢ Status.Usage }
+    ensures meets { IfSome (S.rest source.old)
+        (λ bytes. Meets Run limit bytes (status_of result) (K.held out.old) (K.held out.new)) }
+    ensures left { status_of result ≡ Status.Done
+        → IfSome (S.rest source.old) (λ _. S.rest source.new ≡ Some []) }
     ensures taken { TakesAtMost (S.rest source.old) (S.rest source.new) (limit + 1) }
-    ensures cause { HasRunFault (S.faults source.old) (S.faults source.new) (K.faults out.old) (K.faults out.new) result }
+    ensures reads { Blames (status_of result ≡ Status.ReadFault) (S.faults source.old) (S.faults source.new) }
+    ensures writes { Blames (status_of result ≡ Status.WriteFault) (K.faults out.old) (K.faults out.new) }
 {
     let input = read_all(alloc, source, limit)?;
     if !is_command_file(&input.bytes) {
-        return Ok(Ending::NotFlow);
+        return Err(Status::NotFlow);
     }
     put(out, &JOURNAL_MAGIC)?;
     serve_all(alloc, &input, limit, out)

@@ -1,7 +1,7 @@
 //! How the program ends.
 ghost use Rattle.std.specs.Prelude.{◌≡◌};
 
-use crate::Ending;
+use flow_io::ReadAllFault;
 
 /// How the program ends. Each status has one exit number and one line on standard error, but for
 /// `Done`, which has none.
@@ -45,25 +45,15 @@ impl Status {
     }
 }
 
-impl From<Ending> for Status {
-    ghost use Rattle.flow_exchange.specs.Statuses.{status_of};
+impl From<ReadAllFault> for Status {
+    ghost use Rattle.flow_exchange.specs.Statuses.{fault_status};
 
-    ghost from_gives = { λ ending status. status ≡ status_of ending };
+    ghost from_gives = { λ fault status. status ≡ fault_status fault };
 
-    fn from(ending: Ending) -> Status {
-        match ending {
-            Ending::End => Status::Done,
-            Ending::NotFlow => Status::NotFlow,
-            Ending::Torn(place) => Status::Torn(place),
-            Ending::TooLong(limit) => Status::TooLong(limit),
+    fn from(fault: ReadAllFault) -> Status {
+        match fault {
+            ReadAllFault::Read => Status::ReadFault,
+            ReadAllFault::Memory => Status::NoMemory,
         }
     }
-}
-
-/// Why a run broke off.
-#[derive(Clone, Copy, Debug, PartialEq, Eq)]
-pub(crate) enum Stop {
-    ReadFault,
-    WriteFault,
-    NoMemory,
 }

@@ -4,7 +4,7 @@ use Rattle.flow_exchange.proofs.run.serve_records.Given as goal
 
 abbrev pub invariant-records : goal.invariant-records
 invariant-records g l =
-    HasServed l.bytes l.market l.place (g.K.Sink.held l.fn.out) (g.K.Sink.held l.out) (g.K.Sink.faults l.fn.out) (g.K.Sink.faults l.out)
+    HasServed l.fn.market l.bytes l.market l.place (g.K.Sink.held l.fn.out) (g.K.Sink.held l.out) (g.K.Sink.faults l.fn.out) (g.K.Sink.faults l.out)
 
 abbrev pub decreases-records : goal.decreases-records
 decreases-records g l = length l.bytes - l.place

@@ -1,0 +1,33 @@
+-- A call does what the form of its words does, or nothing.
+use Rattle.std.proofs.Common.{◌≢◌, ℕ, List, refl}
+use Rattle.flow_io.specs.Faults.{Rose}
+use Rattle.flow_io.specs.Streams.{Grows}
+use Rattle.flow_io.specs.Changes.{Change}
+use Rattle.flow_exchange.specs.declared.form.Form.{Form}
+use Rattle.flow_exchange.specs.declared.form.Form.TheVariants.{Run}
+use Rattle.flow_exchange.specs.declared.status.Status.{Status}
+use Rattle.flow_exchange.specs.declared.status.Status.TheVariants as answer
+use Rattle.flow_exchange.specs.Forms.{Asks, AsksNothing}
+use Rattle.flow_exchange.specs.Statuses.{line_of}
+use Rattle.flow_exchange.specs.Program.{Does, Serves}
+use Rattle.flow_exchange.proofs.Outcomes.{one_form}
+
+-- run is the only form
+pub does_run : (form : Form) (limit : ℕ) (status : Status) (source out : Change) → Does Run limit status source out → Does form limit status source out
+does_run Run limit status source out does = does
+
+-- the words are a form, which was done
+pub serves_form : (limit : ℕ) (words : List (List ℕ)) (form : Form) (status : Status) (source out notes : Change) → Asks words form → status ≢ answer.Usage → Does form limit status source out → ((¬ Rose notes.faults notes.faults_after) → Grows notes.before notes.after (line_of status)) → Serves limit words status source out notes
+serves_form limit words form status source out notes asks asked does noted = record {
+  usage = (λ e. absurd (asked e), λ none. absurd (none form asks));
+  does = λ other also. rw (one_form words other form also asks) does;
+  noted = noted;
+}
+
+-- the words are none
+pub serves_none : (limit : ℕ) (words : List (List ℕ)) (source out notes : Change) → AsksNothing words → ((¬ Rose notes.faults notes.faults_after) → Grows notes.before notes.after (line_of answer.Usage)) → Serves limit words answer.Usage source out notes
+serves_none limit words source out notes none noted = record {
+  usage = (λ e. none, λ not. refl);
+  does = λ form asks. absurd (none form asks);
+  noted = noted;
+}

@@ -1,0 +1,80 @@
+-- Words that only the private functions of a run use: what serving records, one after the other, appends to a journal.
+use Rattle.std.specs.Prelude.{◌≡◌, ◌++◌, ◌∷◌, [], ℕ, List, Result, Ok, Err, Option, All}
+use Rattle.std.specs.List.{flat_map}
+use Rattle.flow_io.specs.Streams.{Grows, GrowsByFront}
+use Rattle.wire_records.specs.Records.{Record, IsRecord}
+use Rattle.wire_records.specs.Commands.{Pair}
+use Rattle.wire_records.specs.CommandRecords.{IsReadAs}
+use Rattle.wire_records.specs.Grammars.{spell_all}
+use Rattle.wire_records.specs.Reading.{Ending, ReadsOn}
+use Rattle.wire_records.specs.Formats.{commands}
+use Rattle.journal_records.specs.Pairs.{pair_spelling}
+use Rattle.flow_orders.specs.Outcomes.{Outcome}
+use Rattle.flow_orders.specs.Own.{IsOwnOutcome}
+use Rattle.market_core.specs.Market.{Market}
+use Rattle.market_core.specs.Journal.{IsAnswered}
+use Rattle.market_core.specs.Wanting.{RecordMayWant}
+use Rattle.exchange_session.specs.Serving.{AnswersOne}
+use Rattle.flow_exchange.specs.declared.status.Status.{Status}
+use Rattle.flow_exchange.specs.declared.status.Status.TheVariants.{Done, Usage, NotFlow, Torn, ReadFault, WriteFault, NoMemory, TooLong}
+use Rattle.flow_exchange.specs.Statuses.{ending_status}
+
+-- The text is the pairs that answer these command records from one market to another.
+pub record Answers (start : Market) (records : List Record) (market : Market) (text : List ℕ) : Type 0 where
+  pub pairs : List (Pair Record Outcome)
+  pub answered : IsAnswered IsReadAs IsOwnOutcome start records pairs market
+  pub spelled : text ≡ flat_map pair_spelling pairs
+
+-- one record: its pair is written, or a front of it where the write fails, or nothing where memory is wanted
+abbrev pub ServesOne : {T : Type 0} → Market → Record → Market → Option (List ℕ) → Option (List ℕ) → Result T Status → Type 0
+ServesOne old asked new before after (Ok _) = (text : List ℕ) × AnswersOne old asked new text × Grows before after text
+ServesOne old asked new before after (Err WriteFault) = (text : List ℕ) × AnswersOne old asked new text × GrowsByFront before after text
+ServesOne old asked new before after (Err NoMemory) = (after ≡ before) × RecordMayWant old asked
+ServesOne old asked new before after (Err Done) = ⊥
+ServesOne old asked new before after (Err Usage) = ⊥
+ServesOne old asked new before after (Err NotFlow) = ⊥
+ServesOne old asked new before after (Err (Torn place)) = ⊥
+ServesOne old asked new before after (Err ReadFault) = ⊥
+ServesOne old asked new before after (Err (TooLong most)) = ⊥
+
+-- The records behind a place are answered from a market on, to the end of their reading.
+pub record AnswersAll (limit : ℕ) (start : Market) (place : ℕ) (More : Type 0) (bytes : List ℕ) (status : Status) (text : List ℕ) : Type 0 where
+  pub records : List Record
+  pub ending : Ending
+  pub market : Market
+  pub reads : ReadsOn commands place More bytes records ending
+  pub ends : status ≡ ending_status limit ending
+  pub answers : Answers start records market text
+
+-- The first of them are, and lead to this market; this is what is left of the bytes.
+pub record AnswersSome (start : Market) (bytes : List ℕ) (market : Market) (rest : List ℕ) (text : List ℕ) : Type 0 where
+  pub records : List Record
+  pub begins : bytes ≡ spell_all commands.units records ++ rest
+  pub each : All (IsRecord 1024) records
+  pub answers : Answers start records market text
+
+-- some were served, and the last of their pairs may be cut
+abbrev pub ServesSome : Market → List ℕ → Option (List ℕ) → Option (List ℕ) → Type 0
+ServesSome start bytes before after = (market : Market) × (rest text : List ℕ) × AnswersSome start bytes market rest text × GrowsByFront before after text
+
+-- some were served, and the next one may want memory
+pub record StopsAtWant (start : Market) (bytes : List ℕ) (before after : Option (List ℕ)) : Type 0 where
+  pub market : Market
+  pub next : Record
+  pub rest : List ℕ
+  pub text : List ℕ
+  pub some : AnswersSome start bytes market (spell_all commands.units (next ∷ []) ++ rest) text
+  pub fits : IsRecord 1024 next
+  pub wants : RecordMayWant market next
+  pub written : Grows before after text
+
+-- by the status
+abbrev pub ServesAll : ℕ → Market → ℕ → Type 0 → List ℕ → Status → Option (List ℕ) → Option (List ℕ) → Type 0
+ServesAll limit start place More bytes WriteFault before after = ServesSome start bytes before after
+ServesAll limit start place More bytes NoMemory before after = StopsAtWant start bytes before after
+ServesAll limit start place More bytes Usage before after = ⊥
+ServesAll limit start place More bytes ReadFault before after = ⊥
+ServesAll limit start place More bytes Done before after = (text : List ℕ) × AnswersAll limit start place More bytes Done text × Grows before after text
+ServesAll limit start place More bytes NotFlow before after = ⊥
+ServesAll limit start place More bytes (Torn n) before after = (text : List ℕ) × AnswersAll limit start place More bytes (Torn n) text × Grows before after text
+ServesAll limit start place More bytes (TooLong n) before after = (text : List ℕ) × AnswersAll limit start place More bytes (TooLong n) text × Grows before after text

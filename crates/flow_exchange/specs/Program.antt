@@ -1,0 +1,87 @@
+-- What the program does: which status comes, and what stands in out, for each form of its words.
+use Rattle.std.specs.Prelude.{◌≡◌, ◌≢◌, ◌⊎◌, ◌↔◌, ◌+◌, ℕ, List, [], Option, Some, IfSome}
+use Rattle.flow_io.specs.Faults.{Rose, Blames}
+use Rattle.flow_io.specs.Streams.{Grows, GrowsByFront, TakesAtMost}
+use Rattle.flow_io.specs.Changes.{Change}
+use Rattle.flow_exchange.specs.declared.form.Form.{Form}
+use Rattle.flow_exchange.specs.declared.form.Form.TheVariants.{Run}
+use Rattle.flow_exchange.specs.declared.status.Status.{Status}
+use Rattle.flow_exchange.specs.declared.status.Status.TheVariants.{Done, Usage, NotFlow, Torn, ReadFault, WriteFault, NoMemory, TooLong}
+use Rattle.flow_exchange.specs.Forms.{Asks, AsksNothing}
+use Rattle.flow_exchange.specs.Statuses.{line_of}
+use Rattle.flow_exchange.specs.Running.{RunsTo, RunsInto, RunsOut}
+
+-- ---- a row for each form
+
+-- what a form comes to: the status and the text that the first limit bytes determine
+abbrev pub ComesTo : Form → ℕ → List ℕ → Status → List ℕ → Type 0
+ComesTo Run limit bytes status text = RunsTo limit bytes status text
+
+-- what may stand in out, besides nothing, while a form is at work: the text of whole units
+abbrev pub GetsTo : Form → ℕ → List ℕ → List ℕ → Type 0
+GetsTo Run limit bytes text = RunsInto limit bytes text
+
+-- what may stand in out where memory ran out
+abbrev pub LacksAt : Form → ℕ → List ℕ → List ℕ → Type 0
+LacksAt Run limit bytes text = RunsOut limit bytes text
+
+-- how many bytes of the source are taken at most
+abbrev pub most_taken : Form → ℕ → ℕ
+most_taken Run limit = limit + 1
+
+-- what is left of the source where all was done
+abbrev pub left_by : Form → List ℕ → List ℕ
+left_by Run bytes = []
+
+-- ---- what holds of all forms
+
+-- the bytes determine this status and what out grew by: there is such an outcome, and there is no other
+abbrev pub Determines : Form → ℕ → List ℕ → Status → Option (List ℕ) → Option (List ℕ) → Type 0
+Determines form limit bytes status before after =
+    (text : List ℕ) × ComesTo form limit bytes status text × Grows before after text
+    × ((other : Status) (words : List ℕ) → ComesTo form limit bytes other words → (other ≡ status) × (words ≡ text))
+
+-- after a fault of the source: out grew by nothing, or by the text of the first whole units
+abbrev pub StopsWhole : Form → ℕ → List ℕ → Option (List ℕ) → Option (List ℕ) → Type 0
+StopsWhole form limit bytes before after =
+    Grows before after [] ⊎ ((text : List ℕ) × GetsTo form limit bytes text × Grows before after text)
+
+-- after a fault of out: it grew by nothing, or by a front of such a text or of the whole one
+abbrev pub BreaksOff : Form → ℕ → List ℕ → Option (List ℕ) → Option (List ℕ) → Type 0
+BreaksOff form limit bytes before after =
+    Grows before after []
+    ⊎ ((text : List ℕ) × (GetsTo form limit bytes text ⊎ ((status : Status) × ComesTo form limit bytes status text)) × GrowsByFront before after text)
+
+-- what stands in out, by the status
+abbrev pub Meets : Form → ℕ → List ℕ → Status → Option (List ℕ) → Option (List ℕ) → Type 0
+Meets form limit bytes Usage before after = ⊥
+Meets form limit bytes ReadFault before after = StopsWhole form limit bytes before after
+Meets form limit bytes WriteFault before after = BreaksOff form limit bytes before after
+Meets form limit bytes NoMemory before after = (text : List ℕ) × LacksAt form limit bytes text × Grows before after text
+Meets form limit bytes Done before after = Determines form limit bytes Done before after
+Meets form limit bytes NotFlow before after = Determines form limit bytes NotFlow before after
+Meets form limit bytes (Torn place) before after = Determines form limit bytes (Torn place) before after
+Meets form limit bytes (TooLong most) before after = Determines form limit bytes (TooLong most) before after
+
+-- What a form does to source and out.
+pub record Does (form : Form) (limit : ℕ) (status : Status) (source out : Change) : Type 0 where
+  -- Which status comes, and what out grew by.
+  pub meets : IfSome source.before (λ bytes. Meets form limit bytes status out.before out.after)
+  -- Where neither count rose, the status is want of memory or the one that the bytes determine, and so is what was written.
+  pub complete : (¬ Rose source.faults source.faults_after) → (¬ Rose out.faults out.faults_after) → status ≢ NoMemory
+      → IfSome source.before (λ bytes. Determines form limit bytes status out.before out.after)
+  -- How much of the source was taken, and what is left of it on Done.
+  pub taken : TakesAtMost source.before source.after (most_taken form limit)
+  pub left : status ≡ Done → IfSome source.before (λ bytes. source.after ≡ Some (left_by form bytes))
+  -- A fault is answered only where its count rose, and else the count stays.
+  pub reads : Blames (status ≡ ReadFault) source.faults source.faults_after
+  pub writes : Blames (status ≡ WriteFault) out.faults out.faults_after
+
+-- What a call of the program does, with a limit of its input.
+pub record Serves (limit : ℕ) (words : List (List ℕ)) (status : Status) (source out notes : Change) : Type 0 where
+  -- Usage comes exactly where the words are none of the forms.
+  pub usage : (status ≡ Usage) ↔ AsksNothing words
+  pub does : (form : Form) → Asks words form → Does form limit status source out
+  -- Notes grew by the line of the status, or by a front of it where a write of it failed. That changes nothing else.
+  pub noted : (¬ Rose notes.faults notes.faults_after) → Grows notes.before notes.after (line_of status)
+  pub cut : GrowsByFront notes.before notes.after (line_of status)
