@@ -1,46 +1,49 @@
 -- The bodies of commands.
-use Rattle.std.proofs.Common.{◌≡◌, ◌≢◌, ◌<◌, ◌^◌, ℕ, List, [], ◌++◌, length, length-append, refl, sym, ap, ◌∙◌, arith}
+use Rattle.std.proofs.Common.{◌≡◌, ◌≢◌, ◌<◌, ◌≤◌, ◌^◌, ℕ, List, [], ◌++◌, length, length-append, refl, sym, ap, ◌∙◌, arith}
 use Rattle.std.proofs.lemmas.List.{append-nil}
 use Rattle.std.specs.Prelude.{if◌then◌else◌, ◌==◌}
-use Rattle.wire_fields.specs.Numbers.{unsigned}
+use Rattle.wire_fields.specs.Numbers.{unsigned, IsUnsigned}
 use Rattle.wire_fields.proofs.Spelling.{length-unsigned, unsigned_unique}
-use Rattle.wire_records.specs.declared.command.Command.{Command}
-use Rattle.wire_records.specs.declared.command.Command.TheVariants.{AddAsset, OpenAccount, DepositMoney, DepositAsset, WithdrawMoney, WithdrawAsset}
 use Rattle.wire_records.specs.Records.{Record}
-use Rattle.wire_records.specs.Commands.{tag_of, body_of, IsCommand, Spells, SpellsNone}
+use Rattle.wire_records.specs.Commands.{Command, AddAsset, OpenAccount, DepositMoney, DepositAsset, WithdrawMoney, WithdrawAsset, PlaceOrder, CancelOrder, RunBatch}
+use Rattle.wire_records.specs.CommandRecords.{tag_of, body_of, IsCommand, Spells, SpellsNone}
+use Rattle.wire_records.proofs.Requests.{request_unique}
 
--- how long the body of a command with this tag is
+-- how long the body of a command with this tag is, for the tags 1 to 6
 abbrev pub size_of : ℕ → ℕ
 size_of tag = if tag == 1 then 8 else (if tag == 2 then 0 else (if tag == 3 then 12 else (if tag == 4 then 14 else (if tag == 5 then 12 else 14))))
 
 -- a body has the length of its tag
-pub length-body_of : (c : Command) → IsCommand c → length (body_of c) ≡ size_of (tag_of c)
+pub length-body_of : (c : Command) → IsCommand c → tag_of c ≤ 6 → length (body_of c) ≡ size_of (tag_of c)
 unfolding body_of
-length-body_of (AddAsset ticker) h = h
-length-body_of OpenAccount h = refl
-length-body_of (DepositMoney account ticks) h = simp (length-append, length-unsigned)
-length-body_of (DepositAsset account asset units) h = simp (length-append, length-unsigned)
-length-body_of (WithdrawMoney account ticks) h = simp (length-append, length-unsigned)
-length-body_of (WithdrawAsset account asset units) h = simp (length-append, length-unsigned)
+length-body_of (AddAsset ticker) h few = h.0
+length-body_of OpenAccount h few = refl
+length-body_of (DepositMoney account ticks) h few = simp (length-append, length-unsigned)
+length-body_of (DepositAsset account asset units) h few = simp (length-append, length-unsigned)
+length-body_of (WithdrawMoney account ticks) h few = simp (length-append, length-unsigned)
+length-body_of (WithdrawAsset account asset units) h few = simp (length-append, length-unsigned)
+length-body_of (PlaceOrder request) h few = absurd (omega (arith, few))
+length-body_of (CancelOrder account number) h few = absurd (omega (arith, few))
+length-body_of (RunBatch budget) h few = absurd (omega (arith, few))
 
 -- a record is its tag and its body
 pub same_record : (r : Record) (tag : ℕ) (body : List ℕ) → r.tag ≡ tag → r.body ≡ body → r ≡ record { tag = tag; body = body }
 same_record r tag body a b = rw (← a, ← b) refl
 
+-- the tag and the body of a command's record
+pub tag_is : (c : Command) (r : Record) → Spells c r → r.tag ≡ tag_of c
+tag_is c r s = ap (λ (x : Record). x.tag) s.spelled
+
+pub body_is : (c : Command) (r : Record) → Spells c r → r.body ≡ body_of c
+body_is c r s = ap (λ (x : Record). x.body) s.spelled
+
 -- a body of another length than its tag's is no command's
-pub spells_none : (r : Record) → length r.body ≢ size_of r.tag → SpellsNone r
-spells_none r other c s =
-    other (ap (λ (x : Record). length x.body) s.spelled ∙ length-body_of c s.fits ∙ ap (λ (x : Record). size_of x.tag) (sym s.spelled))
+pub spells_none : (r : Record) → r.tag ≤ 6 → length r.body ≢ size_of r.tag → SpellsNone r
+spells_none r few other c s =
+    let tags = tag_is c r s in
+    other (ap length (body_is c r s) ∙ length-body_of c s.fits (omega (arith, tags, few)) ∙ ap size_of (sym tags))
 
--- two commands of one record have one tag
-tag_of-unique : (c d : Command) (r : Record) → Spells c r → Spells d r → tag_of c ≡ tag_of d
-tag_of-unique c d r p q = sym (ap (λ (x : Record). x.tag) p.spelled) ∙ ap (λ (x : Record). x.tag) q.spelled
-
--- two commands of one record have one body
-body_of-unique : (c d : Command) (r : Record) → Spells c r → Spells d r → body_of c ≡ body_of d
-body_of-unique c d r p q = sym (ap (λ (x : Record). x.body) p.spelled) ∙ ap (λ (x : Record). x.body) q.spelled
-
--- two amounts of money of one spelling
+-- two amounts of money of one spelling, or an account and another number of its width
 money_unique : (a t b u : ℕ) → (a < 2 ^ 32) × (t < 2 ^ 64) → (b < 2 ^ 32) × (u < 2 ^ 64) → unsigned 4 a ++ unsigned 8 t ≡ unsigned 4 b ++ unsigned 8 u → (a ≡ b) × (t ≡ u)
 money_unique a t b u h k e =
     let accounts = unsigned_unique 4 a b _ _ h.0 k.0 e in
@@ -54,6 +57,12 @@ units_unique a i t b j u h k e =
     let assets = unsigned_unique 2 i j _ _ h.1 k.1 accounts.1 in
     let units = unsigned_unique 8 t u [] [] h.2 k.2 (append-nil (unsigned 8 t) ∙ assets.1 ∙ sym (append-nil (unsigned 8 u))) in
     (accounts.0, assets.0, units.0)
+
+-- a number that is a whole body is read once
+pub number_unique : (size m n : ℕ) → IsUnsigned size m → IsUnsigned size n → unsigned size m ≡ unsigned size n → m ≡ n
+number_unique size m n a b e =
+    let found = unsigned_unique size m n [] [] a b (append-nil (unsigned size m) ∙ e ∙ sym (append-nil (unsigned size n))) in
+    found.0
 
 -- two commands of one tag and one body are one
 same_command : (c d : Command) → IsCommand c → IsCommand d → tag_of c ≡ tag_of d → body_of c ≡ body_of d → c ≡ d
@@ -70,7 +79,14 @@ same_command (WithdrawMoney a t) (WithdrawMoney b u) h k tags bodies = let e = m
 same_command (WithdrawMoney a t) d h k tags bodies = absurd (omega (arith, tags))
 same_command (WithdrawAsset a i t) (WithdrawAsset b j u) h k tags bodies = let e = units_unique a i t b j u h k bodies in rw (e.0, e.1, e.2) refl
 same_command (WithdrawAsset a i t) d h k tags bodies = absurd (omega (arith, tags))
+same_command (PlaceOrder r) (PlaceOrder s) h k tags bodies = ap PlaceOrder (request_unique r s h k bodies)
+same_command (PlaceOrder r) d h k tags bodies = absurd (omega (arith, tags))
+same_command (CancelOrder a n) (CancelOrder b m) h k tags bodies = let e = money_unique a n b m h k bodies in rw (e.0, e.1) refl
+same_command (CancelOrder a n) d h k tags bodies = absurd (omega (arith, tags))
+same_command (RunBatch m) (RunBatch n) h k tags bodies = ap RunBatch (number_unique 4 m n h k bodies)
+same_command (RunBatch m) d h k tags bodies = absurd (omega (arith, tags))
 
 -- a record spells at most one command
 pub command_unique : (c d : Command) (r : Record) → Spells c r → Spells d r → c ≡ d
-command_unique c d r p q = same_command c d p.fits q.fits (tag_of-unique c d r p q) (body_of-unique c d r p q)
+command_unique c d r p q =
+    same_command c d p.fits q.fits (sym (tag_is c r p) ∙ tag_is d r q) (sym (body_is c r p) ∙ body_is d r q)

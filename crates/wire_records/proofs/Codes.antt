@@ -1,14 +1,19 @@
 -- The codes of refusals.
-use Rattle.std.proofs.Common.{◌≡◌, ℕ, refl, sym, ap, ◌∙◌}
-use Rattle.std.specs.Prelude.{if◌then◌else◌, ◌==◌}
+use Rattle.std.proofs.Common.{◌≡◌, ◌-◌, ℕ, List, [], ◌∷◌, refl, sym, ap, ◌∙◌}
+use Rattle.std.specs.Prelude.{slice_index_or}
 use Rattle.wire_records.specs.declared.reply.Refusal.{Refusal}
-use Rattle.wire_records.specs.declared.reply.Refusal.TheVariants.{UnknownTag, BadBody, AssetLimit, TickerTaken, BadTicker, AccountLimit, NoAccount, NoAsset, ZeroAmount, TotalLimit, NotFree, NotBuilt}
+use Rattle.wire_records.specs.declared.reply.Refusal.TheVariants.{UnknownTag, BadBody, AssetLimit, TickerTaken, BadTicker, AccountLimit, NoAccount, NoAsset, ZeroAmount, TotalLimit, NotFree, BadLimits, BadRate, BadCap, BadRow, OrderLimit, NoOrder, BadBudget, BatchLimit, NotBuilt}
 use Rattle.wire_records.specs.Refusals.{code_of}
+
+-- the refusals in the order of their codes
+abbrev refusals : List Refusal
+refusals =
+    UnknownTag ∷ BadBody ∷ AssetLimit ∷ TickerTaken ∷ BadTicker ∷ AccountLimit ∷ NoAccount ∷ NoAsset ∷ ZeroAmount ∷ TotalLimit
+    ∷ NotFree ∷ BadLimits ∷ BadRate ∷ BadCap ∷ BadRow ∷ OrderLimit ∷ NoOrder ∷ BadBudget ∷ BatchLimit ∷ NotBuilt ∷ []
 
 -- the refusal of a code
 abbrev refusal_at : ℕ → Refusal
-refusal_at code =
-    if code == 1 then UnknownTag else (if code == 2 then BadBody else (if code == 3 then AssetLimit else (if code == 4 then TickerTaken else (if code == 5 then BadTicker else (if code == 6 then AccountLimit else (if code == 7 then NoAccount else (if code == 8 then NoAsset else (if code == 9 then ZeroAmount else (if code == 10 then TotalLimit else (if code == 11 then NotFree else (NotBuilt)))))))))))
+refusal_at code = slice_index_or refusals (code - 1) UnknownTag
 
 -- a code says which refusal it is
 refusal_at-code_of : (r : Refusal) → refusal_at (code_of r) ≡ r
@@ -23,6 +28,14 @@ refusal_at-code_of NoAsset = refl
 refusal_at-code_of ZeroAmount = refl
 refusal_at-code_of TotalLimit = refl
 refusal_at-code_of NotFree = refl
+refusal_at-code_of BadLimits = refl
+refusal_at-code_of BadRate = refl
+refusal_at-code_of BadCap = refl
+refusal_at-code_of BadRow = refl
+refusal_at-code_of OrderLimit = refl
+refusal_at-code_of NoOrder = refl
+refusal_at-code_of BadBudget = refl
+refusal_at-code_of BatchLimit = refl
 refusal_at-code_of NotBuilt = refl
 
 -- two refusals of one code are one

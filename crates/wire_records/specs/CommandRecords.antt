@@ -1,9 +1,9 @@
 -- The record that each command is spelled as, and what a record is read as.
-use Rattle.std.specs.Prelude.{◌≡◌, ◌<◌, ◌≤◌, ◌^◌, ℕ, List, [], ◌++◌, length, All, Result, Ok, Err}
+use Rattle.std.specs.Prelude.{◌≡◌, ◌≤◌, ℕ, List, [], ◌++◌, length, All, Result, Ok, Err}
 use Rattle.std.specs.List.{flat_map}
 use Rattle.wire_fields.specs.Numbers.{unsigned, signed, IsUnsigned, IsSigned}
 use Rattle.weight_rows.specs.declared.entries.Entry.{Entry}
-use Rattle.wire_records.specs.Records.{Record}
+use Rattle.wire_records.specs.Records.{Record, AreBytes}
 use Rattle.wire_records.specs.Commands.{Request, Command, AddAsset, OpenAccount, DepositMoney, DepositAsset, WithdrawMoney, WithdrawAsset, PlaceOrder, CancelOrder, RunBatch}
 use Rattle.wire_records.specs.declared.command.BodyFault.{BodyFault}
 use Rattle.wire_records.specs.declared.command.BodyFault.TheVariants.{UnknownTag, NotBuilt, BadBody}
@@ -62,7 +62,7 @@ pub record IsRequest (r : Request) : Type 0 where
 
 -- each field of a command fits its width
 abbrev pub IsCommand : Command → Type 0
-IsCommand (AddAsset ticker) = length ticker ≡ 8
+IsCommand (AddAsset ticker) = (length ticker ≡ 8) × AreBytes ticker
 IsCommand OpenAccount = Unit {0}
 IsCommand (DepositMoney account ticks) = IsUnsigned 4 account × IsUnsigned 8 ticks
 IsCommand (DepositAsset account asset units) = IsUnsigned 4 account × IsUnsigned 2 asset × IsUnsigned 8 units

@@ -1,3 +1,4 @@
+-- What stands at the front of bytes.
 use Rattle.std.specs.Prelude.{◌≡◌, ◌≢◌, ◌<◌, ◌≤◌, ℕ, List, [], ◌++◌, length, drop}
 use Rattle.wire_records.specs.declared.record.Framed.{Framed}
 use Rattle.wire_records.specs.declared.record.Framed.TheVariants.{Whole, End, TooLarge, Short}

@@ -1,15 +1,17 @@
 -- What holds of the grammar, whatever reads or writes it.
-use Rattle.std.specs.Prelude.{◌≡◌, ◌<◌, ◌^◌, ℕ, List, ◌++◌, length, Result, Ok}
-use Rattle.wire_records.specs.Records.{Record, IsRecord, spelling}
+use Rattle.std.specs.Prelude.{◌≡◌, ◌<◌, ◌≤◌, ◌^◌, ℕ, List, ◌++◌, length, All, Result, Ok}
+use Rattle.wire_records.specs.Records.{Record, AreBytes, IsRecord, spelling, most_body}
 use Rattle.wire_records.specs.Framing.{IsFront}
-use Rattle.wire_records.specs.Commands.{Spells, IsCommand, record_of, reading, IsReadAs}
+use Rattle.wire_records.specs.Commands.{Request, Command, PlaceOrder}
+use Rattle.wire_records.specs.CommandRecords.{record_of, IsCommand, Spells, IsUnbuiltTag, IsReadAs}
 use Rattle.wire_records.specs.declared.reply.Refusal.{Refusal}
 use Rattle.wire_records.specs.Refusals.{code_of}
-use Rattle.wire_records.specs.declared.command.Command.{Command}
-use Rattle.wire_records.specs.declared.command.CommandView.{CommandView}
 use Rattle.wire_records.specs.declared.command.BodyFault.{BodyFault}
 use Rattle.wire_records.specs.declared.record.Framed.{Framed}
 use Rattle.wire_records.specs.declared.record.Framed.TheVariants.{Whole}
+use Rattle.wire_records.specs.Grammars.{spell_all}
+use Rattle.wire_records.specs.Reading.{Reading, File, Ending, End, Reads, StartsWith}
+use Rattle.wire_records.specs.Formats.{Version, commands}
 
 -- No record's spelling is a proper front of another's: bytes that begin with two records begin with one.
 abbrev pub OneRecord : Type 0
@@ -33,14 +35,35 @@ abbrev pub WrittenIsFramed : Type 0
 WrittenIsFramed =
     (limit : ℕ) (r : Record) (rest : List ℕ) (front : Framed) → limit < 2 ^ 32 → IsRecord limit r → IsFront front limit (spelling r ++ rest) → front ≡ Whole r (length (spelling r))
 
--- two readings of the same record are the same command, or the same fault
+-- a record is read as at most one command or fault
 abbrev pub OneReading : Type 0
-OneReading = (a b : Result CommandView BodyFault) (r : Record) → IsReadAs a r → IsReadAs b r → reading a ≡ reading b
+OneReading = (r : Record) (a b : Result Command BodyFault) → IsReadAs r a → IsReadAs r b → a ≡ b
 
--- the record of a command is read as that command
+-- each record of bytes is read as a command or a fault
+abbrev pub EachIsRead : Type 0
+EachIsRead = (r : Record) → AreBytes r.body → (read : Result Command BodyFault) × IsReadAs r read
+
+-- the record of a command that is built is read as that command
 abbrev pub CommandIsRead : Type 0
-CommandIsRead = (c : Command) (r : Record) (answer : Result CommandView BodyFault) → Spells c r → IsReadAs answer r → reading answer ≡ Ok c
+CommandIsRead = (c : Command) (r : Record) (read : Result Command BodyFault) → Spells c r → (¬ IsUnbuiltTag r.tag) → IsReadAs r read → read ≡ Ok c
 
--- the record of a command has a body of at most 14 bytes
+-- the record of a command whose row has at most 165 entries, if it has one, is within the limit of command records
 abbrev pub CommandIsShort : Type 0
-CommandIsShort = (c : Command) → IsCommand c → IsRecord 14 (record_of c)
+CommandIsShort = (c : Command) → IsCommand c → ((request : Request) → c ≡ PlaceOrder request → length request.row ≤ 165) → IsRecord most_body (record_of c)
+
+-- each list of bytes has exactly one reading as a command file
+abbrev pub OneFile : Type 0
+OneFile = (limit : ℕ) (bytes : List ℕ) → (r : Reading Version Record) × Reads commands limit bytes r × ((s : Reading Version Record) → Reads commands limit bytes s → s ≡ r)
+
+-- records that a command file starts with are the first of its reading
+abbrev pub FirstOfFile : Type 0
+FirstOfFile =
+    (limit : ℕ) (bytes : List ℕ) (v w : Version) (first all : List Record) (ending : Ending)
+    → StartsWith commands limit bytes v first → Reads commands limit bytes (File w all ending) → (v ≡ w) × (more : List Record) × (all ≡ first ++ more)
+
+-- a file of records within the limit is read as these records, to its end
+abbrev pub FileIsRead : Type 0
+FileIsRead =
+    (limit : ℕ) (version : Version) (records : List Record) → All (IsRecord most_body) records
+    → length (commands.magics.spell version ++ spell_all commands.units records) ≤ limit
+    → Reads commands limit (commands.magics.spell version ++ spell_all commands.units records) (File version records End)

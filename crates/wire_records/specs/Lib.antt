@@ -4,4 +4,7 @@ pub mod Commands
 pub mod CommandRecords
 pub mod Views
 pub mod Refusals
+pub mod Grammars
+pub mod Reading
+pub mod Formats
 pub mod Laws

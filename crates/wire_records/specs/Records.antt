@@ -1,7 +1,10 @@
 -- What a record is, and how it is spelled in bytes.
-use Rattle.std.specs.Prelude.{◌≡◌, ◌≢◌, ◌<◌, ◌≤◌, ◌^◌, ℕ, List, ◌++◌, length, codes}
-use Rattle.std.specs.List.{flat_map}
+use Rattle.std.specs.Prelude.{◌≡◌, ◌≢◌, ◌<◌, ◌≤◌, ◌^◌, ℕ, List, ◌++◌, length, codes, All}
 use Rattle.wire_fields.specs.Numbers.{unsigned}
+
+-- numbers that are bytes
+abbrev pub AreBytes : List ℕ → Type 0
+AreBytes bytes = All (λ b. b < 256) bytes
 
 -- a tag, and a body
 pub record Record : Type 0 where
@@ -33,6 +36,6 @@ HasNoFront limit bytes = (r : Record) (rest : List ℕ) → IsRecord limit r →
 abbrev pub command_magic : List ℕ
 command_magic = codes "FLOWCMD1"
 
--- a command file of these records
-abbrev pub command_file : List Record → List ℕ
-command_file records = command_magic ++ flat_map spelling records
+-- the longest body of a command record, in bytes
+abbrev pub most_body : ℕ
+most_body = 1024

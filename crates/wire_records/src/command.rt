@@ -114,7 +114,8 @@ fn asset_fields(body: &[u8]) -> Option<(u32, u16, u64)>
 }
 
 impl<'a> RecordView<'a> {
-    ghost use Rattle.wire_records.specs.Commands.{IsReadAs};
+    ghost use Rattle.wire_records.specs.CommandRecords.{IsReadAs};
+    ghost use Rattle.wire_records.specs.Views.{reading};
 
     /// The command that the record spells, with its fields in the borrowed bytes. Constant cost.
     ///
@@ -122,7 +123,7 @@ impl<'a> RecordView<'a> {
     /// `BadBody` exactly where it is 1 to 6 and no command of the tag has this body: a byte more or fewer
     /// than the fields take.
     pub fn command(&self) -> Result<CommandView<'a>, BodyFault>
-        ensures { IsReadAs result self.now }
+        ensures { IsReadAs self.now (reading result) }
     {
         let body = self.body();
         match self.tag() {

@@ -1,6 +1,10 @@
 //! What holds of the grammar, whatever reads or writes it. Each law is the contract of a function that
 //! does nothing.
-ghost use Rattle.wire_records.specs.Laws.{OneRecord, OneCommand, OneRefusal, OneFront, WrittenIsFramed, OneReading, CommandIsRead, CommandIsShort};
+ghost use Rattle.wire_records.specs.Laws.{OneRecord, OneCommand, OneRefusal, OneFront, WrittenIsFramed, OneReading, EachIsRead, CommandIsRead, CommandIsShort, OneFile, FirstOfFile, FileIsRead};
+ghost use Rattle.std.specs.Prelude.{◌≡◌, ◌↔◌, IsTrue};
+ghost use Rattle.wire_records.specs.Records.{command_magic, most_body};
+
+use crate::{BodyFault, COMMAND_MAGIC, MOST_BODY, Refusal, Reply};
 
 /// No record's spelling is a proper front of another's, so what was written is read again, whatever
 /// follows it.
@@ -28,18 +32,59 @@ pub fn written_is_framed()
     ensures { WrittenIsFramed }
 {}
 
-/// A record has one reading: what `RecordView::command` answers shows the only command, or is the only
-/// fault, that its contract allows.
+/// A record has at most one reading: what `RecordView::command` answers shows the only command, or is the
+/// only fault, that its contract allows.
 pub fn one_reading()
     ensures { OneReading }
 {}
 
-/// The record of a command is read as that command, and as no fault.
+/// Each record of bytes has a reading, whatever it holds.
+pub fn each_is_read()
+    ensures { EachIsRead }
+{}
+
+/// The record of a command that is built is read as that command, and as no fault.
 pub fn command_is_read()
     ensures { CommandIsRead }
 {}
 
-/// The record of a command has a body of at most 14 bytes, so it is framed under each limit from 14 on.
+/// The record of a command is within the limit of command records; a row may have up to 165 entries.
 pub fn command_is_short()
     ensures { CommandIsShort }
+{}
+
+/// Bytes have exactly one reading as a command file: one version, list of records and ending, or none.
+pub fn one_file()
+    ensures { OneFile }
+{}
+
+/// Records that a command file starts with are the first of its reading.
+pub fn first_of_file()
+    ensures { FirstOfFile }
+{}
+
+/// A command file of records within the limit is read as these records, to its end.
+pub fn file_is_read()
+    ensures { FileIsRead }
+{}
+
+/// The magic and the limit that the code names are those of the definitions.
+pub fn constants_are_named()
+    ensures magic { COMMAND_MAGIC ≡ command_magic }
+    ensures most_body { MOST_BODY ≡ most_body }
+{}
+
+/// Two replies are equal in a test exactly where they are the same.
+pub fn equal_replies()
+    ensures { (a b : Reply) → IsTrue (⟦<Reply as PartialEq>⟧.eq a b) ↔ (a ≡ b) }
+{}
+
+/// Two refusals are equal in a test exactly where they are the same.
+pub fn equal_refusals()
+    ensures { (a b : Refusal) → IsTrue (⟦<Refusal as PartialEq>⟧.eq a b) ↔ (a ≡ b) }
+{}
+
+/// Two faults are equal in a test exactly where they are the same.
+pub fn equal_faults()
+    ensures { (a b : BodyFault) → IsTrue (⟦<BodyFault as PartialEq>⟧.eq a b) ↔ (a ≡ b) }
 {}

@@ -6,6 +6,7 @@
 #![tactic(auto)]
 
 mod command;
+mod file;
 pub mod laws;
 mod record;
 mod reply;
@@ -14,6 +15,7 @@ mod tests;
 mod write;
 
 pub use command::{BodyFault, Command, CommandView};
+pub use file::{COMMAND_MAGIC, MOST_BODY, is_command_file};
 pub use record::{Framed, RecordView, next_record};
 pub use reply::{Refusal, Reply};
 pub use write::{Memory, put_head, write_command};

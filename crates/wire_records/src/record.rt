@@ -1,10 +1,18 @@
 //! Records at the front of bytes.
 ghost use Rattle.std.specs.Prelude.{◌≡◌, ◌<◌, ◌^◌, ◌++◌, length, IfSome, IfNone};
-ghost use Rattle.wire_records.specs.Records.{head, spelling};
+ghost use Rattle.wire_records.specs.Records.{AreBytes, head, spelling};
 ghost use Rattle.wire_records.specs.Framing.{IsFront};
 
 use std::marker::Model;
 use wire_fields::Cursor;
+
+// The same slice: what the type says of its items is a clause here.
+fn as_bytes(bytes: &[u8]) -> &[u8]
+    ensures value { result.now ≡ bytes.now }
+    ensures bytes { AreBytes bytes.now }
+{
+    bytes
+}
 
 /// A whole record in borrowed bytes. Contracts see it as its tag and its body. Each of its calls is of
 /// constant cost and allocates nothing; what it hands out lives as long as the borrowed bytes.
@@ -36,9 +44,10 @@ impl<'a> RecordView<'a> {
 
     /// The body.
     pub fn body(&self) -> &'a [u8]
-        ensures { result.now ≡ self.now.body }
+        ensures value { result.now ≡ self.now.body }
+        ensures bytes { AreBytes self.now.body }
     {
-        self.body
+        as_bytes(self.body)
     }
 
     /// The whole record, as it stands in the borrowed bytes: tag, length and body.

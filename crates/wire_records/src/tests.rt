@@ -341,9 +341,34 @@ fn codes_of_refusals(rt: HostRuntime) {
         (Refusal::ZeroAmount, 9),
         (Refusal::TotalLimit, 10),
         (Refusal::NotFree, 11),
+        (Refusal::BadLimits, 12),
+        (Refusal::BadRate, 13),
+        (Refusal::BadCap, 14),
+        (Refusal::BadRow, 15),
+        (Refusal::OrderLimit, 16),
+        (Refusal::NoOrder, 17),
+        (Refusal::BadBudget, 18),
+        (Refusal::BatchLimit, 19),
         (Refusal::NotBuilt, 20),
     ];
     for (refusal, code) in rows {
         assert_eq!(rt; refusal.code(), code, "{refusal:?}");
+    }
+}
+
+#[test]
+fn fronts_of_command_files(rt: HostRuntime) {
+    let rows: [(&[u8], bool); 8] = [
+        (b"FLOWCMD1", true),
+        (b"FLOWCMD1\x02\0\0\0\0", true),
+        (b"FLOWCMD1 and no record", true),
+        (b"", false),
+        (b"FLOWCMD", false),
+        (b"FLOWCMD2", false),
+        (b"FLOWJNL1", false),
+        (b"\0FLOWCMD1", false),
+    ];
+    for (bytes, want) in rows {
+        assert_eq!(rt; is_command_file(bytes), want, "{bytes:?}");
     }
 }

@@ -1,8 +1,9 @@
 //! How a command is written.
 ghost use Rattle.std.specs.Prelude.{◌≡◌, ◌+◌, ◌++◌, ◌≤◌, [], length, OnOk, OnErr, vec_len, vec_capacity};
 ghost use Rattle.wire_fields.specs.Numbers.{unsigned};
-ghost use Rattle.wire_records.specs.Records.{head, spelling};
-ghost use Rattle.wire_records.specs.Commands.{record_of, IsCommand};
+ghost use Rattle.wire_records.specs.Records.{AreBytes, head, spelling};
+ghost use Rattle.wire_records.specs.CommandRecords.{record_of, IsCommand};
+ghost use Rattle.wire_records.specs.Views.{command_in};
 
 use crate::Command;
 use std::alloc::AllocError;
@@ -37,7 +38,7 @@ pub fn put_head(out: &mut Vec<u8>, tag: u8, length: u32)
 fn put_ticker(out: &mut Vec<u8>, tag: u8, ticker: [u8; 8])
     requires { vec_len out.old + 13 ≤ vec_capacity out.old }
     ensures written { out.new.items ≡ out.old.items ++ spelling (record { tag = tag; body = ticker }) }
-    ensures size { length ticker ≡ 8 }
+    ensures fits { (length ticker ≡ 8) × AreBytes ticker }
 {
     put_head(out, tag, 8);
     put_bytes(out, &ticker);
@@ -74,15 +75,15 @@ fn put_units(out: &mut Vec<u8>, tag: u8, account: u32, asset: u16, units: u64)
     put_u64(out, units);
 }
 
-#[tactic(auto, unfolding(crate::specs::Commands::body_of))]
+#[tactic(auto, unfolding(crate::specs::CommandRecords::body_of))]
 /// Appends the record of a command, at most 19 bytes. After `Memory` the bytes are as before. The cost is
 /// that of the bytes, and of a move of `out` where it has to grow.
 pub fn write_command(command: &Command, out: &mut Vec<u8>) -> Result<(), Memory>
-    ensures written { OnOk result (out.new.items ≡ out.old.items ++ spelling (record_of command.now)) }
+    ensures written { OnOk result (out.new.items ≡ out.old.items ++ spelling (record_of (command_in command.now))) }
     ensures stays { OnErr result (out.new.items ≡ out.old.items) }
 
     // So the record is this command's, and by the laws it is framed and read as it, whatever follows it.
-    ensures fits { OnOk result (IsCommand command.now) }
+    ensures fits { OnOk result (IsCommand (command_in command.now)) }
 {
     out.reserve(LONGEST)?;
     match *command {

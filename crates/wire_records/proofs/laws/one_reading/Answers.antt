@@ -1,4 +1,4 @@
-use Rattle.wire_records.proofs.OneAnswer.{reading_unique}
+use Rattle.wire_records.proofs.Readings.{reading_unique}
 use Rattle.wire_records.proofs.laws.one_reading.Goals as goal
 
 pub returns : goal.returns

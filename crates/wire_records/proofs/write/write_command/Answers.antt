@@ -1,4 +1,4 @@
 use Rattle.wire_records.proofs.write.write_command.Goals as goal
 
 pub returns-in-AddAsset-clause-fits : goal.returns-in-AddAsset-clause-fits
-returns-in-AddAsset-clause-fits c = rw c.in-AddAsset.is c.put_ticker.ensures.size
+returns-in-AddAsset-clause-fits c = rw c.in-AddAsset.is c.put_ticker.ensures.fits

@@ -1,0 +1,99 @@
+-- Values that stand one after the other are read in one way, and all bytes are read.
+use Rattle.std.proofs.Common.{◌≡◌, ◌<◌, ◌≤◌, ℕ, zero, suc, List, [], ◌∷◌, ◌++◌, inl, inr, ◌⊎◌, length, length-append, append_assoc, refl, sym, ap, ◌∙◌, arith}
+use Rattle.std.specs.Prelude.{All}
+use Rattle.std.specs.List.{AllByRecursion}
+use Rattle.std.proofs.lemmas.List.Elements.{recursion_from_All, All-cons, All-nil}
+use Rattle.wire_records.specs.Grammars.{Grammar, BeginsWith, BeginsWithNone, spell_all, both}
+
+-- A code: each value takes some bytes, no value's spelling is a proper front of another's, and of all
+-- bytes it can be told whether they begin with a value.
+pub record IsCode {A : Type 0} (g : Grammar A) : Type 0 where
+  pub some : (a : A) → g.IsLawful a → 0 < length (g.spell a)
+  pub one : (a b : A) (x y : List ℕ) → g.IsLawful a → g.IsLawful b → g.spell a ++ x ≡ g.spell b ++ y → (a ≡ b) × (x ≡ y)
+  pub told : (bytes : List ℕ) → ((a : A) × (rest : List ℕ) × BeginsWith g bytes a rest) ⊎ BeginsWithNone g bytes
+
+-- values, and a rest that begins with none, are one list of values and one rest
+all_unique : {A : Type 0} (g : Grammar A) → IsCode g → (p q : List A) (x y : List ℕ) → AllByRecursion g.IsLawful p → AllByRecursion g.IsLawful q → BeginsWithNone g x → BeginsWithNone g y → spell_all g p ++ x ≡ spell_all g q ++ y → (p ≡ q) × (x ≡ y)
+all_unique g code [] [] x y a b n m e = (refl, e)
+all_unique g code [] (w ∷ q) x y a b n m e = absurd (n w (spell_all g q ++ y) b.0 (e ∙ append_assoc (g.spell w) (spell_all g q) y))
+all_unique g code (v ∷ p) [] x y a b n m e = absurd (m v (spell_all g p ++ x) a.0 (sym e ∙ append_assoc (g.spell v) (spell_all g p) x))
+all_unique g code (v ∷ p) (w ∷ q) x y a b n m e =
+    let one = code.one v w (spell_all g p ++ x) (spell_all g q ++ y) a.0 b.0 (sym (append_assoc (g.spell v) (spell_all g p) x) ∙ e ∙ append_assoc (g.spell w) (spell_all g q) y) in
+    let others = all_unique g code p q x y a.1 b.1 n m one.1 in
+    (rw (one.0, others.0) refl, others.1)
+
+-- the same from what the definitions say
+pub values_unique : {A : Type 0} (g : Grammar A) → IsCode g → (p q : List A) (x y : List ℕ) → All g.IsLawful p → All g.IsLawful q → BeginsWithNone g x → BeginsWithNone g y → spell_all g p ++ x ≡ spell_all g q ++ y → (p ≡ q) × (x ≡ y)
+values_unique g code p q x y a b n m e = all_unique g code p q x y (recursion_from_All g.IsLawful p a) (recursion_from_All g.IsLawful q b) n m e
+
+-- The values that stand one after the other in bytes, up to a rest that begins with none.
+pub record Parted {A : Type 0} (g : Grammar A) (bytes : List ℕ) : Type 0 where
+  pub values : List A
+  pub rest : List ℕ
+  pub whole : bytes ≡ spell_all g values ++ rest
+  pub each : All g.IsLawful values
+  pub none : BeginsWithNone g rest
+
+-- one value, and then what stands behind it
+parted_more : {A : Type 0} (g : Grammar A) (bytes : List ℕ) (a : A) (rest : List ℕ) → BeginsWith g bytes a rest → Parted g rest → Parted g bytes
+parted_more g bytes a rest first more = record {
+  values = a ∷ more.values;
+  rest = more.rest;
+  whole = first.1 ∙ ap (λ xs. g.spell a ++ xs) more.whole ∙ sym (append_assoc (g.spell a) (spell_all g more.values) more.rest);
+  each = All-cons g.IsLawful a more.values first.0 more.each;
+  none = more.none;
+}
+
+-- bytes that begin with no value
+parted_none : {A : Type 0} (g : Grammar A) (bytes : List ℕ) → BeginsWithNone g bytes → Parted g bytes
+parted_none g bytes none = record { values = []; rest = bytes; whole = refl; each = All-nil g.IsLawful; none = none }
+
+-- a value takes some bytes, so that fewer are left
+fewer : {A : Type 0} (g : Grammar A) → IsCode g → (bytes : List ℕ) (a : A) (rest : List ℕ) → BeginsWith g bytes a rest → length rest < length bytes
+fewer g code bytes a rest first = omega (arith, code.some a first.0, ap length first.1, length-append (g.spell a) rest)
+
+-- bytes of at most this length are parted
+parted_up_to : {A : Type 0} (g : Grammar A) → IsCode g → (most : ℕ) (bytes : List ℕ) → length bytes ≤ most → Parted g bytes
+parted_up_to g code zero bytes short =
+    elim (code.told bytes) [
+      | inl found ↦ absurd (omega (arith, short, fewer g code bytes found.0 found.1 found.2))
+      | inr none ↦ parted_none g bytes none
+    ]
+parted_up_to g code (suc most) bytes short =
+    elim (code.told bytes) [
+      | inl found ↦ parted_more g bytes found.0 found.1 found.2 (parted_up_to g code most found.1 (omega (arith, short, fewer g code bytes found.0 found.1 found.2)))
+      | inr none ↦ parted_none g bytes none
+    ]
+
+-- all bytes are parted
+pub parted : {A : Type 0} (g : Grammar A) → IsCode g → (bytes : List ℕ) → Parted g bytes
+parted g code bytes = parted_up_to g code (length bytes) bytes (omega arith)
+
+-- two values in a row, from their spellings
+pair_same : {A B : Type 0} (p q : A × B) → p.0 ≡ q.0 → p.1 ≡ q.1 → p ≡ q
+pair_same p q a b = rw (a, b) refl
+
+-- the bytes begin with a pair where they begin with its first, and the rest with its second
+both_told : {A B : Type 0} (g : Grammar A) (h : Grammar B) → IsCode g → IsCode h → (bytes : List ℕ) → ((pair : A × B) × (rest : List ℕ) × BeginsWith (both g h) bytes pair rest) ⊎ BeginsWithNone (both g h) bytes
+both_told g h first second bytes =
+    elim (first.told bytes) [
+      | inl a ↦
+          elim (second.told a.1) [
+            | inl b ↦ inl ((a.0, b.0), b.1, ((a.2.0, b.2.0), a.2.1 ∙ ap (λ xs. g.spell a.0 ++ xs) b.2.1 ∙ sym (append_assoc (g.spell a.0) (h.spell b.0) b.1)))
+            | inr none ↦ inr (λ pair rest lawful e.
+                let one = first.one a.0 pair.0 a.1 (h.spell pair.1 ++ rest) a.2.0 lawful.0 (sym a.2.1 ∙ e ∙ append_assoc (g.spell pair.0) (h.spell pair.1) rest) in
+                none pair.1 rest lawful.1 one.1)
+          ]
+      | inr none ↦ inr (λ pair rest lawful e. none pair.0 (h.spell pair.1 ++ rest) lawful.0 (e ∙ append_assoc (g.spell pair.0) (h.spell pair.1) rest))
+    ]
+
+-- two codes in a row are a code
+pub both_code : {A B : Type 0} (g : Grammar A) (h : Grammar B) → IsCode g → IsCode h → IsCode (both g h)
+both_code g h first second = record {
+  some = λ pair lawful. omega (arith, first.some pair.0 lawful.0, length-append (g.spell pair.0) (h.spell pair.1));
+  one = λ p q x y a b e.
+      let asked = first.one p.0 q.0 (h.spell p.1 ++ x) (h.spell q.1 ++ y) a.0 b.0 (sym (append_assoc (g.spell p.0) (h.spell p.1) x) ∙ e ∙ append_assoc (g.spell q.0) (h.spell q.1) y) in
+      let answered = second.one p.1 q.1 x y a.1 b.1 asked.1 in
+      (pair_same p q asked.0 answered.0, answered.1);
+  told = both_told g h first second;
+}

@@ -1,0 +1,68 @@
+-- Requests from their spellings.
+use Rattle.std.proofs.Common.{◌≡◌, ◌+◌, ◌*◌, ℕ, ℤ, List, [], ◌∷◌, ◌++◌, length, length-append, append_assoc, refl, sym, ap, ◌∙◌, arith}
+use Rattle.std.specs.List.{flat_map, AllByRecursion}
+use Rattle.std.proofs.lemmas.List.Elements.{recursion_from_All}
+use Rattle.wire_fields.specs.Numbers.{unsigned, signed}
+use Rattle.wire_fields.proofs.Spelling.{length-unsigned, length-signed, unsigned_unique, signed_unique}
+use Rattle.weight_rows.specs.declared.entries.Entry.{Entry}
+use Rattle.wire_records.specs.Commands.{Request}
+use Rattle.wire_records.specs.CommandRecords.{entry_spelling, request_spelling, IsEntry, IsRequest}
+
+-- an entry from its parts
+same_entry : (e f : Entry) → e.asset ≡ f.asset → e.weight ≡ f.weight → e ≡ f
+same_entry e f a b =
+    let made : ℕ → ℤ → Entry = λ asset weight. record { asset = asset; weight = weight } in
+    ap (λ asset. made asset e.weight) a ∙ ap (λ weight. made f.asset weight) b
+
+-- bytes that begin with two entries begin with one
+entry_unique : (e f : Entry) (x y : List ℕ) → IsEntry e → IsEntry f → entry_spelling e ++ x ≡ entry_spelling f ++ y → (e ≡ f) × (x ≡ y)
+unfolding entry_spelling
+entry_unique e f x y h k same =
+    let regrouped = sym (append_assoc (unsigned 2 e.asset) (signed 4 e.weight) x) ∙ same ∙ append_assoc (unsigned 2 f.asset) (signed 4 f.weight) y in
+    let assets = unsigned_unique 2 e.asset f.asset _ _ h.0 k.0 regrouped in
+    let weights = signed_unique 4 e.weight f.weight x y (omega arith) h.1 k.1 assets.1 in
+    (same_entry e f assets.0 weights.0, weights.1)
+
+-- as many entries of one spelling are the same
+entries_unique : (p q : List Entry) → AllByRecursion IsEntry p → AllByRecursion IsEntry q → length p ≡ length q → flat_map entry_spelling p ≡ flat_map entry_spelling q → p ≡ q
+entries_unique [] [] h k len same = refl
+entries_unique [] (f ∷ q) h k len same = absurd (omega (arith, len))
+entries_unique (e ∷ p) [] h k len same = absurd (omega (arith, len))
+entries_unique (e ∷ p) (f ∷ q) h k len same =
+    let one = entry_unique e f (flat_map entry_spelling p) (flat_map entry_spelling q) h.0 k.0 same in
+    let others = entries_unique p q h.1 k.1 (omega (arith, len)) one.1 in
+    rw (one.0, others) refl
+
+-- a request from its parts
+same_request : (r s : Request) → r.account ≡ s.account → r.low ≡ s.low → r.high ≡ s.high → r.rate ≡ s.rate → r.cap ≡ s.cap → r.row ≡ s.row → r ≡ s
+same_request r s account low high rate cap row =
+    let made : ℕ → ℤ → ℤ → ℕ → ℕ → List Entry → Request = λ a l h q c x. record { account = a; low = l; high = h; rate = q; cap = c; row = x } in
+    ap (λ a. made a r.low r.high r.rate r.cap r.row) account ∙ ap (λ l. made s.account l r.high r.rate r.cap r.row) low
+    ∙ ap (λ h. made s.account s.low h r.rate r.cap r.row) high ∙ ap (λ q. made s.account s.low s.high q r.cap r.row) rate
+    ∙ ap (λ c. made s.account s.low s.high s.rate c r.row) cap ∙ ap (λ x. made s.account s.low s.high s.rate s.cap x) row
+
+-- two requests of one spelling are one
+pub request_unique : (r s : Request) → IsRequest r → IsRequest s → request_spelling r ≡ request_spelling s → r ≡ s
+unfolding request_spelling
+request_unique r s h k same =
+    let accounts = unsigned_unique 4 r.account s.account _ _ h.account k.account same in
+    let lows = signed_unique 8 r.low s.low _ _ (omega arith) h.low k.low accounts.1 in
+    let highs = signed_unique 8 r.high s.high _ _ (omega arith) h.high k.high lows.1 in
+    let rates = unsigned_unique 4 r.rate s.rate _ _ h.rate k.rate highs.1 in
+    let caps = unsigned_unique 8 r.cap s.cap _ _ h.cap k.cap rates.1 in
+    let counts = unsigned_unique 1 (length r.row) (length s.row) _ _ h.count k.count caps.1 in
+    let rows = entries_unique r.row s.row (recursion_from_All IsEntry r.row h.row) (recursion_from_All IsEntry s.row k.row) counts.0 counts.1 in
+    same_request r s accounts.0 lows.0 highs.0 rates.0 caps.0 rows
+
+-- six bytes an entry
+entries_size : (row : List Entry) → length (flat_map entry_spelling row) ≡ 6 * length row
+unfolding entry_spelling
+entries_size [] = refl
+entries_size (e ∷ row) =
+    let rest = flat_map entry_spelling row in
+    omega (arith, entries_size row, length-append (entry_spelling e) rest, length-append (unsigned 2 e.asset) (signed 4 e.weight), length-unsigned 2 e.asset, length-signed 4 e.weight)
+
+-- 33 bytes, and six an entry
+pub request_size : (r : Request) → length (request_spelling r) ≡ 33 + 6 * length r.row
+unfolding request_spelling
+request_size r = simp (length-append, length-unsigned, length-signed) (omega (arith, entries_size r.row))

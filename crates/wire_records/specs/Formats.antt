@@ -1,0 +1,34 @@
+-- Records as units of a file, and command files.
+use Rattle.std.specs.Prelude.{◌<◌, ℕ, List, ◌⊎◌}
+use Rattle.wire_records.specs.Records.{Record, IsRecord, StatesLength, spelling, command_magic, most_body}
+use Rattle.wire_records.specs.Grammars.{Grammar, BeginsWith}
+use Rattle.wire_records.specs.Reading.{Format}
+
+-- the versions of the formats
+pub data Version : Type 0 where
+  One : Version
+
+-- a magic for each version
+abbrev pub magics : (Version → List ℕ) → Grammar Version
+magics magic_of = record { IsLawful = λ version. Unit {0}; spell = magic_of }
+
+-- records whose bodies have at most so many bytes
+abbrev pub records : ℕ → Grammar Record
+records limit = record { IsLawful = IsRecord limit; spell = spelling }
+
+-- the first record states a body above the limit
+abbrev pub StatesOver : ℕ → List ℕ → Type 0
+StatesOver limit bytes = (n : ℕ) × StatesLength n bytes × (limit < n)
+
+-- the same of two records in a row, each with its limit: the first that isn't whole states too long a body
+abbrev pub EitherStatesOver : ℕ → ℕ → List ℕ → Type 0
+EitherStatesOver limit next bytes =
+    StatesOver limit bytes ⊎ ((first : Record) × (rest : List ℕ) × BeginsWith (records limit) bytes first rest × StatesOver next rest)
+
+-- the magic of a command file of each version
+abbrev pub command_magic_of : Version → List ℕ
+command_magic_of One = command_magic
+
+-- command files: records whose bodies are within the limit
+abbrev pub commands : Format Version Record
+commands = record { magics = magics command_magic_of; units = records most_body; IsOverlong = StatesOver most_body }

@@ -1,0 +1,17 @@
+//! Command files: how they begin, and the limit of their records.
+ghost use Rattle.std.specs.Prelude.{ℕ, List, ◌↔◌, IsTrue};
+ghost use Rattle.wire_records.specs.Grammars.{BeginsWith};
+ghost use Rattle.wire_records.specs.Formats.{One, commands};
+
+/// The first 8 bytes of a command file.
+pub const COMMAND_MAGIC: [u8; 8] = *b"FLOWCMD1";
+
+/// The longest body of a command record, in bytes.
+pub const MOST_BODY: u32 = 1024;
+
+/// Whether the bytes begin as a command file, so that records stand behind the first 8. Constant cost.
+pub fn is_command_file(bytes: &[u8]) -> bool
+    ensures { IsTrue result ↔ ((body : List ℕ) × BeginsWith commands.magics bytes.now One body) }
+{
+    bytes.starts_with(&COMMAND_MAGIC)
+}
