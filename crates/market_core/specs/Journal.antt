@@ -5,9 +5,9 @@ use Rattle.wire_records.specs.Commands.{Request, Command, AddAsset, OpenAccount,
 use Rattle.wire_records.specs.declared.reply.Reply.TheVariants.{Done, Refused}
 use Rattle.wire_records.specs.declared.reply.Reply.TheVariants as reply
 use Rattle.wire_records.specs.declared.command.BodyFault.{BodyFault}
-use Rattle.flow_accounts.specs.Balances.{grains}
+use Rattle.flow_accounts.specs.Balances.{IsAsset, grains}
 use Rattle.flow_orders.specs.Outcomes.{Fill, Outcome, BatchRule, Cleared, Skipped}
-use Rattle.market_core.specs.Market.{Market, empty_market}
+use Rattle.market_core.specs.Market.{Market, empty_market, IsSound, held_money, held_units}
 use Rattle.market_core.specs.Step.{ServesRead}
 
 -- records of any kind, what each is read as, and how a batch may end
@@ -23,10 +23,14 @@ module _ {R : Type 0} (Reads : R → Result Command BodyFault → Type 0) (Rule 
   Follows old [] new = new ≡ old
   Follows old (pair ∷ pairs) new = (next : Market) × Step old pair.asked pair.answer next × Follows next pairs new
 
-  -- The pairs are a journal of these records, each with its one answer, and lead to this market.
-  pub record IsJournal (records : List R) (pairs : List (Pair R Outcome)) (market : Market) : Type 0 where
+  -- The pairs answer these records, each with one answer, and lead from one market to another.
+  pub record IsAnswered (start : Market) (records : List R) (pairs : List (Pair R Outcome)) (market : Market) : Type 0 where
     pub asked : map (λ (pair : Pair R Outcome). pair.asked) pairs ≡ records
-    pub steps : Follows empty_market pairs market
+    pub steps : Follows start pairs market
+
+  -- the pairs are a journal of these records: they answer them from the empty market on
+  abbrev pub IsJournal : List R → List (Pair R Outcome) → Market → Type 0
+  IsJournal records pairs market = IsAnswered empty_market records pairs market
 
 -- what a command adds to the money that is held, in grains, where it is accepted
 abbrev pub money_added : Command → ℤ
@@ -94,3 +98,10 @@ module _ {R : Type 0} (Reads : R → Result Command BodyFault → Type 0) where
     pub spelled : Reads pair.asked (Ok (PlaceOrder request))
     pub answered : pair.answer ≡ Plain (reply.Order number)
     pub cap_is : request.cap ≡ cap
+
+  -- The market is sound, and what it holds is the accepted deposits of the pairs less the accepted withdrawals, of money and
+  -- of each asset.
+  pub record HoldsDeposits (pairs : List (Pair R Outcome)) (market : Market) : Type 0 where
+    pub sound : IsSound market
+    pub money : AddTogether money_added pairs (held_money market)
+    pub units : (asset : ℕ) → IsAsset market.balances asset → AddTogether (units_added asset) pairs (held_units market asset)

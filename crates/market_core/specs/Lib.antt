@@ -2,3 +2,6 @@ pub mod Market
 pub mod Settlement
 pub mod Step
 pub mod Journal
+pub mod Wanting
+pub mod Laws
+pub mod Private

@@ -1,2 +1,13 @@
-//! The market.
+//! The market: what is kept from one command to the next, what each command makes of it, and the journals that come
+//! of it.
+//!
+//! The definitions in `specs` are those that everything above cites: `Market` (what is kept, and when it is sound), `Step`
+//! (the first refusal of a command, or what it is answered and makes of the market), `Settlement` (what a batch does to
+//! accounts and exchange), `Journal` (sequences of steps, totals, fills), `Wanting` (where memory may be wanted). [`Market`]
+//! is the program's market, and each of its calls is one step. [`laws`] has what holds of steps and journals.
 #![tactic(auto)]
+
+pub mod laws;
+mod market;
+
+pub use market::Market;

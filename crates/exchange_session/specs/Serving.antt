@@ -1,0 +1,16 @@
+-- What serving one record appends to a journal.
+use Rattle.std.specs.Prelude.{◌≡◌, ℕ, List}
+use Rattle.wire_records.specs.Records.{Record}
+use Rattle.wire_records.specs.Commands.{Answer}
+use Rattle.wire_records.specs.CommandRecords.{IsReadAs}
+use Rattle.journal_records.specs.Pairs.{pair_spelling}
+use Rattle.flow_orders.specs.Outcomes.{Outcome}
+use Rattle.flow_orders.specs.Own.{IsOwnOutcome}
+use Rattle.market_core.specs.Market.{Market}
+use Rattle.market_core.specs.Journal.{Step}
+
+-- A record is answered by one step of the market under the program's own rule, and the text is its pair.
+pub record AnswersOne (old : Market) (asked : Record) (new : Market) (text : List ℕ) : Type 0 where
+  pub answer : Answer Outcome
+  pub step : Step IsReadAs IsOwnOutcome old asked answer new
+  pub spelled : text ≡ pair_spelling (record { asked = asked; answer = answer })

@@ -1,0 +1,96 @@
+//! One command record, and the pair that it gives.
+ghost use Rattle.std.specs.Prelude.{◌≡◌, ◌++◌, ◌+◌, ◌<◌, ◌≤◌, ◌⊎◌, ℕ, List, IfOk, OnErr, OnOk, vec_len, vec_capacity};
+ghost use Rattle.wire_records.specs.Commands.{Plain};
+ghost use Rattle.wire_records.specs.CommandRecords.{IsReadAs};
+ghost use Rattle.journal_records.specs.Pairs.{plain_room};
+ghost use Rattle.flow_orders.specs.Own.{IsOwnOutcome};
+ghost use Rattle.market_core.specs.Step.{refusal_of};
+ghost use Rattle.market_core.specs.Journal.{Step};
+ghost use Rattle.market_core.specs.Wanting.{RecordMayWant};
+
+use journal_records::{reserve_plain, write_plain};
+use market_core::Market;
+use std::alloc::Global;
+use std::marker::Model;
+use wire_records::{BodyFault, Memory, RecordView, Refusal, Reply};
+
+/// The market of a run, from record to record. Contracts see it as that market.
+#[derive(Drop)]
+pub struct Session {
+    market: Market,
+}
+
+impl Model for Session {
+    ghost use Rattle.market_core.specs.Market.{Market as market_value};
+
+    ghost Value = { market_value };
+
+    ghost view = { λ session. session.market };
+}
+
+// The refusal of a record that can't be served.
+fn refusal_for(fault: BodyFault) -> Refusal
+    ensures { result ≡ refusal_of fault }
+{
+    match fault {
+        BodyFault::UnknownTag => Refusal::UnknownTag,
+        BodyFault::NotBuilt => Refusal::NotBuilt,
+        BodyFault::BadBody => Refusal::BadBody,
+    }
+}
+
+// The reply to a record.
+fn reply_to(market: &mut Market, asked: &RecordView<'_>) -> Result<Reply, Memory>
+    ensures step { IfOk result (λ reply. Step IsReadAs IsOwnOutcome market.old asked.now (Plain reply) market.new) }
+    ensures stays { OnErr result (market.new ≡ market.old) }
+    ensures wanted { OnErr result (RecordMayWant market.old asked.now) }
+{
+    match asked.command() {
+        Ok(command) => market.apply(&command),
+        Err(fault) => Ok(Reply::Refused(refusal_for(fault))),
+    }
+}
+
+impl Session {
+    ghost use Rattle.market_core.specs.Market.{empty_market, IsSound};
+    ghost use Rattle.exchange_session.specs.Serving.{AnswersOne};
+
+    /// A session over the empty market. Takes no memory.
+    pub fn new(alloc: Global) -> Session
+        ensures { result ≡ empty_market }
+    {
+        Session {
+            market: Market::new(alloc),
+        }
+    }
+
+    /// The market after the records that were served.
+    pub fn market(&self) -> &Market
+        ensures value { result.now ≡ self.now }
+        ensures sound { IsSound self.now }
+    {
+        // What the accounts ensure: the market is sound.
+        let _sound = self.market.accounts();
+        &self.market
+    }
+
+    /// Serves one record, and appends its pair: the record as it was given, and the record of its one answer. The cost
+    /// is that of the record, however many accounts there are.
+    ///
+    /// The room of the pair is taken first. After `Memory` market and bytes are as before, and `out` has the room that
+    /// it had or more; it comes only where that room was less than the pair's, or where the command adds something to
+    /// the market and no refusal holds.
+    pub fn serve(&mut self, asked: &RecordView<'_>, out: &mut Vec<u8>) -> Result<(), Memory>
+        ensures served { OnOk result ((text : List ℕ) × AnswersOne self.old asked.now self.new text
+            × (out.new.items ≡ out.old.items ++ text)) }
+        ensures stays { OnErr result ((self.new ≡ self.old) × (out.new.items ≡ out.old.items)) }
+        ensures wanted { OnErr result ((vec_capacity out.old < vec_len out.old + plain_room asked.now)
+            ⊎ RecordMayWant self.old asked.now) }
+        ensures room { vec_capacity out.old ≤ vec_capacity out.new }
+    {
+        reserve_plain(asked, out)?;
+        let reply = reply_to(&mut self.market, asked)?;
+        write_plain(asked, &reply, out);
+        Ok(())
+    }
+}

@@ -1,0 +1,87 @@
+-- What the market answers to a new asset and to a new account.
+use Rattle.std.proofs.Common.{◌≡◌, ℕ, ◌+◌, ◌≤◌, ◌<◌, inl, inr, List, [], ◌∷◌, ◌++◌, length, replicate, Option, Some, None, Result, Ok, Err, OnOk, OnErr, refl, ap, sym, subst, ◌∙◌, arith}
+use Rattle.std.specs.Prelude.{Contains, pos, ℤ}
+use Rattle.std.proofs.lemmas.List.{replicate-append-replicate, length_push}
+use Rattle.std.proofs.lemmas.Option.{slice_get_within, get_or_from_slice_get}
+use Rattle.ticker_table.specs.Tickers.{IsTicker, HasNumber, ticker_limit}
+use Rattle.ticker_table.specs.Adding.{IsAddable}
+use Rattle.wire_records.specs.Commands.{AddAsset, OpenAccount, Plain}
+use Rattle.wire_records.specs.declared.reply.Reply.TheVariants.{Asset, Account, Refused}
+use Rattle.wire_records.specs.declared.reply.Refusal.TheVariants.{BadTicker, TickerTaken, AssetLimit, AccountLimit}
+use Rattle.flow_accounts.specs.Balances.{Balances, account_count, add_asset, open_account}
+use Rattle.flow_accounts.specs.Lawful.{most_accounts}
+use Rattle.flow_accounts.specs.Answers.{RefusesAccount}
+use Rattle.flow_accounts.specs.declared.fault.AccountFault.{AccountFault}
+use Rattle.flow_accounts.specs.declared.fault.AccountFault.TheVariants as fault
+use Rattle.flow_orders.specs.Outcomes.{BatchRule}
+use Rattle.flow_orders.specs.Own.{IsOwnOutcome}
+use Rattle.market_core.specs.Market.{Market, IsSound}
+use Rattle.market_core.specs.Step.{FirstRefusal, Serves}
+use Rattle.market_core.specs.Private.{without_orders, IsAnswered, refusal_for}
+use Rattle.market_core.proofs.Fitting.{sound-served}
+
+-- one value more
+replicate-pushed : {X Y : Type 0} (xs : List X) (x : X) (y : Y) → replicate (length (xs ++ x ∷ [])) y ≡ replicate (length xs) y ++ y ∷ []
+replicate-pushed xs x y = ap (λ n. replicate n y) (length_push xs x) ∙ sym (replicate-append-replicate (length xs) 1 y)
+
+-- a ticker that can be added is refused by nothing
+pub addable_is_accepted : (m : Market) (ticker : List ℕ) → IsAddable m.tickers ticker → FirstRefusal m (AddAsset ticker) None
+addable_is_accepted m ticker addable = inr (addable.valid, inr (addable.absent, inr (λ full. let place = addable.place in omega (arith, full, place), refl)))
+
+module _ (Rule : BatchRule) where
+  -- the asset is added
+  pub serves-add_asset : (tickers : List (List ℕ)) (b now : Balances) (ticker : List ℕ) → IsAddable tickers ticker → now ≡ add_asset b
+      → Serves Rule (without_orders tickers b) (AddAsset ticker) (Plain (Asset (length tickers))) (without_orders (tickers ++ ticker ∷ []) now)
+  serves-add_asset tickers b now ticker addable added =
+      let with_zeros : List ℤ → Market = λ zeros. record (without_orders tickers b) {
+        tickers = tickers ++ ticker ∷ [];
+        balances = add_asset b;
+        exchange = record { money = pos 0; units = zeros };
+        last_prices = zeros;
+      } in
+      record {
+        first = None;
+        refused = addable_is_accepted (without_orders tickers b) ticker addable;
+        answered = (refl, ap (without_orders (tickers ++ ticker ∷ [])) added ∙ ap with_zeros (replicate-pushed tickers ticker (pos 0)));
+      }
+
+  module _ (old new : Market) (ticker : List ℕ) (same : new ≡ old) where
+    -- it isn't valid
+    pub refuses-bad_ticker : (IsTicker ticker → ⊥) → Serves Rule old (AddAsset ticker) (Plain (Refused BadTicker)) new
+    refuses-bad_ticker bad = record { first = Some BadTicker; refused = inl (bad, refl); answered = (refl, same) }
+
+    -- it is there
+    pub refuses-taken : (number : ℕ) → IsTicker ticker → HasNumber old.tickers number ticker → Serves Rule old (AddAsset ticker) (Plain (Refused TickerTaken)) new
+    refuses-taken number valid has =
+        let there : Contains old.tickers ticker = (number, slice_get_within old.tickers number ticker has, get_or_from_slice_get old.tickers number ticker ticker has) in
+        record { first = Some TickerTaken; refused = inr (valid, inl (there, refl)); answered = (refl, same) }
+
+    -- there are too many
+    pub refuses-full : IsTicker ticker → (Contains old.tickers ticker → ⊥) → ticker_limit ≤ length old.tickers → Serves Rule old (AddAsset ticker) (Plain (Refused AssetLimit)) new
+    refuses-full valid absent many = record { first = Some AssetLimit; refused = inr (valid, inr (absent, inl (many, refl))); answered = (refl, same) }
+
+  -- an account is opened
+  pub serves-open_account : (m : Market) (now : Balances) → account_count m.balances < most_accounts → now ≡ open_account m.balances
+      → Serves Rule m OpenAccount (Plain (Account (account_count m.balances + 1))) (record m { balances = now })
+  serves-open_account m now few opened =
+      record { first = None; refused = inr (λ full. omega (arith, few, full), refl); answered = (refl, ap (λ b. record m { balances = b }) opened) }
+
+  -- there are too many
+  pub refuses-account : (m new : Market) → account_count m.balances ≡ most_accounts → new ≡ m → Serves Rule m OpenAccount (Plain (Refused AccountLimit)) new
+  refuses-account m new full same = record { first = Some AccountLimit; refused = inl (omega (arith, full), refl); answered = (refl, same) }
+
+  -- an account isn't opened, for another cause than want of memory
+  pub refuses-account_fault : (m new : Market) (why : AccountFault) → RefusesAccount m.balances why → IsAnswered why → new ≡ m → Serves Rule m OpenAccount (Plain (Refused (refusal_for why))) new
+  refuses-account_fault m new fault.Full full answered same = refuses-account m new full same
+  refuses-account_fault m new fault.NoAccount refused answered same = absurd refused
+  refuses-account_fault m new fault.NoAsset refused answered same = absurd refused
+  refuses-account_fault m new fault.Zero refused answered same = absurd refused
+  refuses-account_fault m new fault.TotalLimit refused answered same = absurd refused
+  refuses-account_fault m new (fault.NotFree free) refused answered same = absurd refused
+  refuses-account_fault m new fault.Memory refused answered same = absurd answered
+
+-- whether an account was opened or not, a sound market stays sound
+pub sound-opened : (m : Market) (now : Balances) (outcome : Result ℕ AccountFault) → IsSound m → OnOk outcome (account_count m.balances < most_accounts)
+    → OnOk outcome (now ≡ open_account m.balances) → OnErr outcome (now ≡ m.balances) → IsSound (record m { balances = now })
+sound-opened m now (Ok number) sound few opened same = sound-served m OpenAccount _ (record m { balances = now }) sound (serves-open_account IsOwnOutcome m now few opened)
+sound-opened m now (Err why) sound few opened same = subst (λ b. IsSound (record m { balances = b })) (sym same) sound

@@ -1,0 +1,90 @@
+-- What an account's own orders need when orders come and go.
+use Rattle.std.proofs.Common.{◌≡◌, ◌≢◌, ℕ, suc, ◌<◌, Bool, cond, eqb, ℤ, pos, ◌+ℤ◌, ◌-ℤ◌, ◌≤ℤ◌, List, [], ◌∷◌, ◌++◌, refl, ⊎_elim, arith}
+use Rattle.std.specs.Prelude.{All}
+use Rattle.std.specs.List.{filter}
+use Rattle.std.proofs.lemmas.Int.{ints}
+use Rattle.std.proofs.lemmas.Bool.{cases_Bool}
+use Rattle.std.proofs.lemmas.Bool.Decides.{eqb_tells}
+use Rattle.weight_rows.specs.declared.entries.Entry.{Entry}
+use Rattle.weight_rows.specs.Rows.{weight_in}
+use Rattle.flow_accounts.specs.Balances.{Balances, IsAsset, money_of, units_of}
+use Rattle.flow_orders.specs.Orders.{Order, own_sum, money_need, unit_need, needed_money, needed_units}
+use Rattle.market_core.specs.Market.{CoversNeeds}
+use Rattle.flow_orders.proofs.OwnSums.{own_sum-append}
+
+-- an asset above all that a row names has no weight in it
+pub weight_above : (row : List Entry) (asset : ℕ) → All (λ e. e.asset < asset) row → weight_in row asset ≡ pos 0
+unfolding weight_in
+weight_above [] asset below = refl
+weight_above (e ∷ row) asset below =
+    ⊎_elim
+    (λ same. let less : e.asset < asset = below 0 e (omega arith) in absurd (omega (arith, less, same.1)))
+    (λ other. rw other.0 (weight_above row asset (λ k d inside. below (suc k) d (omega (arith, inside)))))
+    (eqb_tells e.asset asset)
+
+module _ {X : Type 0} (whose : X → ℕ) (f : X → ℤ) where
+  -- nobody's own, or only zeros: nothing
+  pub own_sum-none : (account : ℕ) (xs : List X) → All (λ x. whose x ≢ account) xs → own_sum whose account f xs ≡ pos 0
+  own_sum-none account [] none = refl
+  own_sum-none account (x ∷ xs) none =
+      let here : whose x ≢ account = none 0 x (omega arith) in
+      let rest = own_sum-none account xs (λ k d inside. none (suc k) d (omega (arith, inside))) in
+      ⊎_elim (λ same. absurd (here same.1)) (λ other. rw other.0 (omega (arith, ints, rest))) (eqb_tells (whose x) account)
+
+  pub own_sum-zeros : (account : ℕ) (xs : List X) → All (λ x. f x ≡ pos 0) xs → own_sum whose account f xs ≡ pos 0
+  own_sum-zeros account [] zeros = refl
+  own_sum-zeros account (x ∷ xs) zeros =
+      let here : f x ≡ pos 0 = zeros 0 x (omega arith) in
+      let rest = own_sum-zeros account xs (λ k d inside. zeros (suc k) d (omega (arith, inside))) in
+      ⊎_elim (λ same. rw same.0 (omega (arith, ints, here, rest))) (λ other. rw other.0 (omega (arith, ints, rest))) (eqb_tells (whose x) account)
+
+  -- a filter leaves at most as much of what isn't negative
+  pub own_sum-filter : (account : ℕ) (p : X → Bool) (xs : List X) → ((x : X) → pos 0 ≤ℤ f x) → own_sum whose account f (filter p xs) ≤ℤ own_sum whose account f xs
+  own_sum-filter account p [] positive = omega (arith, ints)
+  own_sum-filter account p (x ∷ xs) positive =
+      let rest = own_sum-filter account p xs positive in
+      ⊎_elim
+      (λ kept. rw kept (omega (arith, ints, rest)))
+      (λ dropped. rw dropped (⊎_elim (λ same. rw same.0 (omega (arith, ints, rest, positive x))) (λ other. rw other.0 (omega (arith, ints, rest))) (eqb_tells (whose x) account)))
+      (cases_Bool (p x))
+
+  -- one more
+  pub own_sum-push : (account : ℕ) (xs : List X) (x : X) → own_sum whose account f (xs ++ x ∷ []) ≡ own_sum whose account f xs +ℤ cond (eqb (whose x) account) (f x) (pos 0)
+  own_sum-push account xs x = let all = own_sum-append whose f account xs (x ∷ []) in omega (arith, ints, all)
+
+-- orders that leave need nothing
+pub needs-filter : (b : Balances) (p : Order → Bool) (orders : List Order) → CoversNeeds b orders → CoversNeeds b (filter p orders)
+needs-filter b p orders covers = record {
+  money = λ account there.
+      let less = own_sum-filter (λ (o : Order). o.account) (λ (o : Order). pos (money_need o)) account p orders (λ x. omega (arith, ints)) in
+      omega (arith, ints, less, covers.money account there);
+  units = λ account asset there is_asset.
+      let less = own_sum-filter (λ (o : Order). o.account) (λ (o : Order). pos (unit_need asset o)) account p orders (λ x. omega (arith, ints)) in
+      omega (arith, ints, less, covers.units account asset there is_asset);
+}
+
+-- an order that is placed needs what is free
+pub needs-push : (b : Balances) (orders : List Order) (o : Order) → CoversNeeds b orders
+    → pos (money_need o) ≤ℤ (money_of b o.account -ℤ needed_money orders o.account)
+    → ((asset : ℕ) → IsAsset b asset → pos (unit_need asset o) ≤ℤ (units_of b o.account asset -ℤ needed_units orders o.account asset))
+    → CoversNeeds b (orders ++ o ∷ [])
+needs-push b orders o covers money units = record {
+  money = λ account there.
+      let all = own_sum-push (λ (o : Order). o.account) (λ (o : Order). pos (money_need o)) account orders o in
+      ⊎_elim
+      (λ same.
+      let free : pos (money_need o) ≤ℤ (money_of b account -ℤ needed_money orders account) = rw (← same.1) money in
+      let here = rw same.0 at all in
+      omega (arith, ints, here, free))
+      (λ other. let here = rw other.0 at all in omega (arith, ints, here, covers.money account there))
+      (eqb_tells o.account account);
+  units = λ account asset there is_asset.
+      let all = own_sum-push (λ (o : Order). o.account) (λ (o : Order). pos (unit_need asset o)) account orders o in
+      ⊎_elim
+      (λ same.
+      let free : pos (unit_need asset o) ≤ℤ (units_of b account asset -ℤ needed_units orders account asset) = rw (← same.1) (units asset is_asset) in
+      let here = rw same.0 at all in
+      omega (arith, ints, here, free))
+      (λ other. let here = rw other.0 at all in omega (arith, ints, here, covers.units account asset there is_asset))
+      (eqb_tells o.account account);
+}

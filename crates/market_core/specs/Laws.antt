@@ -1,0 +1,124 @@
+-- What holds of steps, journals and markets.
+use Rattle.std.specs.Prelude.{◌≡◌, ℕ, ◌+◌, ◌*◌, ◌^◌, ◌<◌, ◌≤◌, ℤ, pos, ◌+ℤ◌, ◌<ℤ◌, List, ◌∷◌, ◌++◌, length, map, All, Contains}
+use Rattle.ticker_table.specs.Tickers.{ticker_limit}
+use Rattle.flow_accounts.specs.Balances.{IsAsset}
+use Rattle.flow_accounts.specs.Lawful.{most_assets}
+use Rattle.wire_records.specs.Records.{Record, AreBytes}
+use Rattle.wire_records.specs.Commands.{Command, RunBatch, Answer, Plain, Batch, Pair}
+use Rattle.wire_records.specs.CommandRecords.{IsReadAs}
+use Rattle.wire_records.specs.declared.reply.Refusal.{Refusal}
+use Rattle.wire_records.specs.declared.reply.Reply.TheVariants.{Refused}
+use Rattle.flow_orders.specs.Orders.{Order, most_ticks}
+use Rattle.flow_orders.specs.Outcomes.{Outcome, Fill, Clearing, Cleared, Skipping, Skipped, dual_of, IsRightOutcome}
+use Rattle.flow_orders.specs.Duals.{movement_of}
+use Rattle.flow_orders.specs.Own.{IsOwnOutcome}
+use Rattle.flow_orders.specs.Welfare.{IsOptimalWithin}
+use Rattle.market_core.specs.Market.{Market, empty_market, IsSound, start_prices, held_money, held_units}
+use Rattle.market_core.specs.Step.{Serves}
+use Rattle.market_core.specs.Journal.{Step, Follows, IsJournal, money_added, units_added, AddTogether, Places, fills_of}
+
+-- the pairs lead from a market to another one by steps
+abbrev pub Leads : Market → List (Pair Record Outcome) → Market → Type 0
+Leads = Follows IsReadAs IsRightOutcome
+
+-- old market, record and answer determine the new market
+abbrev pub MarketIsDetermined : Type 0
+MarketIsDetermined = (old : Market) (asked : Record) (answer : Answer Outcome) (m n : Market)
+    → Step IsReadAs IsRightOutcome old asked answer m → Step IsReadAs IsRightOutcome old asked answer n → m ≡ n
+
+-- and so a legal journal determines the market after it
+abbrev pub JournalsDetermineTheMarket : Type 0
+JournalsDetermineTheMarket = (old : Market) (pairs : List (Pair Record Outcome)) (m n : Market)
+    → Leads old pairs m → Leads old pairs n → m ≡ n
+
+-- where a command is refused, a batch too, it gets no other answer, and nothing changes
+abbrev pub OneRefusal : Type 0
+OneRefusal = (old : Market) (command : Command) (refusal : Refusal) (answer : Answer Outcome) (m n : Market)
+    → Serves IsRightOutcome old command (Plain (Refused refusal)) m → Serves IsRightOutcome old command answer n
+    → (answer ≡ Plain (Refused refusal)) × (m ≡ old) × (n ≡ old)
+
+-- a command that is no batch gets one answer, also where any right outcome of a batch is accepted
+abbrev pub PlainCommandsHaveOneAnswer : Type 0
+PlainCommandsHaveOneAnswer = (old : Market) (command : Command) (a b : Answer Outcome) (m n : Market)
+    → ((budget : ℕ) → ¬ (command ≡ RunBatch budget))
+    → Serves IsRightOutcome old command a m → Serves IsRightOutcome old command b n → (a ≡ b) × (m ≡ n)
+
+-- records of bytes have exactly one own journal, which leads to one market
+abbrev pub OneOwnJournal : Type 0
+OneOwnJournal = (records : List Record) → All (λ r. AreBytes r.body) records → (pairs : List (Pair Record Outcome)) × (m : Market) × IsJournal IsReadAs IsOwnOutcome records pairs m
+    × ((other : List (Pair Record Outcome)) (n : Market) → IsJournal IsReadAs IsOwnOutcome records other n → (pairs ≡ other) × (m ≡ n))
+
+-- and it is a legal one
+abbrev pub OwnJournalsAreLegal : Type 0
+OwnJournalsAreLegal = (records : List Record) (pairs : List (Pair Record Outcome)) (m : Market)
+    → IsJournal IsReadAs IsOwnOutcome records pairs m → IsJournal IsReadAs IsRightOutcome records pairs m
+
+-- the empty market is sound, and every step keeps a market sound
+abbrev pub StepsKeepSoundness : Type 0
+StepsKeepSoundness = IsSound empty_market × ((old : Market) (asked : Record) (answer : Answer Outcome) (new : Market)
+    → IsSound old → Step IsReadAs IsRightOutcome old asked answer new → IsSound new)
+
+-- every command has a step under the own rule, from any market
+abbrev pub EveryCommandIsServed : Type 0
+EveryCommandIsServed = (old : Market) (command : Command) → (answer : Answer Outcome) × (new : Market) × Serves IsOwnOutcome old command answer new
+
+-- from a sound market on what is held changes by the accepted deposits less the accepted withdrawals; in the empty market nothing is held
+pub record HeldIsDeposited : Type 0 where
+  pub money : (old : Market) (pairs : List (Pair Record Outcome)) (new : Market) → IsSound old → Leads old pairs new
+      → (added : ℤ) × AddTogether IsReadAs money_added pairs added × (held_money new ≡ held_money old +ℤ added)
+  pub units : (old : Market) (pairs : List (Pair Record Outcome)) (new : Market) (asset : ℕ)
+      → IsSound old → IsAsset old.balances asset → IsAsset new.balances asset → Leads old pairs new
+      → (added : ℤ) × AddTogether IsReadAs (units_added asset) pairs added × (held_units new asset ≡ held_units old asset +ℤ added)
+  pub all_money : (pairs : List (Pair Record Outcome)) (m : Market) → Leads empty_market pairs m → AddTogether IsReadAs money_added pairs (held_money m)
+  pub all_units : (pairs : List (Pair Record Outcome)) (m : Market) (asset : ℕ) → IsAsset m.balances asset → Leads empty_market pairs m
+      → AddTogether IsReadAs (units_added asset) pairs (held_units m asset)
+
+-- a batch changes nothing that is held in total
+abbrev pub BatchesKeepTotals : Type 0
+BatchesKeepTotals = (old : Market) (command : Command) (number : ℕ) (outcome : Outcome) (new : Market)
+    → IsSound old → Serves IsRightOutcome old command (Batch number outcome) new
+    → (held_money new ≡ held_money old) × ((asset : ℕ) → IsAsset old.balances asset → held_units new asset ≡ held_units old asset)
+
+-- a batch that is skipped is counted, and changes nothing else
+abbrev pub SkipsChangeNothing : Type 0
+SkipsChangeNothing = (old : Market) (command : Command) (number : ℕ) (skipping : Skipping) (new : Market)
+    → Serves IsRightOutcome old command (Batch number (Skipped skipping)) new → new ≡ record old { batches = old.batches + 1 }
+
+-- from a sound market on no order's fills pass the cap that it was placed with, nor that of an order that is live
+pub record FillsKeepCaps : Type 0 where
+  pub placed : (old : Market) (before after : List (Pair Record Outcome)) (pair : Pair Record Outcome) (m : Market) (number cap : ℕ) → IsSound old
+      → Leads old (before ++ pair ∷ after) m → Places IsReadAs number cap pair → fills_of number (before ++ pair ∷ after) ≤ cap
+  pub live : (old : Market) (pairs : List (Pair Record Outcome)) (m : Market) (o : Order) → IsSound old → Contains old.orders o
+      → Leads old pairs m → o.filled + fills_of o.number pairs ≤ o.cap
+
+-- no balanced rates beat the rates of a cleared batch by more than the published gap
+abbrev pub ClearedBatchesAreOptimal : Type 0
+ClearedBatchesAreOptimal = (old : Market) (command : Command) (number : ℕ) (c : Clearing) (new : Market)
+    → IsSound old → Serves IsRightOutcome old command (Batch number (Cleared c)) new
+    → IsOptimalWithin c.gap old.orders (map (λ (f : Fill). f.rate) c.fills)
+
+-- the dual floors of a skipped batch tell its movement, and so a grain for each of its moves, up to the number of orders
+pub record SkipsLowerTheDual : Type 0 where
+  pub movement : (old : Market) (command : Command) (number : ℕ) (s : Skipping) (new : Market)
+      → IsSound old → Serves IsRightOutcome old command (Batch number (Skipped s)) new
+      → (s.end_dual +ℤ pos (movement_of old.orders (start_prices old) s.trace)) <ℤ (s.start_dual +ℤ pos (length old.orders))
+  pub moves : (old : Market) (command : Command) (number : ℕ) (s : Skipping) (new : Market)
+      → IsSound old → Serves IsRightOutcome old command (Batch number (Skipped s)) new
+      → (s.end_dual +ℤ pos (length s.trace)) <ℤ (s.start_dual +ℤ pos (length old.orders))
+
+-- a batch whose budget is above the dual floor at its start plus the number of orders clears
+abbrev pub LargeBudgetsClear : Type 0
+LargeBudgetsClear = (old : Market) (budget number : ℕ) (outcome : Outcome) (new : Market)
+    → IsSound old → dual_of old.orders (start_prices old) + length old.orders < budget
+    → Serves IsRightOutcome old (RunBatch budget) (Batch number outcome) new → (c : Clearing) × (outcome ≡ Cleared c)
+
+-- sequences of steps compose, and come apart
+pub record SequencesCompose : Type 0 where
+  pub joined : (old mid new : Market) (pairs more : List (Pair Record Outcome)) → Leads old pairs mid → Leads mid more new → Leads old (pairs ++ more) new
+  pub apart : (old new : Market) (pairs more : List (Pair Record Outcome)) → Leads old (pairs ++ more) new
+      → (mid : Market) × Leads old pairs mid × Leads mid more new
+
+-- the limits that two crates keep, each by its own name, are the same: as many tickers as assets, and limit prices and rates as on a curve
+pub record LimitsAgree : Type 0 where
+  pub assets : ticker_limit ≡ most_assets
+  pub ticks : 2 ^ 32 * most_ticks ≡ 2 ^ 60

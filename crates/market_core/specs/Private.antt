@@ -1,0 +1,41 @@
+-- Words that only private functions of the market use.
+use Rattle.std.specs.Prelude.{ℕ, pos, List, [], length, replicate}
+use Rattle.flow_accounts.specs.declared.fault.AccountFault.{AccountFault}
+use Rattle.flow_accounts.specs.declared.fault.AccountFault.TheVariants as fault
+use Rattle.flow_accounts.specs.Balances.{Balances, empty_account}
+use Rattle.wire_records.specs.declared.reply.Refusal.{Refusal}
+use Rattle.wire_records.specs.declared.reply.Refusal.TheVariants.{AccountLimit, NoAccount, NoAsset, ZeroAmount, TotalLimit, NotFree}
+use Rattle.market_core.specs.Market.{Market}
+
+-- the market of these tickers and balances in which no order was placed and no batch was held: all that the program keeps
+-- as long as it serves neither
+abbrev pub without_orders : List (List ℕ) → Balances → Market
+without_orders tickers balances = record {
+  tickers = tickers;
+  balances = balances;
+  exchange = empty_account (length tickers);
+  orders = [];
+  next_order = 1;
+  batches = 0;
+  last_prices = replicate (length tickers) (pos 0);
+}
+
+-- every fault but want of memory is answered by a refusal
+abbrev pub IsAnswered : AccountFault → Type 0
+IsAnswered fault.Memory = ⊥
+IsAnswered fault.NoAccount = Unit {0}
+IsAnswered fault.NoAsset = Unit {0}
+IsAnswered fault.Zero = Unit {0}
+IsAnswered fault.TotalLimit = Unit {0}
+IsAnswered fault.Full = Unit {0}
+IsAnswered (fault.NotFree free) = Unit {0}
+
+-- the refusal for a fault; want of memory has none, and any stands here
+abbrev pub refusal_for : AccountFault → Refusal
+refusal_for fault.NoAccount = NoAccount
+refusal_for fault.NoAsset = NoAsset
+refusal_for fault.Zero = ZeroAmount
+refusal_for fault.TotalLimit = TotalLimit
+refusal_for fault.Full = AccountLimit
+refusal_for (fault.NotFree free) = NotFree
+refusal_for fault.Memory = NoAccount

@@ -1,0 +1,90 @@
+//! What holds of steps, journals and markets, whatever code there is. Each law is the contract of a function that
+//! does nothing.
+ghost use Rattle.market_core.specs.Laws.{MarketIsDetermined, JournalsDetermineTheMarket, OneRefusal, PlainCommandsHaveOneAnswer, EveryCommandIsServed, OneOwnJournal};
+ghost use Rattle.market_core.specs.Laws.{OwnJournalsAreLegal, StepsKeepSoundness, HeldIsDeposited, BatchesKeepTotals, SkipsChangeNothing, FillsKeepCaps};
+ghost use Rattle.market_core.specs.Laws.{ClearedBatchesAreOptimal, SkipsLowerTheDual, LargeBudgetsClear, SequencesCompose, LimitsAgree};
+
+/// Old market, record and answer determine the new market.
+pub fn market_is_determined()
+    ensures { MarketIsDetermined }
+{}
+
+/// A legal journal determines the market after it.
+pub fn journals_determine_the_market()
+    ensures { JournalsDetermineTheMarket }
+{}
+
+/// A command that is refused gets no other answer, and changes nothing.
+pub fn one_refusal()
+    ensures { OneRefusal }
+{}
+
+/// A command that is no batch gets one answer, also where any right outcome of a batch is accepted.
+pub fn plain_commands_have_one_answer()
+    ensures { PlainCommandsHaveOneAnswer }
+{}
+
+/// Every command has a step under the program's own rule, from any market.
+pub fn every_command_is_served()
+    ensures { EveryCommandIsServed }
+{}
+
+/// Records of bytes have exactly one journal by the program's own rule.
+pub fn one_own_journal()
+    ensures { OneOwnJournal }
+{}
+
+/// A journal by the program's own rule is legal.
+pub fn own_journals_are_legal()
+    ensures { OwnJournalsAreLegal }
+{}
+
+/// The empty market is sound, and every step keeps a market sound.
+pub fn steps_keep_soundness()
+    ensures { StepsKeepSoundness }
+{}
+
+/// What is held is what was deposited less what was withdrawn.
+pub fn held_is_deposited()
+    ensures { HeldIsDeposited }
+{}
+
+/// A batch changes nothing that is held in total.
+pub fn batches_keep_totals()
+    ensures { BatchesKeepTotals }
+{}
+
+/// A skipped batch is counted, and changes nothing else.
+pub fn skips_change_nothing()
+    ensures { SkipsChangeNothing }
+{}
+
+/// No order's fills pass its cap, over a whole journal.
+pub fn fills_keep_caps()
+    ensures { FillsKeepCaps }
+{}
+
+/// No balanced rates beat those of a cleared batch by more than its gap.
+pub fn cleared_batches_are_optimal()
+    ensures { ClearedBatchesAreOptimal }
+{}
+
+/// A skipped batch lowers the dual by its movement, and so by a grain for each of its moves, up to the number of orders.
+pub fn skips_lower_the_dual()
+    ensures { SkipsLowerTheDual }
+{}
+
+/// A batch with a budget above the dual floor at its start plus the number of orders clears.
+pub fn large_budgets_clear()
+    ensures { LargeBudgetsClear }
+{}
+
+/// Sequences of steps compose, and come apart.
+pub fn sequences_compose()
+    ensures { SequencesCompose }
+{}
+
+/// Limits that two crates keep, each by its own name, agree.
+pub fn limits_agree()
+    ensures { LimitsAgree }
+{}
