@@ -4,7 +4,5 @@
 #![tactic(auto)]
 
 mod session;
-#[cfg(test)]
-mod tests;
 
 pub use session::Session;

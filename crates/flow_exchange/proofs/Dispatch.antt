@@ -1,7 +1,7 @@
 -- A call does what the form of its words does, or nothing.
-use Rattle.std.proofs.Common.{◌≢◌, ℕ, List, refl}
-use Rattle.flow_io.specs.Faults.{Rose}
-use Rattle.flow_io.specs.Streams.{Grows}
+use Rattle.std.proofs.Common.{◌≡◌, ◌≢◌, ℕ, List, Option, IfSome, refl}
+use Rattle.flow_io.specs.Faults.{Rose, Blames}
+use Rattle.flow_io.specs.Streams.{Grows, GrowsByFront}
 use Rattle.flow_io.specs.Changes.{Change}
 use Rattle.flow_exchange.specs.declared.form.Form.{Form}
 use Rattle.flow_exchange.specs.declared.form.Form.TheVariants.{Run}
@@ -9,25 +9,34 @@ use Rattle.flow_exchange.specs.declared.status.Status.{Status}
 use Rattle.flow_exchange.specs.declared.status.Status.TheVariants as answer
 use Rattle.flow_exchange.specs.Forms.{Asks, AsksNothing}
 use Rattle.flow_exchange.specs.Statuses.{line_of}
-use Rattle.flow_exchange.specs.Program.{Does, Serves}
-use Rattle.flow_exchange.proofs.Outcomes.{one_form}
+use Rattle.flow_exchange.specs.Program.{Determines, Meets, Does, Serves}
+use Rattle.flow_exchange.proofs.Outcomes.{one_form, completes}
 
 -- run is the only form
 pub does_run : (form : Form) (limit : ℕ) (status : Status) (source out : Change) → Does Run limit status source out → Does form limit status source out
 does_run Run limit status source out does = does
 
+-- where no count rose and memory was there, a run came to what the bytes determine
+pub completes_run : (told : Option (List ℕ)) (limit : ℕ) (status : Status) (before after : Option (List ℕ)) (reads reads_now writes writes_now : ℕ)
+    → IfSome told (λ bytes. Meets Run limit bytes status before after) → Blames (status ≡ answer.ReadFault) reads reads_now → Blames (status ≡ answer.WriteFault) writes writes_now
+    → (¬ Rose reads reads_now) → (¬ Rose writes writes_now) → status ≢ answer.NoMemory → IfSome told (λ bytes. Determines Run limit bytes status before after)
+completes_run told limit status before after reads reads_now writes writes_now meets read written no_read no_write memory =
+    completes told Run limit status before after meets (λ e. no_read (read.rose e)) (λ e. no_write (written.rose e)) memory
+
 -- the words are a form, which was done
-pub serves_form : (limit : ℕ) (words : List (List ℕ)) (form : Form) (status : Status) (source out notes : Change) → Asks words form → status ≢ answer.Usage → Does form limit status source out → ((¬ Rose notes.faults notes.faults_after) → Grows notes.before notes.after (line_of status)) → Serves limit words status source out notes
-serves_form limit words form status source out notes asks asked does noted = record {
+pub serves_form : (limit : ℕ) (words : List (List ℕ)) (form : Form) (status : Status) (source out notes : Change) → Asks words form → status ≢ answer.Usage → Does form limit status source out → ((¬ Rose notes.faults notes.faults_after) → Grows notes.before notes.after (line_of status)) → GrowsByFront notes.before notes.after (line_of status) → Serves limit words status source out notes
+serves_form limit words form status source out notes asks asked does noted cut = record {
   usage = (λ e. absurd (asked e), λ none. absurd (none form asks));
   does = λ other also. rw (one_form words other form also asks) does;
   noted = noted;
+  cut = cut;
 }
 
 -- the words are none
-pub serves_none : (limit : ℕ) (words : List (List ℕ)) (source out notes : Change) → AsksNothing words → ((¬ Rose notes.faults notes.faults_after) → Grows notes.before notes.after (line_of answer.Usage)) → Serves limit words answer.Usage source out notes
-serves_none limit words source out notes none noted = record {
+pub serves_none : (limit : ℕ) (words : List (List ℕ)) (source out notes : Change) → AsksNothing words → ((¬ Rose notes.faults notes.faults_after) → Grows notes.before notes.after (line_of answer.Usage)) → GrowsByFront notes.before notes.after (line_of answer.Usage) → Serves limit words answer.Usage source out notes
+serves_none limit words source out notes none noted cut = record {
   usage = (λ e. none, λ not. refl);
   does = λ form asks. absurd (none form asks);
   noted = noted;
+  cut = cut;
 }

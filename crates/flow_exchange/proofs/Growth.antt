@@ -1,7 +1,8 @@
 -- How what a sink holds grows.
-use Rattle.std.proofs.Common.{◌+◌, ℕ, List, [], ◌++◌, Option, Some, None, length, take, length-append, sym, append_assoc, arith}
+use Rattle.std.proofs.Common.{◌+◌, ◌≤◌, ℕ, List, [], ◌++◌, Option, Some, None, Result, Ok, Err, OnErr, length, take, length-append, sym, append_assoc, arith}
 use Rattle.std.proofs.lemmas.List.{append-nil}
 use Rattle.std.proofs.Math.Seq.{take-length, take-append-add}
+use Rattle.std.proofs.lemmas.List.{take-append-le}
 use Rattle.flow_io.specs.Streams.{Grows, GrowsByFront}
 
 -- nothing was written
@@ -28,3 +29,16 @@ GrowsByFront-more first second third bytes more a b = (
   omega (arith, length-append bytes more, b.1),
   rw (take-append-add bytes more b.0) (Grows-more first second third bytes (take b.0 more) a b.2),
 )
+
+-- a front of the bytes is a front of them and more
+pub GrowsByFront-front : (first second : Option (List ℕ)) (bytes more : List ℕ) → GrowsByFront first second bytes → GrowsByFront first second (bytes ++ more)
+GrowsByFront-front first second bytes more a = (a.0, omega (arith, length-append bytes more, a.1), let within : a.0 ≤ length bytes = a.1 in rw take-append-le a.2)
+
+-- of three pieces the first was written and the second cut
+pub number_cut : (first second third : Option (List ℕ)) (a b c : List ℕ) → Grows first second a → GrowsByFront second third b → GrowsByFront first third (a ++ b ++ c)
+number_cut first second third a b c written cut = GrowsByFront-front first third (a ++ b) c (GrowsByFront-more first second third a b written cut)
+
+-- of three pieces two were written, and the third was cut
+pub end_cut : {T E : Type 0} (result : Result T E) (first second third fourth : Option (List ℕ)) (a b c : List ℕ) → Grows first second a → Grows second third b → OnErr result (GrowsByFront third fourth c) → OnErr result (GrowsByFront first fourth (a ++ b ++ c))
+end_cut (Ok x) first second third fourth a b c one two cut = tt
+end_cut (Err e) first second third fourth a b c one two cut = GrowsByFront-more first third fourth (a ++ b) c (Grows-more first second third a b one two) cut

@@ -1,9 +1,5 @@
-pub mod Soundness
 pub mod Growth
 pub mod Serving
-pub mod Totals
-pub mod Running
-pub mod NewAssets
-pub mod OneJournal
 pub mod Outcomes
+pub mod Running
 pub mod Dispatch

@@ -1,11 +1,6 @@
-pub mod Market
-pub mod Refusing
-pub mod Step
-pub mod Serving
-pub mod Journal
-pub mod Totals
-pub mod Laws
 pub mod Statuses
 pub mod Forms
 pub mod Running
 pub mod Program
+pub mod Laws
+pub mod Private

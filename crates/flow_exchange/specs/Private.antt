@@ -2,7 +2,7 @@
 use Rattle.std.specs.Prelude.{◌≡◌, ◌++◌, ◌∷◌, [], ℕ, List, Result, Ok, Err, Option, All}
 use Rattle.std.specs.List.{flat_map}
 use Rattle.flow_io.specs.Streams.{Grows, GrowsByFront}
-use Rattle.wire_records.specs.Records.{Record, IsRecord}
+use Rattle.wire_records.specs.Records.{Record, IsRecord, spelling}
 use Rattle.wire_records.specs.Commands.{Pair}
 use Rattle.wire_records.specs.CommandRecords.{IsReadAs}
 use Rattle.wire_records.specs.Grammars.{spell_all}
@@ -18,6 +18,10 @@ use Rattle.exchange_session.specs.Serving.{AnswersOne}
 use Rattle.flow_exchange.specs.declared.status.Status.{Status}
 use Rattle.flow_exchange.specs.declared.status.Status.TheVariants.{Done, Usage, NotFlow, Torn, ReadFault, WriteFault, NoMemory, TooLong}
 use Rattle.flow_exchange.specs.Statuses.{ending_status}
+
+-- as many bytes has the longest pair with a plain reply: 5 and 1,024 of the record, and 13 of the reply's
+abbrev pub most_plain_pair : ℕ
+most_plain_pair = 1042
 
 -- The text is the pairs that answer these command records from one market to another.
 pub record Answers (start : Market) (records : List Record) (market : Market) (text : List ℕ) : Type 0 where
@@ -63,7 +67,7 @@ pub record StopsAtWant (start : Market) (bytes : List ℕ) (before after : Optio
   pub next : Record
   pub rest : List ℕ
   pub text : List ℕ
-  pub some : AnswersSome start bytes market (spell_all commands.units (next ∷ []) ++ rest) text
+  pub some : AnswersSome start bytes market (spelling next ++ rest) text
   pub fits : IsRecord 1024 next
   pub wants : RecordMayWant market next
   pub written : Grows before after text

@@ -5,7 +5,7 @@ use Rattle.wire_records.specs.Commands.{Pair}
 use Rattle.wire_records.specs.CommandRecords.{IsReadAs}
 use Rattle.wire_records.specs.Reading.{Reading, NotFlow, File, Reads, StartsWith}
 use Rattle.wire_records.specs.Formats.{Version, commands}
-use Rattle.journal_records.specs.Pairs.{journal_magic, journal}
+use Rattle.journal_records.specs.Pairs.{journal}
 use Rattle.flow_orders.specs.Outcomes.{Outcome}
 use Rattle.flow_orders.specs.Own.{IsOwnOutcome}
 use Rattle.market_core.specs.Market.{Market}
@@ -52,6 +52,6 @@ pub record RunsShort (limit : ℕ) (bytes : List ℕ) (text : List ℕ) : Type 0
   pub writes : Journals records market text
   pub wants : RecordMayWant market next
 
--- what stands in out where memory ran out: nothing, the magic alone, or the journal up to a record that may want some
+-- what stands in out where memory ran out: nothing, or the journal up to a record that may want some
 abbrev pub RunsOut : ℕ → List ℕ → List ℕ → Type 0
-RunsOut limit bytes text = (text ≡ []) ⊎ (text ≡ journal_magic) ⊎ RunsShort limit bytes text
+RunsOut limit bytes text = (text ≡ []) ⊎ RunsShort limit bytes text

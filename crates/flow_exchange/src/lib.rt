@@ -7,12 +7,8 @@
 mod form;
 pub mod laws;
 mod line;
-mod market;
 mod run;
-mod session;
 mod status;
-#[cfg(test)]
-mod tests;
 mod top;
 
 pub use form::Form;

@@ -1,7 +1,7 @@
 //! The line that a status prints.
-ghost use Rattle.std.specs.Prelude.{OnOk, IsErr, ◌++◌, decimal};
+ghost use Rattle.std.specs.Prelude.{OnOk, OnErr, IsErr, ◌++◌, decimal};
 ghost use Rattle.flow_io.specs.Faults.{Blames};
-ghost use Rattle.flow_io.specs.Streams.{Grows};
+ghost use Rattle.flow_io.specs.Streams.{Grows, GrowsByFront};
 
 use crate::Status;
 use flow_io::{Sink, WriteFailed};
@@ -15,6 +15,7 @@ fn write_number<N: Sink>(
     after: &[u8],
 ) -> Result<(), WriteFailed>
     ensures written { OnOk result (Grows (N.held notes.old) (N.held notes.new) (before.now ++ decimal number ++ after.now)) }
+    ensures cut { OnErr result (GrowsByFront (N.held notes.old) (N.held notes.new) (before.now ++ decimal number ++ after.now)) }
     ensures cause { Blames (IsErr result) (N.faults notes.old) (N.faults notes.new) }
 {
     let mut buffer = Buffer::new();
@@ -26,10 +27,11 @@ fn write_number<N: Sink>(
 impl Status {
     ghost use Rattle.flow_exchange.specs.Statuses.{line_of};
 
-    /// Writes the line of the status, with its line feed, and nothing for `Done`. Where a write fails,
-    /// what is left of the line is let go. Takes no memory.
+    /// Writes the line of the status, with its line feed, and nothing for `Done`. Where a write fails, a front of the
+    /// line is written and the rest is let go. Takes no memory.
     pub fn write_line<N: Sink>(&self, notes: &mut N) -> Result<(), WriteFailed>
         ensures written { OnOk result (Grows (N.held notes.old) (N.held notes.new) (line_of self.now)) }
+        ensures cut { OnErr result (GrowsByFront (N.held notes.old) (N.held notes.new) (line_of self.now)) }
         ensures cause { Blames (IsErr result) (N.faults notes.old) (N.faults notes.new) }
     {
         match *self {

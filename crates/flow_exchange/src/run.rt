@@ -1,34 +1,31 @@
 //! `flow run`: a command file in, a journal out.
-ghost use Rattle.std.specs.Prelude.{◌≡◌, ◌≢◌, ◌+◌, ◌++◌, ◌↔◌, Ok, Err, Some, OnOk, OnErr, IfErr, IfSome, IsTrue, [], take, drop};
+ghost use Rattle.std.specs.Prelude.{◌≡◌, ◌≢◌, ◌+◌, ◌≤◌, Ok, Err, Some, OnOk, OnErr, IfOk, IfErr, IfSome, IsTrue, [], take, drop, vec_capacity};
 ghost use Rattle.flow_io.specs.Faults.{Blames};
 ghost use Rattle.flow_io.specs.Streams.{Grows, GrowsByFront, TakesAtMost};
 ghost use Rattle.wire_records.specs.Records.{command_magic};
+ghost use Rattle.journal_records.specs.Pairs.{plain_room};
+ghost use Rattle.market_core.specs.Market.{empty_market, IsSound};
 ghost use Rattle.flow_exchange.specs.Statuses.{status_of};
-ghost use Rattle.flow_exchange.specs.Serving.{ServesOne, ServesAll};
-ghost use Rattle.flow_exchange.specs.Market.{empty_market, IsSound};
+ghost use Rattle.flow_exchange.specs.Private.{ServesOne, ServesAll, most_plain_pair};
 ghost use Rattle.flow_exchange.specs.Program.{Meets};
 ghost use Rattle.flow_exchange.specs.declared.form.Form.TheVariants.{Run};
 
 use crate::Status;
-use crate::market::Market;
-use crate::session::serve;
+use exchange_session::Session;
 use flow_io::{Sink, Source, WholeInput, read_all};
+use journal_records::JOURNAL_MAGIC;
 use std::alloc::Global;
-use wire_records::{Framed, RecordView, next_record};
+use wire_records::{COMMAND_MAGIC, Framed, MOST_BODY, RecordView, is_command_file, next_record};
 
-// The magic of a command file, and that of a journal.
-const COMMAND_MAGIC: [u8; 8] = *b"FLOWCMD1";
+// As many bytes has the longest pair with a plain reply.
+const MOST_PLAIN_PAIR: usize = 1042;
 
-const JOURNAL_MAGIC: [u8; 8] = *b"FLOWJNL1";
-
-// The longest body of a command record, in bytes.
-const MOST_BODY: u32 = 1024;
-
-// Whether the bytes begin as a command file.
-fn is_command_file(bytes: &[u8]) -> bool
-    ensures { IsTrue result ↔ (take 8 bytes.now ≡ command_magic) }
+// The buffer of a pair. It never has to grow.
+fn pair_buffer(alloc: Global) -> Result<Vec<u8>, Status>
+    ensures room { IfOk result (λ pair. most_plain_pair ≤ vec_capacity pair) }
+    ensures status { IfErr result (λ status. status ≡ Status.NoMemory) }
 {
-    bytes.starts_with(&COMMAND_MAGIC)
+    Vec::with_capacity(alloc, MOST_PLAIN_PAIR).map_err(|_| Status::NoMemory)
 }
 
 // Writes the bytes by one call.
@@ -41,18 +38,20 @@ fn put<K: Sink>(out: &mut K, bytes: &[u8]) -> Result<(), Status>
     out.write(bytes).map_err(|_| Status::WriteFault)
 }
 
-// Serves one record, and writes its pair by one call.
+// Serves one record, and writes its pair by one call. The buffer has room for the pair.
 fn serve_one<K: Sink>(
-    market: &mut Market,
+    session: &mut Session,
     asked: &RecordView<'_>,
     pair: &mut Vec<u8>,
     out: &mut K,
 ) -> Result<(), Status>
-    ensures served { ServesOne market.old asked.now market.new (K.held out.old) (K.held out.new) result }
+    requires { plain_room asked.now ≤ vec_capacity pair.old }
+    ensures served { ServesOne session.old asked.now session.new (K.held out.old) (K.held out.new) result }
+    ensures room { vec_capacity pair.old ≤ vec_capacity pair.new }
     ensures cause { Blames (result ≡ Err Status.WriteFault) (K.faults out.old) (K.faults out.new) }
 {
     pair.clear();
-    serve(market, asked, pair).map_err(|_| Status::NoMemory)?;
+    session.serve(asked, pair).map_err(|_| Status::NoMemory)?;
     put(out, pair)
 }
 
@@ -60,13 +59,13 @@ fn serve_one<K: Sink>(
 fn serve_records<K: Sink>(
     input: &WholeInput,
     limit: u64,
-    market: &mut Market,
+    session: &mut Session,
     pair: &mut Vec<u8>,
     out: &mut K,
 ) -> Result<(), Status>
     requires begins { take 8 input.now.bytes.items ≡ command_magic }
-    requires sound { IsSound market.old }
-    ensures served { ServesAll limit market.old 8 (IsTrue input.now.more) (drop 8 input.now.bytes.items)
+    requires room { most_plain_pair ≤ vec_capacity pair.old }
+    ensures served { ServesAll limit session.old 8 (IsTrue input.now.more) (drop 8 input.now.bytes.items)
         (status_of result) (K.held out.old) (K.held out.new) }
     ensures cause { Blames (result ≡ Err Status.WriteFault) (K.faults out.old) (K.faults out.new) }
 {
@@ -75,10 +74,7 @@ fn serve_records<K: Sink>(
     'records: loop {
         match next_record(&bytes[place..], MOST_BODY) {
             Framed::Whole(asked, taken) => {
-                let served = serve_one(market, &asked, pair, out);
-                // What the accounts ensure: the market is sound after each record.
-                let _sound = market.accounts();
-                served?;
+                serve_one(session, &asked, pair, out)?;
                 place += taken;
             }
             Framed::TooLarge(_) => return Err(Status::Torn(place as u64)),
@@ -89,25 +85,27 @@ fn serve_records<K: Sink>(
     }
 }
 
-// The same over a market of its own.
+// The same over a session of its own.
 fn serve_all<K: Sink>(
     alloc: Global,
     input: &WholeInput,
     limit: u64,
+    pair: &mut Vec<u8>,
     out: &mut K,
 ) -> Result<(), Status>
-    requires { take 8 input.now.bytes.items ≡ command_magic }
+    requires begins { take 8 input.now.bytes.items ≡ command_magic }
+    requires room { most_plain_pair ≤ vec_capacity pair.old }
     ensures served { ServesAll limit empty_market 8 (IsTrue input.now.more) (drop 8 input.now.bytes.items)
         (status_of result) (K.held out.old) (K.held out.new) }
     ensures cause { Blames (result ≡ Err Status.WriteFault) (K.faults out.old) (K.faults out.new) }
 {
-    let mut market = Market::new(alloc);
-    let mut pair = Vec::new(alloc);
-    serve_records(input, limit, &mut market, &mut pair, out)
+    let mut session = Session::new(alloc);
+    serve_records(input, limit, &mut session, pair, out)
 }
 
 /// Reads the source to its end or the limit, and writes the journal of its records. One write for the
-/// magic, and one for each pair. The input is held whole; one buffer holds a pair at a time.
+/// magic, and one for each pair. The input is held whole; one buffer, which is taken before anything is written, holds a
+/// pair at a time.
 pub(crate) fn run<S: Source, K: Sink>(
     alloc: Global,
     limit: u64,
@@ -127,6 +125,7 @@ pub(crate) fn run<S: Source, K: Sink>(
     if !is_command_file(&input.bytes) {
         return Err(Status::NotFlow);
     }
+    let mut pair = pair_buffer(alloc)?;
     put(out, &JOURNAL_MAGIC)?;
-    serve_all(alloc, &input, limit, out)
+    serve_all(alloc, &input, limit, &mut pair, out)
 }

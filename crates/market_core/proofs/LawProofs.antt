@@ -8,9 +8,9 @@ use Rattle.wire_records.specs.Commands.{Command, AddAsset, OpenAccount, DepositM
 use Rattle.wire_records.specs.declared.reply.Refusal.{Refusal}
 use Rattle.wire_records.specs.declared.reply.Reply.{Reply}
 use Rattle.wire_records.specs.declared.reply.Reply.TheVariants.{Done, Asset as AssetAdded, Account as AccountOpened, Order as OrderPlaced, Refused}
-use Rattle.market_core.specs.Market.{Market, IsSound, start_prices}
+use Rattle.market_core.specs.Market.{Market, IsSound, empty_market, start_prices}
 use Rattle.market_core.specs.Step.{FirstRefusal, Accepts, Answers, Serves, after_batch}
-use Rattle.market_core.specs.Laws.{MarketIsDetermined, JournalsDetermineTheMarket, OneRefusal, PlainCommandsHaveOneAnswer, OneOwnJournal, OwnJournalsAreLegal, StepsKeepSoundness, HeldIsDeposited, BatchesKeepTotals, SkipsChangeNothing, SkipsLowerTheDual, LargeBudgetsClear, ClearedBatchesAreOptimal, FillsKeepCaps, SequencesCompose, EveryCommandIsServed, LimitsAgree}
+use Rattle.market_core.specs.Laws.{MarketIsDetermined, JournalsDetermineTheMarket, OneRefusal, PlainCommandsHaveOneAnswer, OneOwnJournal, OwnJournalsAreLegal, StepsKeepSoundness, HeldIsDeposited, BatchesKeepTotals, SkipsChangeNothing, SkipsLowerTheDual, LargeBudgetsClear, ClearedBatchesAreOptimal, FillsKeepCaps, SequencesCompose, EveryCommandIsServed, LimitsAgree, JournalsHoldDeposits}
 use Rattle.std.proofs.lemmas.Int.{ints}
 use Rattle.std.proofs.lemmas.List.{length-map}
 use Rattle.flow_orders.proofs.WalkLaws.{walks_lower_the_dual, right_skips_lower_the_dual, right_clearings_are_optimal}
@@ -18,7 +18,7 @@ use Rattle.std.specs.Prelude.{All, ◌<ℤ◌}
 use Rattle.flow_orders.specs.Moves.{walk_reach}
 use Rattle.market_core.proofs.OneStep.{HasOneOutcome, one_first, one_service}
 use Rattle.market_core.proofs.OneJournal.{step_market, journal_market, one_own_journal as one_journal, follows-append, follows-parts}
-use Rattle.market_core.proofs.Soundness.{sound_served, sound_step, sound-empty}
+use Rattle.market_core.proofs.Soundness.{sound_served, sound_step, sound_follows, sound-empty}
 use Rattle.market_core.proofs.Totals34.{batch_keeps_held, held_money_is, held_units_are, held_money_changes, held_units_change}
 use Rattle.market_core.proofs.Fills.{fills_within_cap, live_fills_within_cap}
 use Rattle.market_core.proofs.Exists.{own_journal_is_there, served_is_there}
@@ -166,6 +166,13 @@ held_is_deposited = record {
   units = λ old pairs new asset sound before after follows. held_units_change IsReadAs old pairs new asset sound before after follows;
   all_money = λ pairs m follows. held_money_is IsReadAs pairs m follows;
   all_units = λ pairs m asset is follows. held_units_are IsReadAs pairs m asset is follows;
+}
+
+pub journals_hold_deposits : JournalsHoldDeposits
+journals_hold_deposits records pairs m journal = record {
+  sound = sound_follows IsReadAs empty_market pairs m sound-empty journal.steps;
+  money = held_money_is IsReadAs pairs m journal.steps;
+  units = λ asset is. held_units_are IsReadAs pairs m asset is journal.steps;
 }
 
 pub fills_keep_caps : FillsKeepCaps

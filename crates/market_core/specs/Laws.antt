@@ -15,7 +15,7 @@ use Rattle.flow_orders.specs.Own.{IsOwnOutcome}
 use Rattle.flow_orders.specs.Welfare.{IsOptimalWithin}
 use Rattle.market_core.specs.Market.{Market, empty_market, IsSound, start_prices, held_money, held_units}
 use Rattle.market_core.specs.Step.{Serves}
-use Rattle.market_core.specs.Journal.{Step, Follows, IsJournal, money_added, units_added, AddTogether, Places, fills_of}
+use Rattle.market_core.specs.Journal.{Step, Follows, IsJournal, money_added, units_added, AddTogether, Places, HoldsDeposits, fills_of}
 
 -- the pairs lead from a market to another one by steps
 abbrev pub Leads : Market → List (Pair Record Outcome) → Market → Type 0
@@ -72,6 +72,11 @@ pub record HeldIsDeposited : Type 0 where
   pub all_money : (pairs : List (Pair Record Outcome)) (m : Market) → Leads empty_market pairs m → AddTogether IsReadAs money_added pairs (held_money m)
   pub all_units : (pairs : List (Pair Record Outcome)) (m : Market) (asset : ℕ) → IsAsset m.balances asset → Leads empty_market pairs m
       → AddTogether IsReadAs (units_added asset) pairs (held_units m asset)
+
+-- the market of a legal journal is sound, and what it holds is the accepted deposits less the accepted withdrawals
+abbrev pub JournalsHoldDeposits : Type 0
+JournalsHoldDeposits = (records : List Record) (pairs : List (Pair Record Outcome)) (m : Market)
+    → IsJournal IsReadAs IsRightOutcome records pairs m → HoldsDeposits IsReadAs pairs m
 
 -- a batch changes nothing that is held in total
 abbrev pub BatchesKeepTotals : Type 0

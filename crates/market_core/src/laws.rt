@@ -2,7 +2,7 @@
 //! does nothing.
 ghost use Rattle.market_core.specs.Laws.{MarketIsDetermined, JournalsDetermineTheMarket, OneRefusal, PlainCommandsHaveOneAnswer, EveryCommandIsServed, OneOwnJournal};
 ghost use Rattle.market_core.specs.Laws.{OwnJournalsAreLegal, StepsKeepSoundness, HeldIsDeposited, BatchesKeepTotals, SkipsChangeNothing, FillsKeepCaps};
-ghost use Rattle.market_core.specs.Laws.{ClearedBatchesAreOptimal, SkipsLowerTheDual, LargeBudgetsClear, SequencesCompose, LimitsAgree};
+ghost use Rattle.market_core.specs.Laws.{ClearedBatchesAreOptimal, SkipsLowerTheDual, LargeBudgetsClear, SequencesCompose, LimitsAgree, JournalsHoldDeposits};
 
 /// Old market, record and answer determine the new market.
 pub fn market_is_determined()
@@ -47,6 +47,11 @@ pub fn steps_keep_soundness()
 /// What is held is what was deposited less what was withdrawn.
 pub fn held_is_deposited()
     ensures { HeldIsDeposited }
+{}
+
+/// The market of a legal journal is sound, and holds the accepted deposits less the accepted withdrawals.
+pub fn journals_hold_deposits()
+    ensures { JournalsHoldDeposits }
 {}
 
 /// A batch changes nothing that is held in total.

@@ -1,0 +1,22 @@
+use Rattle.flow_exchange.proofs.status.Status.write_line.Goals as goal
+
+pub returns-in-Usage-clause-cut : goal.returns-in-Usage-clause-cut
+returns-in-Usage-clause-cut g c = rw c.in-Usage.is c.write-in-Usage.ensures.cut
+
+pub returns-in-NotFlow-clause-written : goal.returns-in-NotFlow-clause-written
+returns-in-NotFlow-clause-written g c = rw c.in-NotFlow.is c.write-in-NotFlow.ensures.written
+
+pub returns-in-NotFlow-clause-cut : goal.returns-in-NotFlow-clause-cut
+returns-in-NotFlow-clause-cut g c = rw c.in-NotFlow.is c.write-in-NotFlow.ensures.cut
+
+pub returns-in-WriteFault-clause-written : goal.returns-in-WriteFault-clause-written
+returns-in-WriteFault-clause-written g c = rw c.in-WriteFault.is c.write-in-WriteFault.ensures.written
+
+pub returns-in-WriteFault-clause-cut : goal.returns-in-WriteFault-clause-cut
+returns-in-WriteFault-clause-cut g c = rw c.in-WriteFault.is c.write-in-WriteFault.ensures.cut
+
+pub returns-in-NoMemory-clause-written : goal.returns-in-NoMemory-clause-written
+returns-in-NoMemory-clause-written g c = rw c.in-NoMemory.is c.write-in-NoMemory.ensures.written
+
+pub returns-in-NoMemory-clause-cut : goal.returns-in-NoMemory-clause-cut
+returns-in-NoMemory-clause-cut g c = rw c.in-NoMemory.is c.write-in-NoMemory.ensures.cut
