@@ -4,9 +4,11 @@
 //! can't fail. What holds of all spellings stands in [`laws`].
 #![tactic(auto)]
 
+mod file;
 pub mod laws;
 mod plain;
 #[cfg(test)]
 mod tests;
 
+pub use file::JOURNAL_MAGIC;
 pub use plain::{reserve_plain, write_plain};
