@@ -1,7 +1,8 @@
 //! The records of a journal: a command record as it was given, and the record of its one reply.
 //!
 //! [`reserve_plain`] takes the memory of a pair before anything else is done, and [`write_plain`] then
-//! can't fail. What holds of all spellings stands in [`laws`].
+//! can't fail. What holds of all spellings, those of batches among them, and of files as a whole stands in
+//! [`laws`].
 #![tactic(auto)]
 
 mod file;
