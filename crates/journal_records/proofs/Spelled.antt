@@ -1,30 +1,20 @@
--- Replies and pairs from their spellings.
-use Rattle.std.proofs.Common.{◌≡◌, ◌*◌, ◌<◌, ◌≤◌, ◌^◌, ℕ, List, [], ◌++◌, length, length-append, refl, sym, ap, ◌∙◌, append_assoc, arith, lit<}
-use Rattle.std.proofs.lemmas.List.{append-nil}
-use Rattle.wire_fields.specs.Numbers.{unsigned}
-use Rattle.wire_fields.proofs.Spelling.{length-unsigned, unsigned_unique}
+-- Answers and pairs from their spellings.
+use Rattle.std.proofs.Common.{◌≡◌, ◌≤◌, ℕ, List, ◌++◌, length, length-append, refl, sym, ap, ◌∙◌, append_assoc, arith}
+use Rattle.wire_fields.proofs.Spelling.{length-unsigned}
 use Rattle.wire_records.specs.declared.reply.Reply.{Reply}
 use Rattle.wire_records.specs.declared.reply.Reply.TheVariants.{Done, Asset, Account, Order, Refused}
-use Rattle.wire_records.specs.declared.reply.Refusal.{Refusal}
-use Rattle.wire_records.specs.declared.reply.Refusal.TheVariants.{UnknownTag, BadBody, AssetLimit, TickerTaken, BadTicker, AccountLimit, NoAccount, NoAsset, ZeroAmount, TotalLimit, NotFree, NotBuilt}
-use Rattle.wire_records.specs.Records.{Record, IsRecord, spelling}
+use Rattle.wire_records.specs.Records.{Record, IsRecord, spelling, most_body}
+use Rattle.wire_records.specs.Commands.{Answer, Plain, Batch, Pair}
 use Rattle.wire_records.specs.Refusals.{code_of}
-use Rattle.wire_records.proofs.Codes.{code_of-unique}
+use Rattle.wire_records.proofs.Bodies.{number_unique}
+use Rattle.wire_records.proofs.Codes.{code_of-unique, code_of-byte}
 use Rattle.wire_records.proofs.Spelled.{length-spelling, spelling_unique}
-use Rattle.journal_records.specs.Replies.{reply_tag, reply_body, reply_record, IsReply}
-use Rattle.journal_records.specs.Pairs.{Pair, IsPair, pair_spelling, plain_room}
+use Rattle.flow_orders.specs.Outcomes.{Outcome, Cleared, Skipped}
+use Rattle.journal_records.specs.Replies.{reply_tag, reply_body, answer_tag, answer_body, answer_record, IsReply, IsAnswer, IsWithinLimits, most_reply_body}
+use Rattle.journal_records.specs.Pairs.{IsPair, pair_spelling, plain_room}
+use Rattle.journal_records.proofs.Batches.{clearing_unique, skipping_unique, clearing_size, skipping_size}
 
--- a number that is a whole body is read once
-number_unique : (size m n : ℕ) → m < 2 ^ (8 * size) → n < 2 ^ (8 * size) → unsigned size m ≡ unsigned size n → m ≡ n
-number_unique size m n a b e =
-    let found = unsigned_unique size m n [] [] a b (append-nil (unsigned size m) ∙ e ∙ sym (append-nil (unsigned size n))) in
-    found.0
-
--- each code is a byte
-code_of-byte : (r : Refusal) → code_of r < 256
-code_of-byte = elim [ UnknownTag ↦ lit< tt | BadBody ↦ lit< tt | AssetLimit ↦ lit< tt | TickerTaken ↦ lit< tt | BadTicker ↦ lit< tt | AccountLimit ↦ lit< tt | NoAccount ↦ lit< tt | NoAsset ↦ lit< tt | ZeroAmount ↦ lit< tt | TotalLimit ↦ lit< tt | NotFree ↦ lit< tt | NotBuilt ↦ lit< tt ]
-
--- two replies of one tag and one body are one
+-- two plain replies of one tag and one body are one
 same_reply : (a b : Reply) → IsReply a → IsReply b → reply_tag a ≡ reply_tag b → reply_body a ≡ reply_body b → a ≡ b
 unfolding reply_body
 same_reply Done Done h k tags bodies = refl
@@ -38,35 +28,55 @@ same_reply (Order m) b h k tags bodies = absurd (omega (arith, tags))
 same_reply (Refused r) (Refused s) h k tags bodies = ap Refused (code_of-unique r s (number_unique 1 (code_of r) (code_of s) (code_of-byte r) (code_of-byte s) bodies))
 same_reply (Refused r) b h k tags bodies = absurd (omega (arith, tags))
 
--- a record spells at most one reply
-pub reply_unique : (a b : Reply) → IsReply a → IsReply b → reply_record a ≡ reply_record b → a ≡ b
-reply_unique a b h k e = same_reply a b h k (ap (λ (r : Record). r.tag) e) (ap (λ (r : Record). r.body) e)
+-- a plain reply has a tag of its own
+reply_tag-most : (a : Reply) → reply_tag a ≤ 132
+reply_tag-most Done = omega arith
+reply_tag-most (Asset n) = omega arith
+reply_tag-most (Account n) = omega arith
+reply_tag-most (Order n) = omega arith
+reply_tag-most (Refused r) = omega arith
 
--- the record of a reply is short
-pub reply_record-short : (a : Reply) → IsRecord 1024 (reply_record a)
-unfolding reply_body
-reply_record-short Done = record { tag = omega arith; body = omega arith }
-reply_record-short (Asset n) = record { tag = omega arith; body = omega (arith, length-unsigned 2 n) }
-reply_record-short (Account n) = record { tag = omega arith; body = omega (arith, length-unsigned 4 n) }
-reply_record-short (Order n) = record { tag = omega arith; body = omega (arith, length-unsigned 8 n) }
-reply_record-short (Refused r) = record { tag = omega arith; body = omega (arith, length-unsigned 1 (code_of r)) }
+-- the number and the outcome of a batch
+same_batch : (m n : ℕ) (a b : Outcome) → m ≡ n → a ≡ b → Batch m a ≡ Batch n b
+same_batch m n a b numbers outcomes = ap (λ k. Batch k a) numbers ∙ ap (λ o. Batch n o) outcomes
+
+-- two answers of one tag and one body are one
+same_answer : (a b : Answer Outcome) → IsAnswer a → IsAnswer b → answer_tag a ≡ answer_tag b → answer_body a ≡ answer_body b → a ≡ b
+unfolding answer_body
+same_answer (Plain a) (Plain b) h k tags bodies = ap Plain (same_reply a b h k tags bodies)
+same_answer (Plain a) (Batch n (Cleared d)) h k tags bodies = absurd (omega (arith, tags, reply_tag-most a))
+same_answer (Plain a) (Batch n (Skipped t)) h k tags bodies = absurd (omega (arith, tags, reply_tag-most a))
+same_answer (Batch m (Cleared c)) (Plain b) h k tags bodies = absurd (omega (arith, tags, reply_tag-most b))
+same_answer (Batch m (Skipped s)) (Plain b) h k tags bodies = absurd (omega (arith, tags, reply_tag-most b))
+same_answer (Batch m (Cleared c)) (Batch n (Cleared d)) h k tags bodies =
+    let e = clearing_unique m n c d h.0 k.0 h.1 k.1 bodies in
+    same_batch m n (Cleared c) (Cleared d) e.0 (ap Cleared e.1)
+same_answer (Batch m (Cleared c)) (Batch n (Skipped t)) h k tags bodies = absurd (omega (arith, tags))
+same_answer (Batch m (Skipped s)) (Batch n (Cleared d)) h k tags bodies = absurd (omega (arith, tags))
+same_answer (Batch m (Skipped s)) (Batch n (Skipped t)) h k tags bodies =
+    let e = skipping_unique m n s t h.0 k.0 h.1 k.1 bodies in
+    same_batch m n (Skipped s) (Skipped t) e.0 (ap Skipped e.1)
+
+-- a record spells at most one answer
+pub answer_unique : (a b : Answer Outcome) → IsAnswer a → IsAnswer b → answer_record a ≡ answer_record b → a ≡ b
+answer_unique a b h k e = same_answer a b h k (ap (λ (r : Record). r.tag) e) (ap (λ (r : Record). r.body) e)
 
 -- a pair from its parts
-same_pair : (p q : Pair) → p.asked ≡ q.asked → p.reply ≡ q.reply → p ≡ q
+same_pair : (p q : Pair Record Outcome) → p.asked ≡ q.asked → p.answer ≡ q.answer → p ≡ q
 same_pair p q a b =
-    let made : Record → Reply → Pair = λ asked reply. record { asked = asked; reply = reply } in
-    ap (λ asked. made asked p.reply) a ∙ ap (λ reply. made q.asked reply) b
+    let made : Record → Answer Outcome → Pair Record Outcome = λ asked answer. record { asked = asked; answer = answer } in
+    ap (λ asked. made asked p.answer) a ∙ ap (λ answer. made q.asked answer) b
 
 -- bytes that begin with two pairs begin with one
-pub pair_unique : (p q : Pair) (x y : List ℕ) → IsPair p → IsPair q → pair_spelling p ++ x ≡ pair_spelling q ++ y → (p ≡ q) × (x ≡ y)
+pub pair_unique : (p q : Pair Record Outcome) (x y : List ℕ) → IsPair p → IsPair q → pair_spelling p ++ x ≡ pair_spelling q ++ y → (p ≡ q) × (x ≡ y)
 unfolding pair_spelling
 pair_unique p q x y h k e =
-    let regrouped = sym (append_assoc (spelling p.asked) (spelling (reply_record p.reply)) x) ∙ e ∙ append_assoc (spelling q.asked) (spelling (reply_record q.reply)) y in
-    let asked = spelling_unique 1024 p.asked q.asked _ _ (omega arith) h.asked k.asked regrouped in
-    let answered = spelling_unique 1024 (reply_record p.reply) (reply_record q.reply) x y (omega arith) (reply_record-short p.reply) (reply_record-short q.reply) asked.1 in
-    (same_pair p q asked.0 (reply_unique p.reply q.reply h.reply k.reply answered.0), answered.1)
+    let regrouped = sym (append_assoc (spelling p.asked) (spelling (answer_record p.answer)) x) ∙ e ∙ append_assoc (spelling q.asked) (spelling (answer_record q.answer)) y in
+    let asked = spelling_unique most_body p.asked q.asked _ _ (omega arith) h.asked k.asked regrouped in
+    let answered = spelling_unique most_reply_body (answer_record p.answer) (answer_record q.answer) x y (omega arith) h.answered k.answered asked.1 in
+    (same_pair p q asked.0 (answer_unique p.answer q.answer h.answer k.answer answered.0), answered.1)
 
--- the body of a reply has at most 8 bytes
+-- the body of a plain reply has at most 8 bytes
 length-reply_body : (a : Reply) → length (reply_body a) ≤ 8
 unfolding reply_body
 length-reply_body Done = omega arith
@@ -75,8 +85,20 @@ length-reply_body (Account n) = omega (arith, length-unsigned 4 n)
 length-reply_body (Order n) = omega (arith, length-unsigned 8 n)
 length-reply_body (Refused r) = omega (arith, length-unsigned 1 (code_of r))
 
--- a pair takes at most the room that is set aside for one
-pub pair_room : (pair : Pair) → length (pair_spelling pair) ≤ plain_room pair.asked
-unfolding pair_spelling
-pair_room pair =
-    omega (arith, length-append (spelling pair.asked) (spelling (reply_record pair.reply)), length-spelling (reply_record pair.reply), length-reply_body pair.reply)
+-- a pair with a plain reply takes at most the room that is set aside for one
+pub pair_room : (asked : Record) (reply : Reply) → length (pair_spelling (record { asked = asked; answer = Plain reply })) ≤ plain_room asked
+unfolding pair_spelling answer_body
+pair_room asked reply =
+    let answered = answer_record (Plain reply) in
+    omega (arith, length-append (spelling asked) (spelling answered), length-spelling answered, length-reply_body reply)
+
+-- the record of a plain reply is short
+pub plain_short : (reply : Reply) → IsRecord most_reply_body (answer_record (Plain reply))
+unfolding answer_body
+plain_short reply = record { tag = omega (arith, reply_tag-most reply); body = omega (arith, length-reply_body reply) }
+
+-- the record of a batch within the limits is within the limit
+pub batch_short : (number : ℕ) (outcome : Outcome) → IsAnswer (Batch number outcome) → IsWithinLimits outcome → IsRecord most_reply_body (answer_record (Batch number outcome))
+unfolding answer_body
+batch_short number (Cleared c) h few = record { tag = omega arith; body = omega (arith, clearing_size number c, h.1.residual_each, few.0, few.1) }
+batch_short number (Skipped s) h few = record { tag = omega arith; body = omega (arith, skipping_size number s, few) }

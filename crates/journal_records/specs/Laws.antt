@@ -1,17 +1,49 @@
 -- What holds of the grammar of journals, whatever reads or writes them.
-use Rattle.std.specs.Prelude.{◌≡◌, ◌≤◌, ℕ, List, ◌++◌, length}
+use Rattle.std.specs.Prelude.{◌≡◌, ◌≤◌, ℕ, List, ◌++◌, length, map, All}
 use Rattle.wire_records.specs.declared.reply.Reply.{Reply}
-use Rattle.journal_records.specs.Replies.{reply_record, IsReply}
-use Rattle.journal_records.specs.Pairs.{Pair, IsPair, pair_spelling, plain_room}
+use Rattle.wire_records.specs.Records.{Record, IsRecord}
+use Rattle.wire_records.specs.Commands.{Answer, Plain, Batch, Pair}
+use Rattle.wire_records.specs.Grammars.{spell_all}
+use Rattle.wire_records.specs.Reading.{Reading, File, End, Reads}
+use Rattle.wire_records.specs.Formats.{Version, One}
+use Rattle.flow_orders.specs.Outcomes.{Outcome}
+use Rattle.journal_records.specs.Replies.{answer_record, IsAnswer, most_reply_body, IsWithinLimits}
+use Rattle.journal_records.specs.Pairs.{IsPair, pair_spelling, journal_magic, journal, plain_room}
+use Rattle.journal_records.specs.Formats.{journals, records_of}
 
--- a record spells at most one reply
-abbrev pub OneReply : Type 0
-OneReply = (a b : Reply) → IsReply a → IsReply b → reply_record a ≡ reply_record b → a ≡ b
+-- a record spells at most one answer
+abbrev pub OneAnswer : Type 0
+OneAnswer = (a b : Answer Outcome) → IsAnswer a → IsAnswer b → answer_record a ≡ answer_record b → a ≡ b
 
 -- No pair's spelling is a proper front of another's: bytes that begin with two pairs begin with one.
 abbrev pub OnePair : Type 0
-OnePair = (p q : Pair) (x y : List ℕ) → IsPair p → IsPair q → pair_spelling p ++ x ≡ pair_spelling q ++ y → (p ≡ q) × (x ≡ y)
+OnePair = (p q : Pair Record Outcome) (x y : List ℕ) → IsPair p → IsPair q → pair_spelling p ++ x ≡ pair_spelling q ++ y → (p ≡ q) × (x ≡ y)
 
--- a pair takes at most the room that is set aside for one
+-- a pair with a plain reply takes at most the room that is set aside for one
 abbrev pub PairFits : Type 0
-PairFits = (pair : Pair) → length (pair_spelling pair) ≤ plain_room pair.asked
+PairFits = (asked : Record) (reply : Reply) → length (pair_spelling (record { asked = asked; answer = Plain reply })) ≤ plain_room asked
+
+-- the record of a plain reply is within the limit of replies
+abbrev pub PlainRepliesFit : Type 0
+PlainRepliesFit = (reply : Reply) → IsRecord most_reply_body (answer_record (Plain reply))
+
+-- the record of a batch within the limits is within the limit of replies
+abbrev pub BatchRepliesFit : Type 0
+BatchRepliesFit =
+    (number : ℕ) (outcome : Outcome) → IsAnswer (Batch number outcome) → IsWithinLimits outcome → IsRecord most_reply_body (answer_record (Batch number outcome))
+
+-- each list of bytes has exactly one reading as a journal
+abbrev pub OneJournalFile : Type 0
+OneJournalFile =
+    (limit : ℕ) (bytes : List ℕ)
+    → (r : Reading Version (Record × Record)) × Reads journals limit bytes r × ((s : Reading Version (Record × Record)) → Reads journals limit bytes s → s ≡ r)
+
+-- a journal of pairs is the file of their records
+abbrev pub JournalIsFile : Type 0
+JournalIsFile = (pairs : List (Pair Record Outcome)) → journal pairs ≡ journal_magic ++ spell_all journals.units (map records_of pairs)
+
+-- a journal within the limit is read as the records of its pairs, to its end
+abbrev pub JournalIsRead : Type 0
+JournalIsRead =
+    (limit : ℕ) (pairs : List (Pair Record Outcome)) → All IsPair pairs → length (journal pairs) ≤ limit
+    → Reads journals limit (journal pairs) (File One (map records_of pairs) End)

@@ -1,3 +1,4 @@
 pub mod Replies
 pub mod Pairs
+pub mod Formats
 pub mod Laws

@@ -1,10 +1,14 @@
 //! What holds of the grammar, whatever reads or writes it. Each law is the contract of a function that
 //! does nothing.
-ghost use Rattle.journal_records.specs.Laws.{OneReply, OnePair, PairFits};
+ghost use Rattle.std.specs.Prelude.{◌≡◌};
+ghost use Rattle.journal_records.specs.Pairs.{journal_magic};
+ghost use Rattle.journal_records.specs.Laws.{OneAnswer, OnePair, PairFits, PlainRepliesFit, BatchRepliesFit, OneJournalFile, JournalIsFile, JournalIsRead};
 
-/// A record spells at most one reply.
-pub fn one_reply()
-    ensures { OneReply }
+use crate::JOURNAL_MAGIC;
+
+/// A record spells at most one answer.
+pub fn one_answer()
+    ensures { OneAnswer }
 {}
 
 /// No pair's spelling is a proper front of another's, so what was written is read again, whatever
@@ -13,7 +17,38 @@ pub fn one_pair()
     ensures { OnePair }
 {}
 
-/// A pair takes at most the room that `reserve_plain` takes for its command record.
+/// A pair with a plain reply takes at most the room that `reserve_plain` takes for its command record.
 pub fn pair_fits()
     ensures { PairFits }
+{}
+
+/// The record of a plain reply is within the limit of 262,144 bytes in its body.
+pub fn plain_replies_fit()
+    ensures { PlainRepliesFit }
+{}
+
+/// The record of a batch of at most 64 assets and 16,384 orders, or of at most 65,536 moves, is within the
+/// limit of 262,144 bytes in its body.
+pub fn batch_replies_fit()
+    ensures { BatchRepliesFit }
+{}
+
+/// Bytes have exactly one reading as a journal: one version, list of pairs of records and ending, or none.
+pub fn one_journal_file()
+    ensures { OneJournalFile }
+{}
+
+/// A journal of pairs is the file of their records, so what was written is what is read.
+pub fn journal_is_file()
+    ensures { JournalIsFile }
+{}
+
+/// A journal within the limit is read as the records of its pairs, to its end.
+pub fn journal_is_read()
+    ensures { JournalIsRead }
+{}
+
+/// The magic that the code names is that of the definitions.
+pub fn constant_is_named()
+    ensures { JOURNAL_MAGIC ≡ journal_magic }
 {}

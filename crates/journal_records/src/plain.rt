@@ -1,7 +1,8 @@
 //! Pairs whose reply has no lists.
-ghost use Rattle.std.specs.Prelude.{◌≡◌, ◌+◌, ◌≤◌, ◌++◌, OnOk, OnErr, vec_len, vec_capacity};
+ghost use Rattle.std.specs.Prelude.{◌≡◌, ◌+◌, ◌<◌, ◌≤◌, ◌++◌, OnOk, OnErr, vec_len, vec_capacity};
 ghost use Rattle.wire_records.specs.Records.{spelling};
-ghost use Rattle.journal_records.specs.Replies.{reply_record};
+ghost use Rattle.wire_records.specs.Commands.{Plain};
+ghost use Rattle.journal_records.specs.Replies.{answer_record};
 ghost use Rattle.journal_records.specs.Pairs.{pair_spelling, plain_room};
 
 use wire_fields::{put_bytes, put_u8, put_u16, put_u32, put_u64};
@@ -11,22 +12,27 @@ use wire_records::{Memory, RecordView, Reply, put_head};
 const LONGEST_REPLY: usize = 13;
 
 /// Takes the room of a pair with any plain reply: as many bytes as the command record has, and 13 more, so
-/// that [`write_plain`] can follow. The bytes that are there stay, and after `Memory` the room is as before.
-/// The cost is that of a move of `out` where it has to grow.
+/// that [`write_plain`] can follow. The bytes that are there stay. `Memory` comes only where that room wasn't
+/// there, and then it is as before. The cost is that of a move of `out` where it has to grow.
 pub fn reserve_plain(asked: &RecordView<'_>, out: &mut Vec<u8>) -> Result<(), Memory>
     ensures room { OnOk result (vec_len out.new + plain_room asked.now ≤ vec_capacity out.new) }
     ensures stays { out.new.items ≡ out.old.items }
     ensures unchanged { OnErr result (vec_capacity out.new ≡ vec_capacity out.old) }
+    ensures grown { vec_capacity out.old ≤ vec_capacity out.new }
+
+    // Memory is wanted only where the room isn't there already.
+    ensures wanted { OnErr result (vec_capacity out.old < vec_len out.old + plain_room asked.now) }
 {
     out.reserve(asked.bytes().len() + LONGEST_REPLY)?;
     Ok(())
 }
 
 // The record of a reply.
-#[tactic(auto, unfolding(crate::specs::Replies::reply_body))]
+#[tactic(auto, unfolding(crate::specs::Replies::answer_body, crate::specs::Replies::reply_body))]
 fn put_reply(reply: &Reply, out: &mut Vec<u8>)
     requires { vec_len out.old + 13 ≤ vec_capacity out.old }
-    ensures { out.new.items ≡ out.old.items ++ spelling (reply_record reply.now) }
+    ensures written { out.new.items ≡ out.old.items ++ spelling (answer_record (Plain reply.now)) }
+    ensures capacity { vec_capacity out.new ≡ vec_capacity out.old }
 {
     match *reply {
         Reply::Done => put_head(out, 128, 0),
@@ -53,8 +59,9 @@ fn put_reply(reply: &Reply, out: &mut Vec<u8>)
 /// room for it, as after [`reserve_plain`], so nothing is allocated; the command record is copied once.
 pub fn write_plain(asked: &RecordView<'_>, reply: &Reply, out: &mut Vec<u8>)
     requires { vec_len out.old + plain_room asked.now ≤ vec_capacity out.old }
-    ensures { out.new.items
-        ≡ out.old.items ++ pair_spelling (record { asked = asked.now; reply = reply.now }) }
+    ensures written { out.new.items
+        ≡ out.old.items ++ pair_spelling (record { asked = asked.now; answer = Plain reply.now }) }
+    ensures capacity { vec_capacity out.new ≡ vec_capacity out.old }
 {
     put_bytes(out, asked.bytes());
     put_reply(reply, out);

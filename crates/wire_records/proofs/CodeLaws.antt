@@ -1,7 +1,7 @@
 -- Values that stand one after the other are read in one way, and all bytes are read.
-use Rattle.std.proofs.Common.{◌≡◌, ◌<◌, ◌≤◌, ℕ, zero, suc, List, [], ◌∷◌, ◌++◌, inl, inr, ◌⊎◌, length, length-append, append_assoc, refl, sym, ap, ◌∙◌, arith}
+use Rattle.std.proofs.Common.{◌≡◌, ◌<◌, ◌≤◌, ◌+◌, ◌*◌, ℕ, zero, suc, List, [], ◌∷◌, ◌++◌, inl, inr, ◌⊎◌, length, length-append, append_assoc, refl, sym, ap, ◌∙◌, arith}
 use Rattle.std.specs.Prelude.{All}
-use Rattle.std.specs.List.{AllByRecursion}
+use Rattle.std.specs.List.{flat_map, AllByRecursion}
 use Rattle.std.proofs.lemmas.List.Elements.{recursion_from_All, All-cons, All-nil}
 use Rattle.wire_records.specs.Grammars.{Grammar, BeginsWith, BeginsWithNone, spell_all, both}
 
@@ -11,6 +11,27 @@ pub record IsCode {A : Type 0} (g : Grammar A) : Type 0 where
   pub some : (a : A) → g.IsLawful a → 0 < length (g.spell a)
   pub one : (a b : A) (x y : List ℕ) → g.IsLawful a → g.IsLawful b → g.spell a ++ x ≡ g.spell b ++ y → (a ≡ b) × (x ≡ y)
   pub told : (bytes : List ℕ) → ((a : A) × (rest : List ℕ) × BeginsWith g bytes a rest) ⊎ BeginsWithNone g bytes
+
+-- the same by recursion
+counted : {A : Type 0} (Fits : A → Type 0) (spell : A → List ℕ) → ((a b : A) (x y : List ℕ) → Fits a → Fits b → spell a ++ x ≡ spell b ++ y → (a ≡ b) × (x ≡ y)) → (p q : List A) (x y : List ℕ) → AllByRecursion Fits p → AllByRecursion Fits q → length p ≡ length q → flat_map spell p ++ x ≡ flat_map spell q ++ y → (p ≡ q) × (x ≡ y)
+counted Fits spell one [] [] x y h k len e = (refl, e)
+counted Fits spell one [] (b ∷ q) x y h k len e = absurd (omega (arith, len))
+counted Fits spell one (a ∷ p) [] x y h k len e = absurd (omega (arith, len))
+counted Fits spell one (a ∷ p) (b ∷ q) x y h k len e =
+    let first = one a b (flat_map spell p ++ x) (flat_map spell q ++ y) h.0 k.0 (sym (append_assoc (spell a) (flat_map spell p) x) ∙ e ∙ append_assoc (spell b) (flat_map spell q) y) in
+    let others = counted Fits spell one p q x y h.1 k.1 (omega (arith, len)) first.1 in
+    (rw (first.0, others.0) refl, others.1)
+
+-- as many values of a spelling that is read once are read once
+pub counted_unique : {A : Type 0} (Fits : A → Type 0) (spell : A → List ℕ) → ((a b : A) (x y : List ℕ) → Fits a → Fits b → spell a ++ x ≡ spell b ++ y → (a ≡ b) × (x ≡ y)) → (p q : List A) (x y : List ℕ) → All Fits p → All Fits q → length p ≡ length q → flat_map spell p ++ x ≡ flat_map spell q ++ y → (p ≡ q) × (x ≡ y)
+counted_unique Fits spell one p q x y h k len e = counted Fits spell one p q x y (recursion_from_All Fits p h) (recursion_from_All Fits q k) len e
+
+-- values of one size take as many bytes together
+pub counted_size : {A : Type 0} (spell : A → List ℕ) (size : ℕ) → ((a : A) → length (spell a) ≡ size) → (values : List A) → length (flat_map spell values) ≡ size * length values
+counted_size spell size each [] = omega arith
+counted_size spell size each (a ∷ values) =
+    length-append (spell a) (flat_map spell values) ∙ ap (λ n. n + length (flat_map spell values)) (each a)
+    ∙ ap (λ n. size + n) (counted_size spell size each values) ∙ omega arith
 
 -- values, and a rest that begins with none, are one list of values and one rest
 all_unique : {A : Type 0} (g : Grammar A) → IsCode g → (p q : List A) (x y : List ℕ) → AllByRecursion g.IsLawful p → AllByRecursion g.IsLawful q → BeginsWithNone g x → BeginsWithNone g y → spell_all g p ++ x ≡ spell_all g q ++ y → (p ≡ q) × (x ≡ y)

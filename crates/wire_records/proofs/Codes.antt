@@ -1,5 +1,5 @@
 -- The codes of refusals.
-use Rattle.std.proofs.Common.{◌≡◌, ◌-◌, ℕ, List, [], ◌∷◌, refl, sym, ap, ◌∙◌}
+use Rattle.std.proofs.Common.{◌≡◌, ◌-◌, ◌<◌, ℕ, List, [], ◌∷◌, refl, sym, ap, ◌∙◌, lit<}
 use Rattle.std.specs.Prelude.{slice_index_or}
 use Rattle.wire_records.specs.declared.reply.Refusal.{Refusal}
 use Rattle.wire_records.specs.declared.reply.Refusal.TheVariants.{UnknownTag, BadBody, AssetLimit, TickerTaken, BadTicker, AccountLimit, NoAccount, NoAsset, ZeroAmount, TotalLimit, NotFree, BadLimits, BadRate, BadCap, BadRow, OrderLimit, NoOrder, BadBudget, BatchLimit, NotBuilt}
@@ -41,3 +41,26 @@ refusal_at-code_of NotBuilt = refl
 -- two refusals of one code are one
 pub code_of-unique : (a b : Refusal) → code_of a ≡ code_of b → a ≡ b
 code_of-unique a b e = sym (refusal_at-code_of a) ∙ ap refusal_at e ∙ refusal_at-code_of b
+
+-- a code is a byte
+pub code_of-byte : (r : Refusal) → code_of r < 256
+code_of-byte UnknownTag = lit< tt
+code_of-byte BadBody = lit< tt
+code_of-byte AssetLimit = lit< tt
+code_of-byte TickerTaken = lit< tt
+code_of-byte BadTicker = lit< tt
+code_of-byte AccountLimit = lit< tt
+code_of-byte NoAccount = lit< tt
+code_of-byte NoAsset = lit< tt
+code_of-byte ZeroAmount = lit< tt
+code_of-byte TotalLimit = lit< tt
+code_of-byte NotFree = lit< tt
+code_of-byte BadLimits = lit< tt
+code_of-byte BadRate = lit< tt
+code_of-byte BadCap = lit< tt
+code_of-byte BadRow = lit< tt
+code_of-byte OrderLimit = lit< tt
+code_of-byte NoOrder = lit< tt
+code_of-byte BadBudget = lit< tt
+code_of-byte BatchLimit = lit< tt
+code_of-byte NotBuilt = lit< tt

@@ -1,10 +1,10 @@
 pub mod Spelled
 pub mod Fronts
+pub mod CodeLaws
 pub mod Requests
 pub mod Bodies
 pub mod Codes
 pub mod OneAnswer
 pub mod Readings
-pub mod CodeLaws
 pub mod ReadingLaws
 pub mod RecordCode

@@ -96,7 +96,7 @@ starts_first format readable limit bytes v w units all ending starts reads =
     (magic.0, parts.values, same.0)
 
 -- no value stands at the front of no bytes
-none_in_none : {A : Type 0} (g : Grammar A) → IsCode g → BeginsWithNone g []
+pub none_in_none : {A : Type 0} (g : Grammar A) → IsCode g → BeginsWithNone g []
 none_in_none g code a rest lawful e = omega (arith, code.some a lawful, ap length e, length-append (g.spell a) rest)
 
 -- a file within the limit is read as its units, to its end

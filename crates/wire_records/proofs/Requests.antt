@@ -1,12 +1,12 @@
 -- Requests from their spellings.
-use Rattle.std.proofs.Common.{◌≡◌, ◌+◌, ◌*◌, ℕ, ℤ, List, [], ◌∷◌, ◌++◌, length, length-append, append_assoc, refl, sym, ap, ◌∙◌, arith}
-use Rattle.std.specs.List.{flat_map, AllByRecursion}
-use Rattle.std.proofs.lemmas.List.Elements.{recursion_from_All}
+use Rattle.std.proofs.Common.{◌≡◌, ◌+◌, ◌*◌, ℕ, ℤ, List, [], ◌++◌, length, length-append, append_assoc, sym, ap, ◌∙◌, arith}
+use Rattle.std.proofs.lemmas.List.{append-nil}
 use Rattle.wire_fields.specs.Numbers.{unsigned, signed}
 use Rattle.wire_fields.proofs.Spelling.{length-unsigned, length-signed, unsigned_unique, signed_unique}
 use Rattle.weight_rows.specs.declared.entries.Entry.{Entry}
 use Rattle.wire_records.specs.Commands.{Request}
 use Rattle.wire_records.specs.CommandRecords.{entry_spelling, request_spelling, IsEntry, IsRequest}
+use Rattle.wire_records.proofs.CodeLaws.{counted_unique, counted_size}
 
 -- an entry from its parts
 same_entry : (e f : Entry) → e.asset ≡ f.asset → e.weight ≡ f.weight → e ≡ f
@@ -22,16 +22,6 @@ entry_unique e f x y h k same =
     let assets = unsigned_unique 2 e.asset f.asset _ _ h.0 k.0 regrouped in
     let weights = signed_unique 4 e.weight f.weight x y (omega arith) h.1 k.1 assets.1 in
     (same_entry e f assets.0 weights.0, weights.1)
-
--- as many entries of one spelling are the same
-entries_unique : (p q : List Entry) → AllByRecursion IsEntry p → AllByRecursion IsEntry q → length p ≡ length q → flat_map entry_spelling p ≡ flat_map entry_spelling q → p ≡ q
-entries_unique [] [] h k len same = refl
-entries_unique [] (f ∷ q) h k len same = absurd (omega (arith, len))
-entries_unique (e ∷ p) [] h k len same = absurd (omega (arith, len))
-entries_unique (e ∷ p) (f ∷ q) h k len same =
-    let one = entry_unique e f (flat_map entry_spelling p) (flat_map entry_spelling q) h.0 k.0 same in
-    let others = entries_unique p q h.1 k.1 (omega (arith, len)) one.1 in
-    rw (one.0, others) refl
 
 -- a request from its parts
 same_request : (r s : Request) → r.account ≡ s.account → r.low ≡ s.low → r.high ≡ s.high → r.rate ≡ s.rate → r.cap ≡ s.cap → r.row ≡ s.row → r ≡ s
@@ -51,18 +41,15 @@ request_unique r s h k same =
     let rates = unsigned_unique 4 r.rate s.rate _ _ h.rate k.rate highs.1 in
     let caps = unsigned_unique 8 r.cap s.cap _ _ h.cap k.cap rates.1 in
     let counts = unsigned_unique 1 (length r.row) (length s.row) _ _ h.count k.count caps.1 in
-    let rows = entries_unique r.row s.row (recursion_from_All IsEntry r.row h.row) (recursion_from_All IsEntry s.row k.row) counts.0 counts.1 in
-    same_request r s accounts.0 lows.0 highs.0 rates.0 caps.0 rows
+    let rows = counted_unique IsEntry entry_spelling entry_unique r.row s.row [] [] h.row k.row counts.0 (append-nil _ ∙ counts.1 ∙ sym (append-nil _)) in
+    same_request r s accounts.0 lows.0 highs.0 rates.0 caps.0 rows.0
 
 -- six bytes an entry
-entries_size : (row : List Entry) → length (flat_map entry_spelling row) ≡ 6 * length row
+entry_size : (e : Entry) → length (entry_spelling e) ≡ 6
 unfolding entry_spelling
-entries_size [] = refl
-entries_size (e ∷ row) =
-    let rest = flat_map entry_spelling row in
-    omega (arith, entries_size row, length-append (entry_spelling e) rest, length-append (unsigned 2 e.asset) (signed 4 e.weight), length-unsigned 2 e.asset, length-signed 4 e.weight)
+entry_size e = simp (length-append, length-unsigned, length-signed)
 
 -- 33 bytes, and six an entry
 pub request_size : (r : Request) → length (request_spelling r) ≡ 33 + 6 * length r.row
 unfolding request_spelling
-request_size r = simp (length-append, length-unsigned, length-signed) (omega (arith, entries_size r.row))
+request_size r = simp (length-append, length-unsigned, length-signed) (omega (arith, counted_size entry_spelling 6 entry_size r.row))

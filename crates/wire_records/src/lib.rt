@@ -2,7 +2,8 @@
 //!
 //! A record is a tag, a length and a body. [`next_record`] takes one off the front of borrowed bytes,
 //! and [`RecordView::command`] says which command it spells; neither copies or allocates anything.
-//! [`write_command`] writes the one record of a command. What holds of all spellings stands in [`laws`].
+//! [`is_command_file`] looks at the magic before the first record. [`write_command`] writes the one record of
+//! a command. What holds of all spellings, and of files as a whole, stands in [`laws`].
 #![tactic(auto)]
 
 mod command;

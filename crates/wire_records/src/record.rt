@@ -6,7 +6,7 @@ ghost use Rattle.wire_records.specs.Framing.{IsFront};
 use std::marker::Model;
 use wire_fields::Cursor;
 
-// The same slice: what the type says of its items is a clause here.
+// The same slice, with what its type says of its items as a clause.
 fn as_bytes(bytes: &[u8]) -> &[u8]
     ensures value { result.now ≡ bytes.now }
     ensures bytes { AreBytes bytes.now }

@@ -4,39 +4,39 @@ use Rattle.wire_fields.specs.Numbers.{unsigned}
 use Rattle.wire_fields.proofs.Spelling.{length-unsigned}
 use Rattle.wire_records.specs.Refusals.{code_of}
 use Rattle.wire_records.proofs.Spelled.{head_and_body}
-use Rattle.journal_records.specs.Replies.{reply_body}
+use Rattle.journal_records.specs.Replies.{answer_body, reply_body}
 use Rattle.journal_records.proofs.plain.put_reply.Goals as goal
 
-pub returns-in-Done : goal.returns-in-Done
-unfolding reply_body
-returns-in-Done c =
+pub returns-in-Done-clause-written : goal.returns-in-Done-clause-written
+unfolding answer_body reply_body
+returns-in-Done-clause-written c =
     rw c.in-Done.is
     (c.put_head.ensures.written ∙ sym (append-nil _) ∙ head_and_body c.args.out.now.items [] 128 0 refl)
 
-pub returns-in-Asset : goal.returns-in-Asset
-unfolding reply_body
-returns-in-Asset c =
+pub returns-in-Asset-clause-written : goal.returns-in-Asset-clause-written
+unfolding answer_body reply_body
+returns-in-Asset-clause-written c =
     let body = unsigned 2 c.in-Asset.asset in
     rw c.in-Asset.is
     (c.put_u16.ensures.written ∙ ap (λ xs. xs ++ body) c.put_head-in-Asset.ensures.written ∙ head_and_body c.args.out.now.items body 129 2 (sym (length-unsigned 2 _)))
 
-pub returns-in-Account : goal.returns-in-Account
-unfolding reply_body
-returns-in-Account c =
+pub returns-in-Account-clause-written : goal.returns-in-Account-clause-written
+unfolding answer_body reply_body
+returns-in-Account-clause-written c =
     let body = unsigned 4 c.in-Account.account in
     rw c.in-Account.is
     (c.put_u32.ensures.written ∙ ap (λ xs. xs ++ body) c.put_head-in-Account.ensures.written ∙ head_and_body c.args.out.now.items body 130 4 (sym (length-unsigned 4 _)))
 
-pub returns-in-Order : goal.returns-in-Order
-unfolding reply_body
-returns-in-Order c =
+pub returns-in-Order-clause-written : goal.returns-in-Order-clause-written
+unfolding answer_body reply_body
+returns-in-Order-clause-written c =
     let body = unsigned 8 c.in-Order.order in
     rw c.in-Order.is
     (c.put_u64.ensures.written ∙ ap (λ xs. xs ++ body) c.put_head-in-Order.ensures.written ∙ head_and_body c.args.out.now.items body 131 8 (sym (length-unsigned 8 _)))
 
-pub returns-in-Refused : goal.returns-in-Refused
-unfolding reply_body
-returns-in-Refused c =
+pub returns-in-Refused-clause-written : goal.returns-in-Refused-clause-written
+unfolding answer_body reply_body
+returns-in-Refused-clause-written c =
     let body = unsigned 1 (code_of c.in-Refused.refusal) in
     rw c.in-Refused.is
     (c.put_u8.ensures.written ∙ ap (λ n. c.put_head-in-Refused.new.out.items ++ unsigned 1 n) c.code.ensures ∙ ap (λ xs. xs ++ body) c.put_head-in-Refused.ensures.written ∙ head_and_body c.args.out.now.items body 132 1 (sym (length-unsigned 1 _)))

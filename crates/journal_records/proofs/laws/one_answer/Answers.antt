@@ -1,0 +1,5 @@
+use Rattle.journal_records.proofs.Spelled.{answer_unique}
+use Rattle.journal_records.proofs.laws.one_answer.Goals as goal
+
+pub returns : goal.returns
+returns c = answer_unique

@@ -1,0 +1,5 @@
+use Rattle.journal_records.proofs.Spelled.{plain_short}
+use Rattle.journal_records.proofs.laws.plain_replies_fit.Goals as goal
+
+pub returns : goal.returns
+returns c = plain_short

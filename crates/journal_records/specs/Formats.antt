@@ -1,0 +1,26 @@
+-- Journals as files: pairs of records, whatever they ask and answer.
+use Rattle.std.specs.Prelude.{ℕ, List}
+use Rattle.wire_records.specs.Records.{Record, most_body}
+use Rattle.wire_records.specs.Commands.{Pair}
+use Rattle.wire_records.specs.Grammars.{both}
+use Rattle.wire_records.specs.Reading.{Format}
+use Rattle.wire_records.specs.Formats.{Version, One, magics, records, EitherStatesOver}
+use Rattle.flow_orders.specs.Outcomes.{Outcome}
+use Rattle.journal_records.specs.Replies.{answer_record, most_reply_body}
+use Rattle.journal_records.specs.Pairs.{journal_magic}
+
+-- the magic of a journal of each version
+abbrev pub journal_magic_of : Version → List ℕ
+journal_magic_of One = journal_magic
+
+-- journals: a command record, and behind it the record of a reply, each with a body within its limit
+abbrev pub journals : Format Version (Record × Record)
+journals = record {
+  magics = magics journal_magic_of;
+  units = both (records most_body) (records most_reply_body);
+  IsOverlong = EitherStatesOver most_body most_reply_body;
+}
+
+-- the two records of a pair
+abbrev pub records_of : Pair Record Outcome → Record × Record
+records_of pair = (pair.asked, answer_record pair.answer)
