@@ -1,3 +1,4 @@
+-- The source and the sink in memory that fail at stated calls, and what a call makes of them.
 use Rattle.std.specs.Prelude.{ℕ, ◌+◌, ◌-◌, ◌^◌, ◌/◌, min, List, Contains, length, take, drop}
 use Rattle.flow_io.specs.Memory.{Kept, keep}
 

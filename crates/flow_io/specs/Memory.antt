@@ -1,3 +1,4 @@
+-- What the sinks in memory hold and tell.
 use Rattle.std.specs.Prelude.{◌+◌, ℕ, List, ◌++◌, Bool, ◌&&◌, if◌then◌else◌, Option, Some, None, take, length, nat_le}
 
 -- what a sink in memory holds, how much it may hold, and whether all that was written fits

@@ -1,3 +1,4 @@
+-- What calls do to the bytes that a source has left and that a sink holds, where these are told.
 use Rattle.std.specs.Prelude.{◌≡◌, ◌+◌, ◌≤◌, ℕ, List, ◌++◌, Option, Some, None, take, length, ⊤}
 
 -- What a source has left, where it tells it, loses these bytes off its front. What is told stays told.

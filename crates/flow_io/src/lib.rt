@@ -4,13 +4,16 @@
 //! contract can speak of them. Each counts its faults, so that no call can blame a read or a write
 //! that did not fail. [`SteadySource`] and [`SteadySink`] are in memory and never fail;
 //! [`MemorySource`] and [`MemorySink`] are too, and fail at stated calls. [`StdSource`] and
-//! [`StdSink`] go round a reader and a writer of the system, of which nothing is known.
+//! [`StdSink`] go round a reader and a writer of the system. They tell no content, for what a file
+//! or a pipe holds isn't known; but what is read came from the reader, and what is written arrives
+//! at the writer, each byte once and in its order.
 //!
 //! A read or a write costs as much as the bytes that it moves. Only [`read_all`] and the makers of
 //! the sinks in memory take memory.
 #![tactic(auto)]
 
 mod calls;
+pub mod laws;
 mod memory_sink;
 mod memory_source;
 mod sink;

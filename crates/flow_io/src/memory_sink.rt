@@ -1,6 +1,6 @@
 ghost use Rattle.std.specs.Prelude.{◌≡◌, ◌↔◌, [], true, IfOk, OnOk, OnErr, IsErr};
 ghost use Rattle.flow_io.specs.Fakes.{NextIsListed, SinkState, after_write, after_failed_write};
-ghost use Rattle.flow_io.specs.Faults.{HasCause};
+ghost use Rattle.flow_io.specs.Faults.{Blames};
 ghost use Rattle.flow_io.specs.Memory.{told};
 ghost use Rattle.flow_io.specs.Streams.{Grows, GrowsByFront};
 
@@ -62,7 +62,7 @@ impl Sink for MemorySink {
     fn write(&mut self, bytes: &[u8]) -> Result<(), WriteFailed>
         ensures written { OnOk result (Grows (told self.old.kept) (told self.new.kept) bytes.now) }
         ensures cut { OnErr result (GrowsByFront (told self.old.kept) (told self.new.kept) bytes.now) }
-        ensures cause { HasCause self.old.faults self.new.faults result }
+        ensures cause { Blames (IsErr result) self.old.faults self.new.faults }
         // It fails where its number is listed, and then writes the first half.
         ensures fails { IsErr result ↔ NextIsListed self.old.failing self.old.calls }
         ensures kept { OnOk result (self.new ≡ after_write self.old bytes.now) }

@@ -1,6 +1,6 @@
 ghost use Rattle.std.specs.Prelude.{◌≡◌, ◌≤◌, ◌<◌, ◌↔◌, ◌++◌, ℕ, List, [], Some, IfOk, OnErr, IsErr, MatchResult, length, take, drop};
 ghost use Rattle.flow_io.specs.Fakes.{NextIsListed, SourceState, given, after_read, after_failed_read};
-ghost use Rattle.flow_io.specs.Faults.{HasCause};
+ghost use Rattle.flow_io.specs.Faults.{Blames};
 ghost use Rattle.flow_io.specs.Streams.{Takes};
 
 use crate::calls::Calls;
@@ -59,7 +59,7 @@ impl Source for MemorySource {
         ensures taken { IfOk result (λ count. Takes (Some self.old.left) (Some self.new.left) (take count into.new)) }
         ensures end { IfOk result (λ count. 0 < length into.new → (count ≡ 0) ↔ (self.old.left ≡ [])) }
         ensures stays { OnErr result (self.new.left ≡ self.old.left) }
-        ensures cause { HasCause self.old.faults self.new.faults result }
+        ensures cause { Blames (IsErr result) self.old.faults self.new.faults }
         // It fails where its number is listed, and else gives all that fits into a piece.
         ensures fails { IsErr result ↔ NextIsListed self.old.failing self.old.calls }
         ensures count { IfOk result (λ count. count ≡ given self.old (length into.old)) }

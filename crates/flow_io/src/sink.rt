@@ -1,5 +1,5 @@
-ghost use Rattle.std.specs.Prelude.{◌≡◌, ℕ, List, Option, OnOk, OnErr};
-ghost use Rattle.flow_io.specs.Faults.{HasCause};
+ghost use Rattle.std.specs.Prelude.{◌≡◌, ℕ, List, Option, OnOk, OnErr, IsErr};
+ghost use Rattle.flow_io.specs.Faults.{Blames};
 ghost use Rattle.flow_io.specs.Streams.{Grows, GrowsByFront};
 
 /// A write failed. The sink's count of faults says so too.
@@ -21,5 +21,5 @@ pub trait Sink {
     fn write(&mut self, bytes: &[u8]) -> Result<(), WriteFailed>
         ensures written { OnOk result (Grows (held self.old) (held self.new) bytes.now) }
         ensures cut { OnErr result (GrowsByFront (held self.old) (held self.new) bytes.now) }
-        ensures cause { HasCause (faults self.old) (faults self.new) result };
+        ensures cause { Blames (IsErr result) (faults self.old) (faults self.new) };
 }

@@ -1,5 +1,5 @@
-ghost use Rattle.std.specs.Prelude.{◌≡◌, ◌≤◌, ◌<◌, ◌↔◌, ℕ, List, [], Option, length, take, IfOk, IfSome, OnErr};
-ghost use Rattle.flow_io.specs.Faults.{HasCause};
+ghost use Rattle.std.specs.Prelude.{◌≡◌, ◌≤◌, ◌<◌, ◌↔◌, ℕ, List, [], Option, length, take, IfOk, IfSome, OnErr, IsErr};
+ghost use Rattle.flow_io.specs.Faults.{Blames};
 ghost use Rattle.flow_io.specs.Streams.{Takes};
 
 /// A read failed. The source's count of faults says so too.
@@ -24,5 +24,5 @@ pub trait Source {
         ensures end { IfOk result
             (λ count. 0 < length into.new → IfSome (rest self.old) (λ left. (count ≡ 0) ↔ (left ≡ []))) }
         ensures stays { OnErr result (rest self.new ≡ rest self.old) }
-        ensures cause { HasCause (faults self.old) (faults self.new) result };
+        ensures cause { Blames (IsErr result) (faults self.old) (faults self.new) };
 }

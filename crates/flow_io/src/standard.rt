@@ -1,7 +1,11 @@
-ghost use Rattle.std.specs.Prelude.{◌≡◌, None};
+ghost use Rattle.std.specs.Prelude.{◌≡◌, ◌≤◌, None, length, IfOk, OnOk, OnErr, IsErr};
+ghost use Rattle.std.specs.Io.KnownBytes.{Appends, ReadConsumes};
+ghost use Rattle.flow_io.specs.Faults.{Blames};
+ghost use Rattle.flow_io.specs.Standard.{AppendsFront};
 
 use crate::{ReadFailed, Sink, Source, WriteFailed};
 use std::io::{Read, Write};
+use std::marker::Model;
 
 /// A reader of the system as a source. It tells no content.
 #[derive(Drop)]
@@ -10,13 +14,27 @@ pub struct StdSource<R> {
     faults: u64,
 }
 
+impl<R> Model for StdSource<R> {
+    ghost use Rattle.flow_io.specs.Standard.{Adapter};
+
+    ghost Value = { Adapter R };
+
+    ghost view = { λ source. record { inner = source.inner; faults = source.faults } };
+}
+
 impl<R: Read> StdSource<R> {
-    /// A source over a reader, with no fault so far. One read of the source is one of the reader,
-    /// and an error of the reader is a fault, whatever its kind.
+    /// A source over a reader, with no fault so far.
     pub fn new(inner: R) -> StdSource<R>
-        ensures { ⟦<StdSource<R> as Source>⟧.faults result ≡ 0 }
+        ensures { result ≡ record { inner = inner; faults = 0 } }
     {
         StdSource { inner, faults: 0 }
+    }
+
+    /// The reader, with what it has left.
+    pub fn into_inner(self) -> R
+        ensures { result ≡ self.inner }
+    {
+        self.inner
     }
 }
 
@@ -25,7 +43,16 @@ impl<R: Read> Source for StdSource<R> {
 
     ghost faults = { λ source. source.faults };
 
-    fn read(&mut self, into: &mut [u8]) -> Result<usize, ReadFailed> {
+    /// One read of the reader. An error of it is a fault, whatever its kind; a reader doesn't tell
+    /// when it fails, so no clause says when `ReadFailed` comes.
+    fn read(&mut self, into: &mut [u8]) -> Result<usize, ReadFailed>
+        ensures bound { IfOk result (λ count. count ≤ length into.new) }
+        ensures cause { Blames (IsErr result) self.old.faults self.new.faults }
+        // What is answered came from the reader and was consumed there once; 0 bytes are answered
+        // only at its end or where `into` is empty, and an error consumes nothing.
+        ensures consumed { ReadConsumes (R.remaining self.old.inner) (R.remaining self.new.inner)
+            result into.new }
+    {
         match self.inner.read(into) {
             Ok(count) => Ok(count),
             Err(_) => {
@@ -43,27 +70,27 @@ pub struct StdSink<W> {
     faults: u64,
 }
 
+impl<W> Model for StdSink<W> {
+    ghost use Rattle.flow_io.specs.Standard.{Adapter};
+
+    ghost Value = { Adapter W };
+
+    ghost view = { λ sink. record { inner = sink.inner; faults = sink.faults } };
+}
+
 impl<W: Write> StdSink<W> {
-    /// A sink over a writer, with no fault so far. A write of the sink writes until nothing is left,
-    /// and ends with a flush. An error is a fault, and so is a writer that takes no byte.
+    /// A sink over a writer, with no fault so far.
     pub fn new(inner: W) -> StdSink<W>
-        ensures { ⟦<StdSink<W> as Sink>⟧.faults result ≡ 0 }
+        ensures { result ≡ record { inner = inner; faults = 0 } }
     {
         StdSink { inner, faults: 0 }
     }
 
-    // Writes all of the bytes, and flushes; false where the writer fails or takes nothing.
-    fn write_whole(&mut self, bytes: &[u8]) -> bool
-        ensures { self.new.faults ≡ self.old.faults }
+    /// The writer, with what was written.
+    pub fn into_inner(self) -> W
+        ensures { result ≡ self.inner }
     {
-        let mut rest = bytes;
-        while !rest.is_empty() {
-            match self.inner.write(rest) {
-                Ok(0) | Err(_) => return false,
-                Ok(count) => rest = &rest[count..],
-            }
-        }
-        self.inner.flush().is_ok()
+        self.inner
     }
 }
 
@@ -72,11 +99,38 @@ impl<W: Write> Sink for StdSink<W> {
 
     ghost faults = { λ sink. sink.faults };
 
-    fn write(&mut self, bytes: &[u8]) -> Result<(), WriteFailed> {
-        if self.write_whole(bytes) {
-            return Ok(());
+    /// Writes until nothing is left, and flushes. An error is a fault, whatever its kind, and so is a
+    /// writer that takes no byte; a writer doesn't tell when it fails, so no clause says when
+    /// `WriteFailed` comes.
+    fn write(&mut self, bytes: &[u8]) -> Result<(), WriteFailed>
+        ensures cause { Blames (IsErr result) self.old.faults self.new.faults }
+        // The bytes arrived at the writer once, in their order: all of them, or else a front.
+        ensures whole { OnOk result
+            (Appends (W.contents self.old.inner) (W.contents self.new.inner) bytes.now) }
+        ensures front { OnErr result
+            (AppendsFront (W.contents self.old.inner) (W.contents self.new.inner) bytes.now) }
+    {
+        let result = write_whole(&mut self.inner, bytes);
+        if result.is_err() {
+            self.faults = self.faults.saturating_add(1);
         }
-        self.faults = self.faults.saturating_add(1);
-        Err(WriteFailed)
+        result
     }
+}
+
+// Writes all of the bytes, and flushes.
+fn write_whole<W: Write>(writer: &mut W, bytes: &[u8]) -> Result<(), WriteFailed>
+    ensures whole { OnOk result
+        (Appends (W.contents writer.old) (W.contents writer.new) bytes.now) }
+    ensures front { OnErr result
+        (AppendsFront (W.contents writer.old) (W.contents writer.new) bytes.now) }
+{
+    let mut rest = bytes;
+    while !rest.is_empty() {
+        match writer.write(rest) {
+            Ok(0) | Err(_) => return Err(WriteFailed),
+            Ok(count) => rest = &rest[count..],
+        }
+    }
+    writer.flush().map_err(|_| WriteFailed)
 }

@@ -1,5 +1,5 @@
-ghost use Rattle.std.specs.Prelude.{◌≡◌, ◌≤◌, ◌↔◌, ◌<◌, ℕ, List, [], Some, IfOk, OnOk, OnErr, IsOk, true, min, length, take, drop};
-ghost use Rattle.flow_io.specs.Faults.{HasCause};
+ghost use Rattle.std.specs.Prelude.{◌≡◌, ◌≤◌, ◌↔◌, ◌<◌, ℕ, List, [], Some, IfOk, OnOk, OnErr, IsErr, IsOk, true, min, length, take, drop};
+ghost use Rattle.flow_io.specs.Faults.{Blames};
 ghost use Rattle.flow_io.specs.Memory.{Kept, told, keep};
 ghost use Rattle.flow_io.specs.Streams.{Takes, Grows, GrowsByFront};
 
@@ -55,7 +55,7 @@ impl Source for SteadySource {
         ensures taken { IfOk result (λ count. Takes (Some self.old) (Some self.new) (take count into.new)) }
         ensures end { IfOk result (λ count. 0 < length into.new → (count ≡ 0) ↔ (self.old ≡ [])) }
         ensures stays { OnErr result (self.new ≡ self.old) }
-        ensures cause { HasCause 0 0 result }
+        ensures cause { Blames (IsErr result) 0 0 }
         // It never fails, and gives all that fits. Past that `into` stays.
         ensures all { result ≡ Ok (min (length self.old) (length into.old)) }
         ensures behind { IfOk result (λ count. drop count into.new ≡ drop count into.old) }
@@ -115,7 +115,7 @@ impl Sink for SteadySink {
     fn write(&mut self, bytes: &[u8]) -> Result<(), WriteFailed>
         ensures written { OnOk result (Grows (told self.old) (told self.new) bytes.now) }
         ensures cut { OnErr result (GrowsByFront (told self.old) (told self.new) bytes.now) }
-        ensures cause { HasCause 0 0 result }
+        ensures cause { Blames (IsErr result) 0 0 }
         // It never fails, and keeps what fits.
         ensures succeeds { IsOk result }
         ensures kept { self.new ≡ keep self.old bytes.now }

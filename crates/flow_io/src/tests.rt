@@ -178,14 +178,11 @@ fn reads_a_reader(rt: HostRuntime) -> Result<(), Fail> {
 
 #[test]
 fn writes_a_writer(rt: HostRuntime) -> Result<(), Fail> {
-    let mut bytes = Vec::new(rt.alloc());
-    {
-        let mut sink = StdSink::new(&mut bytes);
-        writes(&rt, &mut sink, b"abc", false);
-        writes(&rt, &mut sink, b"", false);
-        writes(&rt, &mut sink, b"de", false);
-    }
-    assert_eq!(rt; bytes.as_slice(), b"abcde".as_slice());
+    let mut sink = StdSink::new(Vec::new(rt.alloc()));
+    writes(&rt, &mut sink, b"abc", false);
+    writes(&rt, &mut sink, b"", false);
+    writes(&rt, &mut sink, b"de", false);
+    assert_eq!(rt; sink.into_inner().as_slice(), b"abcde".as_slice());
     let mut room = [0; 3];
     {
         let mut full = StdSink::new(&mut room[..]);

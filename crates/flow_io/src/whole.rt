@@ -1,7 +1,7 @@
-ghost use Rattle.std.specs.Prelude.{◌≡◌, ◌≢◌, ◌+◌, ◌≤◌, ◌<◌, ℕ, List, [], Option, Some, length, drop, vec_len, IfOk, IfSome, OnOk, OnErr, IsErrOf, IsTrue, ◌↔◌, false};
-ghost use Rattle.flow_io.specs.Faults.{Rose};
+ghost use Rattle.std.specs.Prelude.{◌≡◌, ◌≢◌, ◌+◌, ◌≤◌, ◌<◌, ℕ, List, [], Option, Some, length, drop, vec_len, IfOk, IfSome, OnOk, OnErr, Err, IsTrue, ◌↔◌, false};
+ghost use Rattle.flow_io.specs.Faults.{Blames};
 ghost use Rattle.flow_io.specs.Streams.{Takes, TakesAtMost};
-ghost use Rattle.flow_io.specs.Whole.{IsWholeInput, HasReadFault};
+ghost use Rattle.flow_io.specs.Whole.{IsWholeInput};
 
 use crate::Source;
 use std::alloc::{AllocError, Global};
@@ -48,7 +48,8 @@ fn read_up_to<S: Source>(
     ensures ended { IfOk result
         (λ found. IsTrue found.1 → IfSome (S.rest source.new) (λ left. left ≡ [])) }
     ensures full { IfOk result (λ found. found.1 ≡ false → vec_len found.0 ≡ limit) }
-    ensures cause { HasReadFault (S.faults source.old) (S.faults source.new) result }
+    ensures cause { Blames (result ≡ Err ReadAllFault.Read)
+        (S.faults source.old) (S.faults source.new) }
     ensures front { (bytes : List ℕ) × (length bytes ≤ limit) × Takes (S.rest source.old) (S.rest source.new) bytes }
 {
     let mut bytes = Vec::new(alloc);
@@ -74,7 +75,8 @@ fn has_more<S: Source>(source: &mut S) -> Result<bool, ReadAllFault>
     ensures taken { IfOk result
         (λ more. IfSome (S.rest source.old) (λ left. S.rest source.new ≡ Some (drop 1 left))) }
     ensures stays { OnErr result (S.rest source.new ≡ S.rest source.old) }
-    ensures cause { HasReadFault (S.faults source.old) (S.faults source.new) result }
+    ensures cause { Blames (result ≡ Err ReadAllFault.Read)
+        (S.faults source.old) (S.faults source.new) }
     ensures front { (bytes : List ℕ) × (length bytes ≤ 1) × Takes (S.rest source.old) (S.rest source.new) bytes }
 {
     let mut window = [0u8; 1];
@@ -98,7 +100,8 @@ pub fn read_all<S: Source>(
     ensures full { IfOk result (λ input. IsTrue input.more → vec_len input.bytes ≡ limit) }
     ensures taken { OnOk result
         (IfSome (S.rest source.old) (λ left. S.rest source.new ≡ Some (drop (limit + 1) left))) }
-    ensures cause { HasReadFault (S.faults source.old) (S.faults source.new) result }
+    ensures cause { Blames (result ≡ Err ReadAllFault.Read)
+        (S.faults source.old) (S.faults source.new) }
     ensures front { (bytes : List ℕ) × Takes (S.rest source.old) (S.rest source.new) bytes }
     ensures most { TakesAtMost (S.rest source.old) (S.rest source.new) (limit + 1) }
 {

@@ -1,4 +1,4 @@
-use Rattle.std.proofs.Common.{◌/◌, Result, Ok, Err, IsOk, OnOk, length, arith}
+use Rattle.std.proofs.Common.{◌/◌, Result, Ok, Err, IsOk, OnOk, length, refl, arith}
 use Rattle.flow_io.proofs.memory_sink.MemorySinkSink.write.Goals as goal
 
 -- what holds of an Ok holds where the answer is Ok
@@ -13,4 +13,4 @@ returns-then-next_fails-clause-cut c =
 pub returns-then-next_fails-clause-cause : goal.returns-then-next_fails-clause-cause
 returns-then-next_fails-clause-cause c =
     let count = c.if-next_fails.ensures.failed in
-    rw (← c.self.view_is) (record { later = c.next_fails.ensures.later; quiet = tt; failed = rw count (omega arith) })
+    rw (← c.self.view_is) (record { later = c.next_fails.ensures.later; rose = λ failed. rw count (omega arith); quiet = λ fine. absurd (fine refl) })

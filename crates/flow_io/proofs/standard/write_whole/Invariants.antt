@@ -1,0 +1,10 @@
+use Rattle.std.proofs.Common.{length}
+use Rattle.flow_io.proofs.Writing.{HasWritten}
+use Rattle.flow_io.proofs.standard.write_whole.Given as goal
+
+abbrev pub invariant-loop-rest : goal.invariant-loop-rest
+invariant-loop-rest g l =
+    HasWritten (g.W.Write.contents l.initial.writer) (g.W.Write.contents l.writer) l.bytes l.rest
+
+abbrev pub decreases-loop-rest : goal.decreases-loop-rest
+decreases-loop-rest g l = length l.rest
