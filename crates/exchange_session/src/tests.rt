@@ -20,7 +20,10 @@ fn answers_each_record(rt: HostRuntime) -> Result<(), Fail> {
             _ => assert!(rt; false),
         }
     }
-    assert_eq!(rt; journal.as_slice(), b"\x02\0\0\0\0\x82\0\0\0\x04\0\0\0\x01\x03\0\0\0\x0C\0\0\0\x01\0\0\0\0\0\0\0\x05\x80\0\0\0\0\x05\0\0\0\x0C\0\0\0\x01\0\0\0\0\0\0\0\x06\x84\0\0\0\x01\x0B".as_slice());
+    assert_eq!(rt;
+        journal.as_slice(),
+        b"\x02\0\0\0\0\x82\0\0\0\x04\0\0\0\x01\x03\0\0\0\x0C\0\0\0\x01\0\0\0\0\0\0\0\x05\x80\0\0\0\0\x05\0\0\0\x0C\0\0\0\x01\0\0\0\0\0\0\0\x06\x84\0\0\0\x01\x0B".as_slice()
+    );
     assert_eq!(rt; session.market().accounts().money(1), Some(21_474_836_480));
     Ok(())
 }

@@ -1,6 +1,9 @@
 //! What holds of the program's words and outcomes, whatever code there is. Each law is the contract of a function that
 //! does nothing.
+ghost use Rattle.std.specs.Prelude.{◌≡◌, ◌↔◌, IsTrue};
 ghost use Rattle.flow_exchange.specs.Laws.{OneForm, OneOutcome};
+
+use crate::Status;
 
 /// Words ask for one form.
 pub fn one_form()
@@ -10,4 +13,9 @@ pub fn one_form()
 /// For each form the bytes of the source determine one status, and one text for out.
 pub fn one_outcome()
     ensures { OneOutcome }
+{}
+
+/// Two statuses are equal in a test exactly where they are the same.
+pub fn equal_statuses()
+    ensures { (a b : Status) → IsTrue (⟦<Status as PartialEq>⟧.eq a b) ↔ (a ≡ b) }
 {}

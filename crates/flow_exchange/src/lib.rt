@@ -9,6 +9,8 @@ pub mod laws;
 mod line;
 mod run;
 mod status;
+#[cfg(test)]
+mod tests;
 mod top;
 
 pub use form::Form;

@@ -6,6 +6,4 @@
 //! own one, welfare and the dual. [`laws`] has what holds of them. Nothing here runs.
 #![tactic(auto)]
 
-
-
 pub mod laws;
