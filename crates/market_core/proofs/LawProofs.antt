@@ -1,5 +1,5 @@
 -- What an answer of a batch tells of a step.
-use Rattle.std.proofs.Common.{List, [], ◌∷◌, ◌≤◌, arith, length, ◌≡◌, ℕ, ℤ, pos, ◌+ℤ◌, ◌+◌, Option, Some, None, refl, ap, sym, subst, ◌∙◌}
+use Rattle.std.proofs.Common.{Result, Ok, Err, List, [], ◌∷◌, ◌≤◌, arith, length, ◌≡◌, ℕ, ℤ, pos, ◌+ℤ◌, ◌+◌, Option, Some, None, refl, ap, sym, subst, ◌∙◌}
 use Rattle.flow_accounts.specs.Balances.{IsAsset}
 use Rattle.flow_orders.specs.Orders.{Order, IsOrder}
 use Rattle.flow_orders.specs.Duals.{movement_of}
@@ -9,8 +9,10 @@ use Rattle.wire_records.specs.declared.reply.Refusal.{Refusal}
 use Rattle.wire_records.specs.declared.reply.Reply.{Reply}
 use Rattle.wire_records.specs.declared.reply.Reply.TheVariants.{Done, Asset as AssetAdded, Account as AccountOpened, Order as OrderPlaced, Refused}
 use Rattle.market_core.specs.Market.{Market, IsSound, empty_market, start_prices}
-use Rattle.market_core.specs.Step.{FirstRefusal, Accepts, Answers, Serves, after_batch}
-use Rattle.market_core.specs.Laws.{MarketIsDetermined, JournalsDetermineTheMarket, OneRefusal, PlainCommandsHaveOneAnswer, OneOwnJournal, OwnJournalsAreLegal, StepsKeepSoundness, HeldIsDeposited, BatchesKeepTotals, SkipsChangeNothing, SkipsLowerTheDual, LargeBudgetsClear, ClearedBatchesAreOptimal, FillsKeepCaps, SequencesCompose, EveryCommandIsServed, LimitsAgree, JournalsHoldDeposits}
+use Rattle.wire_records.specs.declared.command.BodyFault.{BodyFault}
+use Rattle.flow_orders.specs.Own.{IsOwnOutcome}
+use Rattle.market_core.specs.Step.{FirstRefusal, Accepts, Answers, Serves, ServesRead, after_batch}
+use Rattle.market_core.specs.Laws.{MarketIsDetermined, JournalsDetermineTheMarket, OneRefusal, PlainCommandsHaveOneAnswer, OneOwnJournal, OwnJournalsAreLegal, StepsKeepSoundness, HeldIsDeposited, BatchesKeepTotals, SkipsChangeNothing, SkipsLowerTheDual, LargeBudgetsClear, ClearedBatchesAreOptimal, FillsKeepCaps, SequencesCompose, EveryCommandIsServed, LimitsAgree, JournalsHoldDeposits, StepsNumberOne}
 use Rattle.std.proofs.lemmas.Int.{ints}
 use Rattle.std.proofs.lemmas.List.{length-map}
 use Rattle.flow_orders.proofs.WalkLaws.{walks_lower_the_dual, right_skips_lower_the_dual, right_clearings_are_optimal}
@@ -230,3 +232,29 @@ every_command_is_served = served_is_there
 
 pub limits_agree : LimitsAgree
 limits_agree = record { assets = refl; ticks = refl }
+
+accepted_numbers_one : (m : Market) (c : Command) (a : Answer Outcome) (n : Market) → Accepts IsOwnOutcome m c a n → n.next_order ≤ m.next_order + 1
+accepted_numbers_one m (AddAsset ticker) a n accepts = rw accepts.1 (omega arith)
+accepted_numbers_one m OpenAccount a n accepts = rw accepts.1 (omega arith)
+accepted_numbers_one m (DepositMoney account ticks) a n accepts = rw accepts.1 (omega arith)
+accepted_numbers_one m (DepositAsset account asset units) a n accepts = rw accepts.1 (omega arith)
+accepted_numbers_one m (WithdrawMoney account ticks) a n accepts = rw accepts.1 (omega arith)
+accepted_numbers_one m (WithdrawAsset account asset units) a n accepts = rw accepts.1 (omega arith)
+accepted_numbers_one m (PlaceOrder request) a n accepts = rw accepts.1 (omega arith)
+accepted_numbers_one m (CancelOrder account number) a n accepts = rw accepts.1 (omega arith)
+accepted_numbers_one m (RunBatch budget) a n accepts = rw accepts.2.1 (by_outcome accepts.0)
+  where
+    by_outcome : (o : Outcome) → (after_batch m o).next_order ≤ m.next_order + 1
+    by_outcome (Cleared c) = omega arith
+    by_outcome (Skipped s) = omega arith
+
+answered_numbers_one : (m : Market) (c : Command) (first : Option Refusal) (a : Answer Outcome) (n : Market) → Answers IsOwnOutcome m c first a n → n.next_order ≤ m.next_order + 1
+answered_numbers_one m c (Some refusal) a n answers = rw answers.1 (omega arith)
+answered_numbers_one m c None a n answers = accepted_numbers_one m c a n answers
+
+pub steps_number_one : StepsNumberOne
+steps_number_one old asked a new step = by_read step.read step.served
+  where
+    by_read : (read : Result Command BodyFault) → ServesRead IsOwnOutcome old read a new → new.next_order ≤ old.next_order + 1
+    by_read (Ok c) served = answered_numbers_one old c served.first a new served.answered
+    by_read (Err why) served = rw served.1 (omega arith)

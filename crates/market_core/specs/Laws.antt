@@ -127,3 +127,8 @@ pub record SequencesCompose : Type 0 where
 pub record LimitsAgree : Type 0 where
   pub assets : ticker_limit ≡ most_assets
   pub ticks : 2 ^ 32 * most_ticks ≡ 2 ^ 60
+
+-- a step gives out at most one number of an order
+abbrev pub StepsNumberOne : Type 0
+StepsNumberOne = (old : Market) (asked : Record) (answer : Answer Outcome) (new : Market)
+    → Step IsReadAs IsOwnOutcome old asked answer new → new.next_order ≤ old.next_order + 1

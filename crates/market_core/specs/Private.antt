@@ -1,21 +1,22 @@
 -- Words that only private functions of the market use.
-use Rattle.std.specs.Prelude.{ℕ, pos, List, [], length, replicate}
+use Rattle.std.specs.Prelude.{ℕ, pos, List, length, replicate}
 use Rattle.flow_accounts.specs.declared.fault.AccountFault.{AccountFault}
 use Rattle.flow_accounts.specs.declared.fault.AccountFault.TheVariants as fault
 use Rattle.flow_accounts.specs.Balances.{Balances, empty_account}
 use Rattle.wire_records.specs.declared.reply.Refusal.{Refusal}
 use Rattle.wire_records.specs.declared.reply.Refusal.TheVariants.{AccountLimit, NoAccount, NoAsset, ZeroAmount, TotalLimit, NotFree}
+use Rattle.flow_orders.specs.Orders.{Order}
 use Rattle.market_core.specs.Market.{Market}
 
--- the market of these tickers and balances in which no order was placed and no batch was held: all that the program keeps
--- as long as it serves neither
-abbrev pub without_orders : List (List ℕ) → Balances → Market
-without_orders tickers balances = record {
+-- the market of these tickers, balances and orders in which no batch was held: all that the program keeps as long as it
+-- serves none
+abbrev pub without_batches : List (List ℕ) → Balances → List Order → ℕ → Market
+without_batches tickers balances orders next = record {
   tickers = tickers;
   balances = balances;
   exchange = empty_account (length tickers);
-  orders = [];
-  next_order = 1;
+  orders = orders;
+  next_order = next;
   batches = 0;
   last_prices = replicate (length tickers) (pos 0);
 }

@@ -2,7 +2,7 @@
 //! does nothing.
 ghost use Rattle.market_core.specs.Laws.{MarketIsDetermined, JournalsDetermineTheMarket, OneRefusal, PlainCommandsHaveOneAnswer, EveryCommandIsServed, OneOwnJournal};
 ghost use Rattle.market_core.specs.Laws.{OwnJournalsAreLegal, StepsKeepSoundness, HeldIsDeposited, BatchesKeepTotals, SkipsChangeNothing, FillsKeepCaps};
-ghost use Rattle.market_core.specs.Laws.{ClearedBatchesAreOptimal, SkipsLowerTheDual, LargeBudgetsClear, SequencesCompose, LimitsAgree, JournalsHoldDeposits};
+ghost use Rattle.market_core.specs.Laws.{ClearedBatchesAreOptimal, SkipsLowerTheDual, LargeBudgetsClear, SequencesCompose, LimitsAgree, JournalsHoldDeposits, StepsNumberOne};
 
 /// Old market, record and answer determine the new market.
 pub fn market_is_determined()
@@ -92,4 +92,9 @@ pub fn sequences_compose()
 /// Limits that two crates keep, each by its own name, agree.
 pub fn limits_agree()
     ensures { LimitsAgree }
+{}
+
+/// A step gives out at most one number of an order.
+pub fn steps_number_one()
+    ensures { StepsNumberOne }
 {}
