@@ -8,3 +8,4 @@ pub mod Readings
 pub mod CodeLaws
 pub mod ReadingLaws
 pub mod RecordCode
+pub mod WorkedRows
