@@ -6,6 +6,7 @@ pub mod ChoiceByEntries
 pub mod Curve
 pub mod DualWalks
 pub mod Duality
+pub mod Exactly
 pub mod Excess
 pub mod Gap
 pub mod Loops
@@ -20,6 +21,7 @@ pub mod OwnIsRight
 pub mod OwnLaws
 pub mod OwnSums
 pub mod Progress
+pub mod Proposed
 pub mod Raised
 pub mod Ranges
 pub mod Residuals
@@ -31,3 +33,4 @@ pub mod TradeFacts
 pub mod WalkFacts
 pub mod WalkLaws
 pub mod Walks
+pub mod WorkedRows

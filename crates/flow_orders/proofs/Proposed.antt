@@ -1,0 +1,97 @@
+-- Proposed laws with their proofs: what a gap is at most, that common numbers exist, and a shorter form of the own prices of one-asset books.
+use Rattle.std.proofs.Common.{◌≡◌, ℕ, suc, ◌+◌, ◌*◌, ◌/◌, ◌≤◌, ◌<◌, Bool, true, false, cond, ℤ, pos, negsuc, ◌-ℤ◌, ◌*ℤ◌, ◌≤ℤ◌, List, [], ◌∷◌, map, length, refl, sym, ap, ◌∙◌, arith}
+use Rattle.std.specs.Prelude.{All, unsigned_abs, slice_index_or}
+use Rattle.std.specs.List.{range_with_len, sum_by}
+use Rattle.std.proofs.lemmas.Int.{ints}
+use Rattle.std.proofs.lemmas.Bool.{or_parts}
+use Rattle.std.proofs.lemmas.List.Sums.{sum_by-cons}
+use Rattle.std.proofs.lemmas.List.FromFn.{length-range_with_len, get_or-range_with_len}
+use Rattle.std.proofs.Math.Nat.{mul-div_cancel}
+use Rattle.list_sums.specs.Sums.{int_sum_by}
+use Rattle.list_sums.proofs.Products.{unsigned_abs-add, unsigned_abs-mul_le}
+use Rattle.weight_rows.specs.Rows.{price_of}
+use Rattle.demand_curve.specs.Demand.{IsRounding, span, rounded_up, loss}
+use Rattle.demand_curve.proofs.LossLaws.{loss_is_small}
+use Rattle.flow_orders.specs.Orders.{Order, IsOrder, terms_of}
+use Rattle.flow_orders.specs.Excess.{price_for, residual_bound, is_above, is_below, is_unsettled}
+use Rattle.flow_orders.specs.Moves.{moved, single_reach}
+use Rattle.flow_orders.specs.Walks.{walk_end}
+use Rattle.flow_orders.specs.Own.{moved_once}
+use Rattle.flow_orders.specs.Trades.{Trade, trades, residual, residual_cost}
+use Rattle.flow_orders.specs.Outcomes.{Clearing, IsRightClearing, trades_of}
+use Rattle.flow_orders.specs.Welfare.{IsCommon}
+use Rattle.flow_orders.proofs.WalkLaws.{walks_lower_the_dual}
+use Rattle.flow_orders.specs.Duals.{share}
+
+-- the gap of a right clearing is at most what all roundings can lose and what residuals within their bounds can cost
+abbrev pub GapsAreBounded : Type 0
+GapsAreBounded = (orders : List Order) (start : List ℤ) (c : Clearing) → All IsOrder orders → IsRightClearing orders start c
+    → c.gap ≤ℤ pos (sum_by (λ o. rounded_up (span (terms_of o)) (2 * o.rate)) orders + sum_by (λ asset. unsigned_abs (price_of c.prices asset) * residual_bound orders asset) (range_with_len 0 (length c.prices)))
+
+losses : (prices : List ℤ) (orders : List Order) (rates : List ℕ) → All IsOrder orders → All (λ t. IsRounding (terms_of t.order) t.traded (price_for prices t.order)) (trades orders rates)
+    → sum_by (λ t. loss (terms_of t.order) t.traded (price_for prices t.order)) (trades orders rates) ≤ sum_by (λ o. rounded_up (span (terms_of o)) (2 * o.rate)) orders
+losses prices [] rates each rounded = omega arith
+losses prices (o ∷ orders) [] each rounded = omega arith
+losses prices (o ∷ orders) (x ∷ rates) each rounded =
+    let f = λ (t : Trade). loss (terms_of t.order) t.traded (price_for prices t.order) in
+    let g = λ (p : Order). rounded_up (span (terms_of p)) (2 * p.rate) in
+    let t : Trade = record { order = o; traded = x } in
+    let here = (loss_is_small (terms_of o) (each 0 o (omega arith)).terms (price_for prices o) x (rounded 0 t (omega arith))).0 in
+    let rest = losses prices orders rates (λ k d inside. each (suc k) d (omega (arith, inside))) (λ k d inside. rounded (suc k) d (omega (arith, inside))) in
+    omega (arith, here, rest, sum_by-cons f t (trades orders rates), sum_by-cons g o orders)
+
+costs : (p r : ℕ → ℤ) (B : ℕ → ℕ) (xs : List ℕ) → All (λ a. unsigned_abs (r a) ≤ B a) xs → unsigned_abs (int_sum_by (λ a. p a *ℤ r a) xs) ≤ sum_by (λ a. unsigned_abs (p a) * B a) xs
+costs p r B [] each = omega arith
+costs p r B (a ∷ xs) each =
+    let here = unsigned_abs-mul_le (p a) (r a) (unsigned_abs (p a)) (B a) (omega arith) (each 0 a (omega arith)) in
+    let rest = costs p r B xs (λ k d inside. each (suc k) d (omega (arith, inside))) in
+    omega (arith, here, rest, unsigned_abs-add (p a *ℤ r a) (int_sum_by (λ b. p b *ℤ r b) xs), sum_by-cons (λ b. unsigned_abs (p b) * B b) a xs)
+
+pub gaps_are_bounded : GapsAreBounded
+gaps_are_bounded orders start c each right =
+    let ts = trades_of orders c.fills in
+    let n = length c.prices in
+    let few = length-range_with_len 0 n in
+    let lost = losses c.prices orders (map (λ f. f.rate) c.fills) each right.roundings in
+    let cost = costs (price_of c.prices) (residual ts) (residual_bound orders) (range_with_len 0 n)
+    (λ k d inside. right.bounded (slice_index_or (range_with_len 0 n) k d) (omega (arith, get_or-range_with_len 0 n k d (omega (arith, inside, few)), inside, few, right.one_price_each))) in
+    rw right.gap_is (between (sum_by (λ t. loss (terms_of t.order) t.traded (price_for c.prices t.order)) ts) (residual_cost c.prices ts) _ _ lost cost)
+  where
+    between : (l : ℕ) (z : ℤ) (m n : ℕ) → l ≤ m → unsigned_abs z ≤ n → (pos l -ℤ z) ≤ℤ pos (m + n)
+    between l (pos a) m n x y = omega (arith, ints, x, y)
+    between l (negsuc a) m n x y = omega (arith, ints, x, y)
+
+-- there is a number that twice the rate of every order divides
+abbrev pub CommonsExist : Type 0
+CommonsExist = (orders : List Order) → All IsOrder orders → (M : ℕ) × IsCommon M orders
+
+-- the test in moved_once says nothing
+settled_stays : (orders : List Order) (reach : ℕ) (prices : List ℤ) (a : ℕ) → is_unsettled orders prices a ≡ false → moved orders reach prices a ≡ prices
+unfolding is_unsettled moved
+settled_stays orders reach prices a e =
+    let parts = or_parts (is_above orders prices a) (is_below orders prices a) e in
+    rw (parts.0, parts.1) refl
+
+once : (orders : List Order) (prices : List ℤ) (a : ℕ) (s : Bool) → is_unsettled orders prices a ≡ s → cond s (moved orders single_reach prices a) prices ≡ moved orders single_reach prices a
+once orders prices a true e = refl
+once orders prices a false e = sym (settled_stays orders single_reach prices a e)
+
+same_once : (orders : List Order) (assets : List ℕ) (prices : List ℤ) → moved_once orders assets prices ≡ walk_end (λ p a. moved orders single_reach p a) prices assets
+same_once orders [] prices = refl
+same_once orders (a ∷ assets) prices = ap (moved_once orders assets) (once orders prices a (is_unsettled orders prices a) refl) ∙ same_once orders assets (moved orders single_reach prices a)
+
+divides : (k r s M : ℕ) → 0 < 2 * r → k * (2 * r * s) ≡ M → M / (2 * r) * (2 * r) ≡ M
+divides k r s M some parts =
+    let sides : k * s * (2 * r) ≡ M = omega (arith, parts) in
+    rw (← sides) (ap (λ q. q * (2 * r)) (mul-div_cancel (k * s) some))
+
+commons_exist : CommonsExist
+commons_exist orders each =
+    let there = walks_lower_the_dual.common orders each in (
+      there.0,
+      (
+        there.1.0,
+        λ k d inside. let o = slice_index_or orders k d in let terms = (each k d inside).terms in let least = terms.room_least in let most = terms.room_most in
+            divides (share there.0 (terms_of o)) o.rate (span (terms_of o)) there.0 (omega (arith, least, most)) (there.1.1 k d inside),
+      ),
+    )
