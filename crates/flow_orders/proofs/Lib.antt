@@ -21,7 +21,7 @@ pub mod OwnIsRight
 pub mod OwnLaws
 pub mod OwnSums
 pub mod Progress
-pub mod Proposed
+pub mod GapBound
 pub mod Raised
 pub mod Ranges
 pub mod Residuals

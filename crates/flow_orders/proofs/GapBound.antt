@@ -1,9 +1,8 @@
--- Proposed laws with their proofs: what a gap is at most, that common numbers exist, and a shorter form of the own prices of one-asset books.
-use Rattle.std.proofs.Common.{◌≡◌, ℕ, suc, ◌+◌, ◌*◌, ◌/◌, ◌≤◌, ◌<◌, Bool, true, false, cond, ℤ, pos, negsuc, ◌-ℤ◌, ◌*ℤ◌, ◌≤ℤ◌, List, [], ◌∷◌, map, length, refl, sym, ap, ◌∙◌, arith}
+-- What a gap is at most, and that a book has a number that twice each rate divides.
+use Rattle.std.proofs.Common.{◌≡◌, ℕ, suc, ◌+◌, ◌*◌, ◌/◌, ◌≤◌, ◌<◌, ℤ, pos, negsuc, ◌-ℤ◌, ◌*ℤ◌, ◌≤ℤ◌, List, [], ◌∷◌, map, length, ap, arith}
 use Rattle.std.specs.Prelude.{All, unsigned_abs, slice_index_or}
 use Rattle.std.specs.List.{range_with_len, sum_by}
 use Rattle.std.proofs.lemmas.Int.{ints}
-use Rattle.std.proofs.lemmas.Bool.{or_parts}
 use Rattle.std.proofs.lemmas.List.Sums.{sum_by-cons}
 use Rattle.std.proofs.lemmas.List.FromFn.{length-range_with_len, get_or-range_with_len}
 use Rattle.std.proofs.Math.Nat.{mul-div_cancel}
@@ -13,20 +12,12 @@ use Rattle.weight_rows.specs.Rows.{price_of}
 use Rattle.demand_curve.specs.Demand.{IsRounding, span, rounded_up, loss}
 use Rattle.demand_curve.proofs.LossLaws.{loss_is_small}
 use Rattle.flow_orders.specs.Orders.{Order, IsOrder, terms_of}
-use Rattle.flow_orders.specs.Excess.{price_for, residual_bound, is_above, is_below, is_unsettled}
-use Rattle.flow_orders.specs.Moves.{moved, single_reach}
-use Rattle.flow_orders.specs.Walks.{walk_end}
-use Rattle.flow_orders.specs.Own.{moved_once}
+use Rattle.flow_orders.specs.Excess.{price_for, residual_bound}
 use Rattle.flow_orders.specs.Trades.{Trade, trades, residual, residual_cost}
-use Rattle.flow_orders.specs.Outcomes.{Clearing, IsRightClearing, trades_of}
-use Rattle.flow_orders.specs.Welfare.{IsCommon}
-use Rattle.flow_orders.proofs.WalkLaws.{walks_lower_the_dual}
+use Rattle.flow_orders.specs.Outcomes.{trades_of}
 use Rattle.flow_orders.specs.Duals.{share}
-
--- the gap of a right clearing is at most what all roundings can lose and what residuals within their bounds can cost
-abbrev pub GapsAreBounded : Type 0
-GapsAreBounded = (orders : List Order) (start : List ℤ) (c : Clearing) → All IsOrder orders → IsRightClearing orders start c
-    → c.gap ≤ℤ pos (sum_by (λ o. rounded_up (span (terms_of o)) (2 * o.rate)) orders + sum_by (λ asset. unsigned_abs (price_of c.prices asset) * residual_bound orders asset) (range_with_len 0 (length c.prices)))
+use Rattle.flow_orders.specs.Laws.{GapsAreBounded, CommonsExist}
+use Rattle.flow_orders.proofs.WalkLaws.{walks_lower_the_dual}
 
 losses : (prices : List ℤ) (orders : List Order) (rates : List ℕ) → All IsOrder orders → All (λ t. IsRounding (terms_of t.order) t.traded (price_for prices t.order)) (trades orders rates)
     → sum_by (λ t. loss (terms_of t.order) t.traded (price_for prices t.order)) (trades orders rates) ≤ sum_by (λ o. rounded_up (span (terms_of o)) (2 * o.rate)) orders
@@ -61,31 +52,12 @@ gaps_are_bounded orders start c each right =
     between l (pos a) m n x y = omega (arith, ints, x, y)
     between l (negsuc a) m n x y = omega (arith, ints, x, y)
 
--- there is a number that twice the rate of every order divides
-abbrev pub CommonsExist : Type 0
-CommonsExist = (orders : List Order) → All IsOrder orders → (M : ℕ) × IsCommon M orders
-
--- the test in moved_once says nothing
-settled_stays : (orders : List Order) (reach : ℕ) (prices : List ℤ) (a : ℕ) → is_unsettled orders prices a ≡ false → moved orders reach prices a ≡ prices
-unfolding is_unsettled moved
-settled_stays orders reach prices a e =
-    let parts = or_parts (is_above orders prices a) (is_below orders prices a) e in
-    rw (parts.0, parts.1) refl
-
-once : (orders : List Order) (prices : List ℤ) (a : ℕ) (s : Bool) → is_unsettled orders prices a ≡ s → cond s (moved orders single_reach prices a) prices ≡ moved orders single_reach prices a
-once orders prices a true e = refl
-once orders prices a false e = sym (settled_stays orders single_reach prices a e)
-
-same_once : (orders : List Order) (assets : List ℕ) (prices : List ℤ) → moved_once orders assets prices ≡ walk_end (λ p a. moved orders single_reach p a) prices assets
-same_once orders [] prices = refl
-same_once orders (a ∷ assets) prices = ap (moved_once orders assets) (once orders prices a (is_unsettled orders prices a) refl) ∙ same_once orders assets (moved orders single_reach prices a)
-
 divides : (k r s M : ℕ) → 0 < 2 * r → k * (2 * r * s) ≡ M → M / (2 * r) * (2 * r) ≡ M
 divides k r s M some parts =
     let sides : k * s * (2 * r) ≡ M = omega (arith, parts) in
     rw (← sides) (ap (λ q. q * (2 * r)) (mul-div_cancel (k * s) some))
 
-commons_exist : CommonsExist
+pub commons_exist : CommonsExist
 commons_exist orders each =
     let there = walks_lower_the_dual.common orders each in (
       there.0,
