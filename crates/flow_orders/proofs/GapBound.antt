@@ -9,7 +9,8 @@ use Rattle.std.proofs.Math.Nat.{mul-div_cancel}
 use Rattle.list_sums.specs.Sums.{int_sum_by}
 use Rattle.list_sums.proofs.Products.{unsigned_abs-add, unsigned_abs-mul_le}
 use Rattle.weight_rows.specs.Rows.{price_of}
-use Rattle.demand_curve.specs.Demand.{IsRounding, span, rounded_up, loss}
+use Rattle.demand_curve.specs.Demand.{IsRounding, span, loss}
+use Rattle.demand_curve.specs.Numbers.{rounded_up}
 use Rattle.demand_curve.proofs.LossLaws.{loss_is_small}
 use Rattle.flow_orders.specs.Orders.{Order, IsOrder, terms_of}
 use Rattle.flow_orders.specs.Excess.{price_for, residual_bound}

@@ -3,14 +3,12 @@ pub mod BookLaws
 pub mod BookSums
 pub mod Choice
 pub mod ChoiceByEntries
-pub mod Curve
 pub mod DualWalks
 pub mod Duality
 pub mod Exactly
 pub mod Excess
 pub mod Gap
 pub mod Loops
-pub mod Missing
 pub mod MoveFacts
 pub mod Moved
 pub mod Moves

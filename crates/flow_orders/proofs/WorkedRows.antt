@@ -6,7 +6,8 @@ use Rattle.std.proofs.lemmas.Bool.{false≢true}
 use Rattle.std.proofs.lemmas.List.Elements.{All-from_recursion}
 use Rattle.weight_rows.specs.declared.entries.Entry.{Entry}
 use Rattle.weight_rows.specs.Rows.{IsLawfulRow, IsLawfulWeight, IsPrice, IsPricedBy, price_of, weight_in, portfolio_price}
-use Rattle.demand_curve.specs.Demand.{Terms, IsWithin, distance, span, line, scaled_demand, floor_rate, ceil_rate, IsRounding, loss, scaled_dual, dual_floor}
+use Rattle.demand_curve.specs.Demand.{Terms, IsWithin, span, line, scaled_demand, floor_rate, ceil_rate, IsRounding, loss, scaled_dual, dual_floor}
+use Rattle.demand_curve.specs.Numbers.{distance}
 use Rattle.demand_curve.specs.Welfare.{scaled_welfare}
 use Rattle.flow_orders.specs.Orders.{Order, IsOrder, terms_of, price_of_ticks}
 use Rattle.flow_orders.specs.Excess.{price_for, steepness, spread, residual_bound, high_excess, is_above, is_below, is_unsettled}

@@ -2,7 +2,8 @@
 use Rattle.std.specs.Prelude.{◌≡◌, ℕ, ℤ, pos, ◌+◌, ◌*◌, ◌^◌, ◌≤◌, ◌+ℤ◌, ◌<ℤ◌, ◌≤ℤ◌, unsigned_abs, false, true, List, length, map, All}
 use Rattle.std.specs.List.{range_with_len, sum_by}
 use Rattle.weight_rows.specs.Rows.{price_of, IsPricedBy}
-use Rattle.demand_curve.specs.Demand.{IsWithin, span, rounded_up}
+use Rattle.demand_curve.specs.Demand.{IsWithin, span}
+use Rattle.demand_curve.specs.Numbers.{rounded_up}
 use Rattle.flow_orders.specs.Orders.{Order, IsOrder, terms_of}
 use Rattle.flow_orders.specs.Excess.{is_unsettled, residual_bound}
 use Rattle.flow_orders.specs.Turns.{IsInTurn}
