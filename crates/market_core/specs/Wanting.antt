@@ -1,5 +1,5 @@
 -- Where want of memory may be answered: at a command that adds something or holds a batch, and that no refusal stops.
-use Rattle.std.specs.Prelude.{Option, None, Ok}
+use Rattle.std.specs.Prelude.{None, Ok}
 use Rattle.wire_records.specs.Records.{Record}
 use Rattle.wire_records.specs.Commands.{Command, AddAsset, OpenAccount, DepositMoney, DepositAsset, WithdrawMoney, WithdrawAsset, PlaceOrder, CancelOrder, RunBatch}
 use Rattle.wire_records.specs.CommandRecords.{IsReadAs}
