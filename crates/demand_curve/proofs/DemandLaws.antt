@@ -2,8 +2,8 @@
 use Rattle.std.proofs.Common.{◌≡◌, ℕ, ◌+◌, ◌*◌, ◌≤◌, ℤ, pos, ◌+ℤ◌, ◌-ℤ◌, ◌≤ℤ◌, refl, ap, ◌∙◌, arith}
 use Rattle.std.proofs.Math.Nat.{mul-le-mul_left, mul-le-mul_right}
 use Rattle.std.proofs.lemmas.Int.{ints}
-use Rattle.demand_curve.specs.Demand.{Terms, distance, span, line, scaled_demand}
-use Rattle.demand_curve.specs.Welfare.{signed_line}
+use Rattle.demand_curve.specs.Numbers.{distance}
+use Rattle.demand_curve.specs.Demand.{Terms, span, line, signed_line, scaled_demand}
 use Rattle.demand_curve.specs.Laws.{SpanIsInRange, DemandIsCutAtLimits, DemandMovesLittle}
 use Rattle.demand_curve.proofs.Distances.{distance_is}
 use Rattle.demand_curve.proofs.Demands.{scaled_demand_is}
@@ -32,10 +32,11 @@ line-signed t price below =
     let far : pos (distance t.high price) ≡ t.high -ℤ price = omega (arith, ints, distance_is t.high price) in
     rw (← far) refl
 
-pub cut_at_limits : DemandIsCutAtLimits
-cut_at_limits t h price = record {
+pub demand_is_cut_at_limits : DemandIsCutAtLimits
+demand_is_cut_at_limits t h price = record {
   none_above = λ above. omega (arith, scaled_demand_is t price, line-none_above t price above);
   whole_below = λ below. omega (arith, scaled_demand_is t price, line-rate_below t price below, mul-le-mul_right (span t) h.room_most);
+  at_room = λ cut. omega (arith, scaled_demand_is t price);
   on_line = λ below free.
       let same : scaled_demand t price ≡ line t price = omega (arith, scaled_demand_is t price) in
       ap pos same ∙ line-signed t price below;
@@ -67,7 +68,7 @@ pub demand-steep : (t : Terms) (price : ℤ) (grains : ℕ) → scaled_demand t 
 demand-steep t price grains =
     omega (arith, scaled_demand_is t price, scaled_demand_is t (price +ℤ pos grains), line-steep t price grains)
 
-pub moves_little : DemandMovesLittle
-moves_little t h price grains =
+pub demand_moves_little : DemandMovesLittle
+demand_moves_little t h price grains =
     let gentle : 256 * t.rate ≤ span t = omega (arith, h.rate_most, span_least t h) in
     omega (arith, demand-steep t price grains, mul-le-mul_left grains gentle)

@@ -4,7 +4,8 @@ use Rattle.std.specs.Prelude.{int_le, nat_le}
 use Rattle.std.proofs.lemmas.Int.{ints, to_z-of_z}
 use Rattle.std.proofs.lemmas.Bool.{cond_both, leb-true, leb-false}
 use borrow.Author.Differences.{le-true}
-use Rattle.demand_curve.specs.Demand.{Terms, distance, span, line, scaled_demand}
+use Rattle.demand_curve.specs.Numbers.{distance}
+use Rattle.demand_curve.specs.Demand.{Terms, span, line, scaled_demand}
 use Rattle.demand_curve.proofs.Distances.{distance_is}
 
 -- cases on a price and on two numbers, where the first case has a number that is 0

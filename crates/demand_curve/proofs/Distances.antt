@@ -3,7 +3,7 @@ use Rattle.std.proofs.Common.{◌≡◌, ◌+◌, ◌-◌, ℤ, pos, negsuc, ◌
 use Rattle.std.specs.Prelude.{unsigned_abs}
 use Rattle.std.proofs.lemmas.Int.{ints}
 use borrow.Author.Differences.{up, down}
-use Rattle.demand_curve.specs.Demand.{or_zero, distance}
+use Rattle.demand_curve.specs.Numbers.{or_zero, distance}
 
 -- the part of a number that is not negative, as a difference that stops at 0
 or_zero_is : (z : ℤ) → or_zero z ≡ up z - down z

@@ -1,19 +1,21 @@
 -- The laws of the dual value, which is the greatest gain at a price.
 use Rattle.std.proofs.Common.{◌≡◌, ℕ, ◌+◌, ◌-◌, ◌*◌, ◌^◌, ◌≤◌, ◌<◌, ◌⊎◌, inl, inr, ℤ, pos, ◌-ℤ◌, ◌*ℤ◌, sym, ap, arith}
-use Rattle.std.proofs.Math.Nat.{mul-le-mul_left, mul-le-mul_right, mul-sub, zero-div, zero-mul, div-le_of_le-mul}
+use Rattle.std.proofs.Math.Nat.{mul-le-mul, mul-le-mul_left, mul-le-mul_right, mul-sub, zero-div, zero-mul, div-le_of_le-mul}
 use Rattle.std.proofs.lemmas.Nat.{mul-le}
 use Rattle.std.proofs.lemmas.Bool.{cases_lt}
 use Rattle.std.proofs.lemmas.Int.{ints}
 use borrow.Author.Differences.{up, down, product_is}
-use Rattle.demand_curve.specs.Demand.{Terms, IsWithinLimits, distance, span, line, scaled_demand, scaled_dual, dual_floor}
-use Rattle.demand_curve.specs.Welfare.{scaled_welfare, scaled_cost, scaled_gain, signed_line}
-use Rattle.demand_curve.specs.Laws.{DualIsByCases, DualIsGreatestGain, DualFallsByDemand}
+use Rattle.demand_curve.specs.Numbers.{distance}
+use Rattle.demand_curve.specs.Demand.{Terms, IsWithinLimits, span, line, signed_line, scaled_demand, scaled_dual, dual_floor}
+use Rattle.demand_curve.specs.Welfare.{scaled_welfare, scaled_cost, scaled_gain}
+use Rattle.demand_curve.specs.Laws.{DualIsByCases, DualIsGreatestGain, DualFallsByDemand, DualFallsInParts, DualFloorInParts}
 use Rattle.demand_curve.proofs.Distances.{distance_is}
 use Rattle.demand_curve.proofs.Demands.{scaled_demand_is}
-use Rattle.demand_curve.proofs.DemandLaws.{cut_at_limits}
+use Rattle.demand_curve.proofs.DemandLaws.{demand_is_cut_at_limits}
 use Rattle.demand_curve.proofs.Duals.{dual-at_room, dual-on_line}
 use Rattle.demand_curve.proofs.Limits.{span_least, below_high_most}
-use Rattle.demand_curve.proofs.Signed.{gap_is, scaled_gain_at_most, scaled_gain_is, moved_at_most}
+use Rattle.demand_curve.proofs.Quotients.{down_times, floor_in_parts}
+use Rattle.demand_curve.proofs.Signed.{gap_is, scaled_gain_at_most, scaled_gain_is, moved_at_most, moved_in_parts}
 use Rattle.demand_curve.proofs.Squares.{best_rate}
 
 -- the dual value in parts, without a difference that stops at 0
@@ -28,7 +30,7 @@ pub nothing_asked : (t : Terms) → IsWithinLimits t → (price : ℤ) → scale
 nothing_asked t h price =
     elim (cases_lt 0 (distance price t.high)) [
       | inl above ↦
-          let zero : scaled_demand t price ≡ 0 = (cut_at_limits t h price).none_above (omega (arith, ints, distance_is price t.high, above)) in
+          let zero : scaled_demand t price ≡ 0 = (demand_is_cut_at_limits t h price).none_above (omega (arith, ints, distance_is price t.high, above)) in
           rw zero (omega arith)
       | inr below ↦ let zero : distance price t.high ≡ 0 = omega (arith, below) in rw zero (omega arith)
     ]
@@ -81,12 +83,12 @@ dual_most t h price =
       | inr free ↦ rw (sym (dual-on_line t price free)) (div-le_of_le-mul (2 * t.rate * span t) (omega (arith, mul-le-mul_right (t.rate * distance t.high price) free)))
     ]
 
-pub dual_by_cases : DualIsByCases
-dual_by_cases t h price =
+pub dual_is_by_cases : DualIsByCases
+dual_is_by_cases t h price =
     let positive : 0 < span t = omega (arith, span_least t h) in
     let rate : 0 < t.rate = omega (arith, h.room_least, h.room_most) in
     record {
-      none = λ above. none_gained t price ((cut_at_limits t h price).none_above above);
+      none = λ above. none_gained t price ((demand_is_cut_at_limits t h price).none_above above);
       on_line = λ free. sym (dual-on_line t price free);
       at_room = λ cut. sym (dual-at_room t price positive rate cut).1;
       formula = formula t h price;
@@ -111,8 +113,20 @@ dual_is_greatest_gain t h price =
 
 pub dual_falls_by_demand : DualFallsByDemand
 dual_falls_by_demand t h before after =
-    let cases = demand_cases t before (scaled_demand t after) 1 (omega (arith, (cut_at_limits t h after).within_room)) in
+    let cases = demand_cases t before (scaled_demand t after) 1 (omega (arith, (demand_is_cut_at_limits t h after).within_room)) in
     let best = best_rate (t.rate * distance t.high before) (scaled_demand t before) (scaled_demand t after) 1 (demand_most t before) cases in
     moved_at_most (scaled_dual t before) (scaled_dual t after) (2 * t.rate * scaled_demand t after) t.high before after (gap_is t.high before) (gap_is t.high after)
     (omega (arith, ap (λ y. 2 * t.rate * y) (nothing_asked t h after)))
     (omega (arith, best, dual_parts t before, dual_parts t after))
+
+pub dual_falls_in_parts : DualFallsInParts
+dual_falls_in_parts t h before after k =
+    moved_in_parts k (scaled_dual t before) (scaled_dual t after) (2 * t.rate * scaled_demand t after) (after -ℤ before) (dual_falls_by_demand t h before after)
+
+pub dual_floor_in_parts : DualFloorInParts
+unfolding dual_floor
+dual_floor_in_parts t h price k N parts some =
+    let rate : 1 ≤ t.rate = omega (arith, h.room_least, h.room_most) in
+    let whole : 1 ≤ span t = omega (arith, span_least t h) in
+    let down = down_times (scaled_dual t price) (2 * t.rate * span t) (omega (arith, mul-le-mul rate whole)) in
+    floor_in_parts (scaled_dual t price) (2 * t.rate * span t) (dual_floor t price) k N parts some down.0 down.1

@@ -1,7 +1,8 @@
 -- The dual value in its cases: at the room and on the line.
 use Rattle.std.proofs.Common.{◌≡◌, ℕ, ◌-◌, ◌*◌, ◌/◌, ◌≤◌, ◌<◌, ℤ, refl, sym, ◌∙◌, arith}
 use Rattle.std.proofs.Math.Nat.{mul-div-mul_left, mul-sub, mul-le-mul_left}
-use Rattle.demand_curve.specs.Demand.{Terms, distance, span, line, scaled_demand, rounded_down, rounded_up, scaled_dual, dual_floor}
+use Rattle.demand_curve.specs.Numbers.{distance, rounded_down, rounded_up}
+use Rattle.demand_curve.specs.Demand.{Terms, span, line, scaled_demand, scaled_dual, dual_floor}
 use Rattle.demand_curve.proofs.Demands.{scaled_demand_is}
 use Rattle.demand_curve.proofs.Quotients.{difference_over}
 

@@ -2,8 +2,8 @@
 use Rattle.std.proofs.Common.{◌≡◌, ℕ, ◌+◌, ◌*◌, ℤ, pos, ◌-ℤ◌, ◌*ℤ◌, sym, ap, ◌∙◌, arith}
 use Rattle.std.proofs.lemmas.Int.{ints}
 use borrow.Author.Differences.{up, down, product_is}
-use Rattle.demand_curve.specs.Demand.{span}
-use Rattle.demand_curve.specs.Welfare.{scaled_welfare, scaled_cost, scaled_gain, signed_line}
+use Rattle.demand_curve.specs.Demand.{span, signed_line}
+use Rattle.demand_curve.specs.Welfare.{scaled_welfare, scaled_cost, scaled_gain}
 use Rattle.demand_curve.specs.Laws.{GainIsDifferenceOfSquares}
 
 -- the square of e0 less that of e0 - w
@@ -21,8 +21,8 @@ gain_by_gap q n k S z c =
     let e0_down : down (pos q *ℤ (z -ℤ c) *ℤ pos k) ≡ q * down (z -ℤ c) * k = omega (arith, ints, ap (λ y. y * k) (product_is (pos q) (z -ℤ c)).1) in
     omega (arith, ints, ap (λ y. S * y) inner, ap (λ y. 2 * S * n * q * k * y) gap, ap (λ y. 2 * S * n * y) e0_up, ap (λ y. 2 * S * n * y) e0_down)
 
-pub difference_of_squares : GainIsDifferenceOfSquares
+pub gain_is_difference_of_squares : GainIsDifferenceOfSquares
 unfolding scaled_gain scaled_welfare scaled_cost signed_line
-difference_of_squares t price n k =
+gain_is_difference_of_squares t price n k =
     gain_by_gap t.rate n k (span t) t.high price
     ∙ sym (square_difference (signed_line t price *ℤ pos k) (span t * n))

@@ -5,12 +5,13 @@ use Rattle.std.proofs.Math.Nat.{mul-le-mul_left, mul-le-mul, lt_of_mul-lt-mul_ri
 use Rattle.std.proofs.lemmas.Bool.{cases_lt}
 use Rattle.std.proofs.lemmas.Int.{ints}
 use borrow.Author.Differences.{up, down}
-use Rattle.demand_curve.specs.Demand.{Terms, IsWithinLimits, distance, span, line, scaled_demand, rounded_up, IsRounding, loss}
+use Rattle.demand_curve.specs.Numbers.{distance, rounded_up}
+use Rattle.demand_curve.specs.Demand.{Terms, IsWithinLimits, span, line, scaled_demand, IsRounding, loss}
 use Rattle.demand_curve.specs.Welfare.{scaled_welfare, scaled_cost, scaled_gain}
 use Rattle.demand_curve.specs.Laws.{LossIsZeroAtDemand, LossIsSmall, LossCoversBestRate, LossCoversBestRateInParts}
 use Rattle.demand_curve.proofs.Distances.{distance_is}
 use Rattle.demand_curve.proofs.Demands.{scaled_demand_is}
-use Rattle.demand_curve.proofs.RoundingLaws.{exact_at_cuts, at_most_from_times}
+use Rattle.demand_curve.proofs.RoundingLaws.{rounding_is_exact_at_cuts, at_most_from_times}
 use Rattle.demand_curve.proofs.Limits.{span_least, span_most}
 use Rattle.demand_curve.proofs.Quotients.{up_times}
 use Rattle.demand_curve.proofs.Squares.{square_apart, loss_covers_units}
@@ -89,7 +90,7 @@ rounding_cases t h price x n k rounding within =
     elim (cases_lt (t.room * span t) (line t price)) [
       | inl cut ↦
           let whole : scaled_demand t price ≡ t.room * span t = omega (arith, scaled_demand_is t price, cut) in
-          let exact : x ≡ t.room = (exact_at_cuts t h price x rounding).room (omega (arith, cut)) in
+          let exact : x ≡ t.room = (rounding_is_exact_at_cuts t h price x rounding).room (omega (arith, cut)) in
           inr (omega (arith, whole, ap (λ y. y * span t) exact), omega (arith, mul-le-mul_left (span t) within, ap (λ y. k * y) whole))
       | inr free ↦ inl (omega (arith, scaled_demand_is t price, free))
     ]
@@ -110,13 +111,13 @@ nothing_above : (t : Terms) → IsWithinLimits t → (price : ℤ) (x : ℕ) →
 nothing_above t h price x rounding =
     elim (cases_lt 0 (distance price t.high)) [
       | inl above ↦
-          let zero : x ≡ 0 = (exact_at_cuts t h price x rounding).none (omega (arith, ints, distance_is price t.high, above)) in
+          let zero : x ≡ 0 = (rounding_is_exact_at_cuts t h price x rounding).none (omega (arith, ints, distance_is price t.high, above)) in
           rw zero (omega arith)
       | inr below ↦ let zero : distance price t.high ≡ 0 = omega (arith, below) in rw zero (omega arith)
     ]
 
-pub loss_covers_in_parts : LossCoversBestRateInParts
-loss_covers_in_parts t h price x rounding n k within m M parts =
+pub loss_covers_best_rate_in_parts : LossCoversBestRateInParts
+loss_covers_best_rate_in_parts t h price x rounding n k within m M parts =
     let one : M * x * 1 ≡ M * x = omega arith in
     let none : M * x * distance price t.high ≡ 0 = omega (arith, ap (λ y. M * y) (nothing_above t h price x rounding)) in
     let enough : M * n * k * distance t.high price + k * k * (m * (span t * x * x)) ≤ k * k * (M * x * distance t.high price + M * loss t x price) + m * (span t * n * n) =
@@ -128,7 +129,7 @@ pub loss_covers_best_rate : LossCoversBestRate
 unfolding scaled_gain scaled_cost
 loss_covers_best_rate t h price x rounding n k within =
     let whole : 2 * t.rate * x * 1 ≡ 2 * t.rate * x = omega arith in
-    let here = loss_covers_in_parts t h price x rounding n k within 1 (2 * t.rate) (omega arith) in
+    let here = loss_covers_best_rate_in_parts t h price x rounding n k within 1 (2 * t.rate) (omega arith) in
     rw whole (rw (one_times (scaled_welfare t n k), one_times (scaled_welfare t x 1)) at here)
   where
     one_times : (z : ℤ) → pos 1 *ℤ z ≡ z

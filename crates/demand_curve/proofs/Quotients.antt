@@ -1,10 +1,10 @@
 -- Quotients: bounds that single one out, a square over a product, and a difference.
-use Rattle.std.proofs.Common.{◌≡◌, ℕ, ◌+◌, ◌-◌, ◌*◌, ◌/◌, ◌%◌, ◌^◌, ◌≤◌, ◌<◌, ap, ◌∙◌, arith}
-use Rattle.std.proofs.Math.Nat.{div-eq_of_lt-le, add-mul-div_left, div-div-eq-div-mul, mod-lt, div-add-mod, div-le_of_le-mul, lt_of_mul-lt-mul_right, mul-le-mul_left}
+use Rattle.std.proofs.Common.{◌≡◌, ℕ, zero, suc, ◌+◌, ◌-◌, ◌*◌, ◌/◌, ◌%◌, ◌^◌, ◌≤◌, ◌<◌, ◌≢◌, sym, ap, ◌∙◌, arith}
+use Rattle.std.proofs.Math.Nat.{div-eq_of_lt-le, add-mul-div_left, div-div-eq-div-mul, mod-lt, div-add-mod, div-mul-le_self, div-le_of_le-mul, lt_of_mul-lt-mul_right, mul-le-mul_left, mul-div_cancel}
 use Rattle.std.proofs.lemmas.Int.{to_z-of_z, to_z_pos}
 use Rattle.std.proofs.lemmas.Grind.{div_ceil_times}
 use Rattle.std.proofs.lemmas.Nat.{mul-le}
-use Rattle.demand_curve.specs.Demand.{rounded_down, rounded_up}
+use Rattle.demand_curve.specs.Numbers.{rounded_down, rounded_up}
 
 -- n / d times d is at most n, and less than d below it
 pub down_times : (n d : ℕ) → 0 < d → (rounded_down n d * d ≤ n) × (n < rounded_down n d * d + d)
@@ -65,8 +65,32 @@ difference_over a b k h below =
     let fits : rounded_up b k < a + 1 = lt_of_mul-lt-mul_right k (omega (arith, up)) in
     (omega (arith, fits), difference_from a (rounded_up b k) (a - rounded_up b k) b k h (omega (arith, fits)) up.0 up.1)
 
+-- n / d, where n is a multiple of d, is also n / d rounded up
+pub up_exact : (n d : ℕ) → n / d * d ≡ n → n / d ≡ rounded_up n d
+up_exact n d exact = omega (arith, exact, div-add-mod n d)
+
+-- and else rounded up it is one more
+pub up_inexact : (n d : ℕ) → n / d * d ≢ n → n / d + 1 ≡ rounded_up n d
+up_inexact n d inexact = omega (arith, inexact, div-add-mod n d)
+
+-- a multiple of d, over d, rounded up
+pub up_multiple : (n d : ℕ) → 0 < d → rounded_up (n * d) d ≡ n
+up_multiple n d h =
+    let down : n * d / d ≡ n = mul-div_cancel n h in
+    sym (up_exact (n * d) d (ap (λ y. y * d) down)) ∙ down
+
+-- n over d, rounded down to x, in parts of which d are k times as many: N to a whole
+pub floor_in_parts : (n d x k N : ℕ) → k * d ≡ N → 1 ≤ N → x * d ≤ n → n < x * d + d → (N * x ≤ k * n) × (k * n < N * x + N)
+floor_in_parts n d x zero N parts some below near = absurd (omega (arith, parts, some))
+floor_in_parts n d x (suc k) N parts some below near =
+    let whole = ap (λ y. y * x) parts in
+    (omega (arith, whole, mul-le-mul_left (suc k) below), omega (arith, whole, parts, mul-le-mul_left (suc k) near))
+
 -- both facts on a square, for the code that computes one
 pub ruleset square_steps = (square_over, square_parts_fit)
 
 -- facts for the loss: its square fits, and so do the signed numbers on the way
 pub ruleset loss_steps = (square_fits, square_small, to_z-of_z, to_z_pos)
+
+-- facts for both roundings
+pub ruleset rounding_steps = (up_exact, up_inexact, div-mul-le_self)

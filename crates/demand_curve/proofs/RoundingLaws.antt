@@ -1,11 +1,12 @@
 -- The laws of the roundings.
-use Rattle.std.proofs.Common.{◌≡◌, ℕ, ◌+◌, ◌*◌, ◌≤◌, ◌<◌, ℤ, ◌⊎◌, inl, inr, sym, ap, ◌∙◌, arith}
+use Rattle.std.proofs.Common.{◌≡◌, ℕ, ◌+◌, ◌*◌, ◌≤◌, ◌<◌, min, ℤ, pos, ◌+ℤ◌, ◌≤ℤ◌, refl, ◌⊎◌, inl, inr, sym, ap, ◌∙◌, arith}
 use Rattle.std.proofs.Math.Nat.{lt_of_mul-lt-mul_right, le_antisymm}
 use Rattle.std.proofs.lemmas.Bool.{cases_eq}
-use Rattle.demand_curve.specs.Demand.{Terms, span, scaled_demand, floor_rate, ceil_rate}
-use Rattle.demand_curve.specs.Laws.{DemandNeverRises, RoundingsEncloseDemand, IsDemand, WholeDemandIsRoundedOnce, RoundingsAreFloorAndCeil, RoundingIsWithinRoom, RoundingIsExactAtCuts}
+use Rattle.demand_curve.specs.Numbers.{distance, rounded_down, rounded_up}
+use Rattle.demand_curve.specs.Demand.{Terms, IsWithinLimits, span, line, scaled_demand, floor_rate, ceil_rate}
+use Rattle.demand_curve.specs.Laws.{DemandNeverRises, RoundingsEncloseDemand, IsDemand, WholeDemandIsRoundedOnce, RoundingsAreFloorAndCeil, RoundingIsWithinRoom, RoundingIsExactAtCuts, RoundingsMoveLittle}
 use Rattle.demand_curve.proofs.Demands.{scaled_demand_is}
-use Rattle.demand_curve.proofs.DemandLaws.{demand-falls, cut_at_limits}
+use Rattle.demand_curve.proofs.DemandLaws.{demand-falls, demand_is_cut_at_limits, demand_moves_little}
 use Rattle.demand_curve.proofs.Limits.{span_least}
 use Rattle.demand_curve.proofs.Quotients.{down_times, up_times}
 
@@ -25,8 +26,8 @@ ceil_times : (t : Terms) (price : ℤ) → 0 < span t → (scaled_demand t price
 unfolding ceil_rate
 ceil_times t price h = up_times (scaled_demand t price) (span t) h
 
-pub encloses : RoundingsEncloseDemand
-encloses t h price =
+pub roundings_enclose_demand : RoundingsEncloseDemand
+roundings_enclose_demand t h price =
     let positive : 0 < span t = omega (arith, span_least t h) in
     let floor = floor_times t price positive in
     let ceil = ceil_times t price positive in
@@ -37,24 +38,24 @@ encloses t h price =
       ceil_near = ceil.1;
       floor_first = at_most_from_times (floor_rate t price) (ceil_rate t price) (span t) (omega (arith, floor, ceil));
       one_apart = at_most_from_times (ceil_rate t price) (floor_rate t price + 1) (span t) (omega (arith, floor, ceil));
-      within_room = at_most_from_times (ceil_rate t price) t.room (span t) (omega (arith, ceil, (cut_at_limits t h price).within_room));
+      within_room = at_most_from_times (ceil_rate t price) t.room (span t) (omega (arith, ceil, (demand_is_cut_at_limits t h price).within_room));
     }
 
-pub never_rises : DemandNeverRises
-never_rises t h lower higher rise =
+pub demand_never_rises : DemandNeverRises
+demand_never_rises t h lower higher rise =
     let falls = demand-falls t lower higher rise in
-    let above = encloses t h higher in
-    let below = encloses t h lower in
+    let above = roundings_enclose_demand t h higher in
+    let below = roundings_enclose_demand t h lower in
     record {
       demand = falls;
       floor = at_most_from_times (floor_rate t higher) (floor_rate t lower) (span t) (omega (arith, falls, above.floor_below, below.floor_near));
       ceil = at_most_from_times (ceil_rate t higher) (ceil_rate t lower) (span t) (omega (arith, falls, above.ceil_near, below.ceil_above));
     }
 
-pub rounded_once : WholeDemandIsRoundedOnce
-rounded_once t h price =
+pub whole_demand_is_rounded_once : WholeDemandIsRoundedOnce
+whole_demand_is_rounded_once t h price =
     let positive : 0 < span t = omega (arith, span_least t h) in
-    let between = encloses t h price in
+    let between = roundings_enclose_demand t h price in
     let both : (x : ℕ) → IsDemand t x price → (floor_rate t price ≡ x) × (ceil_rate t price ≡ x) = λ x exact. (
       le_antisymm (at_most_from_times (floor_rate t price) x (span t) (omega (arith, exact, between.floor_below, positive))) (at_most_from_times x (floor_rate t price) (span t) (omega (arith, exact, between.floor_near))),
       le_antisymm (at_most_from_times (ceil_rate t price) x (span t) (omega (arith, exact, between.ceil_near))) (at_most_from_times x (ceil_rate t price) (span t) (omega (arith, exact, between.ceil_above, positive))),
@@ -67,10 +68,10 @@ rounded_once t h price =
       both_are_demand = both;
     }
 
-pub floor_and_ceil : RoundingsAreFloorAndCeil
-floor_and_ceil t h price x =
+pub roundings_are_floor_and_ceil : RoundingsAreFloorAndCeil
+roundings_are_floor_and_ceil t h price x =
     let positive : 0 < span t = omega (arith, span_least t h) in
-    let between = encloses t h price in (
+    let between = roundings_enclose_demand t h price in (
       (λ rounding.
           let low : floor_rate t price ≤ x = at_most_from_times (floor_rate t price) x (span t) (omega (arith, rounding.less_than_one_below, between.floor_below)) in
           let high : x ≤ ceil_rate t price = at_most_from_times x (ceil_rate t price) (span t) (omega (arith, rounding.less_than_one_above, between.ceil_above)) in
@@ -84,18 +85,41 @@ floor_and_ceil t h price x =
     either_end : (x low high : ℕ) → low ≤ x → x ≤ high → high ≤ low + 1 → (x ≡ low) ⊎ (x ≡ high)
     either_end x low high p q r = elim (cases_eq x low) [ inl same ↦ inl same | inr apart ↦ inr (omega (arith, apart)) ]
 
-pub within_room : RoundingIsWithinRoom
-within_room t h price x rounding =
-    at_most_from_times x t.room (span t) (omega (arith, rounding.less_than_one_above, (cut_at_limits t h price).within_room))
+pub rounding_is_within_room : RoundingIsWithinRoom
+rounding_is_within_room t h price x rounding =
+    at_most_from_times x t.room (span t) (omega (arith, rounding.less_than_one_above, (demand_is_cut_at_limits t h price).within_room))
 
-pub exact_at_cuts : RoundingIsExactAtCuts
-exact_at_cuts t h price x rounding =
+pub rounding_is_exact_at_cuts : RoundingIsExactAtCuts
+rounding_is_exact_at_cuts t h price x rounding =
     record {
       none = λ above.
-          let zero = (cut_at_limits t h price).none_above above in
+          let zero = (demand_is_cut_at_limits t h price).none_above above in
           let most : x ≤ 0 = at_most_from_times x 0 (span t) (omega (arith, zero, rounding.less_than_one_above)) in
           omega (arith, most);
       room = λ cut.
-          let whole : scaled_demand t price ≡ t.room * span t = omega (arith, scaled_demand_is t price) in
+          let whole = (demand_is_cut_at_limits t h price).at_room cut in
           le_antisymm (at_most_from_times x t.room (span t) (omega (arith, whole, rounding.less_than_one_above))) (at_most_from_times t.room x (span t) (omega (arith, whole, rounding.less_than_one_below)));
     }
+
+pub roundings_move_little : RoundingsMoveLittle
+roundings_move_little t h price grains =
+    at_most_from_times (256 * floor_rate t price) (256 * ceil_rate t (price +ℤ pos grains) + grains) (span t)
+    (omega (arith, roundings_enclose_demand t h price, roundings_enclose_demand t h (price +ℤ pos grains), demand_moves_little t h price grains))
+
+-- ---- for the code that tests where the demand is cut
+
+-- both roundings of no demand
+pub roundings_of_none : (t : Terms) → IsWithinLimits t → (price : ℤ) → t.high ≤ℤ price → (floor_rate t price ≡ 0) × (ceil_rate t price ≡ 0)
+roundings_of_none t h price above =
+    (whole_demand_is_rounded_once t h price).both_are_demand 0 (omega (arith, (demand_is_cut_at_limits t h price).none_above above))
+
+-- both roundings of the whole room
+pub roundings_of_room : (t : Terms) → IsWithinLimits t → (price : ℤ) → price ≤ℤ t.low → (floor_rate t price ≡ t.room) × (ceil_rate t price ≡ t.room)
+roundings_of_room t h price below =
+    (whole_demand_is_rounded_once t h price).both_are_demand t.room (sym ((demand_is_cut_at_limits t h price).whole_below below))
+
+-- both roundings, where the price is so many grains below the high limit
+pub roundings_of_line : (t : Terms) (price : ℤ) (below : ℕ) → below ≡ distance t.high price → (floor_rate t price ≡ rounded_down (min (t.rate * below) (t.room * span t)) (span t)) × (ceil_rate t price ≡ rounded_up (min (t.rate * below) (t.room * span t)) (span t))
+unfolding floor_rate ceil_rate line
+roundings_of_line t price below same =
+    rw (same, scaled_demand_is t price) (refl, refl)

@@ -1,7 +1,8 @@
 -- Signed sums over a price gap: z is above c by d, less what it is below c.
 use Rattle.std.proofs.Common.{◌≡◌, ℕ, ◌+◌, ◌*◌, ◌≤◌, ℤ, pos, ◌+ℤ◌, ◌-ℤ◌, ◌*ℤ◌, ◌≤ℤ◌, ap, arith}
+use Rattle.std.proofs.Math.Nat.{mul-le-mul_left}
 use Rattle.std.proofs.lemmas.Int.{ints}
-use Rattle.demand_curve.specs.Demand.{distance}
+use Rattle.demand_curve.specs.Numbers.{distance}
 use Rattle.demand_curve.proofs.Distances.{distance_is}
 use borrow.Author.Differences.{up, down}
 
@@ -34,3 +35,9 @@ pub moved_at_most : (X Y A : ℕ) (z from to : ℤ) → up z + down from + dista
 moved_at_most X Y A z from to gap_from gap_to none h =
     let move : up (to -ℤ from) + down to + up from ≡ down (to -ℤ from) + up to + down from = omega (arith, ints) in
     omega (arith, ints, ap (λ y. A * y) move, ap (λ y. A * y) gap_from, ap (λ y. A * y) gap_to, none, h)
+
+-- a move from one price to another, in parts k times as fine
+pub moved_in_parts : (k X Y A : ℕ) (d : ℤ) → (pos Y +ℤ pos A *ℤ d) ≤ℤ pos X → (pos (k * Y) +ℤ pos (k * A) *ℤ d) ≤ℤ pos (k * X)
+moved_in_parts k X Y A d h =
+    let sides : Y + A * up d ≤ X + A * down d = omega (arith, ints, h) in
+    omega (arith, ints, mul-le-mul_left k sides)

@@ -1,8 +1,9 @@
 -- What an order asks for at each price, what a whole rate loses against it, and what it is worth.
 --     Prices, losses and values are in grains, rates in whole units per batch. A demand is a fraction over the span:
 --     the line and the demand are counted in parts of 1/span of a unit, so they are whole numbers, and never below 0.
-use Rattle.std.specs.Prelude.{ℕ, ◌+◌, ◌-◌, ◌*◌, ◌^◌, ◌/◌, ◌<◌, ◌≤◌, ℤ, pos, negsuc, neg_ℤ, ◌+ℤ◌, ◌-ℤ◌, ◌≤ℤ◌, int_le, nat_le, if◌then◌else◌}
-use Rattle.std.specs.Int.{abs_diff, div_ceil}
+use Rattle.std.specs.Prelude.{ℕ, ◌+◌, ◌-◌, ◌*◌, ◌^◌, ◌<◌, ◌≤◌, ℤ, pos, neg_ℤ, ◌+ℤ◌, ◌-ℤ◌, ◌*ℤ◌, ◌≤ℤ◌, int_le, nat_le, if◌then◌else◌}
+use Rattle.std.specs.Int.{abs_diff}
+use Rattle.demand_curve.specs.Numbers.{distance, rounded_down, rounded_up}
 
 -- the terms of an order: two limit prices, the rate that it asks for at most, and the room that it has left in this batch
 pub record Terms : Type 0 where
@@ -28,15 +29,6 @@ pub record IsWithinLimits (t : Terms) : Type 0 where
   pub room_most : t.room ≤ t.rate
   pub rate_most : t.rate ≤ most_rate
 
--- a number where it is not negative, else 0
-abbrev pub or_zero : ℤ → ℕ
-or_zero (pos n) = n
-or_zero (negsuc _) = 0
-
--- how far the upper price is above the lower one, or 0 where it is not above
-unfoldable pub distance : ℤ → ℤ → ℕ
-distance upper lower = or_zero (upper -ℤ lower)
-
 -- the distance from the low limit to the high one
 unfoldable pub span : Terms → ℕ
 span t = distance t.high t.low
@@ -45,19 +37,15 @@ span t = distance t.high t.low
 unfoldable pub line : Terms → ℤ → ℕ
 line t price = t.rate * distance t.high price
 
+-- the same line, not cut at 0: above the high limit it asks for less than nothing
+unfoldable pub signed_line : Terms → ℤ → ℤ
+signed_line t price = pos t.rate *ℤ (t.high -ℤ price)
+
 -- the demand: none at or above the high limit, the whole room where the line asks for that or more, else what the line asks for
 unfoldable pub scaled_demand : Terms → ℤ → ℕ
 scaled_demand t price =
     if int_le t.high price then 0 else
     (if nat_le (t.room * span t) (line t price) then t.room * span t else line t price)
-
--- the fraction n/d, rounded down to a whole number
-abbrev pub rounded_down : ℕ → ℕ → ℕ
-rounded_down n d = n / d
-
--- the fraction n/d, rounded up to a whole number
-abbrev pub rounded_up : ℕ → ℕ → ℕ
-rounded_up n d = div_ceil n d
 
 -- the demand, rounded down
 unfoldable pub floor_rate : Terms → ℤ → ℕ

@@ -1,7 +1,8 @@
 -- What holds of every demand curve. The functions of the module `laws` ensure these facts.
 use Rattle.std.specs.Prelude.{◌≡◌, ℕ, ◌+◌, ◌-◌, ◌*◌, ◌^◌, ◌<◌, ◌≤◌, ◌⊎◌, ◌↔◌, ℤ, pos, ◌+ℤ◌, ◌-ℤ◌, ◌*ℤ◌, ◌≤ℤ◌}
-use Rattle.demand_curve.specs.Demand.{Terms, IsWithin, IsWithinLimits, distance, span, line, scaled_demand, rounded_down, rounded_up, floor_rate, ceil_rate, IsRounding, loss, scaled_dual, dual_floor}
-use Rattle.demand_curve.specs.Welfare.{scaled_welfare, scaled_gain, signed_line}
+use Rattle.demand_curve.specs.Numbers.{distance, rounded_down, rounded_up}
+use Rattle.demand_curve.specs.Demand.{Terms, IsWithin, IsWithinLimits, span, line, signed_line, scaled_demand, floor_rate, ceil_rate, IsRounding, loss, scaled_dual, dual_floor}
+use Rattle.demand_curve.specs.Welfare.{scaled_welfare, scaled_gain}
 
 -- ---- the demand
 
@@ -9,14 +10,15 @@ use Rattle.demand_curve.specs.Welfare.{scaled_welfare, scaled_gain, signed_line}
 abbrev pub SpanIsInRange : Type 0
 SpanIsInRange = (t : Terms) → IsWithinLimits t → (2 ^ 32 ≤ span t) × (span t ≤ 2 ^ 61)
 
--- the demand at a price, where the price is at or above the high limit, at or below the low one, and anywhere
+-- the demand at a price: at or above the high limit, at or below the low one, where the line asks for the room or more, where it asks for no more, and anywhere
 pub record IsCutAtLimits (t : Terms) (price : ℤ) : Type 0 where
   pub none_above : t.high ≤ℤ price → scaled_demand t price ≡ 0
   pub whole_below : price ≤ℤ t.low → scaled_demand t price ≡ t.room * span t
+  pub at_room : t.room * span t ≤ line t price → scaled_demand t price ≡ t.room * span t
   pub on_line : price ≤ℤ t.high → line t price ≤ t.room * span t → pos (scaled_demand t price) ≡ signed_line t price
   pub within_room : scaled_demand t price ≤ t.room * span t
 
--- nothing is asked for from the high limit on, the whole room up to the low limit, and never more than the room
+-- nothing is asked for from the high limit on, the whole room up to where the line asks for less, and never more than the room
 abbrev pub DemandIsCutAtLimits : Type 0
 DemandIsCutAtLimits = (t : Terms) → IsWithinLimits t → (price : ℤ) → IsCutAtLimits t price
 
@@ -86,6 +88,12 @@ pub record IsExactAtCuts (t : Terms) (x : ℕ) (price : ℤ) : Type 0 where
 abbrev pub RoundingIsExactAtCuts : Type 0
 RoundingIsExactAtCuts =
     (t : Terms) → IsWithinLimits t → (price : ℤ) (x : ℕ) → IsRounding t x price → IsExactAtCuts t x price
+
+-- the demand rounded down is above the demand rounded up at a higher price by at most 1/256 of a unit for each grain between
+abbrev pub RoundingsMoveLittle : Type 0
+RoundingsMoveLittle =
+    (t : Terms) → IsWithinLimits t → (price : ℤ) (grains : ℕ)
+    → 256 * floor_rate t price ≤ 256 * ceil_rate t (price +ℤ pos grains) + grains
 
 -- ---- the loss
 
@@ -162,3 +170,16 @@ DualFallsByDemand =
     (t : Terms) → IsWithinLimits t → (before after : ℤ)
     → (pos (scaled_dual t after) +ℤ pos (2 * t.rate * scaled_demand t after) *ℤ (after -ℤ before))
     ≤ℤ pos (scaled_dual t before)
+
+-- the same in parts k times as fine: with a k of its own for each order, all parts are alike and the orders of a book add up
+abbrev pub DualFallsInParts : Type 0
+DualFallsInParts =
+    (t : Terms) → IsWithinLimits t → (before after : ℤ) (k : ℕ)
+    → (pos (k * scaled_dual t after) +ℤ pos (k * (2 * t.rate * scaled_demand t after)) *ℤ (after -ℤ before))
+    ≤ℤ pos (k * scaled_dual t before)
+
+-- in such parts, N to a grain, the dual value is at least its whole grains, and less than a grain above them
+abbrev pub DualFloorInParts : Type 0
+DualFloorInParts =
+    (t : Terms) → IsWithinLimits t → (price : ℤ) (k N : ℕ) → k * (2 * t.rate * span t) ≡ N → 1 ≤ N
+    → (N * dual_floor t price ≤ k * scaled_dual t price) × (k * scaled_dual t price < N * dual_floor t price + N)

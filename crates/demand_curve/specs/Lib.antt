@@ -1,3 +1,4 @@
+pub mod Numbers
 pub mod Demand
 pub mod Curve
 pub mod Welfare

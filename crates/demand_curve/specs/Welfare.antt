@@ -14,7 +14,3 @@ scaled_cost t n k price = pos (2 * t.rate * n * k) *ℤ price
 -- what the rate n/k gains at a price: its welfare less its cost
 unfoldable pub scaled_gain : Terms → ℕ → ℕ → ℤ → ℤ
 scaled_gain t n k price = scaled_welfare t n k -ℤ scaled_cost t n k price
-
--- what the line through the limits asks for, in parts of 1/span of a unit: above the high limit it is below 0
-unfoldable pub signed_line : Terms → ℤ → ℤ
-signed_line t price = pos t.rate *ℤ (t.high -ℤ price)

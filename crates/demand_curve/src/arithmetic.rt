@@ -1,10 +1,10 @@
 //! Distances and squares, in numbers of at most 128 bits.
 
 ghost use Rattle.std.specs.Prelude.{◌≡◌, ◌<◌, ◌≤◌, ◌*◌, ◌^◌};
-ghost use Rattle.demand_curve.specs.Demand.{distance, rounded_down};
+ghost use Rattle.demand_curve.specs.Numbers.{distance, rounded_down};
 
 // How far the upper price is above the lower one, or 0 where it is not above.
-#[tactic(auto, unfolding(crate::specs::Demand::distance), using(crate::proofs::Distances::distance_steps))]
+#[tactic(auto, unfolding(crate::specs::Numbers::distance), using(crate::proofs::Distances::distance_steps))]
 pub(crate) fn distance(upper: i128, lower: i128) -> u128
     ensures { result ≡ distance upper lower }
 {

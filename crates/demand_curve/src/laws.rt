@@ -3,15 +3,15 @@
 //! Each function does nothing. Its clause is a law, stated in the crate's `specs/Laws.antt` for all terms within
 //! their limits and all prices; a caller has the law after the call. All are free.
 
-ghost use Rattle.demand_curve.specs.Laws.{SpanIsInRange, DemandIsCutAtLimits, DemandNeverRises, DemandMovesLittle, RoundingsEncloseDemand, WholeDemandIsRoundedOnce, RoundingsAreFloorAndCeil, RoundingIsWithinRoom, RoundingIsExactAtCuts, LossIsZeroAtDemand, LossIsSmall, GainIsDifferenceOfSquares, LossCoversBestRate, LossCoversBestRateInParts, DualIsByCases, DualIsGreatestGain, DualFallsByDemand};
+ghost use Rattle.demand_curve.specs.Laws.{SpanIsInRange, DemandIsCutAtLimits, DemandNeverRises, DemandMovesLittle, RoundingsEncloseDemand, WholeDemandIsRoundedOnce, RoundingsAreFloorAndCeil, RoundingIsWithinRoom, RoundingIsExactAtCuts, RoundingsMoveLittle, LossIsZeroAtDemand, LossIsSmall, GainIsDifferenceOfSquares, LossCoversBestRate, LossCoversBestRateInParts, DualIsByCases, DualIsGreatestGain, DualFallsByDemand, DualFallsInParts, DualFloorInParts};
 
 /// The span `high - low` is 2^32 to 2^61 grains.
 pub fn span_is_in_range()
     ensures { SpanIsInRange }
 {}
 
-/// Nothing is asked for from the high limit on, and the whole room up to the low limit. Between, where the
-/// room doesn't cut it, the demand is `rate * (high - price) / span`. It never passes the room.
+/// Nothing is asked for from the high limit on, and the whole room up to the low limit and on to where the line
+/// asks for less. From there to the high limit the demand is `rate * (high - price) / span`. It never passes the room.
 pub fn demand_is_cut_at_limits()
     ensures { DemandIsCutAtLimits }
 {}
@@ -49,6 +49,12 @@ pub fn rounding_is_within_room()
 /// Where the demand is cut, to nothing or to the room, every rounding is the demand itself.
 pub fn rounding_is_exact_at_cuts()
     ensures { RoundingIsExactAtCuts }
+{}
+
+/// The demand rounded down is above the demand rounded up at a higher price by at most 1/256 of a unit for each
+/// grain between the two prices.
+pub fn roundings_move_little()
+    ensures { RoundingsMoveLittle }
 {}
 
 /// The loss is 0 exactly where the demand is whole and the rate is it.
@@ -93,4 +99,15 @@ pub fn dual_is_greatest_gain()
 /// Where the price moves, the dual value falls by at least the move times the demand after it.
 pub fn dual_falls_by_demand()
     ensures { DualFallsByDemand }
+{}
+
+/// The same in parts k times as fine, for any k: in these the orders of a book add up.
+pub fn dual_falls_in_parts()
+    ensures { DualFallsInParts }
+{}
+
+/// In parts of which a grain has N, where N is k times the order's own `2 * rate * span`, the dual value is at
+/// least its whole grains, and less than one grain above them.
+pub fn dual_floor_in_parts()
+    ensures { DualFloorInParts }
 {}

@@ -17,10 +17,12 @@ ghost use Rattle.demand_curve.specs.Demand.{IsWithinLimits};
 
 mod arithmetic;
 pub mod laws;
+mod rounding;
 #[cfg(test)]
 mod tests;
 
 use arithmetic::{distance, floor_square_over};
+pub use rounding::Roundings;
 
 /// The demand curve of one order.
 ///
@@ -40,15 +42,27 @@ pub struct Curve {
 }
 
 impl Curve {
-    ghost use Rattle.std.specs.Prelude.{◌≡◌, ◌≤◌, ◌<◌, ◌*◌, ◌^◌, pos, ◌≤ℤ◌, ◌↔◌, IsTrue};
-    ghost use Rattle.demand_curve.specs.Demand.{IsWithin, span, line, distance, scaled_demand, floor_rate, ceil_rate, IsRounding, loss, dual_floor};
+    ghost use Rattle.std.specs.Prelude.{◌≡◌, ◌≤◌, ◌<◌, ◌*◌, ◌^◌, pos, ◌≤ℤ◌, ◌↔◌, IsTrue, min};
+    ghost use Rattle.demand_curve.specs.Numbers.{distance, rounded_down, rounded_up};
+    ghost use Rattle.demand_curve.specs.Demand.{IsWithin, span, line, scaled_demand, floor_rate, ceil_rate, IsRounding, loss, dual_floor};
     ghost use Rattle.demand_curve.specs.Curve.{terms};
 
-    /// The demand at a price, times the span `high - low`: 0 to 2^85.
+    /// The span `high - low`, in grains: 2^32 to 2^61.
+    ///
+    /// Constant time, no memory.
+    pub fn span(&self) -> i64
+        ensures value { result ≡ pos (span (terms self.now)) }
+        ensures least { pos (2 ^ 32) ≤ℤ result }
+        ensures most { result ≤ℤ pos (2 ^ 61) }
+    {
+        self.high - self.low
+    }
+
+    /// The demand at a price, times the span: 0 to 2^85.
     ///
     /// The price is in grains. Constant time, no memory.
     pub fn scaled(&self, price: i128) -> i128
-        requires { IsWithin (2 ^ 78) price }
+        requires price_in_range { IsWithin (2 ^ 78) price }
         ensures value { result ≡ pos (scaled_demand (terms self.now) price) }
         ensures most { result ≤ℤ pos (2 ^ 85) }
     {
@@ -58,36 +72,54 @@ impl Curve {
     /// The demand at a price rounded down, in whole units per batch: at most the room.
     ///
     /// The price is in grains. Constant time, no memory.
-    #[tactic(auto, unfolding(crate::specs::Demand::floor_rate))]
     pub fn floor_rate(&self, price: i128) -> u32
         requires { IsWithin (2 ^ 78) price }
         ensures value { result ≡ floor_rate (terms self.now) price }
         ensures within_room { result ≤ self.now.room }
     {
-        (self.demand(price) / self.span()) as u32
+        self.roundings(price).floor
     }
 
     /// The demand at a price rounded up, in whole units per batch: at most the room.
     ///
     /// The price is in grains. Constant time, no memory.
-    #[tactic(auto, using(crate::proofs::Quotients::up_within), unfolding(crate::specs::Demand::ceil_rate))]
     pub fn ceil_rate(&self, price: i128) -> u32
         requires { IsWithin (2 ^ 78) price }
         ensures value { result ≡ ceil_rate (terms self.now) price }
         ensures within_room { result ≤ self.now.room }
     {
-        self.demand(price).div_ceil(self.span()) as u32
+        self.roundings(price).ceil
+    }
+
+    /// The demand at a price rounded down and rounded up, in whole units per batch: each at most the room.
+    ///
+    /// The price is in grains. Constant time, no memory. Both cost what either alone does: one division, and none where
+    /// the demand is cut, to nothing or to the whole room.
+    pub fn roundings(&self, price: i128) -> Roundings
+        requires price_in_range { IsWithin (2 ^ 78) price }
+        ensures floor { result.floor ≡ floor_rate (terms self.now) price }
+        ensures ceil { result.ceil ≡ ceil_rate (terms self.now) price }
+        ensures floor_within_room { result.floor ≤ self.now.room }
+        ensures ceil_within_room { result.ceil ≤ self.now.room }
+    {
+        if i128::from(self.high) <= price {
+            Roundings::of_whole(0)
+        } else if price <= i128::from(self.low) {
+            Roundings::of_whole(self.room)
+        } else {
+            self.roundings_between(self.below_high(price) as u64)
+        }
     }
 
     /// Whether a rate, in whole units per batch, is less than 1 above and less than 1 below the demand at a price.
     ///
     /// The price is in grains. Constant time, no memory.
     pub fn is_rounded(&self, x: u32, price: i128) -> bool
-        requires { IsWithin (2 ^ 78) price }
-        ensures { IsTrue result ↔ IsRounding (terms self.now) x price }
+        requires price_in_range { IsWithin (2 ^ 78) price }
+        ensures answer { IsTrue result ↔ IsRounding (terms self.now) x price }
     {
         let demand = self.demand(price);
-        let span = self.span();
+        let span = self.unsigned_span();
         let traded = u128::from(x) * span;
         traded < demand + span && demand < traded + span
     }
@@ -103,16 +135,16 @@ impl Curve {
         ensures value { result ≡ pos (loss (terms self.now) x price) }
         ensures most { result ≤ℤ pos (2 ^ 60) }
     {
-        let traded = u128::from(x) * self.span();
+        let traded = u128::from(x) * self.unsigned_span();
         let apart = traded.abs_diff(self.demand(price));
-        (apart * apart).div_ceil(self.double_rate() * self.span()) as i128
+        (apart * apart).div_ceil(self.double_rate() * self.unsigned_span()) as i128
     }
 
     /// The dual value at a price, in grains, rounded down: the most that the order can gain there, 0 to 2^103.
     ///
     /// The price is in grains. Constant time, no memory.
     pub fn dual_floor(&self, price: i128) -> i128
-        requires { IsWithin (2 ^ 78) price }
+        requires price_in_range { IsWithin (2 ^ 78) price }
         ensures value { result ≡ pos (dual_floor (terms self.now) price) }
         ensures most { result ≤ℤ pos (2 ^ 103) }
     {
@@ -120,6 +152,24 @@ impl Curve {
             self.dual_at_room(price) as i128
         } else {
             self.dual_on_line(price) as i128
+        }
+    }
+
+    // Both roundings between the limits, where the price is so many grains below the high one.
+    #[tactic(auto, using(crate::proofs::Quotients::up_multiple))]
+    fn roundings_between(&self, below_high: u64) -> Roundings
+        ensures floor { let t = terms self.now in
+            result.floor ≡ rounded_down (min (t.rate * below_high) (t.room * span t)) (span t) }
+        ensures ceil { let t = terms self.now in
+            result.ceil ≡ rounded_up (min (t.rate * below_high) (t.room * span t)) (span t) }
+        ensures within_room { result.ceil ≤ self.now.room }
+    {
+        let span = self.span() as u64;
+        let line = u128::from(self.rate) * u128::from(below_high);
+        if u128::from(self.room) * u128::from(span) <= line {
+            Roundings::of_whole(self.room)
+        } else {
+            Roundings::of_fraction(line, span, self.room)
         }
     }
 
@@ -132,7 +182,7 @@ impl Curve {
     {
         let room = u128::from(self.room);
         let spared = room * self.below_high(price);
-        spared - (room * room * self.span()).div_ceil(self.double_rate())
+        spared - (room * room * self.unsigned_span()).div_ceil(self.double_rate())
     }
 
     // The dual value where the room does not cut the line. Where nothing is asked for it is 0.
@@ -142,13 +192,13 @@ impl Curve {
         ensures value { result ≡ dual_floor (terms self.now) price }
         ensures most { result ≤ 2 ^ 103 }
     {
-        floor_square_over(self.line(price), self.span(), self.double_rate())
+        floor_square_over(self.line(price), self.unsigned_span(), self.double_rate())
     }
 
     // The demand, times the span.
     #[tactic(auto, using(crate::proofs::Demands::demand_steps))]
     fn demand(&self, price: i128) -> u128
-        requires { IsWithin (2 ^ 78) price }
+        requires in_range { IsWithin (2 ^ 78) price }
         ensures value { result ≡ scaled_demand (terms self.now) price }
         ensures within_room { result ≤ (terms self.now).room * span (terms self.now) }
         ensures most { result ≤ 2 ^ 85 }
@@ -159,7 +209,7 @@ impl Curve {
     // What the line through the limits asks for, times the span, before the room cuts it.
     #[tactic(auto, unfolding(crate::specs::Demand::line))]
     fn line(&self, price: i128) -> u128
-        requires { IsWithin (2 ^ 78) price }
+        requires in_range { IsWithin (2 ^ 78) price }
         ensures value { result ≡ line (terms self.now) price }
         ensures most { result ≤ 2 ^ 103 }
     {
@@ -171,25 +221,25 @@ impl Curve {
         ensures value { result ≡ (terms self.now).room * span (terms self.now) }
         ensures most { result ≤ 2 ^ 85 }
     {
-        u128::from(self.room) * self.span()
+        u128::from(self.room) * self.unsigned_span()
     }
 
     // How far the price is below the high limit, in grains.
     fn below_high(&self, price: i128) -> u128
-        requires { IsWithin (2 ^ 78) price }
+        requires in_range { IsWithin (2 ^ 78) price }
         ensures value { result ≡ distance (terms self.now).high price }
         ensures most { result ≤ 2 ^ 79 }
     {
         distance(i128::from(self.high), price)
     }
 
-    // How far the limits are apart, in grains.
-    fn span(&self) -> u128
+    // The span, without a sign.
+    fn unsigned_span(&self) -> u128
         ensures value { result ≡ span (terms self.now) }
         ensures least { 2 ^ 32 ≤ result }
         ensures most { result ≤ 2 ^ 61 }
     {
-        distance(i128::from(self.high), i128::from(self.low))
+        self.span() as u128
     }
 
     fn double_rate(&self) -> u128

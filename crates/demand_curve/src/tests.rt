@@ -1,4 +1,7 @@
-use super::Curve;
+ghost use Rattle.std.specs.Prelude.{◌^◌};
+ghost use Rattle.demand_curve.specs.Demand.{IsWithin};
+
+use super::{Curve, Roundings};
 use std::test::Fail;
 
 // The low limit, the high limit, the rate and the room of a curve.
@@ -294,6 +297,37 @@ fn curves_at_prices(rt: HostRuntime) -> Result<(), Fail> {
     for ((low, high, rate, room), row) in ROWS {
         let curve = curve_of(low, high, rate, room).ok_or("limits")?;
         assert_eq!(rt; answers_of(&curve, row.0), Some(row));
+    }
+    Ok(())
+}
+
+// Both roundings by what they are, the demand over the span, with a division each.
+fn quotients(curve: &Curve, price: i128) -> (u128, u128)
+    requires { IsWithin (2 ^ 78) price }
+{
+    let demand = curve.scaled(price) as u128;
+    let span = curve.span() as u128;
+    (demand / span, demand.div_ceil(span))
+}
+
+fn rounds_by_quotients(curve: &Curve, price: i128) -> bool {
+    if price < -FARTHEST || price > FARTHEST {
+        return false;
+    }
+    let Roundings { floor, ceil } = curve.roundings(price);
+    (u128::from(floor), u128::from(ceil)) == quotients(curve, price)
+        && floor == curve.floor_rate(price)
+        && ceil == curve.ceil_rate(price)
+}
+
+#[test]
+fn roundings_are_quotients(rt: HostRuntime) -> Result<(), Fail> {
+    for ((low, high, rate, room), row) in ROWS {
+        let curve = curve_of(low, high, rate, room).ok_or("limits")?;
+        for step in [-1, 0, 1] {
+            let price = row.0.saturating_add(step).max(-FARTHEST);
+            assert!(rt; rounds_by_quotients(&curve, price), "at {price}");
+        }
     }
     Ok(())
 }

@@ -78,8 +78,8 @@ impl Session {
     /// is that of the record, however many accounts there are.
     ///
     /// The room of the pair is taken first. After `Memory` market and bytes are as before, and `out` has the room that
-    /// it had or more; it comes only where that room was less than the pair's, or where the command adds something to
-    /// the market and no refusal holds.
+    /// it had or more; it comes only where that room was less than the pair's, or where the command adds an asset or
+    /// an account and no refusal holds.
     pub fn serve(&mut self, asked: &RecordView<'_>, out: &mut Vec<u8>) -> Result<(), Memory>
         ensures served { OnOk result ((text : List ℕ) × AnswersOne self.old asked.now self.new text
             × (out.new.items ≡ out.old.items ++ text)) }

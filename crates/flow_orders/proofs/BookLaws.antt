@@ -7,8 +7,9 @@ use Rattle.std.proofs.lemmas.Int.{ints}
 use Rattle.weight_rows.specs.declared.entries.Entry.{Entry}
 use Rattle.weight_rows.specs.Rows.{IsLawfulRow, weight_in, price_of, portfolio_price}
 use Rattle.list_sums.proofs.SumLemmas.{int_sum_by-add}
-use Rattle.demand_curve.specs.Demand.{Terms, IsWithinLimits, distance}
-use Rattle.demand_curve.proofs.RoundingLaws.{never_rises}
+use Rattle.demand_curve.specs.Demand.{Terms, IsWithinLimits}
+use Rattle.demand_curve.specs.Numbers.{distance}
+use Rattle.demand_curve.proofs.RoundingLaws.{demand_never_rises}
 use Rattle.flow_orders.specs.Orders.{terms_of}
 use Rattle.list_sums.proofs.SumLemmas.{int_sum_by-le, int_sum_by-scale}
 use Rattle.flow_orders.specs.Excess.{low_part, high_part}
@@ -62,19 +63,19 @@ pub low_part-falls : (w : ℤ) (t : Terms) → IsWithinLimits t → (c : ℤ) (d
 low_part-falls (pos n) t h c d =
     let product = pos-*ℤ-pos n d in
     let more : c ≤ℤ (c +ℤ pos n *ℤ pos d) = omega (arith, ints, product) in
-    omega (arith, ints, mul-le-mul_left n (never_rises t h c (c +ℤ pos n *ℤ pos d) more).floor)
+    omega (arith, ints, mul-le-mul_left n (demand_never_rises t h c (c +ℤ pos n *ℤ pos d) more).floor)
 low_part-falls (negsuc n) t h c d =
     let less : (c +ℤ negsuc n *ℤ pos d) ≤ℤ c = omega (arith, ints) in
-    omega (arith, ints, mul-le-mul_left (suc n) (never_rises t h (c +ℤ negsuc n *ℤ pos d) c less).ceil)
+    omega (arith, ints, mul-le-mul_left (suc n) (demand_never_rises t h (c +ℤ negsuc n *ℤ pos d) c less).ceil)
 
 pub high_part-falls : (w : ℤ) (t : Terms) → IsWithinLimits t → (c : ℤ) (d : ℕ) → high_part w t (c +ℤ w *ℤ pos d) ≤ℤ high_part w t c
 high_part-falls (pos n) t h c d =
     let product = pos-*ℤ-pos n d in
     let more : c ≤ℤ (c +ℤ pos n *ℤ pos d) = omega (arith, ints, product) in
-    omega (arith, ints, mul-le-mul_left n (never_rises t h c (c +ℤ pos n *ℤ pos d) more).ceil)
+    omega (arith, ints, mul-le-mul_left n (demand_never_rises t h c (c +ℤ pos n *ℤ pos d) more).ceil)
 high_part-falls (negsuc n) t h c d =
     let less : (c +ℤ negsuc n *ℤ pos d) ≤ℤ c = omega (arith, ints) in
-    omega (arith, ints, mul-le-mul_left (suc n) (never_rises t h (c +ℤ negsuc n *ℤ pos d) c less).floor)
+    omega (arith, ints, mul-le-mul_left (suc n) (demand_never_rises t h (c +ℤ negsuc n *ℤ pos d) c less).floor)
 
 -- a row's price where one asset's price rises from x to y
 price_risen : (row : List Entry) (prices : List ℤ) (asset : ℕ) (x y : ℤ) → IsLawfulRow row → asset < length prices → x ≤ℤ y → portfolio_price row (set prices asset y) ≡ portfolio_price row (set prices asset x) +ℤ weight_in row asset *ℤ pos (distance y x)

@@ -10,7 +10,7 @@ use Rattle.list_sums.specs.Sums.{int_sum_by}
 use Rattle.weight_rows.specs.Rows.{IsLawfulRow, weight_in, price_of, portfolio_price}
 use Rattle.list_sums.proofs.Products.{*ℤ-add}
 use Rattle.weight_rows.proofs.RowLawProofs.{price_follows_one_price}
-use Rattle.demand_curve.specs.Demand.{distance}
+use Rattle.demand_curve.specs.Numbers.{distance}
 use Rattle.demand_curve.proofs.Distances.{distance_is}
 use Rattle.demand_curve.proofs.Quotients.{up_times}
 use Rattle.flow_orders.specs.Orders.{Order}

@@ -9,7 +9,7 @@ use Rattle.std.proofs.lemmas.List.Kept.{AllPairs-from_increasing}
 use Rattle.weight_rows.specs.declared.entries.Entry.{Entry}
 use Rattle.weight_rows.specs.Rows.{assets_of, IsLawfulRow, weight_in}
 use Rattle.demand_curve.specs.Demand.{Terms, IsWithinLimits, IsRounding, floor_rate, ceil_rate}
-use Rattle.demand_curve.proofs.RoundingLaws.{encloses, floor_and_ceil}
+use Rattle.demand_curve.proofs.RoundingLaws.{roundings_enclose_demand, roundings_are_floor_and_ceil}
 use Rattle.flow_orders.specs.Choice.{absolute_sum}
 
 module _ (f g : ℕ → ℕ) (m : ℕ) (same : (k : ℕ) → k ≢ m → f k ≡ g k) where
@@ -84,8 +84,8 @@ module _ (n : ℕ) (r : ℕ → ℤ) where
 pub choice_is_rounding : (t : Terms) → IsWithinLimits t → (price : ℤ) (rate : ℕ)
     → (rate ≡ floor_rate t price) ⊎ ((ltb (floor_rate t price) (ceil_rate t price) ≡ true) × (rate ≡ floor_rate t price + 1)) → IsRounding t rate price
 choice_is_rounding t h price rate choice =
-    (floor_and_ceil t h price rate).1
+    (roundings_are_floor_and_ceil t h price rate).1
     (⊎_elim
     (λ down. inl down)
-    (λ up. let apart = ltb-true (floor_rate t price) (ceil_rate t price) up.0 in inr (omega (arith, up.1, apart, (encloses t h price).one_apart)))
+    (λ up. let apart = ltb-true (floor_rate t price) (ceil_rate t price) up.0 in inr (omega (arith, up.1, apart, (roundings_enclose_demand t h price).one_apart)))
     choice)

@@ -11,7 +11,7 @@ use Rattle.weight_rows.specs.Rows.{price_of, portfolio_price}
 use Rattle.demand_curve.specs.Demand.{Terms, span, scaled_dual, dual_floor}
 use Rattle.demand_curve.proofs.Limits.{span_least}
 use Rattle.flow_orders.specs.Orders.{terms_of}
-use Rattle.flow_orders.proofs.Curve.{dual_floor_in_parts}
+use Rattle.demand_curve.proofs.DualLaws.{dual_floor_in_parts}
 use Rattle.flow_orders.specs.Orders.{Order}
 use Rattle.flow_orders.proofs.Book.{IsSound}
 use Rattle.flow_orders.specs.Moves.{risen, fallen}

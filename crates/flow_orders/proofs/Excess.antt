@@ -4,10 +4,10 @@ use Rattle.std.proofs.Math.Nat.{mul-le-mul_left}
 use Rattle.std.proofs.lemmas.Int.{ints}
 use borrow.Author.Differences.{up, down, product_is}
 use Rattle.demand_curve.specs.Demand.{Terms, IsWithinLimits, span, scaled_demand, floor_rate, ceil_rate}
-use Rattle.demand_curve.proofs.RoundingLaws.{encloses}
-use Rattle.demand_curve.proofs.DemandLaws.{moves_little}
+use Rattle.demand_curve.proofs.RoundingLaws.{roundings_enclose_demand}
+use Rattle.demand_curve.proofs.DemandLaws.{demand_moves_little}
 use Rattle.flow_orders.specs.Excess.{low_part, high_part}
-use Rattle.flow_orders.proofs.Missing.{roundings_move_little}
+use Rattle.demand_curve.proofs.RoundingLaws.{roundings_move_little}
 
 -- one grain of an asset, of weight w
 pub part_step : (w : ℤ) (t : Terms) → IsWithinLimits t → (c : ℤ) → (pos 256 *ℤ low_part w t c) ≤ℤ (pos 256 *ℤ high_part w t (c +ℤ w) +ℤ w *ℤ w)
@@ -21,9 +21,9 @@ part_step (negsuc n) t h c =
 -- low and high enclose what is asked for, in parts of 1/N of a unit
 pub low_below : (w : ℤ) (t : Terms) → IsWithinLimits t → (c : ℤ) (k N : ℕ) → k * span t ≡ N → (pos N *ℤ low_part w t c) ≤ℤ (w *ℤ pos (k * scaled_demand t c))
 low_below (pos n) t h c k N parts =
-    omega (arith, ints, ap (λ y. n * floor_rate t c * y) parts, mul-le-mul_left (n * k) (encloses t h c).floor_below)
+    omega (arith, ints, ap (λ y. n * floor_rate t c * y) parts, mul-le-mul_left (n * k) (roundings_enclose_demand t h c).floor_below)
 low_below (negsuc n) t h c k N parts =
-    let most : suc n * k * scaled_demand t c ≤ N * (suc n * ceil_rate t c) = omega (arith, mul-le-mul_left (suc n * k) (encloses t h c).ceil_above, ap (λ y. suc n * ceil_rate t c * y) parts) in
+    let most : suc n * k * scaled_demand t c ≤ N * (suc n * ceil_rate t c) = omega (arith, mul-le-mul_left (suc n * k) (roundings_enclose_demand t h c).ceil_above, ap (λ y. suc n * ceil_rate t c * y) parts) in
     let left : pos N *ℤ neg_ℤ (pos (suc n * ceil_rate t c)) ≡ neg_ℤ (pos (N * (suc n * ceil_rate t c))) = turned N (suc n * ceil_rate t c) in
     rw left (omega (arith, ints, most))
   where
@@ -36,11 +36,11 @@ low_below (negsuc n) t h c k N parts =
 -- one grain moves what is asked for by at most w * w / 256
 pub true_step : (w : ℤ) (t : Terms) → IsWithinLimits t → (c : ℤ) (k N : ℕ) → k * span t ≡ N → (pos 256 *ℤ (w *ℤ pos (k * scaled_demand t c))) ≤ℤ (pos 256 *ℤ (w *ℤ pos (k * scaled_demand t (c +ℤ w))) +ℤ pos N *ℤ (w *ℤ w))
 true_step (pos n) t h c k N parts =
-    let step = moves_little t h c n in
+    let step = demand_moves_little t h c n in
     let all : 256 * n * k * scaled_demand t c ≤ 256 * n * k * scaled_demand t (c +ℤ pos n) + N * n * n = omega (arith, mul-le-mul_left (n * k) step, ap (λ y. n * n * y) parts) in
     omega (arith, ints, all)
 true_step (negsuc n) t h c k N parts =
     let back : c +ℤ negsuc n +ℤ pos (suc n) ≡ c = omega (arith, ints) in
-    let step = rw back at (moves_little t h (c +ℤ negsuc n) (suc n)) in
+    let step = rw back at (demand_moves_little t h (c +ℤ negsuc n) (suc n)) in
     let all : 256 * suc n * k * scaled_demand t (c +ℤ negsuc n) ≤ 256 * suc n * k * scaled_demand t c + N * suc n * suc n = omega (arith, mul-le-mul_left (suc n * k) step, ap (λ y. suc n * suc n * y) parts) in
     omega (arith, ints, all)

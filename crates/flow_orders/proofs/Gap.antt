@@ -10,7 +10,7 @@ use Rattle.list_sums.proofs.Products.{*ℤ-add}
 use Rattle.list_sums.proofs.SumLemmas.{int_sum_by-same}
 use Rattle.demand_curve.specs.Demand.{Terms, IsWithinLimits, IsRounding, loss}
 use Rattle.demand_curve.specs.Welfare.{scaled_welfare}
-use Rattle.demand_curve.proofs.LossLaws.{loss_covers_in_parts}
+use Rattle.demand_curve.proofs.LossLaws.{loss_covers_best_rate_in_parts}
 use Rattle.list_sums.proofs.SumLemmas.{int_sum_by-le, int_sum_by-scale}
 use Rattle.list_sums.proofs.Products.{*ℤ-assoc}
 use Rattle.flow_orders.proofs.Duality.{costs_by_asset}
@@ -71,7 +71,7 @@ module _ (prices : List ℤ) (K M : ℕ) where
   unfolding better published lost price_at
   one_order p h =
       rw (← cost_form M p.other K (portfolio_price p.row prices), ← cost_one M p.rate (portfolio_price p.row prices), pos-*ℤ-pos M (loss p.terms p.rate (portfolio_price p.row prices)))
-      (loss_covers_in_parts p.terms h.limits (portfolio_price p.row prices) p.rate h.rounding p.other K h.within p.share M h.parts)
+      (loss_covers_best_rate_in_parts p.terms h.limits (portfolio_price p.row prices) p.rate h.rounding p.other K h.within p.share M h.parts)
 
   whole_book : (ps : List Part) → All (IsPart prices K M) ps
       → (int_sum_by better ps -ℤ pos (M * K) *ℤ int_sum_by (λ p. pos p.other *ℤ price_at p) ps)

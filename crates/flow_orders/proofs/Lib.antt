@@ -3,13 +3,12 @@ pub mod BookLaws
 pub mod BookSums
 pub mod Choice
 pub mod ChoiceByEntries
-pub mod Curve
 pub mod DualWalks
 pub mod Duality
+pub mod Exactly
 pub mod Excess
 pub mod Gap
 pub mod Loops
-pub mod Missing
 pub mod MoveFacts
 pub mod Moved
 pub mod Moves
@@ -20,6 +19,7 @@ pub mod OwnIsRight
 pub mod OwnLaws
 pub mod OwnSums
 pub mod Progress
+pub mod GapBound
 pub mod Raised
 pub mod Ranges
 pub mod Residuals
@@ -31,3 +31,4 @@ pub mod TradeFacts
 pub mod WalkFacts
 pub mod WalkLaws
 pub mod Walks
+pub mod WorkedRows

@@ -6,8 +6,9 @@ use Rattle.std.proofs.lemmas.Int.{ints}
 use Rattle.std.proofs.lemmas.Bool.{cases_lt}
 use borrow.Author.Differences.{up, down}
 use Rattle.weight_rows.specs.Rows.{weight_in, price_of, portfolio_price}
-use Rattle.demand_curve.specs.Demand.{Terms, IsWithinLimits, distance}
-use Rattle.demand_curve.proofs.RoundingLaws.{encloses}
+use Rattle.demand_curve.specs.Demand.{Terms, IsWithinLimits}
+use Rattle.demand_curve.specs.Numbers.{distance}
+use Rattle.demand_curve.proofs.RoundingLaws.{roundings_enclose_demand}
 use Rattle.flow_orders.specs.Orders.{terms_of}
 use Rattle.list_sums.proofs.SumLemmas.{int_sum_by-le}
 use Rattle.flow_orders.specs.Excess.{low_part, high_part}
@@ -22,9 +23,9 @@ use Rattle.flow_orders.proofs.DualWalks.{IsMove}
 -- the low part is at most the high part
 pub parts_in_order : (w : ℤ) (t : Terms) → IsWithinLimits t → (c : ℤ) → low_part w t c ≤ℤ high_part w t c
 parts_in_order (pos n) t h c =
-    omega (arith, ints, mul-le-mul_left n (encloses t h c).floor_first)
+    omega (arith, ints, mul-le-mul_left n (roundings_enclose_demand t h c).floor_first)
 parts_in_order (negsuc n) t h c =
-    omega (arith, ints, mul-le-mul_left (suc n) (encloses t h c).floor_first)
+    omega (arith, ints, mul-le-mul_left (suc n) (roundings_enclose_demand t h c).floor_first)
 
 -- the low excess is at most the high excess
 pub low_excess-le : (orders : List Order) (prices : List ℤ) (asset : ℕ) → All IsSound orders → low_excess orders prices asset ≤ℤ high_excess orders prices asset

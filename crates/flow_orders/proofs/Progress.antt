@@ -10,10 +10,10 @@ use Rattle.list_sums.specs.Sums.{int_sum_by}
 use Rattle.weight_rows.specs.Rows.{weight_in, price_of, portfolio_price}
 use Rattle.list_sums.proofs.SumLemmas.{int_sum_by-add}
 use Rattle.demand_curve.specs.Demand.{Terms, IsWithinLimits, span, scaled_demand, floor_rate, ceil_rate, scaled_dual, dual_floor}
-use Rattle.demand_curve.proofs.RoundingLaws.{encloses}
+use Rattle.demand_curve.proofs.RoundingLaws.{roundings_enclose_demand}
 use Rattle.flow_orders.specs.Orders.{terms_of}
 use Rattle.list_sums.proofs.SumLemmas.{int_sum_by-le, int_sum_by-scale}
-use Rattle.flow_orders.proofs.Missing.{dual_falls_in_parts}
+use Rattle.demand_curve.proofs.DualLaws.{dual_falls_in_parts}
 use Rattle.list_sums.proofs.Products.{*ℤ-assoc}
 use Rattle.flow_orders.specs.Excess.{low_part, high_part}
 use Rattle.flow_orders.proofs.Excess.{low_below, true_step}
@@ -44,9 +44,9 @@ dual_floors orders prices = sum_by (λ o. dual_floor (terms_of o) (portfolio_pri
 -- E8's mirror: the high part is at least what is asked for
 pub high_above : (w : ℤ) (t : Terms) → IsWithinLimits t → (c : ℤ) (k N : ℕ) → k * span t ≡ N → (w *ℤ pos (k * scaled_demand t c)) ≤ℤ (pos N *ℤ high_part w t c)
 high_above (pos n) t h c k N parts =
-    omega (arith, ints, ap (λ y. n * ceil_rate t c * y) parts, mul-le-mul_left (n * k) (encloses t h c).ceil_above)
+    omega (arith, ints, ap (λ y. n * ceil_rate t c * y) parts, mul-le-mul_left (n * k) (roundings_enclose_demand t h c).ceil_above)
 high_above (negsuc n) t h c k N parts =
-    let most : N * (suc n * floor_rate t c) ≤ suc n * k * scaled_demand t c = omega (arith, mul-le-mul_left (suc n * k) (encloses t h c).floor_below, ap (λ y. suc n * floor_rate t c * y) parts) in
+    let most : N * (suc n * floor_rate t c) ≤ suc n * k * scaled_demand t c = omega (arith, mul-le-mul_left (suc n * k) (roundings_enclose_demand t h c).floor_below, ap (λ y. suc n * floor_rate t c * y) parts) in
     let left : pos N *ℤ neg_ℤ (pos (suc n * floor_rate t c)) ≡ neg_ℤ (pos (N * (suc n * floor_rate t c))) = turned N (suc n * floor_rate t c) in
     rw left (omega (arith, ints, most))
   where

@@ -9,7 +9,7 @@ use Rattle.weight_rows.specs.Rows.{weight_in, portfolio_price}
 use Rattle.list_sums.proofs.SumLemmas.{unsigned_abs-int_sum_by}
 use Rattle.weight_rows.proofs.RowLawProofs.{weights_are_small}
 use Rattle.demand_curve.specs.Demand.{Terms, IsWithinLimits, floor_rate, ceil_rate}
-use Rattle.demand_curve.proofs.RoundingLaws.{encloses}
+use Rattle.demand_curve.proofs.RoundingLaws.{roundings_enclose_demand}
 use Rattle.demand_curve.proofs.Quotients.{up_within}
 use Rattle.flow_orders.specs.Orders.{terms_of}
 use Rattle.flow_orders.specs.Excess.{low_part, high_part}
@@ -25,15 +25,15 @@ product_most n x weight rate =
 
 -- an order's parts are at most 2^36, in absolute value
 pub low_part-most : (w : ℤ) (t : Terms) → IsWithinLimits t → (c : ℤ) → unsigned_abs w ≤ 4096 → unsigned_abs (low_part w t c) ≤ 2 ^ 36
-low_part-most (pos n) t h c small = product_most n (floor_rate t c) small (omega (arith, encloses t h c, h.room_most, h.rate_most))
+low_part-most (pos n) t h c small = product_most n (floor_rate t c) small (omega (arith, roundings_enclose_demand t h c, h.room_most, h.rate_most))
 low_part-most (negsuc n) t h c small =
-    let most = product_most (suc n) (ceil_rate t c) (omega (arith, small)) (omega (arith, encloses t h c, h.room_most, h.rate_most)) in
+    let most = product_most (suc n) (ceil_rate t c) (omega (arith, small)) (omega (arith, roundings_enclose_demand t h c, h.room_most, h.rate_most)) in
     omega (arith, ints, most)
 
 pub high_part-most : (w : ℤ) (t : Terms) → IsWithinLimits t → (c : ℤ) → unsigned_abs w ≤ 4096 → unsigned_abs (high_part w t c) ≤ 2 ^ 36
-high_part-most (pos n) t h c small = product_most n (ceil_rate t c) small (omega (arith, encloses t h c, h.room_most, h.rate_most))
+high_part-most (pos n) t h c small = product_most n (ceil_rate t c) small (omega (arith, roundings_enclose_demand t h c, h.room_most, h.rate_most))
 high_part-most (negsuc n) t h c small =
-    let most = product_most (suc n) (floor_rate t c) (omega (arith, small)) (omega (arith, encloses t h c, h.room_most, h.rate_most)) in
+    let most = product_most (suc n) (floor_rate t c) (omega (arith, small)) (omega (arith, roundings_enclose_demand t h c, h.room_most, h.rate_most)) in
     omega (arith, ints, most)
 
 -- the excess of a book is at most 2^36 for each order

@@ -7,7 +7,7 @@ use Rattle.list_sums.specs.Sums.{int_sum_by}
 use Rattle.weight_rows.specs.Rows.{weight_in, portfolio_price}
 use Rattle.list_sums.proofs.SumLemmas.{int_sum_by-add}
 use Rattle.demand_curve.specs.Demand.{Terms, IsWithinLimits, IsRounding, floor_rate, ceil_rate}
-use Rattle.demand_curve.proofs.RoundingLaws.{encloses, floor_and_ceil}
+use Rattle.demand_curve.proofs.RoundingLaws.{roundings_enclose_demand, roundings_are_floor_and_ceil}
 use Rattle.flow_orders.specs.Orders.{terms_of}
 use Rattle.list_sums.proofs.SumLemmas.{int_sum_by-le}
 use Rattle.flow_orders.specs.Excess.{low_part, high_part}
@@ -19,8 +19,8 @@ use Rattle.flow_orders.proofs.BookSums.{int_sum_by-pos, int_sum_by-map}
 -- a rounding is at least the demand rounded down, and at most the demand rounded up
 pub rounding_between : (t : Terms) → IsWithinLimits t → (c : ℤ) (x : ℕ) → IsRounding t x c → (floor_rate t c ≤ x) × (x ≤ ceil_rate t c)
 rounding_between t h c x rounding =
-    let first = (encloses t h c).floor_first in
-    elim ((floor_and_ceil t h c x).0 rounding) [
+    let first = (roundings_enclose_demand t h c).floor_first in
+    elim ((roundings_are_floor_and_ceil t h c x).0 rounding) [
       | inl floor ↦ (omega (arith, floor), omega (arith, floor, first))
       | inr ceil ↦ (omega (arith, ceil, first), omega (arith, ceil))
     ]
@@ -42,9 +42,9 @@ high_part-above (negsuc n) t h c x rounding =
 -- both are at most the absolute weight apart
 pub parts_near : (w : ℤ) (t : Terms) → IsWithinLimits t → (c : ℤ) → high_part w t c ≤ℤ (low_part w t c +ℤ pos (unsigned_abs w))
 parts_near (pos n) t h c =
-    omega (arith, ints, mul-le-mul_left n (encloses t h c).one_apart)
+    omega (arith, ints, mul-le-mul_left n (roundings_enclose_demand t h c).one_apart)
 parts_near (negsuc n) t h c =
-    omega (arith, ints, mul-le-mul_left (suc n) (encloses t h c).one_apart)
+    omega (arith, ints, mul-le-mul_left (suc n) (roundings_enclose_demand t h c).one_apart)
 
 -- the high excess is at most the spread above the low one
 pub high_excess-near : (orders : List Order) (prices : List ℤ) (asset : ℕ) → All IsSound orders → high_excess orders prices asset ≤ℤ (low_excess orders prices asset +ℤ pos (spread orders asset))

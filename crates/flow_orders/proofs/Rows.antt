@@ -2,7 +2,8 @@
 use Rattle.std.proofs.Common.{◌≡◌, true, false, ℤ, pos, List, [], ◌∷◌, refl}
 use Rattle.std.specs.Prelude.{neg_ℤ}
 use Rattle.weight_rows.specs.Rows.{weight_in, portfolio_price}
-use Rattle.demand_curve.specs.Demand.{distance, span, line, scaled_demand, floor_rate, ceil_rate, loss, scaled_dual, dual_floor}
+use Rattle.demand_curve.specs.Demand.{span, line, scaled_demand, floor_rate, ceil_rate, loss, scaled_dual, dual_floor}
+use Rattle.demand_curve.specs.Numbers.{distance}
 use Rattle.flow_orders.specs.Orders.{Order}
 use Rattle.flow_orders.specs.Excess.{steepness, residual_bound, low_excess, is_above, is_unsettled}
 use Rattle.flow_orders.specs.Trades.{trades}

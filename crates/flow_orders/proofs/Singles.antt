@@ -11,8 +11,8 @@ use Rattle.list_sums.specs.Sums.{int_sum_by}
 use Rattle.weight_rows.specs.Rows.{IsLawfulRow, weight_in, price_of, portfolio_price}
 use Rattle.weight_rows.proofs.RowLawProofs.{price_follows_one_price}
 use Rattle.demand_curve.specs.Demand.{Terms, IsWithinLimits, scaled_demand, floor_rate}
-use Rattle.demand_curve.proofs.DemandLaws.{cut_at_limits}
-use Rattle.demand_curve.proofs.RoundingLaws.{encloses}
+use Rattle.demand_curve.proofs.DemandLaws.{demand_is_cut_at_limits}
+use Rattle.demand_curve.proofs.RoundingLaws.{roundings_enclose_demand}
 use Rattle.demand_curve.proofs.Limits.{span_least}
 use Rattle.flow_orders.specs.Orders.{terms_of}
 use Rattle.list_sums.proofs.SumLemmas.{int_sum_by-same_all}
@@ -29,8 +29,8 @@ IsSingle o = length o.row ≡ 1
 pub no_floor : (t : Terms) → IsWithinLimits t → (c : ℤ) → pos (2 ^ 60) ≤ℤ c → floor_rate t c ≡ 0
 no_floor t h c above =
     let past : t.high ≤ℤ c = omega (arith, ints, h.high_in_range, above) in
-    let none : scaled_demand t c ≡ 0 = (cut_at_limits t h c).none_above past in
-    omega (arith, none, (encloses t h c).floor_below, mul-le-mul_left (floor_rate t c) (span_least t h))
+    let none : scaled_demand t c ≡ 0 = (demand_is_cut_at_limits t h c).none_above past in
+    omega (arith, none, (roundings_enclose_demand t h c).floor_below, mul-le-mul_left (floor_rate t c) (span_least t h))
 
 -- from a price of 2^60 on no order buys, so its low part is at most 0
 low_part-none : (w : ℤ) (t : Terms) → IsWithinLimits t → (p : ℤ) → pos (2 ^ 60) ≤ℤ p → low_part w t (w *ℤ p) ≤ℤ pos 0

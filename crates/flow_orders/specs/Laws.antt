@@ -1,14 +1,16 @@
 -- What holds of books of orders, walks and outcomes.
-use Rattle.std.specs.Prelude.{◌≡◌, ℕ, ℤ, pos, ◌+◌, ◌*◌, ◌^◌, ◌≤◌, ◌+ℤ◌, ◌<ℤ◌, false, true, List, length, map, All}
+use Rattle.std.specs.Prelude.{◌≡◌, ℕ, ℤ, pos, ◌+◌, ◌*◌, ◌^◌, ◌≤◌, ◌+ℤ◌, ◌<ℤ◌, ◌≤ℤ◌, unsigned_abs, false, true, List, length, map, All}
+use Rattle.std.specs.List.{range_with_len, sum_by}
 use Rattle.weight_rows.specs.Rows.{price_of, IsPricedBy}
-use Rattle.demand_curve.specs.Demand.{IsWithin}
-use Rattle.flow_orders.specs.Orders.{Order, IsOrder}
-use Rattle.flow_orders.specs.Excess.{is_unsettled}
+use Rattle.demand_curve.specs.Demand.{IsWithin, span}
+use Rattle.demand_curve.specs.Numbers.{rounded_up}
+use Rattle.flow_orders.specs.Orders.{Order, IsOrder, terms_of}
+use Rattle.flow_orders.specs.Excess.{is_unsettled, residual_bound}
 use Rattle.flow_orders.specs.Turns.{IsInTurn}
 use Rattle.flow_orders.specs.Choice.{absolute_sum}
 use Rattle.flow_orders.specs.Trades.{trades, residual}
 use Rattle.flow_orders.specs.Outcomes.{Outcome, Fill, Clearing, Skipping, Cleared, dual_of, step_of, IsLegalFrom, end_of, IsRightOutcome, IsRightClearing, IsRightSkip, most_budget}
-use Rattle.flow_orders.specs.Welfare.{IsOptimalWithin}
+use Rattle.flow_orders.specs.Welfare.{IsCommon, IsOptimalWithin}
 use Rattle.flow_orders.specs.Duals.{IsCommonPart, exact_dual, movement_of}
 use Rattle.flow_orders.specs.Own.{are_single, floor_rates, rates_by_choice, IsOwnOutcome}
 
@@ -64,3 +66,13 @@ RightSkipsLowerTheDual = (orders : List Order) (start : List ℤ) (budget : ℕ)
 abbrev pub RightClearingsAreOptimal : Type 0
 RightClearingsAreOptimal = (orders : List Order) (start : List ℤ) (c : Clearing) → All IsOrder orders → All (λ o. IsPricedBy o.row start) orders
     → IsRightClearing orders start c → IsOptimalWithin c.gap orders (map (λ (f : Fill). f.rate) c.fills)
+
+-- the gap of a right clearing is at most what all roundings can lose and what residuals within their bounds can cost
+abbrev pub GapsAreBounded : Type 0
+GapsAreBounded = (orders : List Order) (start : List ℤ) (c : Clearing) → All IsOrder orders → IsRightClearing orders start c
+    → c.gap ≤ℤ pos (sum_by (λ o. rounded_up (span (terms_of o)) (2 * o.rate)) orders
+    + sum_by (λ asset. unsigned_abs (price_of c.prices asset) * residual_bound orders asset) (range_with_len 0 (length c.prices)))
+
+-- there is a number that twice the rate of every order divides
+abbrev pub CommonsExist : Type 0
+CommonsExist = (orders : List Order) → All IsOrder orders → (M : ℕ) × IsCommon M orders

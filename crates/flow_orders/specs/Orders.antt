@@ -3,7 +3,8 @@ use Rattle.std.specs.Prelude.{◌≡◌, ℕ, ◌+◌, ◌-◌, ◌*◌, ◌^◌
 use Rattle.weight_rows.specs.declared.entries.Entry.{Entry}
 use Rattle.list_sums.specs.Sums.{int_sum_by}
 use Rattle.weight_rows.specs.Rows.{IsLawfulRow, weight_in}
-use Rattle.demand_curve.specs.Demand.{Terms, IsWithin, IsWithinLimits, or_zero}
+use Rattle.demand_curve.specs.Demand.{Terms, IsWithin, IsWithinLimits}
+use Rattle.demand_curve.specs.Numbers.{or_zero}
 
 -- an order: its number and account, its limits, the rate that it asks for at most, its cap and what is filled of it, and its row
 pub record Order : Type 0 where

@@ -1,5 +1,5 @@
 //! What holds of books of orders, whatever code there is. Each law is the contract of a function that does nothing.
-ghost use Rattle.flow_orders.specs.Laws.{OneOwnOutcome, EveryBatchHasAnOwnOutcome, OwnOutcomesAreRight, OneAssetBooksClear, ChosenRatesAreNoWorse, OneWalkOfEachLength, WalksLowerTheDual, RightSkipsLowerTheDual, RightClearingsAreOptimal};
+ghost use Rattle.flow_orders.specs.Laws.{OneOwnOutcome, EveryBatchHasAnOwnOutcome, OwnOutcomesAreRight, OneAssetBooksClear, ChosenRatesAreNoWorse, OneWalkOfEachLength, WalksLowerTheDual, RightSkipsLowerTheDual, RightClearingsAreOptimal, GapsAreBounded, CommonsExist};
 
 /// A batch has at most one own outcome.
 pub fn one_own_outcome()
@@ -45,4 +45,15 @@ pub fn right_skips_lower_the_dual()
 /// No balanced rates beat those of a right clearing by more than its gap.
 pub fn right_clearings_are_optimal()
     ensures { RightClearingsAreOptimal }
+{}
+
+/// The gap of a right clearing is at most what all roundings can lose, `span / (2 * rate)` rounded up each, and what
+/// residuals within their bounds can cost.
+pub fn gaps_are_bounded()
+    ensures { GapsAreBounded }
+{}
+
+/// There is a number that twice the rate of every order divides, in parts of which welfare is whole.
+pub fn commons_exist()
+    ensures { CommonsExist }
 {}

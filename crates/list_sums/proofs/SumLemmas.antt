@@ -1,5 +1,5 @@
 -- Sums of whole numbers over lists.
-use Rattle.std.proofs.Common.{◌≡◌, ℕ, zero, suc, ◌+◌, ◌*◌, ◌<◌, ◌≤◌, ℤ, pos, ◌+ℤ◌, ◌-ℤ◌, ◌*ℤ◌, ◌≤ℤ◌, Bool, false, List, [], ◌∷◌, ◌++◌, length, map, take, get_or, set, ap, sym, ◌∙◌, refl, ⊎_elim, cond, eqb, ◌≢◌, arith}
+use Rattle.std.proofs.Common.{◌≡◌, ℕ, zero, suc, ◌+◌, ◌*◌, ◌<◌, ◌≤◌, ℤ, pos, ◌+ℤ◌, ◌-ℤ◌, ◌*ℤ◌, ◌≤ℤ◌, Bool, false, List, [], ◌∷◌, ◌++◌, length, map, take, get_or, set, ap, ◌∙◌, refl, ⊎_elim, cond, eqb, ◌≢◌, arith}
 use Rattle.std.specs.Prelude.{unsigned_abs, All, slice_index_or}
 use Rattle.std.specs.List.{range_with_len, filter, AllByRecursion}
 use Rattle.std.proofs.lemmas.Int.{ints}

@@ -27,10 +27,11 @@ SumsKeepOrder X = (f g : X → ℤ) (xs : List X) → All (λ x. f x ≤ℤ g x)
 abbrev pub SumsOfZeros : Type 0 → Type 0
 SumsOfZeros X = (f : X → ℤ) (xs : List X) → All (λ x. f x ≡ pos 0) xs → int_sum_by f xs ≡ pos 0
 
--- a sum of sums, and of differences
+-- a sum of sums is the sum of both
 abbrev pub SumsAdd : Type 0 → Type 0
 SumsAdd X = (f g : X → ℤ) (xs : List X) → int_sum_by (λ x. f x +ℤ g x) xs ≡ int_sum_by f xs +ℤ int_sum_by g xs
 
+-- a sum of differences is the difference of both
 abbrev pub SumsSubtract : Type 0 → Type 0
 SumsSubtract X = (f g : X → ℤ) (xs : List X) → int_sum_by (λ x. f x -ℤ g x) xs ≡ int_sum_by f xs -ℤ int_sum_by g xs
 

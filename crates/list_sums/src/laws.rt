@@ -1,4 +1,5 @@
 //! What holds of sums over lists of any type. Each law is the contract of a function that does nothing.
+
 ghost use Rattle.list_sums.specs.Laws.{SumsJoin, SumsPush, SumsSet, SumsAgree, SumsKeepOrder, SumsOfZeros, SumsAdd, SumsSubtract, SumsScale, SumsAreBounded, SumsMap, SumsExchange};
 
 /// The sum over joined lists is that of both.

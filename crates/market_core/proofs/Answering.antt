@@ -1,22 +1,20 @@
 -- What the market answers, by what its accounts and its tickers answer.
-use Rattle.std.proofs.Common.{◌≡◌, ℕ, ◌+◌, ◌≤◌, ◌<◌, inl, inr, List, [], ◌∷◌, ◌++◌, length, Result, Ok, Err, Option, Some, None, OnOk, OnErr, IsOk, ◌↔◌, refl, ap, arith}
-use Rattle.std.specs.Prelude.{IfErr, MatchResult, Contains}
+use Rattle.std.proofs.Common.{◌≡◌, ℕ, inl, inr, Result, Ok, Err, Some, None, OnOk, OnErr, IsOk, ◌↔◌, refl, ap, arith}
+use Rattle.std.specs.Prelude.{IfErr, MatchResult}
 use Rattle.std.proofs.lemmas.Int.{ints}
-use Rattle.wire_records.specs.Commands.{AddAsset, OpenAccount, DepositMoney, DepositAsset, WithdrawMoney, WithdrawAsset, Plain}
+use Rattle.wire_records.specs.Commands.{DepositMoney, DepositAsset, WithdrawMoney, WithdrawAsset, Plain}
 use Rattle.wire_records.specs.declared.reply.Reply.{Reply}
-use Rattle.wire_records.specs.declared.reply.Reply.TheVariants.{Done, Account, Refused}
+use Rattle.wire_records.specs.declared.reply.Reply.TheVariants.{Done, Refused}
 use Rattle.wire_records.specs.declared.reply.Refusal.TheVariants as refusals
-use Rattle.ticker_table.specs.Tickers.{IsTicker, HasNumber, ticker_limit}
 use Rattle.flow_accounts.specs.declared.fault.AccountFault.{AccountFault}
 use Rattle.flow_accounts.specs.declared.fault.AccountFault.TheVariants as fault
-use Rattle.flow_accounts.specs.Balances.{Balances, account_count, grains, open_account, change_money, change_units}
-use Rattle.flow_accounts.specs.Lawful.{most_accounts}
-use Rattle.flow_accounts.specs.Answers.{RefusesAccount, AcceptsMoneyDeposit, RefusesMoneyDeposit, AcceptsUnitDeposit, RefusesUnitDeposit, AcceptsMoneyWithdrawal, RefusesMoneyWithdrawal, AcceptsUnitWithdrawal, RefusesUnitWithdrawal}
+use Rattle.flow_accounts.specs.Balances.{Balances, grains, change_money, change_units}
+use Rattle.flow_accounts.specs.Answers.{AcceptsMoneyDeposit, RefusesMoneyDeposit, AcceptsUnitDeposit, RefusesUnitDeposit, AcceptsMoneyWithdrawal, RefusesMoneyWithdrawal, AcceptsUnitWithdrawal, RefusesUnitWithdrawal}
 use Rattle.std.specs.Prelude.{pos, neg_ℤ}
 use Rattle.flow_orders.specs.Outcomes.{BatchRule}
 use Rattle.flow_orders.specs.Orders.{needed_money, needed_units}
 use Rattle.market_core.specs.Market.{Market}
-use Rattle.market_core.specs.Step.{FirstRefusal, Serves}
+use Rattle.market_core.specs.Step.{Serves}
 use Rattle.market_core.specs.Private.{refusal_for}
 
 -- the reply that an outcome gives

@@ -1,12 +1,9 @@
 -- Every command has a step under the own rule.
-use Rattle.std.proofs.Common.{suc, arith, ◌≡◌, ℕ, ◌+◌, inl, inr, Bool, true, false, ℤ, List, [], ◌∷◌, length, Option, Some, None, Result, Ok, Err, refl, ap, ⊎_elim}
+use Rattle.std.proofs.Common.{suc, arith, ◌≡◌, ◌+◌, inl, inr, List, [], ◌∷◌, Option, Some, None, Result, Ok, Err, refl, ap, ⊎_elim}
 use Rattle.std.specs.Prelude.{map, All}
-use Rattle.flow_orders.specs.Orders.{Order, most_cap}
-use Rattle.flow_orders.specs.Excess.{is_unsettled}
-use Rattle.flow_orders.specs.Turns.{visits}
-use Rattle.flow_orders.specs.Outcomes.{Outcome, Cleared, Skipped, step_of, end_of, skipping_at, most_budget}
-use Rattle.flow_orders.specs.Own.{are_single, IsOwnOutcome, ArePricesOf, moved_once, clearing_at, own_rates}
-use Rattle.flow_orders.specs.Trades.{trades}
+use Rattle.flow_orders.specs.Orders.{most_cap}
+use Rattle.flow_orders.specs.Outcomes.{Outcome, most_budget}
+use Rattle.flow_orders.specs.Own.{IsOwnOutcome}
 use Rattle.wire_records.specs.Commands.{Command, AddAsset, OpenAccount, DepositMoney, DepositAsset, WithdrawMoney, WithdrawAsset, PlaceOrder, CancelOrder, RunBatch, Answer, Plain, Batch, Pair}
 use Rattle.wire_records.specs.declared.reply.Refusal.{Refusal}
 use Rattle.wire_records.specs.declared.reply.Reply.TheVariants.{Refused}
@@ -15,8 +12,6 @@ use Rattle.market_core.specs.Step.{◌when◌else◌, ◌unless◌else◌, accep
 use Rattle.demand_curve.specs.Demand.{most_rate}
 use Rattle.wire_records.specs.declared.command.BodyFault.{BodyFault}
 use Rattle.market_core.specs.Journal.{Step, Follows, IsJournal}
-use Rattle.flow_orders.proofs.Walks.{loop-own}
-use Rattle.flow_orders.proofs.Loops.{loop_walk}
 use Rattle.market_core.proofs.Decided.{Either, either_le, either_eq, either_lt_z, either_account, either_from_1, either_limits, either_row, either_assets, either_affordable, either_order, either_taken, either_ticker}
 use Rattle.flow_orders.proofs.OneOwn.{own_is_there}
 

@@ -1,11 +1,11 @@
 -- What a sound market owes the calls of its accounts, and that it stays sound.
-use Rattle.std.proofs.Common.{◌≡◌, ℕ, ◌+◌, ◌^◌, ◌≤◌, ◌<◌, pos, ℤ, length, List, subst, sym, ⊎_elim, arith}
+use Rattle.std.proofs.Common.{ℕ, ◌^◌, ◌≤◌, pos, ⊎_elim, arith}
 use Rattle.std.specs.Prelude.{slice_index_or, unsigned_abs, ◌≤ℤ◌, ◌+ℤ◌}
 use Rattle.std.proofs.lemmas.Int.{ints}
 use Rattle.std.proofs.lemmas.Bool.{cases_lt}
 use Rattle.std.proofs.lemmas.List.{get_or_past}
 use Rattle.list_sums.proofs.SumLemmas.{int_sum_by-zeros}
-use Rattle.flow_accounts.specs.Balances.{Account, Balances, IsAsset, asset_count, units_in, total_units_of}
+use Rattle.flow_accounts.specs.Balances.{Account, asset_count, units_in, total_units_of}
 use Rattle.flow_accounts.specs.Sums.{units_of_all}
 use Rattle.flow_accounts.specs.Fits.{AcceptedChangesFit, SumsAreNearTotals}
 use Rattle.flow_accounts.proofs.Bounds.{changes_fit_near_sums}

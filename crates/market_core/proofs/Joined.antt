@@ -11,7 +11,7 @@ use Rattle.list_sums.specs.Sums.{int_sum_by}
 use Rattle.weight_rows.specs.Rows.{IsLawfulRow, IsPricedBy, IsPrice, weight_in, price_of, portfolio_price}
 use Rattle.list_sums.proofs.Products.{*ℤ-add, unsigned_abs-mul_le}
 use Rattle.list_sums.proofs.SumLemmas.{int_sum_by-add, int_sum_by-same, int_sum_by-append, int_sum_by-zeros, unsigned_abs-int_sum_by}
-use Rattle.weight_rows.proofs.RowLemmas.{portfolio_price-bounded}
+use Rattle.weight_rows.proofs.RowLemmas.{price_is_bounded}
 use Rattle.weight_rows.proofs.RowLawProofs.{weights_are_small}
 use Rattle.flow_accounts.specs.Balances.{Account, Balances, IsAccount, IsAsset, account_count, money_of, units_of, units_in}
 use Rattle.flow_accounts.specs.Sums.{money_of_all, units_of_all}
@@ -120,7 +120,7 @@ module _ (prices : List ℤ) (ts : List Trade) (few : length ts ≤ 16384) (lawf
   pub part_money_is_small : All IsPrice prices → unsigned_abs (int_sum_by (paid prices) ts) ≤ 2 ^ 116
   part_money_is_small bounded =
       let each : All (λ t. unsigned_abs (paid prices t) ≤ 2 ^ 24 * 2 ^ 78) ts = λ k d inside.
-      unsigned_abs-mul_le (pos (slice_index_or ts k d).traded) (portfolio_price (slice_index_or ts k d).order.row prices) (2 ^ 24) (2 ^ 78) (slow k d inside) (portfolio_price-bounded (slice_index_or ts k d).order.row prices (lawful k d inside) bounded) in
+      unsigned_abs-mul_le (pos (slice_index_or ts k d).traded) (portfolio_price (slice_index_or ts k d).order.row prices) (2 ^ 24) (2 ^ 78) (slow k d inside) (price_is_bounded (slice_index_or ts k d).order.row prices (lawful k d inside) bounded) in
       let all = unsigned_abs-int_sum_by (paid prices) (2 ^ 24 * 2 ^ 78) ts each in
       omega (arith, all, few)
 

@@ -1,9 +1,9 @@
 -- What an answer of a batch tells of a step.
-use Rattle.std.proofs.Common.{Result, Ok, Err, List, [], ◌∷◌, ◌≤◌, arith, length, ◌≡◌, ℕ, ℤ, pos, ◌+ℤ◌, ◌+◌, Option, Some, None, refl, ap, sym, subst, ◌∙◌}
+use Rattle.std.proofs.Common.{Result, Ok, Err, ◌≤◌, arith, length, ◌≡◌, ℕ, pos, ◌+ℤ◌, ◌+◌, Option, Some, None, refl, ap, sym, subst, ◌∙◌}
 use Rattle.flow_accounts.specs.Balances.{IsAsset}
-use Rattle.flow_orders.specs.Orders.{Order, IsOrder}
+use Rattle.flow_orders.specs.Orders.{IsOrder}
 use Rattle.flow_orders.specs.Duals.{movement_of}
-use Rattle.flow_orders.specs.Outcomes.{Skipping, IsWide, IsLegalFrom, end_of, dual_of, Outcome, BatchRule, Cleared, Skipped, IsRightOutcome}
+use Rattle.flow_orders.specs.Outcomes.{Skipping, Outcome, BatchRule, Cleared, Skipped, IsRightOutcome}
 use Rattle.wire_records.specs.Commands.{Command, AddAsset, OpenAccount, DepositMoney, DepositAsset, WithdrawMoney, WithdrawAsset, PlaceOrder, CancelOrder, RunBatch, Answer, Plain, Batch}
 use Rattle.wire_records.specs.declared.reply.Refusal.{Refusal}
 use Rattle.wire_records.specs.declared.reply.Reply.{Reply}
@@ -17,7 +17,6 @@ use Rattle.std.proofs.lemmas.Int.{ints}
 use Rattle.std.proofs.lemmas.List.{length-map}
 use Rattle.flow_orders.proofs.WalkLaws.{walks_lower_the_dual, right_skips_lower_the_dual, right_clearings_are_optimal}
 use Rattle.std.specs.Prelude.{All, ◌<ℤ◌}
-use Rattle.flow_orders.specs.Moves.{walk_reach}
 use Rattle.market_core.proofs.OneStep.{HasOneOutcome, one_first, one_service}
 use Rattle.market_core.proofs.OneJournal.{step_market, journal_market, one_own_journal as one_journal, follows-append, follows-parts}
 use Rattle.market_core.proofs.Soundness.{sound_served, sound_step, sound_follows, sound-empty}

@@ -22,3 +22,4 @@ pub mod SoundOrders
 pub mod Soundness
 pub mod Totals
 pub mod Totals34
+pub mod WorkedRows

@@ -9,8 +9,9 @@ use Rattle.std.proofs.lemmas.Bool.{cases_Bool, ltb-false}
 use Rattle.std.proofs.lemmas.List.{append-nil}
 use borrow.Author.Differences.{up, down}
 use Rattle.weight_rows.specs.Rows.{weight_in, portfolio_price}
-use Rattle.demand_curve.specs.Demand.{or_zero, IsWithinLimits, IsRounding}
-use Rattle.demand_curve.proofs.RoundingLaws.{within_room, exact_at_cuts}
+use Rattle.demand_curve.specs.Demand.{IsWithinLimits, IsRounding}
+use Rattle.demand_curve.specs.Numbers.{or_zero}
+use Rattle.demand_curve.proofs.RoundingLaws.{rounding_is_within_room, rounding_is_exact_at_cuts}
 use Rattle.flow_accounts.specs.Balances.{Account, Balances, IsAccount, IsAsset, money_of, units_of}
 use Rattle.flow_orders.specs.Orders.{Order, left_of, terms_of, money_need, sold, unit_need, own_sum}
 use Rattle.flow_orders.specs.Trades.{Trade, paid, received, trader, after_fill, is_live, staying}
@@ -25,8 +26,8 @@ pub rounding_is_allowed : (prices : List ℤ) (t : Trade) → IsWithinLimits (te
 rounding_is_allowed prices t limits rounding =
     let price = portfolio_price t.order.row prices in
     record {
-      within = let room = within_room (terms_of t.order) limits price t.traded rounding in omega (arith, room);
-      below_high = λ some. by_lt_z price t.order.high (λ below. below) (λ above. let none = (exact_at_cuts (terms_of t.order) limits price t.traded rounding).none above in absurd (omega (arith, none, some)));
+      within = let room = rounding_is_within_room (terms_of t.order) limits price t.traded rounding in omega (arith, room);
+      below_high = λ some. by_lt_z price t.order.high (λ below. below) (λ above. let none = (rounding_is_exact_at_cuts (terms_of t.order) limits price t.traded rounding).none above in absurd (omega (arith, none, some)));
     }
 
 or_zero_is : (z : ℤ) → or_zero z ≡ up z - down z

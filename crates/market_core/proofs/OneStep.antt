@@ -1,16 +1,12 @@
 -- A step has one outcome: old market, command and answer determine the new market, and a command that is no batch gets one answer.
-use Rattle.std.proofs.Common.{◌≡◌, ◌+◌, ℕ, ℤ, List, Bool, true, false, Option, Some, None, inl, inr, sym, ap, subst, ◌∙◌}
-use Rattle.std.specs.Prelude.{length}
+use Rattle.std.proofs.Common.{◌≡◌, ◌+◌, ℕ, ℤ, List, Option, Some, None, inl, inr, sym, ap, ◌∙◌}
 use Rattle.flow_orders.specs.Orders.{Order}
-use Rattle.flow_orders.specs.Excess.{is_unsettled}
-use Rattle.flow_orders.specs.Outcomes.{Clearing, Outcome, Cleared, Skipped, step_of, skipping_at}
-use Rattle.flow_orders.specs.Own.{are_single, IsOwnOutcome, ArePricesOf, clearing_at, own_rates}
-use Rattle.flow_orders.specs.Trades.{trades}
+use Rattle.flow_orders.specs.Outcomes.{Outcome}
+use Rattle.flow_orders.specs.Own.{IsOwnOutcome}
 use Rattle.wire_records.specs.Commands.{Command, AddAsset, OpenAccount, DepositMoney, DepositAsset, WithdrawMoney, WithdrawAsset, PlaceOrder, CancelOrder, RunBatch, Answer, Batch}
 use Rattle.wire_records.specs.declared.reply.Refusal.{Refusal}
 use Rattle.market_core.specs.Market.{Market, start_prices}
 use Rattle.market_core.specs.Step.{◌when◌else◌, ◌unless◌else◌, accept, FirstRefusal, Accepts, Answers, Serves, after_batch}
-use Rattle.flow_orders.proofs.Walks.{own_prices_unique, own_trace_unique}
 use Rattle.flow_orders.proofs.OneOwn.{one_own}
 
 -- there is one first refusal

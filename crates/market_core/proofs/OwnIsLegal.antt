@@ -1,5 +1,5 @@
 -- The program's own journals are legal.
-use Rattle.std.proofs.Common.{◌≡◌, ◌+◌, ◌-◌, ◌^◌, ◌≤◌, ◌<◌, ◌⊎◌, ℤ, List, [], ◌∷◌, Option, Some, None, Result, Ok, Err, ◌∙◌, arith}
+use Rattle.std.proofs.Common.{◌^◌, ℤ, List, [], ◌∷◌, Option, Some, None, Result, Ok, Err, arith}
 use Rattle.std.specs.Prelude.{All, slice_index_or}
 use Rattle.std.proofs.lemmas.Int.{ints, clamps}
 use Rattle.std.proofs.lemmas.List.Elements.{All-map}

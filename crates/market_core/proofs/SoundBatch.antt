@@ -1,5 +1,5 @@
 -- A batch with a right outcome keeps a market sound.
-use Rattle.std.proofs.Common.{◌≡◌, ℕ, suc, zero, ◌+◌, ◌-◌, ◌*◌, ◌^◌, ◌≤◌, ◌<◌, ℤ, pos, ◌+ℤ◌, ◌-ℤ◌, List, [], ◌∷◌, length, map, refl, ap, sym, subst, ◌∙◌, arith}
+use Rattle.std.proofs.Common.{◌≡◌, ℕ, ◌+◌, ◌-◌, ◌*◌, ◌^◌, ◌≤◌, ◌<◌, ℤ, pos, ◌+ℤ◌, ◌-ℤ◌, List, length, map, refl, ap, sym, subst, ◌∙◌, arith}
 use Rattle.std.specs.Prelude.{All, slice_index_or, unsigned_abs}
 use Rattle.std.specs.List.{range_with_len}
 use Rattle.std.proofs.lemmas.Int.{ints}
@@ -12,7 +12,7 @@ use Rattle.flow_accounts.specs.Balances.{Account, Balances, IsAccount, IsAsset, 
 use Rattle.flow_orders.specs.Orders.{Order, terms_of, own_sum}
 use Rattle.flow_orders.specs.Excess.{price_for, residual_bound}
 use Rattle.flow_orders.specs.Outcomes.{Clearing, Fill, Outcome, Cleared, Skipped, trades_of, IsRightClearing, IsRightOutcome}
-use Rattle.flow_orders.specs.Trades.{Trade, trades, trader, paid, received, residual, residual_cost, after_fill, is_live, staying}
+use Rattle.flow_orders.specs.Trades.{Trade, trader, paid, received, residual, residual_cost, after_fill, is_live, staying}
 use Rattle.market_core.specs.Settlement.{settled_account, settled_balances, settled_exchange}
 use Rattle.market_core.specs.Market.{Market, IsSound, IsLiveOrder, start_prices, most_batches}
 use Rattle.market_core.specs.Step.{after_batch}

@@ -123,7 +123,7 @@ pub record SequencesCompose : Type 0 where
   pub apart : (old new : Market) (pairs more : List (Pair Record Outcome)) → Leads old (pairs ++ more) new
       → (mid : Market) × Leads old pairs mid × Leads mid more new
 
--- the limits that two crates keep, each by its own name, are the same: as many tickers as assets, and limit prices and rates as on a curve
+-- the limits that two crates keep, each by its own name, are the same: as many tickers as assets, and limit prices as on a curve
 pub record LimitsAgree : Type 0 where
   pub assets : ticker_limit ≡ most_assets
   pub ticks : 2 ^ 32 * most_ticks ≡ 2 ^ 60

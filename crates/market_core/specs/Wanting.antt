@@ -1,26 +1,26 @@
--- Where want of memory may be answered: at a command that adds something and that no refusal stops.
-use Rattle.std.specs.Prelude.{Option, None, Ok}
+-- Where want of memory may be answered: at a command that adds something or holds a batch, and that no refusal stops.
+use Rattle.std.specs.Prelude.{None, Ok}
 use Rattle.wire_records.specs.Records.{Record}
 use Rattle.wire_records.specs.Commands.{Command, AddAsset, OpenAccount, DepositMoney, DepositAsset, WithdrawMoney, WithdrawAsset, PlaceOrder, CancelOrder, RunBatch}
 use Rattle.wire_records.specs.CommandRecords.{IsReadAs}
 use Rattle.market_core.specs.Market.{Market}
 use Rattle.market_core.specs.Step.{FirstRefusal}
 
--- a command that adds an asset, an account or an order
-abbrev pub AddsSomething : Command → Type 0
-AddsSomething (AddAsset ticker) = Unit {0}
-AddsSomething OpenAccount = Unit {0}
-AddsSomething (DepositMoney account ticks) = ⊥
-AddsSomething (DepositAsset account asset units) = ⊥
-AddsSomething (WithdrawMoney account ticks) = ⊥
-AddsSomething (WithdrawAsset account asset units) = ⊥
-AddsSomething (PlaceOrder request) = Unit {0}
-AddsSomething (CancelOrder account number) = ⊥
-AddsSomething (RunBatch budget) = ⊥
+-- a command that adds an asset, an account or an order, or that holds a batch
+abbrev pub TakesMemory : Command → Type 0
+TakesMemory (AddAsset ticker) = Unit {0}
+TakesMemory OpenAccount = Unit {0}
+TakesMemory (DepositMoney account ticks) = ⊥
+TakesMemory (DepositAsset account asset units) = ⊥
+TakesMemory (WithdrawMoney account ticks) = ⊥
+TakesMemory (WithdrawAsset account asset units) = ⊥
+TakesMemory (PlaceOrder request) = Unit {0}
+TakesMemory (CancelOrder account number) = ⊥
+TakesMemory (RunBatch budget) = Unit {0}
 
--- a command may want memory: it adds something, and no refusal holds
+-- a command may want memory: it takes some, and no refusal holds
 abbrev pub MayWant : Market → Command → Type 0
-MayWant m command = AddsSomething command × FirstRefusal m command None
+MayWant m command = TakesMemory command × FirstRefusal m command None
 
 -- the same of a record that is read as such a command
 abbrev pub RecordMayWant : Market → Record → Type 0

@@ -1,3 +1,3 @@
 pub mod Halving
-pub mod LeastTurns
-pub mod GreatestTurns
+pub mod Narrowing
+pub mod Answered

@@ -1,3 +1,4 @@
+-- What the searches find: where a yes-or-no test of places is closed, and its least and its greatest true place.
 use Rattle.std.specs.Prelude.{◌≡◌, ℤ, ◌<ℤ◌, ◌≤ℤ◌, Bool, IsTrue, IsFalse}
 
 -- where the test is true at a place above `low`, it is true at every later place up to `high`

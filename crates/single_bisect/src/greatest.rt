@@ -2,6 +2,7 @@ ghost use Rattle.std.specs.Prelude.{◌+◌, ◌^◌, ◌<◌, ◌≤◌, pos, n
 ghost use Rattle.single_bisect.specs.Places.{IsClosedDownwards, IsGreatestTrue, SameTest};
 
 use crate::places::Probe;
+use crate::turn::last_before_turn;
 
 /// The greatest place below `high` at which the probe answers yes.
 ///
@@ -23,18 +24,5 @@ pub fn greatest_true<P: Probe>(probe: &mut P, low: i64, high: i64) -> i64
     ensures asks_counted { P.asked probe.old ≤ P.asked probe.new }
     ensures few_asks { P.asked probe.new ≤ P.asked probe.old + 63 }
 {
-    // All places below `high` down to `above` are answered with no, `above - width` with yes.
-    let mut above = high;
-    let mut width = high.abs_diff(low);
-    while width > 1 {
-        let half = width / 2;
-        let middle = above - half as i64;
-        if probe.at(middle) {
-            width = half;
-        } else {
-            above = middle;
-            width -= half;
-        }
-    }
-    above - 1
+    last_before_turn(probe, low, high, false)
 }

@@ -2,6 +2,7 @@ ghost use Rattle.std.specs.Prelude.{◌+◌, ◌^◌, ◌<◌, ◌≤◌, pos, n
 ghost use Rattle.single_bisect.specs.Places.{IsClosedUpwards, IsLeastTrue, SameTest};
 
 use crate::places::Probe;
+use crate::turn::last_before_turn;
 
 /// The least place above `low` at which the probe answers yes.
 ///
@@ -22,18 +23,5 @@ pub fn least_true<P: Probe>(probe: &mut P, low: i64, high: i64) -> i64
     ensures asks_counted { P.asked probe.old ≤ P.asked probe.new }
     ensures few_asks { P.asked probe.new ≤ P.asked probe.old + 63 }
 {
-    // All places above `low` up to `below` are answered with no, `below + width` with yes.
-    let mut below = low;
-    let mut width = high.abs_diff(low);
-    while width > 1 {
-        let half = width / 2;
-        let middle = below + half as i64;
-        if probe.at(middle) {
-            width = half;
-        } else {
-            below = middle;
-            width -= half;
-        }
-    }
-    below + 1
+    last_before_turn(probe, low, high, true) + 1
 }

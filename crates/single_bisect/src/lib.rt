@@ -10,6 +10,7 @@ mod least;
 mod places;
 #[cfg(test)]
 mod tests;
+mod turn;
 
 pub use greatest::greatest_true;
 pub use least::least_true;

@@ -3,7 +3,10 @@ ghost use Rattle.single_bisect.specs.Places.{SameTest};
 
 /// A question with the answer yes or no at each place, and a count of how often it was asked.
 ///
-/// What it answers doesn't depend on what was asked before.
+/// What it answers doesn't depend on what was asked before. Any place may be asked, also one outside the range in
+/// which a caller searches. A type that can answer within a range of its own alone cuts the place to that range
+/// first, as by `place.clamp(first, last)`, and its test says so too: outside, it answers as at the nearer end. So
+/// the test stays one function of the place.
 pub trait Probe {
     /// What is answered at each place.
     ghost test: { Self → ℤ → Bool };
@@ -11,9 +14,9 @@ pub trait Probe {
     /// How many questions were answered so far.
     ghost asked: { Self → ℕ };
 
-    /// Answers the question at `place`, which may be any number. It costs one ask.
+    /// Answers the question at `place`, which may be any number. Costs one ask.
     fn at(&mut self, place: i64) -> bool
-        requires { asked self.old < 2 ^ 64 - 1 }
+        requires asks_left { asked self.old < 2 ^ 64 - 1 }
         ensures answer { result ≡ test self.old place }
         ensures test_stays { SameTest (test self.new) (test self.old) }
         ensures counted { asked self.new ≡ asked self.old + 1 };

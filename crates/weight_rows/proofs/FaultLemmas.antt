@@ -1,32 +1,28 @@
--- A list of entries has one first fault, or none.
-use Rattle.std.proofs.Common.{◌≡◌, ℕ, ◌+◌, ◌-◌, ◌<◌, ◌≤◌, List, length, Option, Some, None, sym, ap, refl, subst, arith, ⊎_elim}
-use Rattle.std.specs.Prelude.{◌↔◌}
+-- A list of entries has one first fault, or none; and its places tell it.
+use Rattle.std.proofs.Common.{◌≡◌, ℕ, zero, suc, ◌+◌, ◌-◌, ◌<◌, ◌≤◌, List, length, get_or, Option, Some, None, sym, ap, ◌∙◌, refl, subst, add-one, sub-one, arith, ⊎_elim}
+use Rattle.std.specs.Prelude.{◌↔◌, slice_get}
 use Rattle.std.proofs.lemmas.Bool.{cases_lt}
-use borrow.Author.Count.{below_more}
+use Rattle.std.proofs.lemmas.List.{get_or_default}
+use Rattle.std.proofs.lemmas.Option.{slice_get-get_or}
 use Rattle.weight_rows.specs.declared.entries.Entry.{Entry}
 use Rattle.weight_rows.specs.declared.faults.RowFault.{RowFault}
 use Rattle.weight_rows.specs.declared.faults.RowFault.TheVariants.{Empty, TooMany, Unordered, BadWeight}
-use Rattle.weight_rows.specs.Rows.{IsLawfulRow}
-use Rattle.weight_rows.specs.Faults.{IsAscendingAt, HasLawfulWeightAt, IsSoundAt, IsSoundBefore, IsUnorderedFirstAt, IsBadWeightFirstAt, IsFaultOf}
-use Rattle.weight_rows.proofs.RowLemmas.{length-assets_of}
+use Rattle.weight_rows.specs.Rows.{most_entries, assets_of, IsLawfulRow}
+use Rattle.weight_rows.specs.Faults.{IsAscendingAt, IsSoundAt, IsSoundBefore, IsUnorderedFirstAt, IsBadWeightFirstAt, IsFaultOf, IsAbove, IsPlaceFaultOf, asset_before, IsFaultAt}
+use Rattle.weight_rows.specs.RowLaws.{FirstFaultIsOne, SoundEntriesAreLawful, FirstPlaceFaultIsRowFault}
+use Rattle.weight_rows.proofs.RowLemmas.{no_entry, asset_at, length-assets_of}
 
 -- ---- sound places and lawful rows
-pub IsSoundBefore-more : (row : List Entry) (place : ℕ) → IsSoundBefore row place → IsAscendingAt row place → HasLawfulWeightAt row place → IsSoundBefore row (place + 1)
-IsSoundBefore-more row place before ascending lawful =
-    below_more (λ k. IsSoundAt row k) place before (ascending, lawful)
-
-pub IsLawfulRow-sound : (row : List Entry) (place : ℕ) → 1 ≤ length row → length row ≤ 16 → length row ≤ place → IsSoundBefore row place → IsLawfulRow row
-IsLawfulRow-sound row place some few past sound =
+pub sound_entries_are_lawful : SoundEntriesAreLawful
+sound_entries_are_lawful row some few sound =
     record {
       some = some;
       few = few;
       ascending = λ k within.
-          let here : k + 1 < place = omega (arith, within, length-assets_of row) in
+          let here : k + 1 < length row = omega (arith, within, length-assets_of row) in
           let back : (k + 1) - 1 ≡ k = omega arith in
           rw back at ((sound (k + 1) here).0 (omega arith));
-      weights = λ k d within.
-          let here : k < place = omega (arith, within) in
-          (sound k here).1 d;
+      weights = λ k d within. (sound k within).1 d;
     }
 
 -- a lawful row is sound at each of its places
@@ -50,36 +46,75 @@ apart row j k unordered bad =
     let same = same_place row j k (λ before. unordered.unordered (bad.before j before).0) (λ after. bad.bad (unordered.before k after).1) in
     unordered.unordered (subst (λ n. IsAscendingAt row n) (sym same) bad.ascending)
 
-pub one_fault : (row : List Entry) (f g : Option RowFault) → IsFaultOf row f → IsFaultOf row g → f ≡ g
-one_fault row None None h k = refl
-one_fault row None (Some Empty) h k = absurd (omega (arith, h.some, ap length k))
-one_fault row None (Some TooMany) h k = absurd (omega (arith, h.few, k))
-one_fault row None (Some (Unordered j)) h k = absurd (k.unordered (sound row j h k.within).0)
-one_fault row None (Some (BadWeight j)) h k = absurd (k.bad (sound row j h k.within).1)
-one_fault row (Some Empty) None h k = absurd (omega (arith, k.some, ap length h))
-one_fault row (Some Empty) (Some Empty) h k = refl
-one_fault row (Some Empty) (Some TooMany) h k = absurd (omega (arith, ap length h, k))
-one_fault row (Some Empty) (Some (Unordered j)) h k = absurd (omega (arith, ap length h, k.within))
-one_fault row (Some Empty) (Some (BadWeight j)) h k = absurd (omega (arith, ap length h, k.within))
-one_fault row (Some TooMany) None h k = absurd (omega (arith, k.few, h))
-one_fault row (Some TooMany) (Some Empty) h k = absurd (omega (arith, ap length k, h))
-one_fault row (Some TooMany) (Some TooMany) h k = refl
-one_fault row (Some TooMany) (Some (Unordered j)) h k = absurd (omega (arith, k.few, h))
-one_fault row (Some TooMany) (Some (BadWeight j)) h k = absurd (omega (arith, k.few, h))
-one_fault row (Some (Unordered i)) None h k = absurd (h.unordered (sound row i k h.within).0)
-one_fault row (Some (Unordered i)) (Some Empty) h k = absurd (omega (arith, ap length k, h.within))
-one_fault row (Some (Unordered i)) (Some TooMany) h k = absurd (omega (arith, h.few, k))
-one_fault row (Some (Unordered i)) (Some (Unordered j)) h k =
+pub first_fault_is_one : FirstFaultIsOne
+first_fault_is_one row None None h k = refl
+first_fault_is_one row None (Some Empty) h k = absurd (omega (arith, h.some, ap length k))
+first_fault_is_one row None (Some TooMany) h k = absurd (omega (arith, h.few, k))
+first_fault_is_one row None (Some (Unordered j)) h k = absurd (k.unordered (sound row j h k.within).0)
+first_fault_is_one row None (Some (BadWeight j)) h k = absurd (k.bad (sound row j h k.within).1)
+first_fault_is_one row (Some Empty) None h k = absurd (omega (arith, k.some, ap length h))
+first_fault_is_one row (Some Empty) (Some Empty) h k = refl
+first_fault_is_one row (Some Empty) (Some TooMany) h k = absurd (omega (arith, ap length h, k))
+first_fault_is_one row (Some Empty) (Some (Unordered j)) h k = absurd (omega (arith, ap length h, k.within))
+first_fault_is_one row (Some Empty) (Some (BadWeight j)) h k = absurd (omega (arith, ap length h, k.within))
+first_fault_is_one row (Some TooMany) None h k = absurd (omega (arith, k.few, h))
+first_fault_is_one row (Some TooMany) (Some Empty) h k = absurd (omega (arith, ap length k, h))
+first_fault_is_one row (Some TooMany) (Some TooMany) h k = refl
+first_fault_is_one row (Some TooMany) (Some (Unordered j)) h k = absurd (omega (arith, k.few, h))
+first_fault_is_one row (Some TooMany) (Some (BadWeight j)) h k = absurd (omega (arith, k.few, h))
+first_fault_is_one row (Some (Unordered i)) None h k = absurd (h.unordered (sound row i k h.within).0)
+first_fault_is_one row (Some (Unordered i)) (Some Empty) h k = absurd (omega (arith, ap length k, h.within))
+first_fault_is_one row (Some (Unordered i)) (Some TooMany) h k = absurd (omega (arith, h.few, k))
+first_fault_is_one row (Some (Unordered i)) (Some (Unordered j)) h k =
     ap (λ n. Some (Unordered n)) (same_place row i j (λ before. h.unordered (k.before i before).0) (λ after. k.unordered (h.before j after).0))
-one_fault row (Some (Unordered i)) (Some (BadWeight j)) h k = absurd (apart row i j h k)
-one_fault row (Some (BadWeight i)) None h k = absurd (h.bad (sound row i k h.within).1)
-one_fault row (Some (BadWeight i)) (Some Empty) h k = absurd (omega (arith, ap length k, h.within))
-one_fault row (Some (BadWeight i)) (Some TooMany) h k = absurd (omega (arith, h.few, k))
-one_fault row (Some (BadWeight i)) (Some (Unordered j)) h k = absurd (apart row j i k h)
-one_fault row (Some (BadWeight i)) (Some (BadWeight j)) h k =
+first_fault_is_one row (Some (Unordered i)) (Some (BadWeight j)) h k = absurd (apart row i j h k)
+first_fault_is_one row (Some (BadWeight i)) None h k = absurd (h.bad (sound row i k h.within).1)
+first_fault_is_one row (Some (BadWeight i)) (Some Empty) h k = absurd (omega (arith, ap length k, h.within))
+first_fault_is_one row (Some (BadWeight i)) (Some TooMany) h k = absurd (omega (arith, h.few, k))
+first_fault_is_one row (Some (BadWeight i)) (Some (Unordered j)) h k = absurd (apart row j i k h)
+first_fault_is_one row (Some (BadWeight i)) (Some (BadWeight j)) h k =
     ap (λ n. Some (BadWeight n)) (same_place row i j (λ before. h.bad (k.before i before).1) (λ after. k.bad (h.before j after).1))
+
+-- ---- the fault of a place
+-- an asset is above the one before it exactly where it ascends in the list
+above_at : (row : List Entry) (place : ℕ) (d : Entry) → place < length row → IsAbove (get_or row place d).asset (asset_before row place) ↔ IsAscendingAt row place
+above_at row zero d within = (λ _ later. absurd (omega (arith, later)), λ _. tt)
+above_at row (suc k) d within =
+    let before : slice_get (assets_of row) k ≡ Some (get_or (assets_of row) k 0) = slice_get-get_or (assets_of row) k 0 (omega (arith, within, length-assets_of row)) in
+    let here : get_or (assets_of row) (suc k) 0 ≡ (get_or row (suc k) d).asset = asset_at row (suc k) d within in
+    rw (before, ← here, sub-one) (λ above _. above, λ ascending. ascending (omega arith))
+
+-- the asset of a place is the one before the next place
+pub asset_before-next : (row : List Entry) (place : ℕ) (d : Entry) → place < length row → asset_before row (place + 1) ≡ Some (get_or row place d).asset
+asset_before-next row place d within =
+    rw add-one (slice_get-get_or (assets_of row) place 0 (omega (arith, within, length-assets_of row)) ∙ ap Some (asset_at row place d within))
+
+-- the fault of the entry that stands at a place, given the asset before it, is that of the place
+pub IsFaultAt-read : (row : List Entry) (place : ℕ) (before : Option ℕ) (d : Entry) (fault : Option RowFault) → place < length row → before ≡ asset_before row place → IsPlaceFaultOf place before (get_or row place d) fault → IsFaultAt row place fault
+IsFaultAt-read row place before d fault within is told e =
+    subst (λ x. IsPlaceFaultOf place (asset_before row place) x fault) (get_or_default row place d e within) (subst (λ b. IsPlaceFaultOf place b (get_or row place d) fault) is told)
+
+-- a place without a fault is sound
+sound_at : (row : List Entry) (place : ℕ) → place < length row → IsFaultAt row place None → IsSoundAt row place
+sound_at row place within none = ((above_at row place no_entry within).0 (none no_entry).0, λ d. (none d).1)
+
+-- a fault after sound places is the list's
+told : (row : List Entry) (place : ℕ) (fault : RowFault) → length row ≤ most_entries → place < length row → IsSoundBefore row place → IsFaultAt row place (Some fault) → IsFaultOf row (Some fault)
+told row place Empty few within before here = absurd (here no_entry)
+told row place TooMany few within before here = absurd (here no_entry)
+told row place (Unordered k) few within before here =
+    subst (IsUnorderedFirstAt row) (sym (here no_entry).0) (record { few = few; within = within; before = before; unordered = λ ascending. (here no_entry).1 ((above_at row place no_entry within).1 ascending) })
+told row place (BadWeight k) few within before here =
+    subst (IsBadWeightFirstAt row) (sym (here no_entry).0) (record { few = few; within = within; before = before; ascending = (above_at row place no_entry within).0 (here no_entry).1; bad = λ lawful. (here no_entry).2 (lawful no_entry) })
+
+pub first_place_fault_is_row_fault : FirstPlaceFaultIsRowFault
+first_place_fault_is_row_fault =
+    record {
+      some = λ row place fault few within none here. told row place fault few within (λ k before. sound_at row k (omega (arith, before, within)) (none k before)) here;
+      none = λ row some few none. sound_entries_are_lawful row some few (λ k within. sound_at row k within (none k within));
+    }
 
 -- ---- an answer that is a fault of the list
 pub exact : (row : List Entry) (answer : Option RowFault) → IsFaultOf row answer → (fault : Option RowFault) → (answer ≡ fault) ↔ IsFaultOf row fault
 exact row answer is_fault fault =
-    (λ same. subst (λ f. IsFaultOf row f) same is_fault, λ other. one_fault row answer fault is_fault other)
+    (λ same. subst (λ f. IsFaultOf row f) same is_fault, λ other. first_fault_is_one row answer fault is_fault other)

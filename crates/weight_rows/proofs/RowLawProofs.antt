@@ -10,11 +10,11 @@ use Rattle.std.proofs.lemmas.List.{get_or-set_other, get_or-set_same, get_or_def
 use Rattle.std.proofs.lemmas.List.Kept.{AllPairs-from_increasing}
 use Rattle.weight_rows.specs.declared.entries.Entry.{Entry}
 use Rattle.list_sums.specs.Sums.{int_sum_by}
-use Rattle.weight_rows.specs.Rows.{assets_of, IsLawfulWeight, IsLawfulRow, weight_in, price_of, IsPricedBy, portfolio_price}
+use Rattle.weight_rows.specs.Rows.{most_weight, assets_of, IsLawfulWeight, IsLawfulRow, weight_in, price_of, IsPricedBy, portfolio_price}
 use Rattle.weight_rows.specs.RowLaws.{PriceFollowsOnePrice, PriceSumsOverAssets, EntriesGiveWeights, NamedAssetsWeigh, WeightsAreSmall}
 use Rattle.list_sums.proofs.Products.{*ℤ-sub}
 use Rattle.list_sums.proofs.SumLemmas.{int_sum_by-same, int_sum_by-add, int_sum_by-zeros, int_sum_by-only}
-use Rattle.weight_rows.proofs.RowLemmas.{length-assets_of, asset_at}
+use Rattle.weight_rows.proofs.RowLemmas.{no_entry, length-assets_of, asset_at}
 
 -- each asset is below all later ones
 abbrev Ascend : List Entry → Type 0
@@ -118,17 +118,16 @@ found (e ∷ row) asset weighs =
 
 weighs : (row : List Entry) (asset : ℕ) → IsLawfulRow row → Contains (assets_of row) asset → weight_in row asset ≢ pos 0
 weighs row asset lawful (k, within, at_k) none =
-    let d : Entry = record { asset = 0; weight = pos 0 } in
     let inside : k < length row = omega (arith, within, length-assets_of row) in
-    let named : (get_or row k d).asset ≡ asset = sym (asset_at row k d inside) ∙ get_or_default (assets_of row) k 0 asset within ∙ at_k in
-    let weight = given row (Ascend-lawful row lawful) k d inside in
-    let is_zero : (get_or row k d).weight ≡ pos 0 = sym weight ∙ ap (weight_in row) named ∙ none in
-    omega (arith, ints, (lawful.weights k d inside).0, is_zero)
+    let named : (get_or row k no_entry).asset ≡ asset = sym (asset_at row k no_entry inside) ∙ get_or_default (assets_of row) k 0 asset within ∙ at_k in
+    let weight = given row (Ascend-lawful row lawful) k no_entry inside in
+    let is_zero : (get_or row k no_entry).weight ≡ pos 0 = sym weight ∙ ap (weight_in row) named ∙ none in
+    omega (arith, ints, (lawful.weights k no_entry inside).0, is_zero)
 
 pub named_assets_weigh : NamedAssetsWeigh
 named_assets_weigh row asset lawful = (found row asset, weighs row asset lawful)
 
-weight_small : (row : List Entry) (asset : ℕ) → All (λ e. IsLawfulWeight e.weight) row → unsigned_abs (weight_in row asset) ≤ 4096
+weight_small : (row : List Entry) (asset : ℕ) → All (λ e. IsLawfulWeight e.weight) row → unsigned_abs (weight_in row asset) ≤ most_weight
 unfolding weight_in
 weight_small [] asset weights = omega arith
 weight_small (e ∷ row) asset weights =

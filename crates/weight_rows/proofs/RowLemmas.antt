@@ -1,14 +1,21 @@
 -- Weights and prices of rows.
-use Rattle.std.proofs.Common.{◌≡◌, ◌≢◌, ℕ, ◌+◌, ◌*◌, ◌^◌, ◌<◌, ◌≤◌, ℤ, pos, ◌+ℤ◌, ◌*ℤ◌, cond, List, length, take, drop, get_or, sym, ap, ◌∙◌, refl, ne_eqb, arith, ⊎_elim}
-use Rattle.std.specs.Prelude.{unsigned_abs, All}
+use Rattle.std.proofs.Common.{◌≡◌, ◌≢◌, ℕ, ◌+◌, ◌*◌, ◌^◌, ◌<◌, ◌≤◌, ℤ, pos, ◌+ℤ◌, ◌*ℤ◌, cond, List, length, take, drop, get_or, to_z, of_z, sym, ap, ◌∙◌, refl, ne_eqb, arith, ⊎_elim}
+use Rattle.std.specs.Prelude.{unsigned_abs, All, FitsSigned}
+use mir.Syntax.{w128}
+use Rattle.std.proofs.lemmas.Int.{to_z-of_z, fits_signed_from_abs}
 use Rattle.std.proofs.lemmas.Bool.{eq-eqb, cases_lt}
 use Rattle.std.proofs.lemmas.List.{get_or-map, get_or_past, length-map, at_drop_more, at_drop_all}
 use Rattle.weight_rows.specs.declared.entries.Entry.{Entry}
-use Rattle.weight_rows.specs.Rows.{assets_of, IsLawfulRow, weight_in, IsPrice, price_of, portfolio_price}
+use Rattle.weight_rows.specs.Rows.{most_weight, assets_of, IsLawfulRow, weight_in, IsPrice, price_of, portfolio_price}
+use Rattle.weight_rows.specs.RowLaws.{PriceIsBounded}
 use Rattle.list_sums.proofs.Products.{unsigned_abs-add, unsigned_abs-mul_le}
 use Rattle.list_sums.proofs.SumLemmas.{int_sum_by_more, unsigned_abs-int_sum_by}
 
 -- ---- the entry at a place
+-- what a read past the end of a list answers
+abbrev pub no_entry : Entry
+no_entry = record { asset = 0; weight = pos 0 }
+
 pub asset_at : (row : List Entry) (i : ℕ) (d : Entry) → i < length row → get_or (assets_of row) i 0 ≡ (get_or row i d).asset
 asset_at row i d within = get_or-map (λ e. e.asset) row i d 0 within
 
@@ -26,14 +33,14 @@ pub record IsPriceBefore (row : List Entry) (prices : List ℤ) (i : ℕ) (total
   pub value : total ≡ portfolio_price (take i row) prices
   pub bound : unsigned_abs total ≤ i * 2 ^ 74
 
-entry_price_small : (prices : List ℤ) (e : Entry) → All IsPrice prices → unsigned_abs e.weight ≤ 4096 → unsigned_abs (e.weight *ℤ price_of prices e.asset) ≤ 2 ^ 74
+entry_price_small : (prices : List ℤ) (e : Entry) → All IsPrice prices → unsigned_abs e.weight ≤ most_weight → unsigned_abs (e.weight *ℤ price_of prices e.asset) ≤ 2 ^ 74
 entry_price_small prices e range weight =
-    unsigned_abs-mul_le e.weight (price_of prices e.asset) 4096 (2 ^ 62) weight (price_small prices e.asset range)
+    unsigned_abs-mul_le e.weight (price_of prices e.asset) most_weight (2 ^ 62) weight (price_small prices e.asset range)
 
 -- a price is at most 2^78 in absolute value
-pub portfolio_price-bounded : (row : List Entry) (prices : List ℤ) → IsLawfulRow row → All IsPrice prices → unsigned_abs (portfolio_price row prices) ≤ 2 ^ 78
+pub price_is_bounded : PriceIsBounded
 unfolding portfolio_price
-portfolio_price-bounded row prices lawful range =
+price_is_bounded row prices lawful range =
     let sum = unsigned_abs-int_sum_by (λ (e : Entry). e.weight *ℤ price_of prices e.asset) (2 ^ 74) row (λ k d within. entry_price_small prices (get_or row k d) range (lawful.weights k d within).1) in
     omega (arith, sum, lawful.few)
 
@@ -41,16 +48,22 @@ pub IsPriceBefore-none : (row : List Entry) (prices : List ℤ) → IsPriceBefor
 unfolding portfolio_price
 IsPriceBefore-none row prices = record { value = refl; bound = omega arith }
 
--- one entry more
-pub IsPriceBefore-more : (row : List Entry) (prices : List ℤ) (i : ℕ) (total total' : ℤ) (d : Entry) → IsLawfulRow row → All IsPrice prices → i < length row → IsPriceBefore row prices i total → total' ≡ total +ℤ (get_or row i d).weight *ℤ price_of prices (get_or row i d).asset → IsPriceBefore row prices (i + 1) total'
+-- what the code has after one entry more: its sum in 128 bits fits, and is the sum of one price more
+pub record HasGrown (row : List Entry) (prices : List ℤ) (i : ℕ) (total part : ℤ) : Type 0 where
+  pub fits : FitsSigned w128 (total +ℤ to_z w128 (of_z w128 part))
+  pub next : IsPriceBefore row prices (i + 1) (to_z w128 (of_z w128 (total +ℤ to_z w128 (of_z w128 part))))
+
+pub price_grows : (row : List Entry) (prices : List ℤ) (i : ℕ) (total part : ℤ) (d : Entry) → IsLawfulRow row → All IsPrice prices → i < length row → FitsSigned w128 part → IsPriceBefore row prices i total → part ≡ (get_or row i d).weight *ℤ price_of prices (get_or row i d).asset → HasGrown row prices i total part
 unfolding portfolio_price
-IsPriceBefore-more row prices i total total' d lawful range within before added =
+price_grows row prices i total part d lawful range within part_fits before is =
     let e = get_or row i d in
     let small = entry_price_small prices e range (lawful.weights i d within).1 in
-    record {
-      value = rw (added, before.value) (sym (int_sum_by_more (λ (e : Entry). e.weight *ℤ price_of prices e.asset) row i d within));
-      bound = rw added (omega (arith, unsigned_abs-add total (e.weight *ℤ price_of prices e.asset), small, before.bound));
-    }
+    let bound : unsigned_abs (total +ℤ part) ≤ (i + 1) * 2 ^ 74 = rw is (omega (arith, unsigned_abs-add total (e.weight *ℤ price_of prices e.asset), small, before.bound)) in
+    let fits : FitsSigned w128 (total +ℤ part) = fits_signed_from_abs w128 _ (omega (arith, bound, lawful.few, within)) in
+    let value : total +ℤ part ≡ portfolio_price (take (i + 1) row) prices = rw (is, before.value) (sym (int_sum_by_more (λ (e : Entry). e.weight *ℤ price_of prices e.asset) row i d within)) in
+    let same : to_z w128 (of_z w128 part) ≡ part = to_z-of_z w128 part part_fits in
+    let sum : to_z w128 (of_z w128 (total +ℤ part)) ≡ total +ℤ part = to_z-of_z w128 (total +ℤ part) fits in
+    record { fits = rw same fits; next = rw (same, sum) (record { value = value; bound = bound }) }
 
 -- ---- the weight of an asset
 pub weight_in-here : (row : List Entry) (i asset : ℕ) (d : Entry) → i < length row → (get_or row i d).asset ≡ asset → weight_in (drop i row) asset ≡ (get_or row i d).weight

@@ -1,9 +1,10 @@
-use Rattle.std.specs.Prelude.{◌≡◌, ℕ, ◌-◌, ◌<◌, ◌≤◌, List, [], length, slice_index, Option, Some, None}
+-- Why a list of entries is no row, and the fault of each of its places.
+use Rattle.std.specs.Prelude.{◌≡◌, ℕ, zero, suc, ◌-◌, ◌<◌, ◌≤◌, List, [], length, slice_get, slice_index, Option, Some, None, IfSome}
 use Rattle.std.specs.List.{HoldsAt}
 use Rattle.weight_rows.specs.declared.entries.Entry.{Entry}
 use Rattle.weight_rows.specs.declared.faults.RowFault.{RowFault}
 use Rattle.weight_rows.specs.declared.faults.RowFault.TheVariants.{Empty, TooMany, Unordered, BadWeight}
-use Rattle.weight_rows.specs.Rows.{assets_of, IsLawfulWeight, IsLawfulRow}
+use Rattle.weight_rows.specs.Rows.{most_entries, assets_of, IsLawfulWeight, IsLawfulRow}
 
 -- the asset at this place is above the asset at the place before it, if there is one
 abbrev pub IsAscendingAt : List Entry → ℕ → Type 0
@@ -24,14 +25,14 @@ IsSoundBefore row place = (k : ℕ) → k < place → IsSoundAt row k
 
 -- in a list of at most 16 entries this is the first place that isn't sound, and its asset doesn't ascend
 pub record IsUnorderedFirstAt (row : List Entry) (place : ℕ) : Type 0 where
-  pub few : length row ≤ 16
+  pub few : length row ≤ most_entries
   pub within : place < length row
   pub before : IsSoundBefore row place
   pub unordered : ¬ IsAscendingAt row place
 
 -- in a list of at most 16 entries this is the first place that isn't sound; its asset ascends, but its weight isn't lawful
 pub record IsBadWeightFirstAt (row : List Entry) (place : ℕ) : Type 0 where
-  pub few : length row ≤ 16
+  pub few : length row ≤ most_entries
   pub within : place < length row
   pub before : IsSoundBefore row place
   pub ascending : IsAscendingAt row place
@@ -41,6 +42,31 @@ pub record IsBadWeightFirstAt (row : List Entry) (place : ℕ) : Type 0 where
 abbrev pub IsFaultOf : List Entry → Option RowFault → Type 0
 IsFaultOf row None = IsLawfulRow row
 IsFaultOf row (Some Empty) = row ≡ []
-IsFaultOf row (Some TooMany) = 16 < length row
+IsFaultOf row (Some TooMany) = most_entries < length row
 IsFaultOf row (Some (Unordered place)) = IsUnorderedFirstAt row place
 IsFaultOf row (Some (BadWeight place)) = IsBadWeightFirstAt row place
+
+-- this asset is above the one before it, if there is one
+abbrev pub IsAbove : ℕ → Option ℕ → Type 0
+IsAbove asset before = IfSome before (λ b. b < asset)
+
+-- this is the fault of an entry at a place, given the asset before it, or `None` where it has none
+abbrev pub IsPlaceFaultOf : ℕ → Option ℕ → Entry → Option RowFault → Type 0
+IsPlaceFaultOf place before e None = IsAbove e.asset before × IsLawfulWeight e.weight
+IsPlaceFaultOf place before e (Some Empty) = ⊥
+IsPlaceFaultOf place before e (Some TooMany) = ⊥
+IsPlaceFaultOf place before e (Some (Unordered k)) = (k ≡ place) × (¬ IsAbove e.asset before)
+IsPlaceFaultOf place before e (Some (BadWeight k)) = (k ≡ place) × IsAbove e.asset before × (¬ IsLawfulWeight e.weight)
+
+-- the asset at the place before this one, or `None` at the first place
+abbrev pub asset_before : List Entry → ℕ → Option ℕ
+asset_before row zero = None
+asset_before row (suc k) = slice_get (assets_of row) k
+
+-- this is the fault of a place of a list of entries, or `None` where that place has none
+abbrev pub IsFaultAt : List Entry → ℕ → Option RowFault → Type 0
+IsFaultAt row place fault = HoldsAt (λ e. IsPlaceFaultOf place (asset_before row place) e fault) row place
+
+-- no place before this one has a fault
+abbrev pub HasNoFaultBefore : List Entry → ℕ → Type 0
+HasNoFaultBefore row place = (k : ℕ) → k < place → IsFaultAt row k None

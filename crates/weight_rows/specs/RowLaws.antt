@@ -1,10 +1,11 @@
-use Rattle.std.specs.Prelude.{◌≡◌, ◌≢◌, ℕ, ◌^◌, ◌<◌, ◌≤◌, ◌↔◌, ℤ, pos, ◌+ℤ◌, ◌-ℤ◌, ◌*ℤ◌, unsigned_abs, List, length, slice_set, All, Contains, Option}
+-- What holds of rows, their prices and their faults. The module `laws` has a function for each of these.
+use Rattle.std.specs.Prelude.{◌≡◌, ◌≢◌, ℕ, ◌^◌, ◌<◌, ◌≤◌, ◌↔◌, ℤ, pos, ◌+ℤ◌, ◌-ℤ◌, ◌*ℤ◌, unsigned_abs, List, length, slice_set, All, Contains, Option, Some, None}
 use Rattle.std.specs.List.{range_with_len}
 use Rattle.weight_rows.specs.declared.entries.Entry.{Entry}
 use Rattle.weight_rows.specs.declared.faults.RowFault.{RowFault}
 use Rattle.list_sums.specs.Sums.{int_sum_by}
-use Rattle.weight_rows.specs.Rows.{assets_of, IsLawfulRow, weight_in, IsPrice, price_of, IsPricedBy, portfolio_price}
-use Rattle.weight_rows.specs.Faults.{IsSoundBefore, IsFaultOf}
+use Rattle.weight_rows.specs.Rows.{most_entries, most_weight, assets_of, IsLawfulRow, weight_in, IsPrice, price_of, IsPricedBy, portfolio_price}
+use Rattle.weight_rows.specs.Faults.{IsSoundBefore, IsFaultOf, IsFaultAt, HasNoFaultBefore}
 
 -- at prices of at most 2^62 the price of a lawful row is at most 2^78, in absolute value
 abbrev pub PriceIsBounded : Type 0
@@ -34,7 +35,7 @@ NamedAssetsWeigh =
 
 -- in a lawful row no asset's weight is above 4,096 in absolute value
 abbrev pub WeightsAreSmall : Type 0
-WeightsAreSmall = (row : List Entry) (asset : ℕ) → IsLawfulRow row → unsigned_abs (weight_in row asset) ≤ 4096
+WeightsAreSmall = (row : List Entry) (asset : ℕ) → IsLawfulRow row → unsigned_abs (weight_in row asset) ≤ most_weight
 
 -- a list of entries has one first fault at most
 abbrev pub FirstFaultIsOne : Type 0
@@ -43,4 +44,10 @@ FirstFaultIsOne = (row : List Entry) (one other : Option RowFault) → IsFaultOf
 -- 1 to 16 entries that are sound at each of their places are a lawful row
 abbrev pub SoundEntriesAreLawful : Type 0
 SoundEntriesAreLawful =
-    (row : List Entry) → 1 ≤ length row → length row ≤ 16 → IsSoundBefore row (length row) → IsLawfulRow row
+    (row : List Entry) → 1 ≤ length row → length row ≤ most_entries → IsSoundBefore row (length row) → IsLawfulRow row
+
+-- in a list of 1 to 16 entries the fault of the first place that has one is the list's; where no place has one, the list has none
+pub record FirstPlaceFaultIsRowFault : Type 0 where
+  pub some : (row : List Entry) (place : ℕ) (fault : RowFault) → length row ≤ most_entries → place < length row
+      → HasNoFaultBefore row place → IsFaultAt row place (Some fault) → IsFaultOf row (Some fault)
+  pub none : (row : List Entry) → 1 ≤ length row → length row ≤ most_entries → HasNoFaultBefore row (length row) → IsFaultOf row None

@@ -1,3 +1,4 @@
+-- Rows of weights, and what one unit of a portfolio costs.
 use Rattle.std.specs.Prelude.{ℕ, ◌<◌, ◌≤◌, ◌^◌, ◌==◌, if◌then◌else◌, ℤ, pos, ◌*ℤ◌, unsigned_abs, List, [], ◌∷◌, map, length, slice_index_or, All}
 use Rattle.std.specs.List.Sorted.{IsStrictlyIncreasing}
 use Rattle.weight_rows.specs.declared.entries.Entry.{Entry}
@@ -7,14 +8,22 @@ use Rattle.list_sums.specs.Sums.{int_sum_by}
 abbrev pub assets_of : List Entry → List ℕ
 assets_of row = map (λ e. e.asset) row
 
--- an absolute weight of 1 to 4,096
+-- the most entries of a row
+abbrev pub most_entries : ℕ
+most_entries = 16
+
+-- the greatest absolute weight
+abbrev pub most_weight : ℕ
+most_weight = 4096
+
+-- an absolute weight of 1 to the greatest
 abbrev pub IsLawfulWeight : ℤ → Type 0
-IsLawfulWeight weight = (1 ≤ unsigned_abs weight) × (unsigned_abs weight ≤ 4096)
+IsLawfulWeight weight = (1 ≤ unsigned_abs weight) × (unsigned_abs weight ≤ most_weight)
 
 -- a lawful row: 1 to 16 entries with strictly ascending assets, each of a lawful weight
 pub record IsLawfulRow (row : List Entry) : Type 0 where
   pub some : 1 ≤ length row
-  pub few : length row ≤ 16
+  pub few : length row ≤ most_entries
   pub ascending : IsStrictlyIncreasing (assets_of row)
   pub weights : All (λ e. IsLawfulWeight e.weight) row
 

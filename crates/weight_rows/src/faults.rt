@@ -1,27 +1,26 @@
-ghost use Rattle.std.specs.Prelude.{◌≡◌, ◌<◌, ◌≤◌, ◌↔◌, length, Option, IsTrue, IsNone};
+ghost use Rattle.std.specs.Prelude.{◌≡◌, ◌<◌, ◌≤◌, ◌↔◌, length, Option, IsNone};
 ghost use Rattle.weight_rows.specs.declared.faults.RowFault.{RowFault};
-ghost use Rattle.weight_rows.specs.Rows.{IsLawfulRow, IsLawfulWeight};
-ghost use Rattle.weight_rows.specs.Faults.{IsAscendingAt, IsFaultOf};
+ghost use Rattle.weight_rows.specs.Rows.{most_entries, IsLawfulRow, IsLawfulWeight};
+ghost use Rattle.weight_rows.specs.Faults.{IsAbove, IsFaultOf, IsPlaceFaultOf};
 
 use crate::entries::Entry;
 
 /// The most entries of a row.
-const MOST_ENTRIES: usize = 16;
+pub const MOST_ENTRIES: usize = 16;
 
 /// The greatest absolute weight.
 const MOST_WEIGHT: u32 = 4096;
 
-/// Why a list of entries is no row. Places are counted from 0.
+/// Why a list of entries is no row. Places are counted from 0, and a list names its first that has a fault.
 #[derive(Clone, Copy, Debug, PartialEq, Eq)]
 pub enum RowFault {
     /// There is no entry.
     Empty,
-    /// There are more than 16 entries.
+    /// There are more than [`MOST_ENTRIES`] entries.
     TooMany,
-    /// At this place the asset isn't above the one before it, and no earlier place has a fault.
+    /// At this place the asset isn't above the one before it.
     Unordered(u32),
-    /// At this place the absolute weight isn't in 1 to 4,096, while the asset is above the one before it,
-    /// and no earlier place has a fault.
+    /// At this place the absolute weight isn't in 1 to 4,096, while the asset is above the one before it.
     BadWeight(u32),
 }
 
@@ -32,6 +31,7 @@ pub enum RowFault {
 pub fn row_fault(entries: &[Entry]) -> Option<RowFault>
     ensures exact { (fault : Option RowFault) → (result ≡ fault) ↔ IsFaultOf entries.now fault }
     ensures lawful { IsNone result ↔ IsLawfulRow entries.now }
+    ensures too_many { (result ≡ Some RowFault.TooMany) ↔ (MOST_ENTRIES < length entries.now) }
 {
     if entries.is_empty() {
         return Some(RowFault::Empty);
@@ -42,31 +42,36 @@ pub fn row_fault(entries: &[Entry]) -> Option<RowFault>
     first_fault(entries)
 }
 
-fn first_fault(entries: &[Entry]) -> Option<RowFault>
-    requires some { 1 ≤ length entries.now }
-    requires few { length entries.now ≤ 16 }
-    ensures { IsFaultOf entries.now result }
+/// The fault of one place of a list, for entries that are read where they lie: `Unordered` where the entry's asset
+/// isn't above the one before it, else `BadWeight` where its absolute weight isn't in 1 to 4,096, else `None`.
+///
+/// `place` is counted from 0, and `before` is the asset at the place before it, `None` at place 0. By
+/// [`laws::first_place_fault_is_row_fault`](crate::laws::first_place_fault_is_row_fault) the first place of 1 to 16
+/// entries that has a fault tells [`row_fault`]. It takes constant time.
+pub fn place_fault(place: u32, before: Option<u16>, entry: Entry) -> Option<RowFault>
+    ensures exact { (fault : Option RowFault) → (result ≡ fault) ↔ IsPlaceFaultOf place before entry fault }
+    ensures sound { IsNone result ↔ (IsAbove entry.asset before × IsLawfulWeight entry.weight) }
 {
-    for (place, entry) in entries.iter().enumerate() {
-        if !is_ascending_at(entries, place) {
-            return Some(RowFault::Unordered(place as u32));
-        }
-        if !is_lawful_weight(entry.weight) {
-            return Some(RowFault::BadWeight(place as u32));
-        }
+    if before.is_some_and(|asset| entry.asset <= asset) {
+        return Some(RowFault::Unordered(place));
+    }
+    if !(1..=MOST_WEIGHT).contains(&entry.weight.unsigned_abs()) {
+        return Some(RowFault::BadWeight(place));
     }
     None
 }
 
-fn is_ascending_at(entries: &[Entry], place: usize) -> bool
-    requires { place < length entries.now }
-    ensures { IsTrue result ↔ IsAscendingAt entries.now place }
+fn first_fault(entries: &[Entry]) -> Option<RowFault>
+    requires some { 1 ≤ length entries.now }
+    requires few { length entries.now ≤ most_entries }
+    ensures { IsFaultOf entries.now result }
 {
-    place == 0 || entries[place - 1].asset < entries[place].asset
-}
-
-fn is_lawful_weight(weight: i32) -> bool
-    ensures { IsTrue result ↔ IsLawfulWeight weight }
-{
-    (1..=MOST_WEIGHT).contains(&weight.unsigned_abs())
+    let mut before = None;
+    for (place, entry) in entries.iter().enumerate() {
+        match place_fault(place as u32, before, *entry) {
+            Some(fault) => return Some(fault),
+            None => before = Some(entry.asset),
+        }
+    }
+    None
 }

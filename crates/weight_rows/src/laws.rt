@@ -1,6 +1,6 @@
 //! Laws of rows for the proofs of callers. A call does nothing when it runs.
 
-ghost use Rattle.weight_rows.specs.RowLaws.{PriceIsBounded, PriceFollowsOnePrice, PriceSumsOverAssets, EntriesGiveWeights, NamedAssetsWeigh, WeightsAreSmall, FirstFaultIsOne, SoundEntriesAreLawful};
+ghost use Rattle.weight_rows.specs.RowLaws.{PriceIsBounded, PriceFollowsOnePrice, PriceSumsOverAssets, EntriesGiveWeights, NamedAssetsWeigh, WeightsAreSmall, FirstFaultIsOne, SoundEntriesAreLawful, FirstPlaceFaultIsRowFault};
 
 /// At prices of at most 2^62 grains a lawful row's price is at most 2^78 grains, in absolute value.
 pub fn price_is_bounded()
@@ -40,4 +40,10 @@ pub fn first_fault_is_one()
 /// 1 to 16 entries that are sound at each of their places are a lawful row.
 pub fn sound_entries_are_lawful()
     ensures { SoundEntriesAreLawful }
+{}
+
+/// In a list of 1 to 16 entries the fault of the first place that has one is the list's. Where no place has one,
+/// the list has none.
+pub fn first_place_fault_is_row_fault()
+    ensures { FirstPlaceFaultIsRowFault }
 {}

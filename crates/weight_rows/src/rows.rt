@@ -1,5 +1,5 @@
-ghost use Rattle.std.specs.Prelude.{◌≡◌, ◌<◌, ◌≤◌, ◌^◌, ◌*ℤ◌, ◌↔◌, length, unsigned_abs, IsTrue, All};
-ghost use Rattle.weight_rows.specs.Rows.{IsLawfulRow, IsPrice, IsPricedBy, price_of, weight_in, portfolio_price};
+ghost use Rattle.std.specs.Prelude.{◌≡◌, ◌<◌, ◌≤◌, ◌^◌, ◌*ℤ◌, ◌↔◌, length, slice_set, unsigned_abs, IsTrue, All};
+ghost use Rattle.weight_rows.specs.Rows.{most_weight, IsLawfulRow, IsPrice, IsPricedBy, price_of, weight_in, portfolio_price};
 
 use crate::entries::{Entry, EntryList};
 use std::marker::Model;
@@ -43,7 +43,7 @@ impl WeightRow {
     /// It costs one pass over the entries.
     pub fn weight_of(&self, asset: u16) -> i64
         ensures value { result ≡ weight_in self.now asset }
-        ensures bound { unsigned_abs result ≤ 4096 }
+        ensures bound { unsigned_abs result ≤ most_weight }
         ensures lawful { IsLawfulRow self.now }
     {
         for entry in self.list.as_slice() {
@@ -80,6 +80,27 @@ impl WeightRow {
         }
         sum
     }
+
+    /// The price of one unit of the portfolio, in grains, with one asset's price changed: what [`WeightRow::price`]
+    /// answers where `prices` has `price` at the asset's place.
+    ///
+    /// It costs one pass over the entries, and copies no list. Where the price at `prices` is known already, this one
+    /// differs from it as [`laws::price_follows_one_price`](crate::laws::price_follows_one_price) says.
+    pub fn price_with(&self, prices: &[i64], asset: u16, price: i64) -> i128
+        requires priced { IsPricedBy self.now prices.now }
+        requires range { All IsPrice prices.now }
+        requires asset { asset < length prices.now }
+        requires price { IsPrice price }
+        ensures value { result ≡ portfolio_price self.now (slice_set prices.now asset price) }
+        ensures bound { unsigned_abs result ≤ 2 ^ 78 }
+        ensures lawful { IsLawfulRow self.now }
+    {
+        let mut sum = 0;
+        for entry in self.list.as_slice() {
+            sum += entry_price_with(*entry, prices, asset, price);
+        }
+        sum
+    }
 }
 
 /// What the units of one entry cost.
@@ -87,5 +108,25 @@ fn entry_price(entry: Entry, prices: &[i64]) -> i128
     requires { entry.asset < length prices.now }
     ensures { result ≡ entry.weight *ℤ price_of prices.now entry.asset }
 {
-    i128::from(entry.weight) * i128::from(prices[usize::from(entry.asset)])
+    cost(entry.weight, prices[usize::from(entry.asset)])
+}
+
+/// What the units of one entry cost where one asset has this price.
+fn entry_price_with(entry: Entry, prices: &[i64], asset: u16, price: i64) -> i128
+    requires priced { entry.asset < length prices.now }
+    requires asset { asset < length prices.now }
+    ensures { result ≡ entry.weight *ℤ price_of (slice_set prices.now asset price) entry.asset }
+{
+    if entry.asset == asset {
+        cost(entry.weight, price)
+    } else {
+        entry_price(entry, prices)
+    }
+}
+
+/// What so many units cost at this price.
+fn cost(weight: i32, price: i64) -> i128
+    ensures { result ≡ weight *ℤ price }
+{
+    i128::from(weight) * i128::from(price)
 }

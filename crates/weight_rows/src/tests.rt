@@ -1,3 +1,6 @@
+ghost use Rattle.std.specs.Prelude.{All};
+ghost use Rattle.weight_rows.specs.Rows.{IsPrice, IsPricedBy};
+
 use super::*;
 use std::alloc::{AllocError, Global};
 use std::process::Abort;
@@ -62,19 +65,52 @@ fn names_the_first_fault(rt: HostRuntime) -> Result<(), Fail> {
     Ok(())
 }
 
+#[test]
+fn names_the_fault_of_a_place(rt: HostRuntime) -> Result<(), Fail> {
+    let cases = [
+        (0, None, 0, 1, None),
+        (0, None, 65_535, -4096, None),
+        (3, Some(6), 7, 4096, None),
+        (3, Some(7), 7, 1, Some(RowFault::Unordered(3))),
+        (3, Some(7), 7, 0, Some(RowFault::Unordered(3))),
+        (3, Some(8), 7, 1, Some(RowFault::Unordered(3))),
+        (2, Some(6), 7, 0, Some(RowFault::BadWeight(2))),
+        (0, None, 7, 4097, Some(RowFault::BadWeight(0))),
+        (
+            u32::MAX,
+            None,
+            7,
+            i32::MIN,
+            Some(RowFault::BadWeight(u32::MAX)),
+        ),
+    ];
+    for (place, before, asset, weight, fault) in cases {
+        let entry = Entry { asset, weight };
+        assert_eq!(rt;
+            place_fault(place, before, entry),
+            fault,
+            "{place} {before:?} {entry:?}"
+        );
+    }
+    Ok(())
+}
+
 fn lawful(rt: &impl Abort, entries: EntryList) -> WeightRow {
     assert!(rt; row_fault(entries.as_slice()).is_none());
     WeightRow::new(entries)
 }
 
-fn price(rt: &impl Abort, row: &WeightRow, prices: &[i64]) -> i128 {
+/// Sees to it that these prices may price the row.
+fn may_price(rt: &impl Abort, row: &WeightRow, prices: &[i64])
+    ensures priced { IsPricedBy row.now prices.now }
+    ensures range { All IsPrice prices.now }
+{
     assert!(rt;
         row.entries()
             .iter()
             .all(|entry| usize::from(entry.asset) < prices.len())
     );
     assert!(rt; prices.iter().all(|price| price.unsigned_abs() <= 1 << 62));
-    row.price(prices)
 }
 
 /// The furthest price.
@@ -100,7 +136,8 @@ fn weighs_and_prices_rows(rt: HostRuntime) -> Result<(), Fail> {
     ];
     for (pairs, prices, expected) in cases {
         let row = lawful(&rt, list(rt.alloc(), pairs)?);
-        assert_eq!(rt; price(&rt, &row, prices), expected, "{pairs:?}");
+        may_price(&rt, &row, prices);
+        assert_eq!(rt; row.price(prices), expected, "{pairs:?}");
         assert_eq!(rt; row.is_single(), pairs.len() == 1, "{pairs:?}");
         for pair in pairs {
             assert_eq!(rt; row.weight_of(pair.0), i64::from(pair.1), "{pairs:?}");
@@ -116,5 +153,35 @@ fn weighs_and_prices_rows(rt: HostRuntime) -> Result<(), Fail> {
             weight: -2
         }
     );
+    Ok(())
+}
+
+#[test]
+fn prices_rows_with_one_price_changed(rt: HostRuntime) -> Result<(), Fail> {
+    let cases: [(&[(u16, i32)], &[i64], u16, i64, i128); 6] = [
+        (&[(0, 3), (2, -2)], &[5, 7, 11], 0, 6, -4),
+        (&[(0, 3), (2, -2)], &[5, 7, 11], 1, FAR, -7),
+        (&[(0, 3), (2, -2)], &[5, 7, 11], 2, -11, 37),
+        (&[(0, 3), (2, -2)], &[5, 7, 11], 2, 11, -7),
+        (
+            &wide(4096),
+            &[FAR; 16],
+            15,
+            -FAR,
+            264_452_523_040_700_131_966_976,
+        ),
+        (&[(0, 1)], &[0], 0, FAR, 4_611_686_018_427_387_904),
+    ];
+    for (pairs, prices, asset, changed, expected) in cases {
+        let row = lawful(&rt, list(rt.alloc(), pairs)?);
+        may_price(&rt, &row, prices);
+        assert!(rt; usize::from(asset) < prices.len());
+        assert!(rt; changed.unsigned_abs() <= 1 << 62);
+        assert_eq!(rt;
+            row.price_with(prices, asset, changed),
+            expected,
+            "{pairs:?}"
+        );
+    }
     Ok(())
 }

@@ -12,8 +12,8 @@ parts c =
     let below = simp to_z-of_z at c.below_high.ensures.value in
     let up = c.div_ceil.ensures in
     let room = c.from-room.ensures in
-    rw (up, room, below, c.span.ensures.value, c.double_rate.ensures.value)
-    (dual-at_room (terms c.args.self.now) c.args.price (omega (arith, c.span.ensures)) (omega (arith, c.double_rate.ensures)) c.requires.cut)
+    rw (up, room, below, c.unsigned_span.ensures.value, c.double_rate.ensures.value)
+    (dual-at_room (terms c.args.self.now) c.args.price (omega (arith, c.unsigned_span.ensures)) (omega (arith, c.double_rate.ensures)) c.requires.cut)
 
 pub overflow_sub-result : goal.overflow_sub-result
 overflow_sub-result c = (parts c).0

@@ -1,5 +1,5 @@
-use Rattle.demand_curve.proofs.RoundingLaws.{never_rises}
+use Rattle.demand_curve.proofs.RoundingLaws.{demand_never_rises}
 use Rattle.demand_curve.proofs.laws.demand_never_rises.Goals as goal
 
 pub returns : goal.returns
-returns c = never_rises
+returns c = demand_never_rises

@@ -1,22 +1,20 @@
-use Rattle.std.proofs.Common.{w32, pos, get_or, rules, subst}
-use Rattle.std.specs.Prelude.{FitsSigned}
-use Rattle.std.proofs.lemmas.Int.{to_z-of_z}
-use Rattle.std.proofs.lemmas.List.{get_or_default}
-use Rattle.weight_rows.specs.declared.entries.Entry.{Entry}
-use Rattle.weight_rows.specs.Rows.{IsLawfulWeight}
-use Rattle.weight_rows.proofs.FaultLemmas.{IsSoundBefore-more, IsLawfulRow-sound}
+use Rattle.std.proofs.Common.{Some, None, sym, refl, arith}
+use borrow.Author.Count.{below_more}
+use Rattle.weight_rows.proofs.FaultLemmas.{asset_before-next, IsFaultAt-read, first_place_fault_is_row_fault}
+use Rattle.weight_rows.proofs.RowLemmas.{no_entry}
 use Rattle.weight_rows.proofs.faults.first_fault.Goals as goal
 
 pub loop-place-preserved : goal.loop-place-preserved
 loop-place-preserved c =
-    let row = c.args.entries.now in
-    let place = c.loop-place.place in
-    let none : Entry = record { asset = 0; weight = pos 0 } in
-    let range : FitsSigned w32 (get_or row place none).weight = search rules in
-    let ascending = c.is_ascending_at.ensures.0 c.if-not-is_ascending_at.false in
-    let weight = subst IsLawfulWeight (to_z-of_z w32 _ range) (c.is_lawful_weight.ensures.0 c.if-not-is_lawful_weight.false) in
-    IsSoundBefore-more row place c.loop-place.invariant ascending (λ d. subst (λ (e : Entry). IsLawfulWeight e.weight) (get_or_default row place none d c.loop-place-test.true) weight)
+    let here = IsFaultAt-read _ _ _ _ None c.loop-place-test.true c.loop-place.invariant.before_is ((c.in-None.ensures.exact None).0 refl) in
+    record { none = below_more _ _ c.loop-place.invariant.none here; before_is = sym (asset_before-next _ _ _ c.loop-place-test.true) }
+
+pub returns-in-Some : goal.returns-in-Some
+returns-in-Some c =
+    let fault = Some c.in-Some.fault in
+    let here = IsFaultAt-read _ _ _ no_entry fault c.loop-place-test.true c.loop-place.invariant.before_is ((c.in-Some.ensures.exact fault).0 refl) in
+    first_place_fault_is_row_fault.some _ _ c.in-Some.fault c.requires.few c.loop-place-test.true c.loop-place.invariant.none here
 
 pub returns : goal.returns
 returns c =
-    IsLawfulRow-sound c.args.entries.now c.loop-place.place c.requires.some c.requires.few c.loop-place-test.false c.loop-place.invariant
+    first_place_fault_is_row_fault.none _ c.requires.some c.requires.few (λ k within. c.loop-place.invariant.none k (omega (arith, within)))

@@ -1,4 +1,4 @@
-use Rattle.std.proofs.Common.{◌≡◌, Err, ap, arith}
+use Rattle.std.proofs.Common.{Err, ap, arith}
 use Rattle.flow_orders.specs.Own.{IsOwnOutcome}
 use Rattle.market_core.specs.Private.{without_orders}
 use Rattle.market_core.proofs.Adding.{serves-add_asset, refuses-bad_ticker, refuses-taken, refuses-full}

@@ -1,7 +1,5 @@
-use Rattle.std.proofs.Common.{◌≡◌, arith}
 use Rattle.wire_records.specs.Commands.{DepositAsset, Plain}
 use Rattle.flow_orders.specs.Own.{IsOwnOutcome}
-use Rattle.market_core.specs.Market.{Market}
 use Rattle.market_core.specs.Step.{Serves}
 use Rattle.market_core.specs.Private.{without_orders}
 use Rattle.market_core.proofs.Answering.{serves-deposit_units}

@@ -1,9 +1,8 @@
-use Rattle.std.proofs.Common.{◌≡◌, arith}
+use Rattle.std.proofs.Common.{arith}
 use Rattle.std.specs.Prelude.{pos}
 use Rattle.std.proofs.lemmas.Int.{ints}
 use Rattle.wire_records.specs.Commands.{WithdrawAsset, Plain}
 use Rattle.flow_orders.specs.Own.{IsOwnOutcome}
-use Rattle.market_core.specs.Market.{Market}
 use Rattle.market_core.specs.Step.{Serves}
 use Rattle.market_core.specs.Private.{without_orders}
 use Rattle.market_core.proofs.Answering.{serves-withdraw_units}
