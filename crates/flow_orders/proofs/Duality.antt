@@ -1,5 +1,5 @@
 -- What all rates cost is what the net trades cost, asset by asset.
-use Rattle.std.proofs.Common.{◌≡◌, ◌*◌, ℤ, ◌*ℤ◌, List, length, ap, sym, ◌∙◌, arith}
+use Rattle.std.proofs.Common.{◌≡◌, ℤ, ◌*ℤ◌, List, length, ap, sym, ◌∙◌}
 use Rattle.std.specs.Prelude.{All, slice_index_or}
 use Rattle.std.specs.List.{range_with_len}
 use Rattle.std.proofs.Math.IntN.{*ℤ_comm}

@@ -1,11 +1,11 @@
 -- What holds of the program's own outcomes.
-use Rattle.std.proofs.Common.{◌≡◌, ℕ, ◌≤◌, Bool, ltb, ℤ, pos, ◌+ℤ◌, ◌*ℤ◌, List, [], ◌∷◌, map, refl, ap, sym, subst, ◌∙◌, arith}
+use Rattle.std.proofs.Common.{◌≡◌, ℕ, ℤ, pos, ◌+ℤ◌, ◌*ℤ◌, List, [], ◌∷◌, refl, ap, sym, subst, ◌∙◌, arith}
 use Rattle.std.specs.Prelude.{length}
 use Rattle.std.proofs.lemmas.Bool.{false≢true}
 use Rattle.weight_rows.specs.Rows.{weight_in}
 use Rattle.flow_orders.specs.Orders.{Order}
 use Rattle.flow_orders.specs.Excess.{is_unsettled}
-use Rattle.flow_orders.specs.Choice.{absolute_sum, left_by}
+use Rattle.flow_orders.specs.Choice.{left_by}
 use Rattle.flow_orders.specs.Trades.{trades, residual}
 use Rattle.flow_orders.specs.Outcomes.{Cleared, Skipped, step_of}
 use Rattle.flow_orders.specs.Own.{ArePricesOf, floor_at, is_fraction_at, floor_rates, rates_by_choice}

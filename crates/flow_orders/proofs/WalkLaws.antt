@@ -1,11 +1,11 @@
 -- Walks and skips lower the dual; right clearings are optimal.
-use Rattle.std.proofs.Common.{List, [], ◌∷◌, ◌≤◌, arith, length, ◌≡◌, ℕ, ℤ, pos, ◌+ℤ◌, ◌+◌, ap, refl}
-use Rattle.std.specs.Prelude.{All, ◌<ℤ◌}
+use Rattle.std.proofs.Common.{List, [], ◌∷◌, ◌≤◌, arith, length, ◌≡◌, ℕ, ℤ, pos, ◌+◌, ap, refl}
+use Rattle.std.specs.Prelude.{All}
 use Rattle.std.proofs.lemmas.Int.{ints}
 use Rattle.flow_orders.specs.Orders.{Order, IsOrder}
 use Rattle.flow_orders.specs.Moves.{walk_reach}
 use Rattle.flow_orders.specs.Duals.{movement_of}
-use Rattle.flow_orders.specs.Outcomes.{Skipping, IsWide, IsLegalFrom, end_of, dual_of, IsRightSkip}
+use Rattle.flow_orders.specs.Outcomes.{Skipping, IsWide, IsLegalFrom, end_of, dual_of}
 use Rattle.flow_orders.specs.Laws.{WalksLowerTheDual, RightSkipsLowerTheDual, RightClearingsAreOptimal}
 use Rattle.flow_orders.proofs.Book.{IsSound as IsSoundOrder}
 use Rattle.flow_orders.proofs.DualWalks.{common_part_is_there, walk_lowers_dual, floors_fall, movement_at_least}
