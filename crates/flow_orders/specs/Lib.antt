@@ -1,4 +1,5 @@
 pub mod Orders
+pub mod Kept
 pub mod Excess
 pub mod Walks
 pub mod Moves

@@ -29,6 +29,10 @@ most_cap = 2 ^ 40
 abbrev pub AreLimits : ℤ → ℤ → Type 0
 AreLimits low high = IsWithin most_ticks low × IsWithin most_ticks high × (low <ℤ high)
 
+-- no more orders are live
+abbrev pub most_orders : ℕ
+most_orders = 16384
+
 -- a number from 1 to the highest
 abbrev pub IsFrom1To : ℕ → ℕ → Type 0
 IsFrom1To most n = (1 ≤ n) × (n ≤ most)

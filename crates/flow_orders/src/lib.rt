@@ -1,9 +1,27 @@
-//! Orders, and what a batch of them may come to: definitions, and what holds of them.
+//! Orders, and what a batch of them may come to.
 //!
 //! An order asks for a portfolio at a rate that falls as its price rises. A batch of orders clears at one price for
-//! each asset, or is skipped. The crate has the definitions of both, one topic a file in `specs`: orders and what
-//! they need, excess and bounds, moves and walks of prices, trades and residuals, right outcomes and the program's
-//! own one, welfare and the dual. [`laws`] has what holds of them. Nothing here runs.
+//! each asset, or is skipped. The definitions of both stand in `specs`, one topic a file: orders and what they need,
+//! excess and bounds, moves and walks of prices, trades and residuals, right outcomes and the program's own one,
+//! welfare and the dual. [`laws`] has what holds of them.
+//!
+//! [`Order`] is an order as the program keeps it: 64 bytes beside the entries of its row. [`order_fault`] tells
+//! what is wrong with the numbers of one that is asked for, [`money_need`] and [`unit_need`] tell what it needs, and
+//! [`spread`] and [`steepness`] bound what a book of orders leaves over of an asset. No call takes memory. Each takes
+//! constant time, but `spread` and `steepness`, which go once over the entries of all orders.
+//!
+//! Limit prices are whole ticks, and 2^32 grains are a tick. Contracts see them in grains, as curves and prices are.
 #![tactic(auto)]
 
+mod bounds;
+mod fault;
 pub mod laws;
+mod needs;
+mod order;
+#[cfg(test)]
+mod tests;
+
+pub use bounds::{spread, steepness};
+pub use fault::{OrderFault, order_fault};
+pub use needs::{money_need, unit_need};
+pub use order::Order;
