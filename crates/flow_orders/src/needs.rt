@@ -1,6 +1,7 @@
 //! What an order may still need of money and of an asset.
 ghost use Rattle.std.specs.Prelude.{◌≡◌, ◌*◌, ◌≤◌, pos, unsigned_abs};
-ghost use Rattle.demand_curve.specs.Demand.{IsWithin, or_zero};
+ghost use Rattle.demand_curve.specs.Demand.{IsWithin};
+ghost use Rattle.demand_curve.specs.Numbers.{or_zero};
 ghost use Rattle.flow_orders.specs.Orders.{most_ticks, most_cap, price_of_ticks, sold};
 
 use crate::order::GRAINS_PER_TICK;

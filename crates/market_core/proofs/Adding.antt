@@ -13,11 +13,12 @@ use Rattle.flow_accounts.specs.Lawful.{most_accounts}
 use Rattle.flow_accounts.specs.Answers.{RefusesAccount}
 use Rattle.flow_accounts.specs.declared.fault.AccountFault.{AccountFault}
 use Rattle.flow_accounts.specs.declared.fault.AccountFault.TheVariants as fault
+use Rattle.flow_orders.specs.Orders.{Order}
 use Rattle.flow_orders.specs.Outcomes.{BatchRule}
 use Rattle.flow_orders.specs.Own.{IsOwnOutcome}
 use Rattle.market_core.specs.Market.{Market, IsSound}
 use Rattle.market_core.specs.Step.{FirstRefusal, Serves}
-use Rattle.market_core.specs.Private.{without_orders, IsAnswered, refusal_for}
+use Rattle.market_core.specs.Private.{without_batches, IsAnswered, refusal_for}
 use Rattle.market_core.proofs.Fitting.{sound-served}
 
 -- one value more
@@ -30,10 +31,10 @@ addable_is_accepted m ticker addable = inr (addable.valid, inr (addable.absent, 
 
 module _ (Rule : BatchRule) where
   -- the asset is added
-  pub serves-add_asset : (tickers : List (List ℕ)) (b now : Balances) (ticker : List ℕ) → IsAddable tickers ticker → now ≡ add_asset b
-      → Serves Rule (without_orders tickers b) (AddAsset ticker) (Plain (Asset (length tickers))) (without_orders (tickers ++ ticker ∷ []) now)
-  serves-add_asset tickers b now ticker addable added =
-      let with_zeros : List ℤ → Market = λ zeros. record (without_orders tickers b) {
+  pub serves-add_asset : (tickers : List (List ℕ)) (b : Balances) (orders : List Order) (next : ℕ) (now : Balances) (ticker : List ℕ) → IsAddable tickers ticker → now ≡ add_asset b
+      → Serves Rule (without_batches tickers b orders next) (AddAsset ticker) (Plain (Asset (length tickers))) (without_batches (tickers ++ ticker ∷ []) now orders next)
+  serves-add_asset tickers b orders next now ticker addable added =
+      let with_zeros : List ℤ → Market = λ zeros. record (without_batches tickers b orders next) {
         tickers = tickers ++ ticker ∷ [];
         balances = add_asset b;
         exchange = record { money = pos 0; units = zeros };
@@ -41,8 +42,8 @@ module _ (Rule : BatchRule) where
       } in
       record {
         first = None;
-        refused = addable_is_accepted (without_orders tickers b) ticker addable;
-        answered = (refl, ap (without_orders (tickers ++ ticker ∷ [])) added ∙ ap with_zeros (replicate-pushed tickers ticker (pos 0)));
+        refused = addable_is_accepted (without_batches tickers b orders next) ticker addable;
+        answered = (refl, ap (λ b. without_batches (tickers ++ ticker ∷ []) b orders next) added ∙ ap with_zeros (replicate-pushed tickers ticker (pos 0)));
       }
 
   module _ (old new : Market) (ticker : List ℕ) (same : new ≡ old) where

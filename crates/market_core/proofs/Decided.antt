@@ -16,7 +16,8 @@ use Rattle.demand_curve.specs.Demand.{IsWithin}
 use Rattle.flow_accounts.specs.Balances.{Balances, IsAccount, IsAsset, asset_count, account_count}
 use Rattle.flow_orders.specs.Orders.{Order, money_need, unit_need, AreLimits, IsFrom1To}
 use Rattle.market_core.specs.Market.{free_money, free_units, Market}
-use Rattle.market_core.specs.Step.{IsAffordable, HasOrder}
+use Rattle.market_core.specs.Step.{IsAffordable}
+use Rattle.order_book.specs.Book.{HasOrder}
 
 -- it holds, or it doesn't
 abbrev pub Either : Type 0 → Type 0
@@ -146,7 +147,7 @@ either_affordable m o =
     (either_both (either_le_z (pos (money_need o)) (free_money m o.account))
     (either_below (asset_count m.balances) (λ asset. pos (unit_need asset o) ≤ℤ free_units m o.account asset) (λ asset. either_le_z _ _)))
 
-pub either_order : (m : Market) (account number : ℕ) → Either (HasOrder m account number)
+pub either_order : (m : Market) (account number : ℕ) → Either (HasOrder m.orders account number)
 either_order m account number =
     either_same
     (λ p. record { order = p.0; live = p.1; account_is = p.2.0; number_is = p.2.1 })

@@ -14,6 +14,8 @@ pub mod OneJournal
 pub mod OneStep
 pub mod OwnIsLegal
 pub mod OwnNeeds
+pub mod Placing
+pub mod Reserving
 pub mod Settled
 pub mod Settles
 pub mod SoundBalances

@@ -15,9 +15,9 @@ use Rattle.flow_accounts.specs.Balances.{Account, IsAccount, IsAsset, asset_coun
 use Rattle.flow_accounts.specs.Lawful.{unit_limit}
 use Rattle.flow_accounts.proofs.Moves.{assets_start_at_zero}
 use Rattle.flow_accounts.proofs.ListLemmas.{get_or-push_same}
-use Rattle.flow_orders.specs.Orders.{Order, IsOrder, most_cap, price_of_ticks, unit_need, AreLimits, IsFrom1To}
+use Rattle.flow_orders.specs.Orders.{most_orders, Order, IsOrder, most_cap, price_of_ticks, unit_need, AreLimits, IsFrom1To}
 use Rattle.wire_records.specs.Commands.{Request}
-use Rattle.market_core.specs.Market.{Market, IsSound, IsLiveOrder, held_units, most_orders}
+use Rattle.market_core.specs.Market.{Market, IsSound, IsLiveOrder, held_units}
 use Rattle.market_core.proofs.Made.{with_ticker, with_order, without_order}
 use Rattle.market_core.specs.Step.{placed, IsAffordable}
 use Rattle.market_core.proofs.Lawful.{sound_is_lawful}

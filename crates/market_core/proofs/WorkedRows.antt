@@ -19,7 +19,8 @@ use Rattle.flow_orders.specs.Own.{IsOwnOutcome}
 use Rattle.flow_orders.proofs.WorkedRows as batches
 use Rattle.market_core.specs.Market.{Market, empty_market, start_prices, held_money, held_units, free_money, free_units}
 use Rattle.market_core.specs.Settlement.{settled_account, settled_balances, settled_exchange}
-use Rattle.market_core.specs.Step.{FirstRefusal, Accepts, Answers, Serves, IsAffordable, HasOrder, placed}
+use Rattle.market_core.specs.Step.{FirstRefusal, Accepts, Answers, Serves, IsAffordable, placed}
+use Rattle.order_book.specs.Book.{HasOrder}
 use Rattle.market_core.specs.Journal.{Step, IsJournal, money_added, AddTogether, Places, fills_of}
 
 abbrev aapl : List ℕ
@@ -413,7 +414,7 @@ not_its_order = inr ((omega arith, omega arith), inl (none, refl))
     at (suc zero) o inside is account number = let same = ap (λ (x : Order). x.number) is in omega (arith, same, number)
     at (suc (suc k)) o inside is account number = omega (arith, inside)
 
-    none : ¬ HasOrder with_seller 2 1
+    none : ¬ HasOrder with_seller.orders 2 1
     none has = at has.live.0 has.order has.live.1 has.live.2 has.account_is has.number_is
 
 abbrev without_buyer : Market
@@ -433,7 +434,7 @@ it_has_left = inr ((omega arith, omega arith), inl (none, refl))
     at zero o inside is number = let same = ap (λ (x : Order). x.number) is in omega (arith, same, number)
     at (suc k) o inside is number = omega (arith, inside)
 
-    none : ¬ HasOrder without_buyer 1 1
+    none : ¬ HasOrder without_buyer.orders 1 1
     none has = at has.live.0 has.order has.live.1 has.live.2 has.number_is
 
 no_account : FirstRefusal without_buyer (CancelOrder 3 1) (Some NoAccount)

@@ -7,11 +7,7 @@ use Rattle.flow_accounts.specs.Balances.{Account, Balances, IsAccount, IsAsset, 
 use Rattle.flow_accounts.specs.Balances.{units_of, units_in, total_units_of, no_balances, empty_account}
 use Rattle.flow_accounts.specs.Lawful.{most_accounts, money_limit, unit_limit}
 use Rattle.flow_accounts.specs.Sums.{money_of_all, units_of_all}
-use Rattle.flow_orders.specs.Orders.{Order, IsOrder, needed_money, needed_units}
-
--- no more orders are live
-abbrev pub most_orders : ℕ
-most_orders = 16384
+use Rattle.flow_orders.specs.Orders.{Order, IsOrder, most_orders, needed_money, needed_units}
 
 -- no more batches are held
 abbrev pub most_batches : ℕ

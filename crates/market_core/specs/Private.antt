@@ -1,10 +1,12 @@
 -- Words that only private functions of the market use.
-use Rattle.std.specs.Prelude.{ℕ, pos, List, length, replicate}
+use Rattle.std.specs.Prelude.{ℕ, pos, List, length, replicate, Option, Some, None}
 use Rattle.flow_accounts.specs.declared.fault.AccountFault.{AccountFault}
 use Rattle.flow_accounts.specs.declared.fault.AccountFault.TheVariants as fault
 use Rattle.flow_accounts.specs.Balances.{Balances, empty_account}
 use Rattle.wire_records.specs.declared.reply.Refusal.{Refusal}
-use Rattle.wire_records.specs.declared.reply.Refusal.TheVariants.{AccountLimit, NoAccount, NoAsset, ZeroAmount, TotalLimit, NotFree}
+use Rattle.wire_records.specs.declared.reply.Refusal.TheVariants.{AccountLimit, NoAccount, NoAsset, ZeroAmount, TotalLimit, NotFree, NoOrder}
+use Rattle.wire_records.specs.declared.reply.Reply.{Reply}
+use Rattle.wire_records.specs.declared.reply.Reply.TheVariants.{Done, Refused}
 use Rattle.flow_orders.specs.Orders.{Order}
 use Rattle.market_core.specs.Market.{Market}
 
@@ -40,3 +42,8 @@ refusal_for fault.TotalLimit = TotalLimit
 refusal_for fault.Full = AccountLimit
 refusal_for (fault.NotFree free) = NotFree
 refusal_for fault.Memory = NoAccount
+
+-- the reply to a cancel, by the order that was taken out
+abbrev pub cancel_reply : Option Order → Reply
+cancel_reply (Some order) = Done
+cancel_reply None = Refused NoOrder

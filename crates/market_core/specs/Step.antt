@@ -1,7 +1,6 @@
 -- One step of the market: the first refusal of a command, or what the accepted command is answered and makes of the market.
 --     How a batch may end is a rule of its own, which is handed in: any right outcome, or the program's own one.
 use Rattle.std.specs.Prelude.{◌≡◌, ℕ, ◌+◌, ◌≤◌, ◌==◌, not, pos, neg_ℤ, ◌+ℤ◌, ◌≤ℤ◌, ◌<ℤ◌, [], ◌∷◌, ◌++◌, length, ◌⊎◌, Option, Some, None, Result, Ok, Err, All, Contains}
-use Rattle.std.specs.List.{filter}
 use Rattle.weight_rows.specs.Rows.{IsLawfulRow}
 use Rattle.wire_records.specs.Commands.{Request, Command, AddAsset, OpenAccount, DepositMoney, DepositAsset, WithdrawMoney, WithdrawAsset, PlaceOrder, CancelOrder, RunBatch, Answer, Plain, Batch}
 use Rattle.wire_records.specs.declared.reply.Reply.TheVariants as reply
@@ -14,10 +13,11 @@ use Rattle.ticker_table.specs.Tickers.{IsTicker, ticker_limit}
 use Rattle.demand_curve.specs.Demand.{most_rate}
 use Rattle.flow_accounts.specs.Balances.{IsAccount, IsAsset, account_count, total_units_of, grains, with_asset, add_asset, open_account, change_money, change_units}
 use Rattle.flow_accounts.specs.Lawful.{most_accounts, money_limit, unit_limit}
-use Rattle.flow_orders.specs.Orders.{Order, most_cap, AreLimits, IsFrom1To, price_of_ticks, money_need, unit_need}
+use Rattle.flow_orders.specs.Orders.{Order, most_orders, most_cap, AreLimits, IsFrom1To, price_of_ticks, money_need, unit_need}
 use Rattle.flow_orders.specs.Outcomes.{Outcome, BatchRule, Cleared, Skipped, trades_of, most_budget}
 use Rattle.flow_orders.specs.Trades.{staying}
-use Rattle.market_core.specs.Market.{Market, most_orders, most_batches, start_prices, free_money, free_units}
+use Rattle.order_book.specs.Book.{HasOrder, without}
+use Rattle.market_core.specs.Market.{Market, most_batches, start_prices, free_money, free_units}
 use Rattle.market_core.specs.Settlement.{settled_balances, settled_exchange}
 
 -- ---- refusals
@@ -52,13 +52,6 @@ placed market r = record {
 pub record IsAffordable (market : Market) (o : Order) : Type 0 where
   pub money : pos (money_need o) ≤ℤ free_money market o.account
   pub units : (asset : ℕ) → IsAsset market.balances asset → pos (unit_need asset o) ≤ℤ free_units market o.account asset
-
--- an account has a live order of this number
-pub record HasOrder (market : Market) (account number : ℕ) : Type 0 where
-  pub order : Order
-  pub live : Contains market.orders order
-  pub account_is : order.account ≡ account
-  pub number_is : order.number ≡ number
 
 -- the first refusal of a command whose condition holds, if any does
 abbrev pub FirstRefusal : Market → Command → Option Refusal → Type 0
@@ -97,7 +90,7 @@ FirstRefusal m (PlaceOrder r) =
     NotFree unless IsAffordable m (placed m r) else accept
 FirstRefusal m (CancelOrder account number) =
     NoAccount unless IsAccount m.balances account else
-    NoOrder unless HasOrder m account number else accept
+    NoOrder unless HasOrder m.orders account number else accept
 FirstRefusal m (RunBatch budget) =
     BadBudget unless IsFrom1To most_budget budget else
     BatchLimit when most_batches ≤ m.batches else accept
@@ -138,7 +131,7 @@ Accepts Rule m (DepositAsset account asset units) = gives (Plain reply.Done) (re
 Accepts Rule m (WithdrawMoney account ticks) = gives (Plain reply.Done) (record m { balances = change_money m.balances account (neg_ℤ (grains ticks)) })
 Accepts Rule m (WithdrawAsset account asset units) = gives (Plain reply.Done) (record m { balances = change_units m.balances account asset (neg_ℤ (pos units)) })
 Accepts Rule m (PlaceOrder r) = gives (Plain (reply.Order m.next_order)) (record m { orders = m.orders ++ placed m r ∷ []; next_order = m.next_order + 1 })
-Accepts Rule m (CancelOrder account number) = gives (Plain reply.Done) (record m { orders = filter (λ o. not (o.number == number)) m.orders })
+Accepts Rule m (CancelOrder account number) = gives (Plain reply.Done) (record m { orders = without m.orders number })
 Accepts Rule m (RunBatch budget) = holds_batch Rule m budget
 
 -- the first refusal is answered and changes nothing; where there is none, the command is accepted

@@ -9,5 +9,6 @@
 
 pub mod laws;
 mod market;
+mod orders;
 
 pub use market::Market;

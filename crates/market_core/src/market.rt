@@ -1,33 +1,37 @@
 //! The market of a run, and what a command makes of it.
-ghost use Rattle.std.specs.Prelude.{◌≡◌, ◌≢◌, IfOk, OnErr, MatchResult, length};
+ghost use Rattle.std.specs.Prelude.{◌≡◌, ◌≢◌, ◌+◌, ◌<◌, ◌^◌, IfOk, OnErr, MatchResult, length};
 ghost use Rattle.std.specs.Result.{ForErr};
-ghost use Rattle.wire_records.specs.Commands.{AddAsset, OpenAccount, DepositMoney, DepositAsset, WithdrawMoney, WithdrawAsset, Plain};
+ghost use Rattle.wire_records.specs.Commands.{AddAsset, OpenAccount, DepositMoney, DepositAsset, WithdrawMoney, WithdrawAsset, PlaceOrder, CancelOrder, Plain};
 ghost use Rattle.wire_records.specs.CommandRecords.{IsCommand};
 ghost use Rattle.wire_records.specs.Views.{command_of};
 ghost use Rattle.market_core.specs.Private.{refusal_for, IsAnswered};
 
 use flow_accounts::{AccountFault, Accounts};
+use order_book::Book;
 use std::alloc::Global;
 use std::marker::Model;
 use ticker_table::{TickerFault, TickerTable};
 use wire_records::{CommandView, Memory, Refusal, Reply};
 
-/// The assets by their tickers, and all balances.
+/// The assets by their tickers, all balances, and the live orders.
 #[derive(Drop)]
 pub struct Market {
-    tickers: TickerTable,
-    accounts: Accounts,
+    pub(crate) alloc: Global,
+    pub(crate) tickers: TickerTable,
+    pub(crate) accounts: Accounts,
+    pub(crate) book: Book,
+    pub(crate) next_order: u64,
 }
 
 impl Model for Market {
     ghost use Rattle.market_core.specs.Market.{Market as market_value, IsSound};
-    ghost use Rattle.market_core.specs.Private.{without_orders};
+    ghost use Rattle.market_core.specs.Private.{without_batches};
 
     ghost Value = { market_value };
 
-    ghost view = { λ m. without_orders m.tickers m.accounts };
+    ghost view = { λ m. without_batches m.tickers m.accounts m.book.orders m.next_order };
 
-    ghost invariant = { λ m. IsSound (without_orders m.tickers m.accounts) };
+    ghost invariant = { λ m. IsSound (without_batches m.tickers m.accounts m.book.orders m.next_order) };
 }
 
 // The refusal for a fault of the accounts.
@@ -69,18 +73,25 @@ impl Market {
         ensures { result ≡ empty_market }
     {
         Market {
+            alloc,
             tickers: TickerTable::new(alloc),
             accounts: Accounts::new(alloc),
+            book: Book::new(alloc),
+            next_order: 1,
         }
     }
 
-    /// Serves one command, and answers its reply. Only a new asset or account may want memory; then
-    /// nothing is changed.
+    /// Serves one command, and answers its reply. Only a new asset, account or order may want memory; then
+    /// nothing is changed. The number that the next order gets is below 2^64 - 1.
+    ///
+    /// The cost is that of the command's own fields, however many accounts and orders there are; a cancelled order
+    /// leaves a gap among the live ones that is closed by a move.
     pub fn apply(&mut self, command: &CommandView<'_>) -> Result<Reply, Memory>
-        requires { IsCommand (command_of command.now) }
+        requires command { IsCommand (command_of command.now) }
+        requires next { self.old.next_order + 1 < 2 ^ 64 }
         ensures served { IfOk result (λ reply. Serves IsOwnOutcome self.old (command_of command.now) (Plain reply) self.new) }
         ensures stays { OnErr result (self.new ≡ self.old) }
-        // Memory is wanted only by a new asset or account, and only where no refusal holds.
+        // Memory is wanted only by a new asset, account or order, and only where no refusal holds.
         ensures wanted { OnErr result (MayWant self.old (command_of command.now)) }
     {
         match *command {
@@ -100,6 +111,8 @@ impl Market {
                 asset,
                 units,
             } => Ok(self.withdraw_units(account, asset, units)),
+            CommandView::PlaceOrder(ref place) => self.place_order(place),
+            CommandView::CancelOrder { account, order } => Ok(self.cancel_order(account, order)),
         }
     }
 
@@ -158,12 +171,14 @@ impl Market {
     fn withdraw_money(&mut self, account: u32, ticks: u64) -> Reply
         ensures { Serves IsOwnOutcome self.old (WithdrawMoney account ticks) (Plain result) self.new }
     {
-        reply_to(self.accounts.withdraw_money(account, ticks, 0))
+        let reserved = self.book.money_needed(account);
+        reply_to(self.accounts.withdraw_money(account, ticks, reserved))
     }
 
     fn withdraw_units(&mut self, account: u32, asset: u16, units: u64) -> Reply
         ensures { Serves IsOwnOutcome self.old (WithdrawAsset account asset units) (Plain result) self.new }
     {
-        reply_to(self.accounts.withdraw_units(account, asset, units, 0))
+        let reserved = self.book.units_needed(account, asset);
+        reply_to(self.accounts.withdraw_units(account, asset, units, reserved))
     }
 }

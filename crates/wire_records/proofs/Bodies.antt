@@ -1,5 +1,5 @@
 -- The bodies of commands.
-use Rattle.std.proofs.Common.{◌≡◌, ◌≢◌, ◌<◌, ◌≤◌, ◌^◌, ℕ, List, [], ◌++◌, length, length-append, refl, sym, ap, ◌∙◌, arith}
+use Rattle.std.proofs.Common.{◌≡◌, ◌≢◌, ◌<◌, ◌^◌, ℕ, List, [], ◌++◌, length, length-append, refl, sym, ap, ◌∙◌, arith}
 use Rattle.std.proofs.lemmas.List.{append-nil}
 use Rattle.std.specs.Prelude.{if◌then◌else◌, ◌==◌}
 use Rattle.wire_fields.specs.Numbers.{unsigned, IsUnsigned}
@@ -7,24 +7,26 @@ use Rattle.wire_fields.proofs.Spelling.{length-unsigned, unsigned_unique}
 use Rattle.wire_records.specs.Records.{Record}
 use Rattle.wire_records.specs.Commands.{Command, AddAsset, OpenAccount, DepositMoney, DepositAsset, WithdrawMoney, WithdrawAsset, PlaceOrder, CancelOrder, RunBatch}
 use Rattle.wire_records.specs.CommandRecords.{tag_of, body_of, IsCommand, Spells, SpellsNone}
+use Rattle.wire_records.specs.Private.{SpellsNoRequest}
 use Rattle.wire_records.proofs.Requests.{request_unique}
 
--- how long the body of a command with this tag is, for the tags 1 to 6
+-- how long the body of a command with this tag is, for the tags 1 to 9 but 7
 abbrev pub size_of : ℕ → ℕ
-size_of tag = if tag == 1 then 8 else (if tag == 2 then 0 else (if tag == 3 then 12 else (if tag == 4 then 14 else (if tag == 5 then 12 else 14))))
+size_of tag =
+    if tag == 1 then 8 else (if tag == 2 then 0 else (if tag == 3 then 12 else (if tag == 4 then 14 else (if tag == 5 then 12 else (if tag == 6 then 14 else (if tag == 8 then 12 else 4))))))
 
 -- a body has the length of its tag
-pub length-body_of : (c : Command) → IsCommand c → tag_of c ≤ 6 → length (body_of c) ≡ size_of (tag_of c)
+pub length-body_of : (c : Command) → IsCommand c → tag_of c ≢ 7 → length (body_of c) ≡ size_of (tag_of c)
 unfolding body_of
-length-body_of (AddAsset ticker) h few = h.0
-length-body_of OpenAccount h few = refl
-length-body_of (DepositMoney account ticks) h few = simp (length-append, length-unsigned)
-length-body_of (DepositAsset account asset units) h few = simp (length-append, length-unsigned)
-length-body_of (WithdrawMoney account ticks) h few = simp (length-append, length-unsigned)
-length-body_of (WithdrawAsset account asset units) h few = simp (length-append, length-unsigned)
-length-body_of (PlaceOrder request) h few = absurd (omega (arith, few))
-length-body_of (CancelOrder account number) h few = absurd (omega (arith, few))
-length-body_of (RunBatch budget) h few = absurd (omega (arith, few))
+length-body_of (AddAsset ticker) h other = h.0
+length-body_of OpenAccount h other = refl
+length-body_of (DepositMoney account ticks) h other = simp (length-append, length-unsigned)
+length-body_of (DepositAsset account asset units) h other = simp (length-append, length-unsigned)
+length-body_of (WithdrawMoney account ticks) h other = simp (length-append, length-unsigned)
+length-body_of (WithdrawAsset account asset units) h other = simp (length-append, length-unsigned)
+length-body_of (PlaceOrder request) h other = absurd (other refl)
+length-body_of (CancelOrder account number) h other = simp (length-append, length-unsigned)
+length-body_of (RunBatch budget) h other = length-unsigned 4 budget
 
 -- a record is its tag and its body
 pub same_record : (r : Record) (tag : ℕ) (body : List ℕ) → r.tag ≡ tag → r.body ≡ body → r ≡ record { tag = tag; body = body }
@@ -38,10 +40,28 @@ pub body_is : (c : Command) (r : Record) → Spells c r → r.body ≡ body_of c
 body_is c r s = ap (λ (x : Record). x.body) s.spelled
 
 -- a body of another length than its tag's is no command's
-pub spells_none : (r : Record) → r.tag ≤ 6 → length r.body ≢ size_of r.tag → SpellsNone r
-spells_none r few other c s =
+pub spells_none : (r : Record) → r.tag ≢ 7 → length r.body ≢ size_of r.tag → SpellsNone r
+spells_none r order other c s =
     let tags = tag_is c r s in
-    other (ap length (body_is c r s) ∙ length-body_of c s.fits (omega (arith, tags, few)) ∙ ap size_of (sym tags))
+    other (ap length (body_is c r s) ∙ length-body_of c s.fits (λ e. order (tags ∙ e)) ∙ ap size_of (sym tags))
+
+-- a command of the tag 7 has the body of a request
+is_request : (c : Command) → IsCommand c → tag_of c ≡ 7 → SpellsNoRequest (body_of c) → ⊥
+unfolding body_of
+is_request (AddAsset ticker) h e none = absurd (omega (arith, e))
+is_request OpenAccount h e none = absurd (omega (arith, e))
+is_request (DepositMoney account ticks) h e none = absurd (omega (arith, e))
+is_request (DepositAsset account asset units) h e none = absurd (omega (arith, e))
+is_request (WithdrawMoney account ticks) h e none = absurd (omega (arith, e))
+is_request (WithdrawAsset account asset units) h e none = absurd (omega (arith, e))
+is_request (PlaceOrder request) h e none = none request (record { fits = h; spelled = refl })
+is_request (CancelOrder account number) h e none = absurd (omega (arith, e))
+is_request (RunBatch budget) h e none = absurd (omega (arith, e))
+
+-- a body that is no request's is no order's
+pub spells_none-from_request : (r : Record) → r.tag ≡ 7 → SpellsNoRequest r.body → SpellsNone r
+spells_none-from_request r order none c s =
+    is_request c s.fits (sym (tag_is c r s) ∙ order) (rw (body_is c r s) at none)
 
 -- two amounts of money of one spelling, or an account and another number of its width
 money_unique : (a t b u : ℕ) → (a < 2 ^ 32) × (t < 2 ^ 64) → (b < 2 ^ 32) × (u < 2 ^ 64) → unsigned 4 a ++ unsigned 8 t ≡ unsigned 4 b ++ unsigned 8 u → (a ≡ b) × (t ≡ u)

@@ -1,11 +1,14 @@
 pub mod Spelled
 pub mod Fronts
 pub mod CodeLaws
+pub mod Fields
 pub mod Requests
+pub mod Entries
+pub mod RequestsTold
+pub mod EntryReads
 pub mod Bodies
 pub mod Codes
 pub mod OneAnswer
 pub mod Readings
 pub mod ReadingLaws
 pub mod RecordCode
-pub mod WorkedRows

@@ -1,18 +1,20 @@
 -- A record of bytes has exactly one reading.
-use Rattle.std.proofs.Common.{◌≡◌, ◌<◌, ◌≤◌, ◌+◌, ℕ, List, ◌++◌, inl, inr, ◌⊎◌, length, length-append, take, drop, length-drop, refl, sym, ap, ◌∙◌, arith}
+use Rattle.std.proofs.Common.{◌≡◌, ◌≢◌, ℕ, List, ◌++◌, inl, inr, ◌⊎◌, length, length-append, refl, sym, ap, ◌∙◌, arith}
 use Rattle.std.specs.Prelude.{Result, Ok, Err}
 use Rattle.std.proofs.lemmas.Bool.{cases_lt, cases_eq}
-use Rattle.std.proofs.lemmas.List.{take-append-drop, length-take-le, nil_from_length}
-use Rattle.std.proofs.lemmas.List.Elements.{All-take, All-drop}
+use Rattle.std.proofs.lemmas.List.{nil_from_length}
 use Rattle.wire_fields.specs.Numbers.{unsigned, IsUnsigned}
-use Rattle.wire_fields.proofs.Spelling.{length-unsigned, unsigned_complete}
+use Rattle.wire_fields.proofs.Spelling.{length-unsigned}
 use Rattle.wire_records.specs.declared.command.BodyFault.{BodyFault}
 use Rattle.wire_records.specs.declared.command.BodyFault.TheVariants.{UnknownTag, NotBuilt, BadBody}
 use Rattle.wire_records.specs.Records.{Record, AreBytes, IsRecord, most_body}
 use Rattle.wire_records.specs.Commands.{Request, Command, AddAsset, OpenAccount, DepositMoney, DepositAsset, WithdrawMoney, WithdrawAsset, PlaceOrder, CancelOrder, RunBatch}
-use Rattle.wire_records.specs.CommandRecords.{tag_of, body_of, record_of, IsCommand, Spells, IsTag, IsUnbuiltTag, IsReadAs}
+use Rattle.wire_records.specs.CommandRecords.{tag_of, body_of, record_of, IsCommand, HasShortRow, Spells, IsTag, IsUnbuiltTag, IsReadAs}
+use Rattle.wire_records.specs.Private.{SpellsRequest}
+use Rattle.wire_records.proofs.Fields.{whole_number, front_number}
 use Rattle.wire_records.proofs.Requests.{request_size}
-use Rattle.wire_records.proofs.Bodies.{size_of, same_record, tag_is, spells_none, command_unique}
+use Rattle.wire_records.proofs.RequestsTold.{request_told}
+use Rattle.wire_records.proofs.Bodies.{size_of, same_record, tag_is, spells_none, spells_none-from_request, command_unique}
 
 -- the tag of each command, from above and below
 tag_of-range : (c : Command) → IsTag (tag_of c)
@@ -38,9 +40,9 @@ no_fault c r BadBody s built bad = bad.2 c s
 -- a record is read as one fault
 fault_unique : (e f : BodyFault) (r : Record) → IsReadAs r (Err e) → IsReadAs r (Err f) → e ≡ f
 fault_unique UnknownTag UnknownTag r p q = refl
-fault_unique UnknownTag NotBuilt r p q = absurd (p (omega (arith, q.0), q.1))
+fault_unique UnknownTag NotBuilt r p q = absurd (p (omega (arith, q), omega (arith, q)))
 fault_unique UnknownTag BadBody r p q = absurd (p q.0)
-fault_unique NotBuilt UnknownTag r p q = absurd (q (omega (arith, p.0), p.1))
+fault_unique NotBuilt UnknownTag r p q = absurd (q (omega (arith, p), omega (arith, p)))
 fault_unique NotBuilt NotBuilt r p q = refl
 fault_unique NotBuilt BadBody r p q = absurd (q.1 p)
 fault_unique BadBody UnknownTag r p q = absurd (q p.0)
@@ -57,18 +59,6 @@ pub reading_unique : (r : Record) (a b : Result Command BodyFault) → IsReadAs 
 reading_unique r (Ok c) b p q = sym (command_read c r b p.0 p.1 q)
 reading_unique r a (Ok c) p q = command_read c r a q.0 q.1 p
 reading_unique r (Err e) (Err f) p q = ap Err (fault_unique e f r p q)
-
--- bytes are a number, if they have its size
-whole_number : (size : ℕ) (bytes : List ℕ) → length bytes ≡ size → AreBytes bytes → (m : ℕ) × IsUnsigned size m × (bytes ≡ unsigned size m)
-whole_number size bytes len small = let found = unsigned_complete size bytes len small in (found.0, found.1, sym found.2)
-
--- bytes are a number and a rest, if they have as many
-front_number : (size n : ℕ) (bytes : List ℕ) → length bytes ≡ size + n → AreBytes bytes → (m : ℕ) × (rest : List ℕ) × IsUnsigned size m × (length rest ≡ n) × AreBytes rest × (bytes ≡ unsigned size m ++ rest)
-front_number size n bytes len small =
-    let rest = drop size bytes in
-    let found = unsigned_complete size (take size bytes) (length-take-le size bytes (omega (arith, len))) (All-take (λ b. b < 256) size bytes small) in
-    let left : length rest ≡ n = length-drop size bytes ∙ omega (arith, len) in
-    (found.0, rest, found.1, left, All-drop (λ b. b < 256) size bytes small, sym (take-append-drop size bytes) ∙ ap (λ xs. xs ++ rest) (sym found.2))
 
 -- 12 bytes are a number of four and one of eight
 twelve : (bytes : List ℕ) → length bytes ≡ 12 → AreBytes bytes → (a t : ℕ) × (IsUnsigned 4 a × IsUnsigned 8 t) × (bytes ≡ unsigned 4 a ++ unsigned 8 t)
@@ -89,10 +79,10 @@ fourteen bytes len small =
 from_body : (c : Command) (r : Record) → IsCommand c → r.tag ≡ tag_of c → r.body ≡ body_of c → Spells c r
 from_body c r fits tag body = record { fits = fits; spelled = same_record r (tag_of c) (body_of c) tag body }
 
--- the command of each tag from 1 to 6, if the body has the length of the tag
-spelled : (r : Record) → AreBytes r.body → IsTag r.tag → r.tag ≤ 6 → length r.body ≡ size_of r.tag → (c : Command) × Spells c r
+-- the command of each tag from 1 to 6 and of 8, if the body has the length of the tag
+spelled : (r : Record) → AreBytes r.body → IsTag r.tag → r.tag ≢ 7 → r.tag ≢ 9 → length r.body ≡ size_of r.tag → (c : Command) × Spells c r
 unfolding body_of
-spelled r small tag few len =
+spelled r small tag order batch len =
     elim (cases_eq r.tag 1) [
       | inl is ↦ (AddAsset r.body, from_body (AddAsset r.body) r (len ∙ ap size_of is, small) is refl)
       | inr no_1 ↦
@@ -108,14 +98,23 @@ spelled r small tag few len =
                             elim (cases_eq r.tag 5) [
                               | inl is ↦ let m = twelve r.body (len ∙ ap size_of is) small in (WithdrawMoney m.0 m.1, from_body (WithdrawMoney m.0 m.1) r m.2 is m.3)
                               | inr no_5 ↦
-                                  let is : r.tag ≡ 6 = omega (arith, tag.0, few, no_1, no_2, no_3, no_4, no_5) in
-                                  let m = fourteen r.body (len ∙ ap size_of is) small in
-                                  (WithdrawAsset m.0 m.1 m.2, from_body (WithdrawAsset m.0 m.1 m.2) r m.3 is m.4)
+                                  elim (cases_eq r.tag 6) [
+                                    | inl is ↦ let m = fourteen r.body (len ∙ ap size_of is) small in (WithdrawAsset m.0 m.1 m.2, from_body (WithdrawAsset m.0 m.1 m.2) r m.3 is m.4)
+                                    | inr no_6 ↦
+                                        let is : r.tag ≡ 8 = omega (arith, tag.0, tag.1, order, batch, no_1, no_2, no_3, no_4, no_5, no_6) in
+                                        let m = twelve r.body (len ∙ ap size_of is) small in
+                                        (CancelOrder m.0 m.1, from_body (CancelOrder m.0 m.1) r m.2 is m.3)
+                                  ]
                             ]
                       ]
                 ]
           ]
     ]
+
+-- the order of the tag 7, if the body is a request's
+pub order_spelled : (r : Record) (request : Request) → r.tag ≡ 7 → SpellsRequest r.body request → Spells (PlaceOrder request) r
+unfolding body_of
+order_spelled r request is found = from_body (PlaceOrder request) r found.fits is found.spelled
 
 -- whether a tag is a command's
 tag_or_not : (tag : ℕ) → IsTag tag ⊎ (IsTag tag → ⊥)
@@ -131,13 +130,20 @@ reading_some r small =
     elim (tag_or_not r.tag) [
       | inr unknown ↦ (Err UnknownTag, unknown)
       | inl tag ↦
-          elim (cases_lt 6 r.tag) [
-            | inl unbuilt ↦ (Err NotBuilt, (omega (arith, unbuilt), tag.1))
-            | inr few ↦
-                let built : IsUnbuiltTag r.tag → ⊥ = λ unbuilt. omega (arith, few, unbuilt.0) in
-                elim (cases_eq (length r.body) (size_of r.tag)) [
-                  | inl len ↦ let found = spelled r small tag few len in (Ok found.0, (found.1, built))
-                  | inr other ↦ (Err BadBody, (tag, built, spells_none r few other))
+          elim (cases_eq r.tag 9) [
+            | inl unbuilt ↦ (Err NotBuilt, unbuilt)
+            | inr built ↦
+                elim (cases_eq r.tag 7) [
+                  | inl is ↦
+                      elim (request_told r.body small) [
+                        | inl found ↦ (Ok (PlaceOrder found.0), (order_spelled r found.0 is found.1, built))
+                        | inr none ↦ (Err BadBody, (tag, built, spells_none-from_request r is none))
+                      ]
+                  | inr order ↦
+                      elim (cases_eq (length r.body) (size_of r.tag)) [
+                        | inl len ↦ let found = spelled r small tag order built len in (Ok found.0, (found.1, built))
+                        | inr other ↦ (Err BadBody, (tag, built, spells_none r order other))
+                      ]
                 ]
           ]
     ]
@@ -151,7 +157,7 @@ units_size : (account asset units : ℕ) → length (unsigned 4 account ++ (unsi
 units_size account asset units = simp (length-append, length-unsigned)
 
 -- the record of a command whose row is short is within the limit
-pub command_short : (c : Command) → IsCommand c → ((request : Request) → c ≡ PlaceOrder request → length request.row ≤ 165) → IsRecord most_body (record_of c)
+pub command_short : (c : Command) → IsCommand c → HasShortRow c → IsRecord most_body (record_of c)
 unfolding body_of
 command_short (AddAsset ticker) h few = record { tag = omega arith; body = omega (arith, h.0) }
 command_short OpenAccount h few = record { tag = omega arith; body = omega arith }
@@ -159,6 +165,6 @@ command_short (DepositMoney account ticks) h few = record { tag = omega arith; b
 command_short (DepositAsset account asset units) h few = record { tag = omega arith; body = omega (arith, units_size account asset units) }
 command_short (WithdrawMoney account ticks) h few = record { tag = omega arith; body = omega (arith, money_size account ticks) }
 command_short (WithdrawAsset account asset units) h few = record { tag = omega arith; body = omega (arith, units_size account asset units) }
-command_short (PlaceOrder request) h few = record { tag = omega arith; body = omega (arith, request_size request, few request refl) }
+command_short (PlaceOrder request) h few = record { tag = omega arith; body = omega (arith, request_size request, few) }
 command_short (CancelOrder account number) h few = record { tag = omega arith; body = omega (arith, money_size account number) }
 command_short (RunBatch budget) h few = record { tag = omega arith; body = omega (arith, length-unsigned 4 budget) }

@@ -4,12 +4,14 @@ use Rattle.std.proofs.lemmas.List.{append-nil}
 use Rattle.wire_fields.specs.Numbers.{unsigned, signed}
 use Rattle.wire_fields.proofs.Spelling.{length-unsigned, length-signed, unsigned_unique, signed_unique}
 use Rattle.weight_rows.specs.declared.entries.Entry.{Entry}
+use Rattle.wire_records.specs.declared.place.Numbers.{Numbers}
 use Rattle.wire_records.specs.Commands.{Request}
 use Rattle.wire_records.specs.CommandRecords.{entry_spelling, request_spelling, IsEntry, IsRequest}
+use Rattle.wire_records.specs.Private.{FitNumbers, numbers_and}
 use Rattle.wire_records.proofs.CodeLaws.{counted_unique, counted_size}
 
 -- an entry from its parts
-same_entry : (e f : Entry) → e.asset ≡ f.asset → e.weight ≡ f.weight → e ≡ f
+pub same_entry : (e f : Entry) → e.asset ≡ f.asset → e.weight ≡ f.weight → e ≡ f
 same_entry e f a b =
     let made : ℕ → ℤ → Entry = λ asset weight. record { asset = asset; weight = weight } in
     ap (λ asset. made asset e.weight) a ∙ ap (λ weight. made f.asset weight) b
@@ -31,21 +33,45 @@ same_request r s account low high rate cap row =
     ∙ ap (λ h. made s.account s.low h r.rate r.cap r.row) high ∙ ap (λ q. made s.account s.low s.high q r.cap r.row) rate
     ∙ ap (λ c. made s.account s.low s.high s.rate c r.row) cap ∙ ap (λ x. made s.account s.low s.high s.rate s.cap x) row
 
+-- the numbers of a request, and how many entries it has
+abbrev pub numbers_of : Request → Numbers
+numbers_of r = record { account = r.account; low = r.low; high = r.high; rate = r.rate; cap = r.cap; count = length r.row }
+
+-- they fit
+pub fit_numbers : (r : Request) → IsRequest r → FitNumbers (numbers_of r)
+fit_numbers r fits = record { account = fits.account; low = fits.low; high = fits.high; rate = fits.rate; cap = fits.cap; count = fits.count }
+
+-- Two requests have the same numbers.
+pub record SameNumbers (m n : Numbers) : Type 0 where
+  pub account : m.account ≡ n.account
+  pub low : m.low ≡ n.low
+  pub high : m.high ≡ n.high
+  pub rate : m.rate ≡ n.rate
+  pub cap : m.cap ≡ n.cap
+  pub count : m.count ≡ n.count
+
+-- bytes that begin with two requests' numbers begin with one's
+pub numbers_unique : (m n : Numbers) (x y : List ℕ) → FitNumbers m → FitNumbers n → numbers_and m x ≡ numbers_and n y → SameNumbers m n × (x ≡ y)
+numbers_unique m n x y h k same =
+    let accounts = unsigned_unique 4 m.account n.account _ _ h.account k.account same in
+    let lows = signed_unique 8 m.low n.low _ _ (omega arith) h.low k.low accounts.1 in
+    let highs = signed_unique 8 m.high n.high _ _ (omega arith) h.high k.high lows.1 in
+    let rates = unsigned_unique 4 m.rate n.rate _ _ h.rate k.rate highs.1 in
+    let caps = unsigned_unique 8 m.cap n.cap _ _ h.cap k.cap rates.1 in
+    let counts = unsigned_unique 1 m.count n.count x y h.count k.count caps.1 in
+    (record { account = accounts.0; low = lows.0; high = highs.0; rate = rates.0; cap = caps.0; count = counts.0 }, counts.1)
+
 -- two requests of one spelling are one
 pub request_unique : (r s : Request) → IsRequest r → IsRequest s → request_spelling r ≡ request_spelling s → r ≡ s
 unfolding request_spelling
 request_unique r s h k same =
-    let accounts = unsigned_unique 4 r.account s.account _ _ h.account k.account same in
-    let lows = signed_unique 8 r.low s.low _ _ (omega arith) h.low k.low accounts.1 in
-    let highs = signed_unique 8 r.high s.high _ _ (omega arith) h.high k.high lows.1 in
-    let rates = unsigned_unique 4 r.rate s.rate _ _ h.rate k.rate highs.1 in
-    let caps = unsigned_unique 8 r.cap s.cap _ _ h.cap k.cap rates.1 in
-    let counts = unsigned_unique 1 (length r.row) (length s.row) _ _ h.count k.count caps.1 in
-    let rows = counted_unique IsEntry entry_spelling entry_unique r.row s.row [] [] h.row k.row counts.0 (append-nil _ ∙ counts.1 ∙ sym (append-nil _)) in
-    same_request r s accounts.0 lows.0 highs.0 rates.0 caps.0 rows.0
+    let found = numbers_unique (numbers_of r) (numbers_of s) _ _ (fit_numbers r h) (fit_numbers s k) same in
+    let numbers = found.0 in
+    let rows = counted_unique IsEntry entry_spelling entry_unique r.row s.row [] [] h.row k.row numbers.count (append-nil _ ∙ found.1 ∙ sym (append-nil _)) in
+    same_request r s numbers.account numbers.low numbers.high numbers.rate numbers.cap rows.0
 
 -- six bytes an entry
-entry_size : (e : Entry) → length (entry_spelling e) ≡ 6
+pub entry_size : (e : Entry) → length (entry_spelling e) ≡ 6
 unfolding entry_spelling
 entry_size e = simp (length-append, length-unsigned, length-signed)
 

@@ -72,6 +72,22 @@ IsCommand (PlaceOrder request) = IsRequest request
 IsCommand (CancelOrder account number) = IsUnsigned 4 account × IsUnsigned 8 number
 IsCommand (RunBatch budget) = IsUnsigned 4 budget
 
+-- the most entries of a row in a record within the limit of command records
+abbrev pub most_row : ℕ
+most_row = 165
+
+-- the row of a command, if it has one, has at most so many entries
+abbrev pub HasShortRow : Command → Type 0
+HasShortRow (AddAsset ticker) = Unit {0}
+HasShortRow OpenAccount = Unit {0}
+HasShortRow (DepositMoney account ticks) = Unit {0}
+HasShortRow (DepositAsset account asset units) = Unit {0}
+HasShortRow (WithdrawMoney account ticks) = Unit {0}
+HasShortRow (WithdrawAsset account asset units) = Unit {0}
+HasShortRow (PlaceOrder request) = length request.row ≤ most_row
+HasShortRow (CancelOrder account number) = Unit {0}
+HasShortRow (RunBatch budget) = Unit {0}
+
 -- the record is this command's
 pub record Spells (command : Command) (r : Record) : Type 0 where
   pub fits : IsCommand command
@@ -81,9 +97,9 @@ pub record Spells (command : Command) (r : Record) : Type 0 where
 abbrev pub IsTag : ℕ → Type 0
 IsTag tag = (1 ≤ tag) × (tag ≤ 9)
 
--- a tag of a command that isn't built yet, 7 to 9
+-- a tag of a command that isn't built yet, 9 alone
 abbrev pub IsUnbuiltTag : ℕ → Type 0
-IsUnbuiltTag tag = (7 ≤ tag) × (tag ≤ 9)
+IsUnbuiltTag tag = tag ≡ 9
 
 -- no command of any tag has this record
 abbrev pub SpellsNone : Record → Type 0

@@ -2,8 +2,8 @@
 use Rattle.std.specs.Prelude.{◌≡◌, ◌<◌, ◌≤◌, ◌^◌, ℕ, List, ◌++◌, length, All, Result, Ok}
 use Rattle.wire_records.specs.Records.{Record, AreBytes, IsRecord, spelling, most_body}
 use Rattle.wire_records.specs.Framing.{IsFront}
-use Rattle.wire_records.specs.Commands.{Request, Command, PlaceOrder}
-use Rattle.wire_records.specs.CommandRecords.{record_of, IsCommand, Spells, IsUnbuiltTag, IsReadAs}
+use Rattle.wire_records.specs.Commands.{Command}
+use Rattle.wire_records.specs.CommandRecords.{record_of, IsCommand, HasShortRow, Spells, IsUnbuiltTag, IsReadAs}
 use Rattle.wire_records.specs.declared.reply.Refusal.{Refusal}
 use Rattle.wire_records.specs.Refusals.{code_of}
 use Rattle.wire_records.specs.declared.command.BodyFault.{BodyFault}
@@ -49,7 +49,7 @@ CommandIsRead = (c : Command) (r : Record) (read : Result Command BodyFault) →
 
 -- the record of a command whose row has at most 165 entries, if it has one, is within the limit of command records
 abbrev pub CommandIsShort : Type 0
-CommandIsShort = (c : Command) → IsCommand c → ((request : Request) → c ≡ PlaceOrder request → length request.row ≤ 165) → IsRecord most_body (record_of c)
+CommandIsShort = (c : Command) → IsCommand c → HasShortRow c → IsRecord most_body (record_of c)
 
 -- each list of bytes has exactly one reading as a command file
 abbrev pub OneFile : Type 0

@@ -2,6 +2,7 @@ pub mod Records
 pub mod Framing
 pub mod Commands
 pub mod CommandRecords
+pub mod Private
 pub mod Views
 pub mod Refusals
 pub mod Grammars

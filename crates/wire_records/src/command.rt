@@ -2,12 +2,14 @@
 ghost use Rattle.std.specs.Prelude.{◌≡◌, ◌≢◌, ◌<◌, ◌^◌, ◌++◌, length, IfSome, IfNone};
 ghost use Rattle.wire_fields.specs.Numbers.{unsigned};
 
-use crate::RecordView;
+use crate::place::place_in;
+use crate::{PlaceView, RecordView};
+use weight_rows::EntryList;
 use wire_fields::Cursor;
 
 /// A command that owns its fields. An account is a number from 1, an asset a number from 0, and money is in
 /// ticks of 2^32 grains. Each number may be any of its width: the market says which it accepts.
-#[derive(Clone, Copy, Debug, PartialEq, Eq)]
+#[derive(Debug, Drop)]
 pub enum Command {
     /// A new asset under this ticker: one to eight characters, padded with spaces to eight bytes.
     AddAsset {
@@ -37,10 +39,26 @@ pub enum Command {
         asset: u16,
         units: u64,
     },
+    /// An order of an account for a portfolio (Budish, Cramton, Kyle, Lee and Malec, "Flow Trading", 2023). It buys
+    /// `rate` units a batch at portfolio prices up to `low`, fewer above that and none from `high` on, both in
+    /// ticks, and at most `cap` units in all. The row says which assets one unit has, with what weights.
+    PlaceOrder {
+        account: u32,
+        low: i64,
+        high: i64,
+        rate: u32,
+        cap: u64,
+        row: EntryList,
+    },
+    /// The order of this number, from 1, leaves the book. It is to be the account's own.
+    CancelOrder {
+        account: u32,
+        order: u64,
+    },
 }
 
 /// A command in borrowed bytes: the fields are those of [`Command`], in the same units.
-#[derive(Clone, Copy, Debug, PartialEq, Eq)]
+#[derive(Debug, Drop)]
 pub enum CommandView<'a> {
     /// A new asset under this ticker. It has 8 bytes, of any value: a record gives no other length.
     AddAsset(&'a [u8]),
@@ -68,6 +86,13 @@ pub enum CommandView<'a> {
         asset: u16,
         units: u64,
     },
+    /// An order of an account for a portfolio.
+    PlaceOrder(PlaceView<'a>),
+    /// The order of this number, from 1, leaves the book.
+    CancelOrder {
+        account: u32,
+        order: u64,
+    },
 }
 
 /// Why a record spells no command that can be served.
@@ -81,7 +106,7 @@ pub enum BodyFault {
     BadBody,
 }
 
-// An account and an amount, which take all of a body of 12 bytes.
+// An account and an amount, or an order, which take all of a body of 12 bytes.
 fn money_fields(body: &[u8]) -> Option<(u32, u64)>
     ensures spelled { IfSome result (λ fields. body.now ≡ unsigned 4 fields.0 ++ unsigned 8 fields.1) }
     ensures fits { IfSome result (λ fields. (fields.0 < 2 ^ 32) × (fields.1 < 2 ^ 64)) }
@@ -119,9 +144,9 @@ impl<'a> RecordView<'a> {
 
     /// The command that the record spells, with its fields in the borrowed bytes. Constant cost.
     ///
-    /// `UnknownTag` exactly where the tag is outside 1 to 9, `NotBuilt` exactly where it is 7, 8 or 9,
-    /// `BadBody` exactly where it is 1 to 6 and no command of the tag has this body: a byte more or fewer
-    /// than the fields take.
+    /// `UnknownTag` exactly where the tag is outside 1 to 9, `NotBuilt` exactly where it is 9, `BadBody` exactly
+    /// where it is 1 to 8 and no command of the tag has this body: a byte more or fewer than the fields take. The
+    /// entries of an order aren't looked at, beyond how many bytes they take.
     pub fn command(&self) -> Result<CommandView<'a>, BodyFault>
         ensures { IsReadAs self.now (reading result) }
     {
@@ -153,8 +178,16 @@ impl<'a> RecordView<'a> {
                 }),
                 None => Err(BodyFault::BadBody),
             },
+            7 => match place_in(body) {
+                Some(place) => Ok(CommandView::PlaceOrder(place)),
+                None => Err(BodyFault::BadBody),
+            },
+            8 => match money_fields(body) {
+                Some((account, order)) => Ok(CommandView::CancelOrder { account, order }),
+                None => Err(BodyFault::BadBody),
+            },
             1 | 2 => Err(BodyFault::BadBody),
-            7..=9 => Err(BodyFault::NotBuilt),
+            9 => Err(BodyFault::NotBuilt),
             _ => Err(BodyFault::UnknownTag),
         }
     }

@@ -9,6 +9,9 @@ pub const COMMAND_MAGIC: [u8; 8] = *b"FLOWCMD1";
 /// The longest body of a command record, in bytes.
 pub const MOST_BODY: u32 = 1024;
 
+/// The most entries of a row whose record has no longer body.
+pub const MOST_ROW: usize = 165;
+
 /// Whether the bytes begin as a command file, so that records stand behind the first 8. Constant cost.
 pub fn is_command_file(bytes: &[u8]) -> bool
     ensures { IsTrue result ↔ ((body : List ℕ) × BeginsWith commands.magics bytes.now One body) }

@@ -3,8 +3,9 @@
 ghost use Rattle.wire_records.specs.Laws.{OneRecord, OneCommand, OneRefusal, OneFront, WrittenIsFramed, OneReading, EachIsRead, CommandIsRead, CommandIsShort, OneFile, FirstOfFile, FileIsRead};
 ghost use Rattle.std.specs.Prelude.{◌≡◌, ◌↔◌, IsTrue};
 ghost use Rattle.wire_records.specs.Records.{command_magic, most_body};
+ghost use Rattle.wire_records.specs.CommandRecords.{most_row};
 
-use crate::{BodyFault, COMMAND_MAGIC, MOST_BODY, Refusal, Reply};
+use crate::{BodyFault, COMMAND_MAGIC, MOST_BODY, MOST_ROW, Refusal, Reply};
 
 /// No record's spelling is a proper front of another's, so what was written is read again, whatever
 /// follows it.
@@ -48,7 +49,7 @@ pub fn command_is_read()
     ensures { CommandIsRead }
 {}
 
-/// The record of a command is within the limit of command records; a row may have up to 165 entries.
+/// The record of a command whose row has at most 165 entries, if it has one, is within the limit of command records.
 pub fn command_is_short()
     ensures { CommandIsShort }
 {}
@@ -68,10 +69,11 @@ pub fn file_is_read()
     ensures { FileIsRead }
 {}
 
-/// The magic and the limit that the code names are those of the definitions.
+/// The magic and the limits that the code names are those of the definitions.
 pub fn constants_are_named()
     ensures magic { COMMAND_MAGIC ≡ command_magic }
     ensures most_body { MOST_BODY ≡ most_body }
+    ensures most_row { MOST_ROW ≡ most_row }
 {}
 
 /// Two replies are equal in a test exactly where they are the same.

@@ -1,7 +1,8 @@
 //! The records of a command file, read where they lie: framing, commands, and the names of replies.
 //!
 //! A record is a tag, a length and a body. [`next_record`] takes one off the front of borrowed bytes,
-//! and [`RecordView::command`] says which command it spells; neither copies or allocates anything.
+//! and [`RecordView::command`] says which command it spells; neither copies or allocates anything. The entries
+//! of an order are read where they lie too, one by one, through a [`RowView`].
 //! [`is_command_file`] looks at the magic before the first record. [`write_command`] writes the one record of
 //! a command. What holds of all spellings, and of files as a whole, stands in [`laws`].
 #![tactic(auto)]
@@ -9,6 +10,7 @@
 mod command;
 mod file;
 pub mod laws;
+mod place;
 mod record;
 mod reply;
 #[cfg(test)]
@@ -16,7 +18,8 @@ mod tests;
 mod write;
 
 pub use command::{BodyFault, Command, CommandView};
-pub use file::{COMMAND_MAGIC, MOST_BODY, is_command_file};
+pub use file::{COMMAND_MAGIC, MOST_BODY, MOST_ROW, is_command_file};
+pub use place::{PlaceView, RowView};
 pub use record::{Framed, RecordView, next_record};
 pub use reply::{Refusal, Reply};
 pub use write::{Memory, put_head, write_command};

@@ -7,7 +7,7 @@ use std::marker::Model;
 use wire_fields::Cursor;
 
 // The same slice, with what its type says of its items as a clause.
-fn as_bytes(bytes: &[u8]) -> &[u8]
+pub(crate) fn as_bytes(bytes: &[u8]) -> &[u8]
     ensures value { result.now ≡ bytes.now }
     ensures bytes { AreBytes bytes.now }
 {

@@ -1,13 +1,16 @@
 //! How a command is written.
-ghost use Rattle.std.specs.Prelude.{◌≡◌, ◌+◌, ◌++◌, ◌≤◌, [], length, OnOk, OnErr, vec_len, vec_capacity};
+ghost use Rattle.std.specs.Prelude.{◌≡◌, ◌+◌, ◌*◌, ◌++◌, ◌≤◌, [], length, All, OnOk, OnErr, vec_len, vec_capacity};
+ghost use Rattle.std.specs.List.{flat_map};
 ghost use Rattle.wire_fields.specs.Numbers.{unsigned};
 ghost use Rattle.wire_records.specs.Records.{AreBytes, head, spelling};
-ghost use Rattle.wire_records.specs.CommandRecords.{record_of, IsCommand};
+ghost use Rattle.wire_records.specs.CommandRecords.{entry_spelling, request_spelling, record_of, IsEntry, IsRequest, IsCommand, HasShortRow, most_row};
+ghost use Rattle.wire_records.specs.Private.{room_of};
 ghost use Rattle.wire_records.specs.Views.{command_in};
 
 use crate::Command;
 use std::alloc::AllocError;
-use wire_fields::{put_bytes, put_u8, put_u16, put_u32, put_u64};
+use weight_rows::Entry;
+use wire_fields::{put_bytes, put_i32, put_i64, put_u8, put_u16, put_u32, put_u64};
 
 /// There is no memory for what was asked. Nothing was changed.
 #[derive(Clone, Copy, Debug, PartialEq, Eq)]
@@ -19,7 +22,7 @@ impl From<AllocError> for Memory {
     }
 }
 
-// The longest record of a command takes as many bytes.
+// The longest record of a command without a row takes as many bytes.
 const LONGEST: usize = 19;
 
 /// Appends how a record begins: the tag, and the length in bytes of the body, which the caller appends
@@ -52,7 +55,7 @@ fn put_bare(out: &mut Vec<u8>, tag: u8)
     put_head(out, tag, 0);
 }
 
-// A record of an account and an amount of money.
+// A record of an account and an amount of money, or an order.
 fn put_money(out: &mut Vec<u8>, tag: u8, account: u32, ticks: u64)
     requires { vec_len out.old + 17 ≤ vec_capacity out.old }
     ensures { out.new.items ≡ out.old.items
@@ -75,32 +78,95 @@ fn put_units(out: &mut Vec<u8>, tag: u8, account: u32, asset: u16, units: u64)
     put_u64(out, units);
 }
 
+// The entries of a row.
+fn put_entries(out: &mut Vec<u8>, entries: &[Entry])
+    requires { vec_len out.old + 6 * length entries.now ≤ vec_capacity out.old }
+    ensures written { out.new.items ≡ out.old.items ++ flat_map entry_spelling entries.now }
+    ensures fit { All IsEntry entries.now }
+{
+    for entry in entries {
+        put_u16(out, entry.asset);
+        put_i32(out, entry.weight);
+    }
+}
+
+// A record of an order that is asked for.
+fn put_order(
+    out: &mut Vec<u8>,
+    account: u32,
+    low: i64,
+    high: i64,
+    rate: u32,
+    cap: u64,
+    row: &[Entry],
+)
+    requires short { length row.now ≤ most_row }
+    requires room { vec_len out.old + (38 + 6 * length row.now) ≤ vec_capacity out.old }
+    ensures written { out.new.items ≡ out.old.items ++ spelling (record {
+      tag = 7;
+      body = request_spelling
+          (record { account = account; low = low; high = high; rate = rate; cap = cap; row = row.now });
+    }) }
+    ensures fits { IsRequest (record { account = account; low = low; high = high; rate = rate; cap = cap; row = row.now }) }
+{
+    put_head(out, 7, 33 + 6 * row.len() as u32);
+    put_u32(out, account);
+    put_i64(out, low);
+    put_i64(out, high);
+    put_u32(out, rate);
+    put_u64(out, cap);
+    put_u8(out, row.len() as u8);
+    put_entries(out, row);
+}
+
+// The most bytes that the record of a command takes.
+fn room_for(command: &Command) -> usize
+    requires { HasShortRow (command_in command.now) }
+    ensures { result ≡ room_of (command_in command.now) }
+{
+    match command {
+        Command::PlaceOrder { row, .. } => 38 + 6 * row.as_slice().len(),
+        _ => LONGEST,
+    }
+}
+
 #[tactic(auto, unfolding(crate::specs::CommandRecords::body_of))]
-/// Appends the record of a command, at most 19 bytes. After `Memory` the bytes are as before. The cost is
-/// that of the bytes, and of a move of `out` where it has to grow.
+/// Appends the record of a command, whose row has at most [`MOST_ROW`](crate::MOST_ROW) entries, if it has one: at
+/// most 19 bytes, or 38 and 6 for each entry. After `Memory` the bytes are as before. The cost is that of the bytes,
+/// and of a move of `out` where it has to grow.
 pub fn write_command(command: &Command, out: &mut Vec<u8>) -> Result<(), Memory>
+    requires { HasShortRow (command_in command.now) }
     ensures written { OnOk result (out.new.items ≡ out.old.items ++ spelling (record_of (command_in command.now))) }
     ensures stays { OnErr result (out.new.items ≡ out.old.items) }
 
     // So the record is this command's, and by the laws it is framed and read as it, whatever follows it.
     ensures fits { OnOk result (IsCommand (command_in command.now)) }
 {
-    out.reserve(LONGEST)?;
-    match *command {
-        Command::AddAsset { ticker } => put_ticker(out, 1, ticker),
+    out.reserve(room_for(command))?;
+    match command {
+        Command::AddAsset { ticker } => put_ticker(out, 1, *ticker),
         Command::OpenAccount => put_bare(out, 2),
-        Command::DepositMoney { account, ticks } => put_money(out, 3, account, ticks),
+        Command::DepositMoney { account, ticks } => put_money(out, 3, *account, *ticks),
         Command::DepositAsset {
             account,
             asset,
             units,
-        } => put_units(out, 4, account, asset, units),
-        Command::WithdrawMoney { account, ticks } => put_money(out, 5, account, ticks),
+        } => put_units(out, 4, *account, *asset, *units),
+        Command::WithdrawMoney { account, ticks } => put_money(out, 5, *account, *ticks),
         Command::WithdrawAsset {
             account,
             asset,
             units,
-        } => put_units(out, 6, account, asset, units),
+        } => put_units(out, 6, *account, *asset, *units),
+        Command::PlaceOrder {
+            account,
+            low,
+            high,
+            rate,
+            cap,
+            row,
+        } => put_order(out, *account, *low, *high, *rate, *cap, row.as_slice()),
+        Command::CancelOrder { account, order } => put_money(out, 8, *account, *order),
     }
     Ok(())
 }

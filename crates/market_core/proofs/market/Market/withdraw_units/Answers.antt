@@ -1,25 +1,39 @@
-use Rattle.std.proofs.Common.{arith}
-use Rattle.std.specs.Prelude.{pos}
+use Rattle.std.proofs.Common.{◌≡◌, arith}
 use Rattle.std.proofs.lemmas.Int.{ints}
 use Rattle.wire_records.specs.Commands.{WithdrawAsset, Plain}
+use Rattle.flow_orders.specs.Orders.{needed_units}
 use Rattle.flow_orders.specs.Own.{IsOwnOutcome}
 use Rattle.market_core.specs.Step.{Serves}
-use Rattle.market_core.specs.Private.{without_orders}
+use Rattle.market_core.specs.Private.{without_batches}
 use Rattle.market_core.proofs.Answering.{serves-withdraw_units}
 use Rattle.market_core.proofs.Fitting.{sound_changes_fit, sound-served}
+use Rattle.market_core.proofs.Reserving.{same_number, needed_units_not_negative}
 use Rattle.market_core.proofs.market.Market.withdraw_units.Goals as goal
 
-pub withdraw_units-requires-clause-fits : goal.withdraw_units-requires-clause-fits
-withdraw_units-requires-clause-fits c = (sound_changes_fit (without_orders c.self.inside.tickers c.self.inside.accounts) c.self.invariant).unit_withdrawal c.args.account c.args.asset c.args.units (pos 0) (omega (arith, ints))
+pub withdraw_units-requires-clause-not_negative : goal.withdraw_units-requires-clause-not_negative
+withdraw_units-requires-clause-not_negative c =
+    rw (same_number c.units_needed-reserved.result (record { sfits = c.units_needed-reserved.type_inv }), c.units_needed-reserved.ensures.value)
+    (needed_units_not_negative c.self.inside.book.orders c.args.account c.args.asset)
 
-served : (c : goal.After-reply_to) → Serves IsOwnOutcome (without_orders c.self.inside.tickers c.self.inside.accounts) (WithdrawAsset c.args.account c.args.asset c.args.units) (Plain c.reply_to.result) (without_orders c.self.inside.tickers c.withdraw_units.new.self)
+pub withdraw_units-requires-clause-covered : goal.withdraw_units-requires-clause-covered
+withdraw_units-requires-clause-covered c =
+    rw (same_number c.units_needed-reserved.result (record { sfits = c.units_needed-reserved.type_inv }), c.units_needed-reserved.ensures.value)
+    (c.self.invariant.covered.units c.args.account c.args.asset)
+
+pub withdraw_units-requires-clause-fits : goal.withdraw_units-requires-clause-fits
+withdraw_units-requires-clause-fits c =
+    rw (same_number c.units_needed-reserved.result (record { sfits = c.units_needed-reserved.type_inv }), c.units_needed-reserved.ensures.value)
+    ((sound_changes_fit (without_batches c.self.inside.tickers c.self.inside.accounts c.self.inside.book.orders c.self.inside.next_order) c.self.invariant).unit_withdrawal c.args.account c.args.asset c.args.units
+    (needed_units c.self.inside.book.orders c.args.account c.args.asset) (needed_units_not_negative c.self.inside.book.orders c.args.account c.args.asset))
+
+served : (c : goal.After-reply_to) → Serves IsOwnOutcome (without_batches c.self.inside.tickers c.self.inside.accounts c.self.inside.book.orders c.self.inside.next_order) (WithdrawAsset c.args.account c.args.asset c.args.units) (Plain c.reply_to.result) (without_batches c.self.inside.tickers c.withdraw_units.new.self c.self.inside.book.orders c.self.inside.next_order)
 served c =
-    let answers = c.withdraw_units.ensures in
-    serves-withdraw_units IsOwnOutcome (without_orders c.self.inside.tickers c.self.inside.accounts) c.withdraw_units.new.self c.args.account c.args.asset c.args.units c.withdraw_units.result c.reply_to.result
+    let answers = rw (same_number c.units_needed-reserved.result (record { sfits = c.units_needed-reserved.type_inv }), c.units_needed-reserved.ensures.value) at c.withdraw_units.ensures in
+    serves-withdraw_units IsOwnOutcome (without_batches c.self.inside.tickers c.self.inside.accounts c.self.inside.book.orders c.self.inside.next_order) c.withdraw_units.new.self c.args.account c.args.asset c.args.units c.withdraw_units.result c.reply_to.result
     answers.accepted answers.refused answers.ok answers.err c.reply_to.ensures
 
 pub invariant_of-self : goal.invariant_of-self
-invariant_of-self c = sound-served (without_orders c.self.inside.tickers c.self.inside.accounts) _ _ _ c.self.invariant (served c)
+invariant_of-self c = sound-served (without_batches c.self.inside.tickers c.self.inside.accounts c.self.inside.book.orders c.self.inside.next_order) _ _ _ c.self.invariant (served c)
 
 pub returns : goal.returns
 returns c = rw (← c.self.view_is) (served c)

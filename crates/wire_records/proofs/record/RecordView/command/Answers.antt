@@ -1,22 +1,23 @@
-use Rattle.std.proofs.Common.{◌≡◌, ◌≤◌, ℕ, [], length, sym, ap, ◌∙◌, arith, refl}
+use Rattle.std.proofs.Common.{◌≡◌, ◌≢◌, ◌≤◌, ℕ, [], length, sym, ap, ◌∙◌, arith, refl}
 use Rattle.std.proofs.lemmas.List.{nil_from_length}
 use Rattle.std.proofs.lemmas.Bool.Decides.{nat_tests}
 use Rattle.wire_records.specs.Records.{Record}
 use Rattle.wire_records.specs.CommandRecords.{body_of, SpellsNone, IsTag, IsUnbuiltTag}
-use Rattle.wire_records.proofs.Bodies.{same_record, spells_none, size_of}
+use Rattle.wire_records.proofs.Bodies.{same_record, spells_none, spells_none-from_request, size_of}
+use Rattle.wire_records.proofs.Readings.{order_spelled}
 use Rattle.wire_records.proofs.record.RecordView.command.Goals as goal
 use Rattle.wire_records.proofs.record.RecordView.command.Goals.{in-1+else-body-eq8, in-2+else-is_empty}
 
--- a tag up to 6 is built
-is_built : (r : Record) → r.tag ≤ 6 → IsUnbuiltTag r.tag → ⊥
-is_built r few unbuilt = omega (arith, few, unbuilt.0)
+-- a tag up to 8 is built
+is_built : (r : Record) → r.tag ≤ 8 → IsUnbuiltTag r.tag → ⊥
+is_built r few unbuilt = omega (arith, few, unbuilt)
 
 -- a body of another length than its tag's, at a tag that is built
-bad : (r : Record) (tag size : ℕ) → r.tag ≡ tag → (1 ≤ tag) × (tag ≤ 6) → size ≡ size_of tag → (length r.body ≡ size → ⊥) → IsTag r.tag × (IsUnbuiltTag r.tag → ⊥) × SpellsNone r
-bad r tag size is built size_is other = (
+bad : (r : Record) (tag size : ℕ) → r.tag ≡ tag → (1 ≤ tag) × (tag ≤ 8) → tag ≢ 7 → size ≡ size_of tag → (length r.body ≡ size → ⊥) → IsTag r.tag × (IsUnbuiltTag r.tag → ⊥) × SpellsNone r
+bad r tag size is built order size_is other = (
   (omega arith, omega arith),
   is_built r (omega arith),
-  spells_none r (omega arith) (λ e. other (e ∙ ap size_of is ∙ sym size_is)),
+  spells_none r (λ e. order (sym is ∙ e)) (λ e. other (e ∙ ap size_of is ∙ sym size_is)),
 )
 
 pub returns-in-1 : goal.returns-in-1
@@ -34,7 +35,7 @@ unfolding body_of
 returns-in-Some c = (record { fits = c.in-Some.ensures.fits; spelled = same_record c.args.self.now 3 _ (omega arith) (sym c.body-body.ensures.value ∙ c.in-Some.ensures.spelled) }, is_built c.args.self.now (omega arith))
 
 pub returns-in-None : goal.returns-in-None
-returns-in-None c = bad c.args.self.now 3 12 (omega arith) (omega arith, omega arith) refl (λ e. c.in-None.ensures.other (ap length c.body-body.ensures.value ∙ e))
+returns-in-None c = bad c.args.self.now 3 12 (omega arith) (omega arith, omega arith) (omega arith) refl (λ e. c.in-None.ensures.other (ap length c.body-body.ensures.value ∙ e))
 
 pub returns-in-Some-asset_fields : goal.returns-in-Some-asset_fields
 unfolding body_of
@@ -43,7 +44,7 @@ returns-in-Some-asset_fields c =
     (record { fits = arm.ensures.fits; spelled = same_record c.args.self.now 4 _ (omega arith) (sym c.body-body.ensures.value ∙ arm.ensures.spelled) }, is_built c.args.self.now (omega arith))
 
 pub returns-in-None-asset_fields : goal.returns-in-None-asset_fields
-returns-in-None-asset_fields c = bad c.args.self.now 4 14 (omega arith) (omega arith, omega arith) refl (λ e. c.in-None-asset_fields.ensures.other (ap length c.body-body.ensures.value ∙ e))
+returns-in-None-asset_fields c = bad c.args.self.now 4 14 (omega arith) (omega arith, omega arith) (omega arith) refl (λ e. c.in-None-asset_fields.ensures.other (ap length c.body-body.ensures.value ∙ e))
 
 pub returns-in-Some-money_fields : goal.returns-in-Some-money_fields
 unfolding body_of
@@ -52,7 +53,7 @@ returns-in-Some-money_fields c =
     (record { fits = arm.ensures.fits; spelled = same_record c.args.self.now 5 _ (omega arith) (sym c.body-body.ensures.value ∙ arm.ensures.spelled) }, is_built c.args.self.now (omega arith))
 
 pub returns-in-None-money_fields : goal.returns-in-None-money_fields
-returns-in-None-money_fields c = bad c.args.self.now 5 12 (omega arith) (omega arith, omega arith) refl (λ e. c.in-None-money_fields.ensures.other (ap length c.body-body.ensures.value ∙ e))
+returns-in-None-money_fields c = bad c.args.self.now 5 12 (omega arith) (omega arith, omega arith) (omega arith) refl (λ e. c.in-None-money_fields.ensures.other (ap length c.body-body.ensures.value ∙ e))
 
 pub returns-in-Some-asset_fields-2 : goal.returns-in-Some-asset_fields-2
 unfolding body_of
@@ -61,13 +62,30 @@ returns-in-Some-asset_fields-2 c =
     (record { fits = arm.ensures.fits; spelled = same_record c.args.self.now 6 _ (omega arith) (sym c.body-body.ensures.value ∙ arm.ensures.spelled) }, is_built c.args.self.now (omega arith))
 
 pub returns-in-None-asset_fields-2 : goal.returns-in-None-asset_fields-2
-returns-in-None-asset_fields-2 c = bad c.args.self.now 6 14 (omega arith) (omega arith, omega arith) refl (λ e. c.in-None-asset_fields-2.ensures.other (ap length c.body-body.ensures.value ∙ e))
+returns-in-None-asset_fields-2 c = bad c.args.self.now 6 14 (omega arith) (omega arith, omega arith) (omega arith) refl (λ e. c.in-None-asset_fields-2.ensures.other (ap length c.body-body.ensures.value ∙ e))
 
 pub returns-in-1-2 : goal.returns-in-1-2
 returns-in-1-2 c =
     elim c.in-1-2-1.branch [
       | in-1+else-body-eq8 w ↦
-          bad c.args.self.now 1 8 (omega arith) (omega arith, omega arith) refl (λ e. w.if-body-eq8.false (ap length c.body-body.ensures.value ∙ e))
+          bad c.args.self.now 1 8 (omega arith) (omega arith, omega arith) (omega arith) refl (λ e. w.if-body-eq8.false (ap length c.body-body.ensures.value ∙ e))
       | in-2+else-is_empty w ↦
-          bad c.args.self.now 2 0 (omega arith) (omega arith, omega arith) refl (λ e. let empty : length c.body-body.result.now ≡ 0 = ap length c.body-body.ensures.value ∙ e in absurd (grind (arith, nat_tests, w.is_empty.ensures)))
+          bad c.args.self.now 2 0 (omega arith) (omega arith, omega arith) (omega arith) refl (λ e. let empty : length c.body-body.result.now ≡ 0 = ap length c.body-body.ensures.value ∙ e in absurd (grind (arith, nat_tests, w.is_empty.ensures)))
     ]
+
+pub returns-in-Some-place_in : goal.returns-in-Some-place_in
+returns-in-Some-place_in c =
+    (order_spelled c.args.self.now c.in-Some-place_in.place (omega arith) (rw c.body-body.ensures.value at c.in-Some-place_in.ensures.found), is_built c.args.self.now (omega arith))
+
+pub returns-in-None-place_in : goal.returns-in-None-place_in
+returns-in-None-place_in c =
+    ((omega arith, omega arith), is_built c.args.self.now (omega arith), spells_none-from_request c.args.self.now (omega arith) (rw c.body-body.ensures.value at c.in-None-place_in.ensures.none))
+
+pub returns-in-Some-money_fields-2 : goal.returns-in-Some-money_fields-2
+unfolding body_of
+returns-in-Some-money_fields-2 c =
+    let arm = c.in-Some-money_fields-2 in
+    (record { fits = arm.ensures.fits; spelled = same_record c.args.self.now 8 _ (omega arith) (sym c.body-body.ensures.value ∙ arm.ensures.spelled) }, is_built c.args.self.now (omega arith))
+
+pub returns-in-None-money_fields-2 : goal.returns-in-None-money_fields-2
+returns-in-None-money_fields-2 c = bad c.args.self.now 8 12 (omega arith) (omega arith, omega arith) (omega arith) refl (λ e. c.in-None-money_fields-2.ensures.other (ap length c.body-body.ensures.value ∙ e))

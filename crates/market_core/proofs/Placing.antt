@@ -1,0 +1,142 @@
+-- What an order that is asked for needs of its account, entry by entry; and a cancelled one.
+use Rattle.std.proofs.Common.{◌≡◌, ◌≢◌, ℕ, ◌+◌, ◌-◌, ◌*◌, ◌<◌, ◌≤◌, ◌↔◌, ◌==◌, not, inl, inr, Bool, true, false, List, [], ◌∷◌, ◌++◌, ℤ, pos, negsuc, ◌-ℤ◌, ◌≤ℤ◌, Option, Some, None, IsTrue, if◌then◌else◌, length, ⊎_elim, refl, sym, ap, ◌∙◌, subst, arith}
+use Rattle.std.specs.Prelude.{slice_get, slice_index_or, All, Contains, IsNone, IfNone, IfSome}
+use Rattle.std.specs.List.{filter}
+use Rattle.std.proofs.lemmas.Int.{ints}
+use Rattle.std.proofs.lemmas.Bool.{cases_lt}
+use Rattle.std.proofs.lemmas.List.{length-map, get_or-map}
+use Rattle.std.proofs.lemmas.Option.{slice_get_within, get_or_from_slice_get}
+use Rattle.weight_rows.specs.declared.entries.Entry.{Entry}
+use Rattle.weight_rows.specs.Rows.{IsLawfulRow, assets_of, weight_in}
+use Rattle.weight_rows.proofs.RowLawProofs.{entries_give_weights, named_assets_weigh}
+use Rattle.flow_accounts.specs.Balances.{IsAccount, IsAsset}
+use Rattle.wire_records.specs.Commands.{Request, PlaceOrder, CancelOrder, Plain}
+use Rattle.wire_records.specs.declared.reply.Reply.TheVariants.{Done, Refused, Order as OrderPlaced}
+use Rattle.wire_records.specs.declared.reply.Refusal.TheVariants.{NoAccount, NoOrder}
+use Rattle.demand_curve.specs.Numbers.{or_zero}
+use Rattle.flow_orders.specs.Orders.{Order, most_orders, price_of_ticks, left_of, sold, unit_need, money_need}
+use Rattle.flow_orders.specs.Outcomes.{BatchRule}
+use Rattle.order_book.specs.Book.{Book, HasOrder, without}
+use Rattle.market_core.specs.Market.{Market, IsSound, free_money, free_units}
+use Rattle.market_core.specs.Step.{FirstRefusal, Serves, placed, IsAffordable}
+use Rattle.market_core.specs.Private.{cancel_reply}
+use Rattle.market_core.proofs.Accepted.{past_when, past_unless, not_least}
+
+-- ---- entry by entry
+
+-- an entry that was read stands within the row
+pub read_within : (row : List Entry) (place : ℕ) (e : Entry) → Some e ≡ slice_get row place → place < length row
+read_within row place e read = slice_get_within row place e (sym read)
+
+-- what holds of the entries so far and of the one that was read holds of one more
+pub one_more : (P : Entry → Type 0) (row : List Entry) (place : ℕ) (e : Entry) → Some e ≡ slice_get row place
+    → ((k : ℕ) (d : Entry) → k < place → P (slice_index_or row k d)) → P e
+    → (k : ℕ) (d : Entry) → k < place + 1 → P (slice_index_or row k d)
+one_more P row place e read before here k d below =
+    ⊎_elim
+    (λ lower. before k d lower)
+    (λ past.
+    let same : place ≡ k = omega (arith, past, below) in
+    subst (λ n. P (slice_index_or row n d)) same (subst P (sym (get_or_from_slice_get row place e d (sym read))) here))
+    (cases_lt k place)
+
+-- the entry that was read doesn't have what all have
+pub one_lacks : (P : Entry → Type 0) (row : List Entry) (place : ℕ) (e : Entry) → Some e ≡ slice_get row place → (P e → ⊥) → All P row → ⊥
+one_lacks P row place e read lacks all =
+    lacks (subst P (get_or_from_slice_get row place e e (sym read)) (all place e (read_within row place e read)))
+
+-- ---- what is needed
+
+length_assets : (row : List Entry) → length (assets_of row) ≡ length row
+length_assets row = length-map row (λ (e : Entry). e.asset)
+
+asset_at : (row : List Entry) (k : ℕ) (d : Entry) (asset : ℕ) → k < length row → slice_index_or (assets_of row) k asset ≡ (slice_index_or row k d).asset
+asset_at row k d asset inside = get_or-map (λ (e : Entry). e.asset) row k d asset inside
+
+negative_is_not_none : (n : ℕ) → negsuc n ≡ pos 0 → ⊥
+negative_is_not_none n is = omega (arith, ints, is)
+
+-- the units that each entry sells are free exactly where those of each asset are
+pub free_by_entries : (m : Market) (account cap : ℕ) (row : List Entry) → IsLawfulRow row → All (λ e. IsAsset m.balances e.asset) row
+    → ((asset : ℕ) → IsAsset m.balances asset → pos 0 ≤ℤ free_units m account asset)
+    → All (λ e. pos (sold e.weight * cap) ≤ℤ free_units m account e.asset) row
+    → (asset : ℕ) → IsAsset m.balances asset → pos (sold (weight_in row asset) * cap) ≤ℤ free_units m account asset
+free_by_entries m account cap row lawful assets some each asset there = by_weight (weight_in row asset) refl
+  where
+    by_weight : (w : ℤ) → weight_in row asset ≡ w → pos (sold w * cap) ≤ℤ free_units m account asset
+    by_weight (pos n) is = omega (arith, ints, some asset there)
+    by_weight (negsuc n) is =
+        let named = (named_assets_weigh row asset lawful).0 (λ none. absurd (negative_is_not_none n (sym is ∙ none))) in
+        let d : Entry = record { asset = asset; weight = pos 0 } in
+        let inside : named.0 < length row = omega (arith, named.1, length_assets row) in
+        let is_asset : (slice_index_or row named.0 d).asset ≡ asset = sym (asset_at row named.0 d asset inside) ∙ named.2 in
+        let here = each named.0 d inside in
+        let weight : (slice_index_or row named.0 d).weight ≡ negsuc n = sym (entries_give_weights row lawful named.0 d inside) ∙ ap (weight_in row) is_asset ∙ is in
+        subst (λ a. pos (sold (negsuc n) * cap) ≤ℤ free_units m account a) is_asset
+        (subst (λ w. pos (sold w * cap) ≤ℤ free_units m account (slice_index_or row named.0 d).asset) weight here)
+
+pub entries_are_free : (m : Market) (account cap : ℕ) (row : List Entry) → IsLawfulRow row → All (λ e. IsAsset m.balances e.asset) row
+    → ((asset : ℕ) → IsAsset m.balances asset → pos (sold (weight_in row asset) * cap) ≤ℤ free_units m account asset)
+    → All (λ e. pos (sold e.weight * cap) ≤ℤ free_units m account e.asset) row
+entries_are_free m account cap row lawful assets free k d inside =
+    subst (λ w. pos (sold w * cap) ≤ℤ free_units m account (slice_index_or row k d).asset) (entries_give_weights row lawful k d inside)
+    (free (slice_index_or row k d).asset (assets k d inside))
+
+-- what an order needs is free exactly where its money is and the units of each entry are
+pub affordable_is : (m : Market) (r : Request) (free : Bool) → IsSound m → IsAccount m.balances r.account → IsLawfulRow r.row → All (λ e. IsAsset m.balances e.asset) r.row
+    → pos (or_zero (price_of_ticks r.high) * r.cap) ≤ℤ free_money m r.account
+    → (IsTrue free ↔ All (λ e. pos (sold e.weight * r.cap) ≤ℤ free_units m r.account e.asset) r.row)
+    → (IsTrue free ↔ IsAffordable m (placed m r))
+affordable_is m r free sound account lawful assets money is =
+    let whole : r.cap ≡ r.cap - 0 = omega arith in
+    let some : (asset : ℕ) → IsAsset m.balances asset → pos 0 ≤ℤ free_units m r.account asset =
+        λ asset there. omega (arith, ints, sound.covered.units r.account asset account there) in
+    (λ yes. record {
+      money = subst (λ n. pos (or_zero (price_of_ticks r.high) * n) ≤ℤ free_money m r.account) whole money;
+      units = λ asset there. subst (λ n. pos (sold (weight_in r.row asset) * n) ≤ℤ free_units m r.account asset) whole
+          (free_by_entries m r.account r.cap r.row lawful assets some (is.0 yes) asset there);
+    }, λ affordable. is.1 (entries_are_free m r.account r.cap r.row lawful assets
+        (λ asset there. subst (λ n. pos (sold (weight_in r.row asset) * n) ≤ℤ free_units m r.account asset) (sym whole) (affordable.units asset there))))
+
+-- where no refusal holds, there is place for one order more
+pub accepted_is_few : (m : Market) (r : Request) → FirstRefusal m (PlaceOrder r) None → length m.orders < most_orders
+accepted_is_few m r first =
+    let account = past_unless first in
+    let limits = past_unless account.1 in
+    let rate = past_unless limits.1 in
+    let cap = past_unless rate.1 in
+    let row = past_unless cap.1 in
+    let assets = past_unless row.1 in
+    not_least most_orders (length m.orders) (past_when assets.1).0
+
+-- the order is added
+pub serves-place : (Rule : BatchRule) (m : Market) (r : Request) (o : Order) (orders : List Order) → FirstRefusal m (PlaceOrder r) None → o ≡ placed m r → orders ≡ m.orders ++ o ∷ []
+    → Serves Rule m (PlaceOrder r) (Plain (OrderPlaced m.next_order)) (record m { orders = orders; next_order = m.next_order + 1 })
+serves-place Rule m r o orders first is made = record {
+  first = None;
+  refused = first;
+  answered = (refl, ap (λ os. record m { orders = os; next_order = m.next_order + 1 }) (made ∙ ap (λ x. m.orders ++ x ∷ []) is));
+}
+
+-- ---- cancels
+
+module _ (Rule : BatchRule) (m : Market) (account number : ℕ) where
+  -- the account isn't there
+  pub refuses-no_account : (new : Market) → (IsAccount m.balances account → ⊥) → new ≡ m → Serves Rule m (CancelOrder account number) (Plain (Refused NoAccount)) new
+  refuses-no_account new none same = record { first = Some NoAccount; refused = inl (none, refl); answered = (refl, same) }
+
+  -- the order is taken out, or it isn't there
+  pub serves-cancel : (cancelled : Option Order) (old new : Book) → IsAccount m.balances account
+      → (IsNone cancelled ↔ (HasOrder old.orders account number → ⊥)) → IfNone cancelled (new ≡ old)
+      → IfSome cancelled (Contains old.orders) → IfSome cancelled (λ o. o.account ≡ account) → IfSome cancelled (λ o. o.number ≡ number)
+      → IfSome cancelled (λ _. new.orders ≡ without old.orders number)
+      → Serves Rule (record m { orders = old.orders }) (CancelOrder account number) (Plain (cancel_reply cancelled)) (record m { orders = new.orders })
+  serves-cancel (Some o) old new there none stays live owner named made =
+      let own : HasOrder old.orders account number = record { order = o; live = live; account_is = owner; number_is = named } in
+      record { first = None; refused = inr (there, inr (own, refl)); answered = (refl, ap (λ os. record m { orders = os }) made) }
+  serves-cancel None old new there none stays live owner named made =
+      record {
+        first = Some NoOrder;
+        refused = inr (there, inl (none.0 refl, refl));
+        answered = (refl, ap (λ (b : Book). record m { orders = b.orders }) stays);
+      }

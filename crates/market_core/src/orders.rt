@@ -1,0 +1,186 @@
+//! Orders: placed where they can be paid and delivered, and cancelled.
+ghost use Rattle.std.specs.Prelude.{◌≡◌, ◌+◌, ◌*◌, ◌<◌, ◌≤◌, ◌^◌, ◌↔◌, ◌≤ℤ◌, pos, IsTrue, IfOk, OnErr, All};
+ghost use Rattle.demand_curve.specs.Numbers.{or_zero};
+ghost use Rattle.weight_rows.specs.Rows.{IsLawfulRow, IsLawfulWeight};
+ghost use Rattle.flow_accounts.specs.Balances.{IsAccount, IsAsset};
+ghost use Rattle.flow_orders.specs.Orders.{AreLimits, IsFrom1To, most_cap, price_of_ticks, sold};
+ghost use Rattle.flow_orders.specs.Own.{IsOwnOutcome};
+ghost use Rattle.wire_records.specs.Commands.{PlaceOrder, CancelOrder, Plain};
+ghost use Rattle.wire_records.specs.CommandRecords.{IsCommand};
+ghost use Rattle.market_core.specs.Market.{IsSound, free_money, free_units};
+ghost use Rattle.market_core.specs.Step.{FirstRefusal, Serves, placed, IsAffordable};
+ghost use Rattle.market_core.specs.Wanting.{MayWant};
+ghost use Rattle.market_core.specs.Private.{cancel_reply};
+
+use crate::Market;
+use flow_orders::{Order, OrderFault, money_need, order_fault, unit_need};
+use weight_rows::{Entry, WeightRow};
+use wire_records::{Memory, PlaceView, Refusal, Reply, RowView};
+
+// No more orders are live.
+const MOST_ORDERS: usize = 16_384;
+
+// The reply to a cancel, by the order that was taken out.
+fn cancel_reply(cancelled: Option<Order>) -> Reply
+    ensures { result ≡ cancel_reply cancelled }
+{
+    match cancelled {
+        Some(_) => Reply::Done,
+        None => Reply::Refused(Refusal::NoOrder),
+    }
+}
+
+impl Market {
+    pub(crate) fn place_order(&mut self, place: &PlaceView<'_>) -> Result<Reply, Memory>
+        requires command { IsCommand (PlaceOrder place.now) }
+        requires next { self.old.next_order + 1 < 2 ^ 64 }
+        ensures served { IfOk result (λ reply. Serves IsOwnOutcome self.old (PlaceOrder place.now) (Plain reply) self.new) }
+        ensures stays { OnErr result (self.new ≡ self.old) }
+        ensures wanted { OnErr result (MayWant self.old (PlaceOrder place.now)) }
+    {
+        if let Some(refusal) = self.place_refusal(place) {
+            return Ok(Reply::Refused(refusal));
+        }
+        match self.book.reserve_one() {
+            Ok(()) => {}
+            Err(_) => return Err(Memory),
+        }
+        let row = WeightRow::new(place.row().to_list(self.alloc)?);
+        let number = self.next_order;
+        self.next_order = number + 1;
+        self.book.add(Order::new(
+            number,
+            place.account(),
+            place.low(),
+            place.high(),
+            place.rate(),
+            place.cap(),
+            row,
+        ));
+        Ok(Reply::Order(number))
+    }
+
+    pub(crate) fn cancel_order(&mut self, account: u32, number: u64) -> Reply
+        ensures { Serves IsOwnOutcome self.old (CancelOrder account number) (Plain result) self.new }
+    {
+        if self.accounts.money(account).is_none() {
+            return Reply::Refused(Refusal::NoAccount);
+        }
+        cancel_reply(self.book.cancel(account, number))
+    }
+
+    // The first refusal of an order that is asked for, if any holds.
+    fn place_refusal(&self, place: &PlaceView<'_>) -> Option<Refusal>
+        ensures { FirstRefusal self.now (PlaceOrder place.now) result }
+    {
+        if self.accounts.money(place.account()).is_none() {
+            return Some(Refusal::NoAccount);
+        }
+        match order_fault(place.low(), place.high(), place.rate(), place.cap()) {
+            Some(OrderFault::BadLimits) => return Some(Refusal::BadLimits),
+            Some(OrderFault::BadRate) => return Some(Refusal::BadRate),
+            Some(OrderFault::BadCap) => return Some(Refusal::BadCap),
+            None => {}
+        }
+        let row = place.row();
+        if row.fault().is_some() {
+            return Some(Refusal::BadRow);
+        }
+        if !self.has_assets(&row) {
+            return Some(Refusal::NoAsset);
+        }
+        if self.book.orders().len() >= MOST_ORDERS {
+            return Some(Refusal::OrderLimit);
+        }
+        if !self.is_affordable(place) {
+            return Some(Refusal::NotFree);
+        }
+        None
+    }
+
+    // Whether each asset that the entries name is there.
+    fn has_assets(&self, row: &RowView<'_>) -> bool
+        requires { IsLawfulRow row.now }
+        ensures { IsTrue result ↔ All (λ e. IsAsset self.now.balances e.asset) row.now }
+    {
+        let count = self.accounts.assets();
+        let mut place = 0;
+        while let Some(entry) = row.entry(place) {
+            if entry.asset >= count {
+                return false;
+            }
+            place += 1;
+        }
+        true
+    }
+
+    // Whether the account has free what the order needs.
+    fn is_affordable(&self, place: &PlaceView<'_>) -> bool
+        requires account { IsAccount self.now.balances place.now.account }
+        requires limits { AreLimits place.now.low place.now.high }
+        requires cap { IsFrom1To most_cap place.now.cap }
+        requires row { IsLawfulRow place.now.row }
+        requires assets { All (λ e. IsAsset self.now.balances e.asset) place.now.row }
+        ensures { IsTrue result ↔ IsAffordable self.now (placed self.now place.now) }
+    {
+        self.is_money_free(place) && self.are_units_free(place.account(), &place.row(), place.cap())
+    }
+
+    // Whether the account has free the money that the order may pay.
+    fn is_money_free(&self, place: &PlaceView<'_>) -> bool
+        requires account { IsAccount self.now.balances place.now.account }
+        requires limits { AreLimits place.now.low place.now.high }
+        requires cap { IsFrom1To most_cap place.now.cap }
+        ensures value { IsTrue result ↔ (pos (or_zero (price_of_ticks place.now.high) * place.now.cap) ≤ℤ free_money self.now place.now.account) }
+        ensures sound { IsSound self.now }
+    {
+        money_need(place.high(), place.cap()) <= self.free_money(place.account())
+    }
+
+    // Whether the account has free the units that an order of this row and cap may sell.
+    fn are_units_free(&self, account: u32, row: &RowView<'_>, cap: u64) -> bool
+        requires account { IsAccount self.now.balances account }
+        requires cap { cap ≤ most_cap }
+        requires row { IsLawfulRow row.now }
+        requires assets { All (λ e. IsAsset self.now.balances e.asset) row.now }
+        ensures { IsTrue result ↔ All (λ e. pos (sold e.weight * cap) ≤ℤ free_units self.now account e.asset) row.now }
+    {
+        let mut place = 0;
+        while let Some(entry) = row.entry(place) {
+            if !self.is_free(account, entry, cap) {
+                return false;
+            }
+            place += 1;
+        }
+        true
+    }
+
+    // Whether the account has free the units of an entry that an order of this cap may sell.
+    fn is_free(&self, account: u32, entry: Entry, cap: u64) -> bool
+        requires account { IsAccount self.now.balances account }
+        requires cap { cap ≤ most_cap }
+        requires weight { IsLawfulWeight entry.weight }
+        requires asset { IsAsset self.now.balances entry.asset }
+        ensures { IsTrue result ↔ (pos (sold entry.weight * cap) ≤ℤ free_units self.now account entry.asset) }
+    {
+        i128::from(unit_need(entry.weight, cap)) <= self.free_units(account, entry.asset)
+    }
+
+    // The money of an account that its orders don't need, in grains.
+    fn free_money(&self, account: u32) -> i128
+        requires { IsAccount self.now.balances account }
+        ensures value { result ≡ free_money self.now account }
+        ensures sound { IsSound self.now }
+    {
+        self.accounts.money(account).unwrap() - self.book.money_needed(account)
+    }
+
+    // The units of an asset in an account that its orders don't need.
+    fn free_units(&self, account: u32, asset: u16) -> i128
+        requires account { IsAccount self.now.balances account }
+        requires asset { IsAsset self.now.balances asset }
+        ensures { result ≡ free_units self.now account asset }
+    {
+        i128::from(self.accounts.units(account, asset).unwrap()) - self.book.units_needed(account, asset)
+    }
+}

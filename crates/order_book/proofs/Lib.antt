@@ -1,0 +1,10 @@
+pub mod EntrySums
+pub mod OrderNeeds
+pub mod BookNeeds
+pub mod Places
+pub mod Found
+pub mod Standing
+pub mod Traded
+pub mod TradeLoops
+pub mod Filling
+pub mod NeedLaws

@@ -1,0 +1,175 @@
+//! The live orders, and the sums of what they need.
+ghost use Rattle.std.specs.Prelude.{◌≡◌, ◌≢◌, ◌+◌, ◌^◌, ◌<◌, ◌≤◌, ◌≤ℤ◌, ◌↔◌, [], ◌∷◌, ◌++◌, pos, length, All, Contains, OnOk, IsOk, IsNone, IfNone, IfSome, MatchOption};
+ghost use Rattle.flow_orders.specs.Orders.{most_orders, needed_money, needed_units};
+ghost use Rattle.order_book.specs.Book.{AreLive, IsPlaceOf};
+
+use crate::fill::{fill_orders, lower_traded};
+use crate::sums::{Need, NeedSums};
+use flow_orders::Order;
+use std::alloc::{AllocError, Global};
+use std::marker::Model;
+
+// As many sums an order may raise: one of money, and one for each of 16 entries.
+const PLACES_PER_ORDER: usize = 17;
+
+/// There is no memory for one more order. No order was changed.
+#[derive(Clone, Copy, Debug, PartialEq, Eq)]
+pub struct Memory;
+
+impl From<AllocError> for Memory {
+    fn from(_error: AllocError) -> Memory {
+        Memory
+    }
+}
+
+/// The live orders, by ascending numbers, with the sums of what they need of each account.
+///
+/// A live order reserves what it may still pay and give away: what is left of its cap, times its high limit price where
+/// that isn't negative, and for each asset that its row sells, times the units that it sells (this project's own rule).
+///
+/// Contracts see the list of orders, and `room`, for how many more orders there surely is room.
+#[derive(Drop)]
+pub struct Book {
+    orders: Vec<Order>,
+    sums: NeedSums,
+}
+
+impl Model for Book {
+    ghost use Rattle.order_book.specs.Book.{Book as book_value};
+
+    ghost Value = { book_value };
+
+    ghost use Rattle.order_book.specs.Kept.{book_in, IsKept};
+
+    ghost view = { book_in };
+
+    ghost invariant = { IsKept };
+}
+
+impl Book {
+    ghost use Rattle.flow_orders.specs.Orders.{terms_of};
+    ghost use Rattle.flow_orders.specs.Trades.{trades, staying};
+    ghost use Rattle.order_book.specs.Needs.{needed, most_needed};
+    ghost use Rattle.order_book.specs.Book.{HasOrder, without};
+
+    /// A book without orders. It takes no memory.
+    pub fn new(alloc: Global) -> Book
+        ensures { result.orders ≡ [] }
+    {
+        Book {
+            orders: Vec::new(alloc),
+            sums: NeedSums::new(alloc),
+        }
+    }
+
+    /// The live orders, by ascending numbers: at most 16,384.
+    pub fn orders(&self) -> &[Order]
+        ensures value { result.now ≡ self.now.orders }
+        ensures live { AreLive self.now.orders }
+    {
+        self.orders.as_slice()
+    }
+
+    /// The money that the live orders of an account need together, in grains: 0 to 2^114. One look-up.
+    #[tactic(auto, using(crate::proofs::BookNeeds::needed_money_is))]
+    pub fn money_needed(&self, account: u32) -> i128
+        ensures value { result ≡ needed_money self.now.orders account }
+        ensures least { pos 0 ≤ℤ result }
+        ensures most { result ≤ℤ pos (2 ^ 114) }
+    {
+        self.needed(Need::Money { account })
+    }
+
+    /// The units of an asset that the live orders of an account need together: 0 to 2^66. One look-up.
+    #[tactic(auto, using(crate::proofs::BookNeeds::needed_units_is))]
+    pub fn units_needed(&self, account: u32, asset: u16) -> i128
+        ensures value { result ≡ needed_units self.now.orders account asset }
+        ensures least { pos 0 ≤ℤ result }
+        ensures most { result ≤ℤ pos (2 ^ 66) }
+    {
+        self.needed(Need::Units { account, asset })
+    }
+
+    // The sum of a need.
+    fn needed(&self, need: Need) -> i128
+        ensures value { result ≡ pos (needed need self.now.orders) }
+        ensures most { needed need self.now.orders ≤ most_needed need }
+    {
+        self.sums.get(need) as i128
+    }
+
+    /// Makes room for one more order, or answers `Memory`, only where the room isn't there. The orders stay, and no room
+    /// is lost.
+    pub fn reserve_one(&mut self) -> Result<(), Memory>
+        ensures ok { OnOk result (1 ≤ self.new.room) }
+        ensures succeeds { 1 ≤ self.old.room → IsOk result }
+        ensures room { self.old.room ≤ self.new.room }
+        ensures orders { self.new.orders ≡ self.old.orders }
+    {
+        self.orders.reserve(1)?;
+        self.sums.reserve(PLACES_PER_ORDER)?;
+        Ok(())
+    }
+
+    /// Adds an order, which needs what it needs from now on. Its number is above those of all others. It takes the room
+    /// of one order, and no memory.
+    pub fn add(&mut self, order: Order)
+        requires room { 1 ≤ self.old.room }
+        requires few { length self.old.orders < most_orders }
+        requires above { All (λ o. o.number < order.number) self.old.orders }
+        ensures orders { self.new.orders ≡ self.old.orders ++ order ∷ [] }
+        ensures room { self.old.room ≤ self.new.room + 1 }
+        ensures live { AreLive self.new.orders }
+    {
+        self.sums.raise_for(&order, order.cap() - order.filled());
+        self.orders.push_reserved(order);
+    }
+
+    /// Takes out the live order of this account and number, which needs nothing from now on, or answers `None` exactly
+    /// where there is none: no live order has the number, or the one that has it is another account's.
+    pub fn cancel(&mut self, account: u32, number: u64) -> Option<Order>
+        ensures none { IsNone result ↔ (¬ HasOrder self.old.orders account number) }
+        ensures stays { IfNone result (self.new ≡ self.old) }
+
+        ensures order { IfSome result (Contains self.old.orders) }
+        ensures account { IfSome result (λ o. o.account ≡ account) }
+        ensures number { IfSome result (λ o. o.number ≡ number) }
+        ensures orders { IfSome result (λ _. self.new.orders ≡ without self.old.orders number) }
+
+        ensures room { self.old.room ≤ self.new.room }
+        ensures live { AreLive self.new.orders }
+    {
+        let place = place_of(&self.orders, number)?;
+        let order = &self.orders[place];
+        if order.account() != account {
+            return None;
+        }
+        self.sums.lower_for(order, order.cap() - order.filled());
+        Some(self.orders.remove(place))
+    }
+
+    /// Fills the orders by these rates, in units of their portfolios: one for each order, in the same order, and none
+    /// above its room. An order that reaches its cap leaves. The others stay, and need as much less.
+    pub fn fill(&mut self, rates: &[u32])
+        requires count { length rates.now ≡ length self.old.orders }
+        requires within { All (λ t. t.traded ≤ (terms_of t.order).room)
+            (trades self.old.orders rates.now) }
+        ensures orders { self.new.orders ≡ staying (trades self.old.orders rates.now) }
+        ensures room { self.old.room ≤ self.new.room }
+        ensures live { AreLive self.new.orders }
+    {
+        lower_traded(&mut self.sums, &self.orders, rates);
+        fill_orders(&mut self.orders, rates);
+    }
+}
+
+// The place of the order of this number, if there is one.
+fn place_of(orders: &[Order], number: u64) -> Option<usize>
+    requires { AreLive orders.now }
+    ensures { MatchOption result (All (λ o. o.number ≢ number) orders.now)
+        (IsPlaceOf orders.now number) }
+{
+    orders
+        .binary_search_by_key(&number, |order| order.number())
+        .ok()
+}

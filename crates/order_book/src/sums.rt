@@ -1,0 +1,154 @@
+//! The sums of what orders need.
+ghost use Rattle.std.specs.Prelude.{◌≡◌, ◌+◌, ◌*◌, ◌^◌, ◌<◌, ◌≤◌, IsOk, OnOk, All, length};
+ghost use Rattle.indexmap.specs.IndexMap.{spare};
+ghost use Rattle.weight_rows.specs.Rows.{IsLawfulWeight};
+ghost use Rattle.demand_curve.specs.Numbers.{or_zero};
+ghost use Rattle.flow_orders.specs.Orders.{left_of, most_cap};
+ghost use Rattle.order_book.specs.Sums.{HasNoZeros, sum_in, RaisesAt, LowersAt};
+ghost use Rattle.order_book.specs.Needs.{need_for, entries_need, places_per_order};
+
+use flow_orders::{Order, money_need, unit_need};
+use indexmap::IndexMap;
+use std::alloc::{AllocError, Global};
+use weight_rows::Entry;
+
+/// What orders need of an account.
+#[derive(Clone, Copy, Debug, PartialEq, Eq, Hash)]
+pub(crate) enum Need {
+    /// Its money, in grains.
+    Money { account: u32 },
+    /// Its units of an asset.
+    Units { account: u32, asset: u16 },
+}
+
+/// The sum of each need. Those that aren't 0 are kept.
+#[derive(Drop)]
+pub(crate) struct NeedSums {
+    table: IndexMap<Need, u128>,
+    ghost no_zeros: { HasNoZeros table },
+}
+
+impl NeedSums {
+    ghost use Rattle.order_book.specs.declared.sums.Need.{Need};
+
+    /// All sums are 0. It takes no memory.
+    pub(crate) fn new(alloc: Global) -> NeedSums
+        ensures { (need : Need) → sum_in result.table need ≡ 0 }
+    {
+        NeedSums {
+            table: IndexMap::new(alloc),
+        }
+    }
+
+    /// The sum of a need.
+    pub(crate) fn get(&self, need: Need) -> u128
+        ensures { result ≡ sum_in self.now.table need }
+    {
+        self.table.get(&need).copied().unwrap_or(0)
+    }
+
+    /// Makes room for so many more sums.
+    pub(crate) fn reserve(&mut self, places: usize) -> Result<(), AllocError>
+        ensures ok { OnOk result (places ≤ spare self.new.table) }
+        ensures succeeds { places ≤ spare self.old.table → IsOk result }
+        ensures room { spare self.old.table ≤ spare self.new.table }
+        ensures sums { (need : Need) → sum_in self.new.table need ≡ sum_in self.old.table need }
+    {
+        self.table.reserve(places)
+    }
+
+    /// Raises the sums by what an order needs to trade so many units of its portfolio.
+    pub(crate) fn raise_for(&mut self, order: &Order, units: u64)
+        requires room { places_per_order ≤ spare self.old.table }
+        requires within { units ≤ left_of order.now }
+        requires fits { (need : Need) →
+            sum_in self.old.table need + need_for units need order.now < 2 ^ 128 }
+        ensures raised { (need : Need) → sum_in self.new.table need
+            ≡ sum_in self.old.table need + need_for units need order.now }
+        ensures room { spare self.old.table ≤ spare self.new.table + places_per_order }
+    {
+        let account = order.account();
+        self.raise(Need::Money { account }, money_for(order, units));
+        self.raise_entries(account, order.row().entries(), units);
+    }
+
+    /// Lowers the sums by what an order needs to trade so many units of its portfolio.
+    pub(crate) fn lower_for(&mut self, order: &Order, units: u64)
+        requires within { units ≤ left_of order.now }
+        requires there { (need : Need) →
+            need_for units need order.now ≤ sum_in self.old.table need }
+        ensures lowered { (need : Need) → sum_in self.new.table need + need_for units need order.now
+            ≡ sum_in self.old.table need }
+        ensures room { spare self.old.table ≤ spare self.new.table }
+    {
+        let account = order.account();
+        self.lower(Need::Money { account }, money_for(order, units));
+        self.lower_entries(account, order.row().entries(), units);
+    }
+
+    fn raise_entries(&mut self, account: u32, entries: &[Entry], units: u64)
+        requires room { length entries.now ≤ spare self.old.table }
+        requires weights { All (λ e. IsLawfulWeight e.weight) entries.now }
+        requires units { units ≤ most_cap }
+        requires fits { (need : Need) →
+            sum_in self.old.table need + entries_need account units need entries.now < 2 ^ 128 }
+        ensures raised { (need : Need) → sum_in self.new.table need
+            ≡ sum_in self.old.table need + entries_need account units need entries.now }
+        ensures room { spare self.old.table ≤ spare self.new.table + length entries.now }
+    {
+        for entry in entries {
+            let asset = entry.asset;
+            let sold = unit_need(entry.weight, units).unsigned_abs();
+            self.raise(Need::Units { account, asset }, u128::from(sold));
+        }
+    }
+
+    fn lower_entries(&mut self, account: u32, entries: &[Entry], units: u64)
+        requires weights { All (λ e. IsLawfulWeight e.weight) entries.now }
+        requires units { units ≤ most_cap }
+        requires there { (need : Need) →
+            entries_need account units need entries.now ≤ sum_in self.old.table need }
+        ensures lowered { (need : Need) → sum_in self.new.table need
+            + entries_need account units need entries.now ≡ sum_in self.old.table need }
+        ensures room { spare self.old.table ≤ spare self.new.table }
+    {
+        for entry in entries {
+            let asset = entry.asset;
+            let sold = unit_need(entry.weight, units).unsigned_abs();
+            self.lower(Need::Units { account, asset }, u128::from(sold));
+        }
+    }
+
+    fn raise(&mut self, need: Need, amount: u128)
+        requires room { 0 < spare self.old.table }
+        requires fits { sum_in self.old.table need + amount < 2 ^ 128 }
+        ensures raised { RaisesAt self.old.table self.new.table need amount }
+        ensures room { spare self.old.table ≤ spare self.new.table + 1 }
+    {
+        if amount > 0 {
+            let sum = self.get(need) + amount;
+            self.table.insert(need, sum).unwrap();
+        }
+    }
+
+    fn lower(&mut self, need: Need, amount: u128)
+        requires there { amount ≤ sum_in self.old.table need }
+        ensures lowered { LowersAt self.old.table self.new.table need amount }
+        ensures room { spare self.old.table ≤ spare self.new.table }
+    {
+        let sum = self.get(need) - amount;
+        if sum == 0 {
+            self.table.swap_remove(&need);
+        } else if let Some(kept) = self.table.get_mut(&need) {
+            *kept = sum;
+        }
+    }
+}
+
+// The money that an order needs to trade so many units of its portfolio, in grains.
+fn money_for(order: &Order, units: u64) -> u128
+    requires { units ≤ left_of order.now }
+    ensures { result ≡ or_zero order.now.high * units }
+{
+    money_need(order.high(), units).unsigned_abs()
+}

@@ -1,0 +1,51 @@
+-- What the views of requests and rows are made of.
+use Rattle.std.specs.Prelude.{◌≡◌, ℕ, ◌+◌, ◌*◌, ◌++◌, List, [], ◌∷◌, length, All}
+use Rattle.std.specs.List.{flat_map}
+use Rattle.std.specs.Int.{cast_signed, w32}
+use Rattle.wire_fields.specs.Numbers.{unsigned, signed, IsUnsigned, IsSigned}
+use Rattle.weight_rows.specs.declared.entries.Entry.{Entry}
+use Rattle.wire_records.specs.declared.place.Numbers.{Numbers}
+use Rattle.wire_records.specs.Commands.{Request, Command, PlaceOrder}
+use Rattle.wire_records.specs.CommandRecords.{entry_spelling, request_spelling, IsEntry, IsRequest}
+
+-- the entry of these six bytes
+abbrev pub entry_in : ℕ → ℕ → ℕ → ℕ → ℕ → ℕ → Entry
+entry_in a b c d e f = record { asset = a * 256 + b; weight = cast_signed w32 (((c * 256 + d) * 256 + e) * 256 + f) }
+
+-- the entries of bytes, six each; fewer than six have none
+unfoldable pub entries_in : List ℕ → List Entry
+entries_in (a ∷ b ∷ c ∷ d ∷ e ∷ f ∷ rest) = entry_in a b c d e f ∷ entries_in rest
+entries_in _ = []
+
+-- these bytes spell these entries
+pub record SpellEntries (bytes : List ℕ) (row : List Entry) : Type 0 where
+  pub fit : All IsEntry row
+  pub spelled : bytes ≡ flat_map entry_spelling row
+
+-- the numbers of a request, and how many entries it has, fit their widths
+pub record FitNumbers (n : Numbers) : Type 0 where
+  pub account : IsUnsigned 4 n.account
+  pub low : IsSigned 8 n.low
+  pub high : IsSigned 8 n.high
+  pub rate : IsUnsigned 4 n.rate
+  pub cap : IsUnsigned 8 n.cap
+  pub count : IsUnsigned 1 n.count
+
+-- their bytes, and what stands behind them
+abbrev pub numbers_and : Numbers → List ℕ → List ℕ
+numbers_and n rest =
+    unsigned 4 n.account ++ (signed 8 n.low ++ (signed 8 n.high ++ (unsigned 4 n.rate ++ (unsigned 8 n.cap ++ (unsigned 1 n.count ++ rest)))))
+
+-- this body spells this request
+pub record SpellsRequest (body : List ℕ) (request : Request) : Type 0 where
+  pub fits : IsRequest request
+  pub spelled : body ≡ request_spelling request
+
+-- this body spells no request
+abbrev pub SpellsNoRequest : List ℕ → Type 0
+SpellsNoRequest body = (request : Request) → ¬ SpellsRequest body request
+
+-- the most bytes that the record of a command with a row of such a length takes, or of one without a row
+abbrev pub room_of : Command → ℕ
+room_of (PlaceOrder request) = 38 + 6 * length request.row
+room_of _ = 19
