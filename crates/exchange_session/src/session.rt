@@ -1,5 +1,5 @@
 //! One command record, and the pair that it gives.
-ghost use Rattle.std.specs.Prelude.{◌≡◌, ◌++◌, ◌+◌, ◌<◌, ◌≤◌, ◌⊎◌, ℕ, List, IfOk, OnErr, OnOk, vec_len, vec_capacity};
+ghost use Rattle.std.specs.Prelude.{◌≡◌, ◌++◌, ◌+◌, ◌^◌, ◌<◌, ◌≤◌, ◌⊎◌, ℕ, List, IfOk, OnErr, OnOk, vec_len, vec_capacity};
 ghost use Rattle.wire_records.specs.Commands.{Plain};
 ghost use Rattle.wire_records.specs.CommandRecords.{IsReadAs};
 ghost use Rattle.journal_records.specs.Pairs.{plain_room};
@@ -41,6 +41,7 @@ fn refusal_for(fault: BodyFault) -> Refusal
 
 // The reply to a record.
 fn reply_to(market: &mut Market, asked: &RecordView<'_>) -> Result<Reply, Memory>
+    requires next { market.old.next_order + 1 < 2 ^ 64 }
     ensures step { IfOk result (λ reply. Step IsReadAs IsOwnOutcome market.old asked.now (Plain reply) market.new) }
     ensures stays { OnErr result (market.new ≡ market.old) }
     ensures wanted { OnErr result (RecordMayWant market.old asked.now) }
@@ -81,6 +82,7 @@ impl Session {
     /// it had or more; it comes only where that room was less than the pair's, or where the command adds an asset or
     /// an account and no refusal holds.
     pub fn serve(&mut self, asked: &RecordView<'_>, out: &mut Vec<u8>) -> Result<(), Memory>
+        requires next { self.old.next_order + 1 < 2 ^ 64 }
         ensures served { OnOk result ((text : List ℕ) × AnswersOne self.old asked.now self.new text
             × (out.new.items ≡ out.old.items ++ text)) }
         ensures stays { OnErr result ((self.new ≡ self.old) × (out.new.items ≡ out.old.items)) }

@@ -19,6 +19,7 @@ use Rattle.flow_orders.specs.Own.{IsOwnOutcome}
 use Rattle.market_core.specs.Market.{Market}
 use Rattle.market_core.specs.Journal.{Step, Follows, IsAnswered}
 use Rattle.market_core.specs.Wanting.{RecordMayWant}
+use Rattle.market_core.proofs.LawProofs.{steps_number_one}
 use Rattle.exchange_session.specs.Serving.{AnswersOne}
 use Rattle.flow_exchange.specs.declared.status.Status.{Status}
 use Rattle.flow_exchange.specs.declared.status.Status.TheVariants.{Done, Usage, NotFlow, Torn, ReadFault, WriteFault, NoMemory, TooLong}
@@ -38,14 +39,15 @@ pub record HasServed (start : Market) (bytes : List ℕ) (market : Market) (plac
   pub written : Grows before now (flat_map pair_spelling pairs)
   pub quiet : faults_now ≡ faults
   pub room : most_plain_pair ≤ capacity
+  pub numbered : market.next_order ≤ place
 
 -- bytes that begin with the magic are eight at least
 eight : (bytes : List ℕ) → take 8 bytes ≡ command_magic → 8 ≤ length bytes
 eight bytes begins = omega (arith, ap length begins, length-take 8 bytes)
 
 -- before the first record
-pub served_none : (start : Market) (bytes : List ℕ) (held : Option (List ℕ)) (faults capacity : ℕ) → take 8 bytes ≡ command_magic → most_plain_pair ≤ capacity → HasServed start bytes start 8 held held faults faults capacity
-served_none start bytes held faults capacity begins room = record {
+pub served_none : (start : Market) (bytes : List ℕ) (held : Option (List ℕ)) (faults capacity : ℕ) → take 8 bytes ≡ command_magic → most_plain_pair ≤ capacity → start.next_order ≤ 8 → HasServed start bytes start 8 held held faults faults capacity
+served_none start bytes held faults capacity begins room numbered = record {
   records = [];
   pairs = [];
   whole = refl;
@@ -56,6 +58,7 @@ served_none start bytes held faults capacity begins room = record {
   written = Grows-nothing held;
   quiet = refl;
   room = room;
+  numbered = numbered;
 }
 
 -- a sequence goes on by one step
@@ -109,6 +112,7 @@ module _ (start : Market) (bytes : List ℕ) (old new : Market) (r : Record) (pl
         written = rw (← flat_map_more pair_spelling [] served.pairs pair) (Grows-more before middle now (flat_map pair_spelling served.pairs) (pair_spelling pair) served.written (rw one.1.spelled at one.2));
         quiet = quiet ∙ served.quiet;
         room = omega (arith, served.room, grown);
+        numbered = omega (arith, served.numbered, steps_number_one old r one.1.answer new one.1.step, (record_within bytes r place taken size front).1);
       }
 
   -- the write of one more pair was cut

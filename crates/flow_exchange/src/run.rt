@@ -1,5 +1,5 @@
 //! `flow run`: a command file in, a journal out.
-ghost use Rattle.std.specs.Prelude.{◌≡◌, ◌≢◌, ◌+◌, ◌≤◌, Ok, Err, Some, OnOk, OnErr, IfOk, IfErr, IfSome, IsTrue, [], take, drop, vec_capacity};
+ghost use Rattle.std.specs.Prelude.{◌≡◌, ◌≢◌, ◌+◌, ◌^◌, ◌<◌, ◌≤◌, Ok, Err, Some, OnOk, OnErr, IfOk, IfErr, IfSome, IsTrue, [], take, drop, vec_capacity};
 ghost use Rattle.flow_io.specs.Faults.{Blames};
 ghost use Rattle.flow_io.specs.Streams.{Grows, GrowsByFront, TakesAtMost};
 ghost use Rattle.wire_records.specs.Records.{command_magic};
@@ -45,7 +45,8 @@ fn serve_one<K: Sink>(
     pair: &mut Vec<u8>,
     out: &mut K,
 ) -> Result<(), Status>
-    requires { plain_room asked.now ≤ vec_capacity pair.old }
+    requires room { plain_room asked.now ≤ vec_capacity pair.old }
+    requires next { session.old.next_order + 1 < 2 ^ 64 }
     ensures served { ServesOne session.old asked.now session.new (K.held out.old) (K.held out.new) result }
     ensures room { vec_capacity pair.old ≤ vec_capacity pair.new }
     ensures cause { Blames (result ≡ Err Status.WriteFault) (K.faults out.old) (K.faults out.new) }
@@ -65,6 +66,7 @@ fn serve_records<K: Sink>(
 ) -> Result<(), Status>
     requires begins { take 8 input.now.bytes.items ≡ command_magic }
     requires room { most_plain_pair ≤ vec_capacity pair.old }
+    requires next { session.old.next_order ≤ 8 }
     ensures served { ServesAll limit session.old 8 (IsTrue input.now.more) (drop 8 input.now.bytes.items)
         (status_of result) (K.held out.old) (K.held out.new) }
     ensures cause { Blames (result ≡ Err Status.WriteFault) (K.faults out.old) (K.faults out.new) }

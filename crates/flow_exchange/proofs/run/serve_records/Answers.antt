@@ -6,12 +6,18 @@ use Rattle.flow_exchange.proofs.Serving.{served_none, has_room, served_more, ser
 use Rattle.flow_exchange.proofs.run.serve_records.Goals as goal
 
 pub records-init : goal.records-init
-records-init g c = rw (c.as_slice-bytes.ensures.value) (served_none c.args.session.now c.args.input.now.bytes.items _ _ _ c.requires.begins c.requires.room)
+records-init g c = rw (c.as_slice-bytes.ensures.value) (served_none c.args.session.now c.args.input.now.bytes.items _ _ _ c.requires.begins c.requires.room c.requires.next)
 
-pub serve_one-requires : goal.serve_one-requires
-serve_one-requires g c =
+pub serve_one-requires-clause-room : goal.serve_one-requires-clause-room
+serve_one-requires-clause-room g c =
     let front = rw take_rest at c.in-Whole.ensures in
     has_room c.in-Whole.asked _ front.0 c.records.invariant.room
+
+pub serve_one-requires-clause-next : goal.serve_one-requires-clause-next
+serve_one-requires-clause-next g c =
+    let front = rw take_rest at c.in-Whole.ensures in
+    let within = record_within c.as_slice-bytes.result.now c.in-Whole.asked c.records.place c.in-Whole.taken front.1 front.2 in
+    omega (arith, within.0, within.1, c.records.invariant.numbered, c.as_slice-bytes.type_inv)
 
 pub returns-in_err-serve_one-in-Whole-clause-served : goal.returns-in_err-serve_one-in-Whole-clause-served
 returns-in_err-serve_one-in-Whole-clause-served g c =
