@@ -19,6 +19,14 @@ need_for units (Units account asset) o = if o.account == account then sold (weig
 abbrev pub need_of : Need → Order → ℕ
 need_of need o = need_for (left_of o) need o
 
+-- what all orders need
+abbrev pub needed : Need → List Order → ℕ
+needed need orders = sum_by (need_of need) orders
+
+-- what orders need for what they trade in a batch
+abbrev pub needed_for : Need → List Trade → ℕ
+needed_for need ts = sum_by (λ t. need_for t.traded need t.order) ts
+
 -- no order needs more
 abbrev pub most_for : Need → ℕ
 most_for (Money account) = 2 ^ 100
@@ -27,10 +35,6 @@ most_for (Units account asset) = 2 ^ 52
 -- no live orders need more together
 abbrev pub most_needed : Need → ℕ
 most_needed need = most_orders * most_for need
-
--- what all orders need
-abbrev pub needed : Need → List Order → ℕ
-needed need orders = sum_by (need_of need) orders
 
 -- what an entry of an account's order needs to trade so many units of the portfolio
 abbrev pub entry_need : ℕ → ℕ → Need → Entry → ℕ
@@ -43,7 +47,3 @@ entries_need account units need entries = sum_by (entry_need account units need)
 -- as many sums an order may raise: one of money, and one for each of 16 entries
 abbrev pub places_per_order : ℕ
 places_per_order = 17
-
--- what orders need for what they trade in a batch
-abbrev pub needed_for : Need → List Trade → ℕ
-needed_for need ts = sum_by (λ t. need_for t.traded need t.order) ts

@@ -98,8 +98,8 @@ impl Book {
         self.sums.get(need) as i128
     }
 
-    /// Makes room for one more order, or answers `Memory`, only where the room isn't there. The orders stay, and no room
-    /// is lost.
+    /// Makes room for one more order. `Memory` comes only where the room isn't there yet. The orders stay, and no
+    /// room is lost.
     pub fn reserve_one(&mut self) -> Result<(), Memory>
         ensures ok { OnOk result (1 ≤ self.new.room) }
         ensures succeeds { 1 ≤ self.old.room → IsOk result }
@@ -111,8 +111,8 @@ impl Book {
         Ok(())
     }
 
-    /// Adds an order, which needs what it needs from now on. Its number is above those of all others. It takes the room
-    /// of one order, and no memory.
+    /// Adds an order, which needs what it needs from now on. Its number is above those of all others. It takes the
+    /// room of one order, and no memory.
     pub fn add(&mut self, order: Order)
         requires room { 1 ≤ self.old.room }
         requires few { length self.old.orders < most_orders }
@@ -125,8 +125,8 @@ impl Book {
         self.orders.push_reserved(order);
     }
 
-    /// Takes out the live order of this account and number, which needs nothing from now on, or answers `None` exactly
-    /// where there is none: no live order has the number, or the one that has it is another account's.
+    /// Takes out the live order of this account and number, which needs nothing from now on, or answers `None`
+    /// exactly where there is none: no live order has the number, or the one that has it is another account's.
     pub fn cancel(&mut self, account: u32, number: u64) -> Option<Order>
         ensures none { IsNone result ↔ (¬ HasOrder self.old.orders account number) }
         ensures stays { IfNone result (self.new ≡ self.old) }

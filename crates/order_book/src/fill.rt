@@ -1,7 +1,7 @@
 //! What a batch leaves of the orders and of the sums of their needs.
 ghost use Rattle.std.specs.Prelude.{◌≡◌, ◌+◌, ◌≤◌, vec_len, vec_capacity, length, All};
 ghost use Rattle.indexmap.specs.IndexMap.{spare};
-ghost use Rattle.flow_orders.specs.Orders.{left_of, terms_of};
+ghost use Rattle.flow_orders.specs.Orders.{terms_of};
 ghost use Rattle.flow_orders.specs.Trades.{trades, staying};
 ghost use Rattle.order_book.specs.declared.sums.Need.{Need};
 ghost use Rattle.order_book.specs.Sums.{sum_in};

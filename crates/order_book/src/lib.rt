@@ -1,19 +1,19 @@
 //! The live orders of a market, and what they need of each account.
 //!
-//! A [`Book`] is a list of orders by ascending numbers, at most 16,384, with the sums of their needs kept beside it: of
-//! each account its money in grains, and of each asset its units. Only sums that aren't 0 are kept, at most 17 for each
-//! live order: one of money, and one for each of up to 16 assets.
+//! A [`Book`] is a list of orders by ascending numbers, at most 16,384, with the sums of their needs kept beside it:
+//! of each account its money in grains, and of each asset its units. Only sums that aren't 0 are kept, at most 17 for
+//! each live order: one of money, and one for each of up to 16 assets.
 //!
 //! # Costs
 //!
-//! Adding and cancelling an order takes the same time however many accounts and assets there are. It looks up a sum for
-//! the order's money and for each entry of its row, in constant time each. An order's place is found by its number, in
-//! as many steps as the count of orders has bits, and the later orders close the gap that a cancelled one leaves, in one
-//! move of their block. What an account needs is one look-up. Filling goes once over the entries of all orders.
+//! Adding and cancelling an order takes the same time however many accounts and assets there are: a constant one for
+//! the sum of its money and for each entry of its row. The place of an order is found by its number, in as many steps
+//! as the count of orders has bits, and the later orders close the gap that a cancelled one leaves, in one move of
+//! their block. What an account needs is one look-up. Filling goes once over the entries of all orders.
 //!
-//! Nothing but [`Book::reserve_one`] takes memory. Most of its calls take none; the others move all orders, or all sums,
-//! to a block of about twice the size. An order takes 64 bytes beside its row. Room that an order had stays for later
-//! ones.
+//! Nothing but [`Book::reserve_one`] takes memory. Most of its calls take none; the others move all orders, or all
+//! sums, to a block of about twice the size. An order takes 64 bytes beside its row. The room that an order had stays
+//! for later ones.
 #![tactic(auto)]
 
 mod book;

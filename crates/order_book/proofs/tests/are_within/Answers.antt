@@ -1,6 +1,6 @@
-use Rattle.std.proofs.Common.{◌≡◌, ◌<◌, ◌≤◌, length, get_or, sym, subst, arith}
+use Rattle.std.proofs.Common.{◌≡◌, ◌<◌, ◌≤◌, length, sym, subst, arith}
 use Rattle.flow_orders.specs.Orders.{terms_of}
-use Rattle.flow_orders.specs.Trades.{Trade, trades}
+use Rattle.flow_orders.specs.Trades.{Trade}
 use Rattle.order_book.proofs.Traded.{length-trades, get_or-trades}
 use Rattle.order_book.proofs.tests.are_within.Goals as goal
 

@@ -1,4 +1,4 @@
-use Rattle.std.proofs.Common.{ℕ, ◌<◌, ◌≤◌, List, get_or}
+use Rattle.std.proofs.Common.{ℕ, ◌<◌, ◌≤◌, get_or}
 use Rattle.flow_orders.specs.Orders.{Order, terms_of}
 use Rattle.order_book.proofs.tests.are_within.Given as goal
 
