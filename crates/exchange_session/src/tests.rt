@@ -15,6 +15,7 @@ fn answers_each_record(rt: HostRuntime) -> Result<(), Fail> {
         b"\x05\0\0\0\x0C\0\0\0\x01\0\0\0\0\0\0\0\x06",
     ];
     for record in records {
+        assert!(rt; session.market().next_number() < 9);
         match next_record(record, 1024) {
             Framed::Whole(asked, _) => session.serve(&asked, &mut journal)?,
             _ => assert!(rt; false),

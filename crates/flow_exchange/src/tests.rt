@@ -1,4 +1,7 @@
 //! Whole runs over sources and sinks in memory. The bytes are from the format's tables, by hand.
+ghost use Rattle.std.specs.Prelude.{IsTrue};
+ghost use Rattle.wire_records.specs.CommandRecords.{HasShortRow};
+ghost use Rattle.wire_records.specs.Views.{command_in};
 
 use crate::{Status, flow, flow_limited};
 use flow_io::{MemorySink, MemorySource, SteadySink, SteadySource, read_all};
@@ -78,8 +81,8 @@ fn refuses_with_one_code(rt: HostRuntime) -> Result<(), Fail> {
     expect_run(
         &rt,
         alloc,
-        b"FLOWCMD1\x0F\0\0\0\0\x02\0\0\0\x01\0\x01\0\0\0\0\x07\0\0\0\0",
-        b"FLOWJNL1\x0F\0\0\0\0\x84\0\0\0\x01\x01\x02\0\0\0\x01\0\x84\0\0\0\x01\x02\x01\0\0\0\0\x84\0\0\0\x01\x02\x07\0\0\0\0\x84\0\0\0\x01\x14",
+        b"FLOWCMD1\x0F\0\0\0\0\x02\0\0\0\x01\0\x01\0\0\0\0\x09\0\0\0\0",
+        b"FLOWJNL1\x0F\0\0\0\0\x84\0\0\0\x01\x01\x02\0\0\0\x01\0\x84\0\0\0\x01\x02\x01\0\0\0\0\x84\0\0\0\x01\x02\x09\0\0\0\0\x84\0\0\0\x01\x14",
         Status::Done,
         b"",
     )?;
@@ -94,12 +97,23 @@ fn refuses_with_one_code(rt: HostRuntime) -> Result<(), Fail> {
     )
 }
 
+// Whether a command has no row. Then its record is short.
+fn has_no_row(command: &Command) -> bool
+    ensures { IsTrue result → HasShortRow (command_in command.now) }
+{
+    match command {
+        Command::PlaceOrder { .. } => false,
+        _ => true,
+    }
+}
+
 // The reply records of the journal of these commands, one after the other.
 fn replies(rt: &impl Abort, alloc: Global, commands: &[Command]) -> Result<Vec<u8>, Fail> {
     let mut input = Vec::from_slice(alloc, b"FLOWCMD1")?;
     let mut lengths = Vec::new(alloc);
     for command in commands {
         let mut record = Vec::new(alloc);
+        assert!(rt; has_no_row(command));
         write_command(command, &mut record)?;
         lengths.push(record.len())?;
         input.extend_from_slice(&record)?;

@@ -7,6 +7,7 @@ ghost use Rattle.wire_records.specs.Views.{command_of};
 ghost use Rattle.market_core.specs.Private.{refusal_for, IsAnswered};
 
 use flow_accounts::{AccountFault, Accounts};
+use flow_orders::Order;
 use order_book::Book;
 use std::alloc::Global;
 use std::marker::Model;
@@ -122,6 +123,22 @@ impl Market {
         ensures sound { IsSound self.now }
     {
         &self.accounts
+    }
+
+    /// The live orders, by ascending numbers: at most 16,384.
+    pub fn orders(&self) -> &[Order]
+        ensures value { result.now ≡ self.now.orders }
+        ensures sound { IsSound self.now }
+    {
+        self.book.orders()
+    }
+
+    /// The number that the next order gets, from 1.
+    pub fn next_number(&self) -> u64
+        ensures value { result ≡ self.now.next_order }
+        ensures sound { IsSound self.now }
+    {
+        self.next_order
     }
 
     fn add_asset(&mut self, ticker: &[u8]) -> Result<Reply, Memory>
