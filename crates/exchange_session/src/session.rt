@@ -76,11 +76,12 @@ impl Session {
     }
 
     /// Serves one record, and appends its pair: the record as it was given, and the record of its one answer. The cost
-    /// is that of the record, however many accounts there are.
+    /// is that of the record, however many accounts and orders there are, but for the gap that a cancelled order leaves, which is
+    /// closed by a block move. The number that the next order gets is below 2^64 - 1.
     ///
     /// The room of the pair is taken first. After `Memory` market and bytes are as before, and `out` has the room that
-    /// it had or more; it comes only where that room was less than the pair's, or where the command adds an asset or
-    /// an account and no refusal holds.
+    /// it had or more; it comes only where that room was less than the pair's, or where the command adds an asset,
+    /// an account or an order and no refusal holds.
     pub fn serve(&mut self, asked: &RecordView<'_>, out: &mut Vec<u8>) -> Result<(), Memory>
         requires next { self.old.next_order + 1 < 2 ^ 64 }
         ensures served { OnOk result ((text : List ℕ) × AnswersOne self.old asked.now self.new text

@@ -68,9 +68,10 @@ pub fn flow_limited<S: Source, K: Sink, N: Sink>(
 /// journal to out: one write for the magic, and one for each pair. On every status but `Done` it writes
 /// one line to notes; a fault of notes changes nothing.
 ///
-/// A command costs the same however many accounts there are. Memory: the input, one buffer for a pair,
-/// and 528 bytes for each account. Input and accounts each stand in one block, which doubles as it grows:
-/// it has up to twice these bytes, and while it is moved the smaller one is there too.
+/// A command costs the same however many accounts and orders there are, but for the gap that a cancelled order leaves, which is
+/// closed by a block move. Memory: the input, one buffer for a pair, 528 bytes for each account, 64 bytes for each live
+/// order beside its entries, and the table of what orders need. Input, accounts and orders each stand in one block, which
+/// doubles as it grows: it has up to twice these bytes, and while it is moved the smaller one is there too.
 pub fn flow<S: Source, K: Sink, N: Sink>(
     alloc: Global,
     words: &[String],

@@ -1,7 +1,6 @@
 -- What an order that is asked for needs of its account, entry by entry; and a cancelled one.
-use Rattle.std.proofs.Common.{◌≡◌, ◌≢◌, ℕ, ◌+◌, ◌-◌, ◌*◌, ◌<◌, ◌≤◌, ◌↔◌, ◌==◌, not, inl, inr, Bool, true, false, List, [], ◌∷◌, ◌++◌, ℤ, pos, negsuc, ◌-ℤ◌, ◌≤ℤ◌, Option, Some, None, IsTrue, if◌then◌else◌, length, ⊎_elim, refl, sym, ap, ◌∙◌, subst, arith}
+use Rattle.std.proofs.Common.{◌≡◌, ℕ, ◌+◌, ◌-◌, ◌*◌, ◌<◌, ◌↔◌, inl, inr, Bool, List, [], ◌∷◌, ◌++◌, ℤ, pos, negsuc, ◌≤ℤ◌, Option, Some, None, IsTrue, length, ⊎_elim, refl, sym, ap, ◌∙◌, subst, arith}
 use Rattle.std.specs.Prelude.{slice_get, slice_index_or, All, Contains, IsNone, IfNone, IfSome}
-use Rattle.std.specs.List.{filter}
 use Rattle.std.proofs.lemmas.Int.{ints}
 use Rattle.std.proofs.lemmas.Bool.{cases_lt}
 use Rattle.std.proofs.lemmas.List.{length-map, get_or-map}
@@ -11,10 +10,10 @@ use Rattle.weight_rows.specs.Rows.{IsLawfulRow, assets_of, weight_in}
 use Rattle.weight_rows.proofs.RowLawProofs.{entries_give_weights, named_assets_weigh}
 use Rattle.flow_accounts.specs.Balances.{IsAccount, IsAsset}
 use Rattle.wire_records.specs.Commands.{Request, PlaceOrder, CancelOrder, Plain}
-use Rattle.wire_records.specs.declared.reply.Reply.TheVariants.{Done, Refused, Order as OrderPlaced}
+use Rattle.wire_records.specs.declared.reply.Reply.TheVariants.{Refused, Order as OrderPlaced}
 use Rattle.wire_records.specs.declared.reply.Refusal.TheVariants.{NoAccount, NoOrder}
 use Rattle.demand_curve.specs.Numbers.{or_zero}
-use Rattle.flow_orders.specs.Orders.{Order, most_orders, price_of_ticks, left_of, sold, unit_need, money_need}
+use Rattle.flow_orders.specs.Orders.{Order, most_orders, price_of_ticks, sold}
 use Rattle.flow_orders.specs.Outcomes.{BatchRule}
 use Rattle.order_book.specs.Book.{Book, HasOrder, without}
 use Rattle.market_core.specs.Market.{Market, IsSound, free_money, free_units}
@@ -90,13 +89,15 @@ pub affordable_is : (m : Market) (r : Request) (free : Bool) → IsSound m → I
 affordable_is m r free sound account lawful assets money is =
     let whole : r.cap ≡ r.cap - 0 = omega arith in
     let some : (asset : ℕ) → IsAsset m.balances asset → pos 0 ≤ℤ free_units m r.account asset =
-        λ asset there. omega (arith, ints, sound.covered.units r.account asset account there) in
-    (λ yes. record {
-      money = subst (λ n. pos (or_zero (price_of_ticks r.high) * n) ≤ℤ free_money m r.account) whole money;
-      units = λ asset there. subst (λ n. pos (sold (weight_in r.row asset) * n) ≤ℤ free_units m r.account asset) whole
-          (free_by_entries m r.account r.cap r.row lawful assets some (is.0 yes) asset there);
-    }, λ affordable. is.1 (entries_are_free m r.account r.cap r.row lawful assets
-        (λ asset there. subst (λ n. pos (sold (weight_in r.row asset) * n) ≤ℤ free_units m r.account asset) (sym whole) (affordable.units asset there))))
+    λ asset there. omega (arith, ints, sound.covered.units r.account asset account there) in (
+      λ yes. record {
+        money = subst (λ n. pos (or_zero (price_of_ticks r.high) * n) ≤ℤ free_money m r.account) whole money;
+        units = λ asset there. subst (λ n. pos (sold (weight_in r.row asset) * n) ≤ℤ free_units m r.account asset) whole
+            (free_by_entries m r.account r.cap r.row lawful assets some (is.0 yes) asset there);
+      },
+      λ affordable. is.1 (entries_are_free m r.account r.cap r.row lawful assets
+          (λ asset there. subst (λ n. pos (sold (weight_in r.row asset) * n) ≤ℤ free_units m r.account asset) (sym whole) (affordable.units asset there))),
+    )
 
 -- where no refusal holds, there is place for one order more
 pub accepted_is_few : (m : Market) (r : Request) → FirstRefusal m (PlaceOrder r) None → length m.orders < most_orders

@@ -1,7 +1,7 @@
 -- What the live orders of a sound market need is covered by their accounts.
-use Rattle.std.proofs.Common.{◌≡◌, ℕ, ◌^◌, ◌<◌, List, ℤ, pos, ◌-ℤ◌, ◌≤ℤ◌, FitsSigned, to_z, of_z, Bool, true, false, Option, Some, None, true≢false, sym, ap, ◌∙◌, subst, arith}
+use Rattle.std.proofs.Common.{◌≡◌, ℕ, List, ℤ, pos, ◌-ℤ◌, ◌≤ℤ◌, FitsSigned, to_z, of_z, true, false, Option, Some, None, true≢false, sym, subst, arith}
 use Rattle.std.specs.Int.{w128}
-use Rattle.std.specs.Prelude.{SomeIff, is_some, unsigned_abs}
+use Rattle.std.specs.Prelude.{SomeIff, is_some}
 use Rattle.std.proofs.lemmas.Int.{ints, fits_signed_from_abs, to_z-of_z}
 use Rattle.flow_orders.specs.Orders.{Order, money_need, unit_need, needed_money, needed_units}
 use Rattle.market_core.proofs.Needs.{own_not_negative}

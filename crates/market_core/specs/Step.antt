@@ -1,6 +1,6 @@
 -- One step of the market: the first refusal of a command, or what the accepted command is answered and makes of the market.
 --     How a batch may end is a rule of its own, which is handed in: any right outcome, or the program's own one.
-use Rattle.std.specs.Prelude.{◌≡◌, ℕ, ◌+◌, ◌≤◌, ◌==◌, not, pos, neg_ℤ, ◌+ℤ◌, ◌≤ℤ◌, ◌<ℤ◌, [], ◌∷◌, ◌++◌, length, ◌⊎◌, Option, Some, None, Result, Ok, Err, All, Contains}
+use Rattle.std.specs.Prelude.{◌≡◌, ℕ, ◌+◌, ◌≤◌, pos, neg_ℤ, ◌+ℤ◌, ◌≤ℤ◌, ◌<ℤ◌, [], ◌∷◌, ◌++◌, length, ◌⊎◌, Option, Some, None, Result, Ok, Err, All, Contains}
 use Rattle.weight_rows.specs.Rows.{IsLawfulRow}
 use Rattle.wire_records.specs.Commands.{Request, Command, AddAsset, OpenAccount, DepositMoney, DepositAsset, WithdrawMoney, WithdrawAsset, PlaceOrder, CancelOrder, RunBatch, Answer, Plain, Batch}
 use Rattle.wire_records.specs.declared.reply.Reply.TheVariants as reply

@@ -14,7 +14,7 @@ use std::marker::Model;
 use ticker_table::{TickerFault, TickerTable};
 use wire_records::{CommandView, Memory, Refusal, Reply};
 
-/// The assets by their tickers, all balances, and the live orders.
+/// The assets by their tickers, all balances, the live orders, and the number that the next order gets.
 #[derive(Drop)]
 pub struct Market {
     pub(crate) alloc: Global,
@@ -196,6 +196,9 @@ impl Market {
         ensures { Serves IsOwnOutcome self.old (WithdrawAsset account asset units) (Plain result) self.new }
     {
         let reserved = self.book.units_needed(account, asset);
-        reply_to(self.accounts.withdraw_units(account, asset, units, reserved))
+        reply_to(
+            self.accounts
+                .withdraw_units(account, asset, units, reserved),
+        )
     }
 }

@@ -181,6 +181,7 @@ impl Market {
         requires asset { IsAsset self.now.balances asset }
         ensures { result ≡ free_units self.now account asset }
     {
-        i128::from(self.accounts.units(account, asset).unwrap()) - self.book.units_needed(account, asset)
+        i128::from(self.accounts.units(account, asset).unwrap())
+            - self.book.units_needed(account, asset)
     }
 }

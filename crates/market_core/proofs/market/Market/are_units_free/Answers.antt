@@ -1,9 +1,5 @@
-use Rattle.std.proofs.Common.{refl, pos, ◌*◌, arith}
-use Rattle.std.specs.Prelude.{◌≤ℤ◌}
-use Rattle.flow_orders.specs.Orders.{sold}
-use Rattle.market_core.specs.Market.{free_units}
+use Rattle.std.proofs.Common.{refl, arith}
 use Rattle.wire_records.proofs.EntryReads.{ended}
-use Rattle.market_core.proofs.Placing.{read_within, one_more, one_lacks}
 use Rattle.market_core.proofs.market.Market.are_units_free.Goals as goal
 
 pub returns : goal.returns

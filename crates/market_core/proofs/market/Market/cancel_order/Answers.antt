@@ -1,4 +1,4 @@
-use Rattle.std.proofs.Common.{◌≡◌, ◌∙◌, ap, not, refl}
+use Rattle.std.proofs.Common.{◌∙◌, ap, not, refl}
 use Rattle.wire_records.specs.Commands.{CancelOrder, Plain}
 use Rattle.flow_accounts.specs.Balances.{IsAccount, money_of}
 use Rattle.flow_orders.specs.Own.{IsOwnOutcome}

@@ -1,6 +1,5 @@
-use Rattle.std.proofs.Common.{◌≡◌, ◌∙◌, ◌^◌, ◌<◌, ap, refl, pos, ◌≤ℤ◌, ◌-ℤ◌, FitsSigned, to_z, of_z, arith}
+use Rattle.std.proofs.Common.{◌≡◌, refl, ◌-ℤ◌, FitsSigned}
 use Rattle.std.specs.Int.{w128}
-use Rattle.std.specs.Prelude.{unsigned_abs}
 use Rattle.std.proofs.lemmas.Int.{to_z-of_z}
 use Rattle.flow_accounts.specs.Balances.{money_of}
 use Rattle.flow_orders.specs.Orders.{needed_money}
@@ -22,5 +21,5 @@ pub overflow_sub-result : goal.overflow_sub-result
 overflow_sub-result c = rw (same_number c.unwrap.result (record { sfits = c.unwrap.type_inv }), same_number c.money_needed.result (record { sfits = c.money_needed.type_inv })) (fits c)
 
 pub returns-clause-value : goal.returns-clause-value
-returns-clause-value c = 
+returns-clause-value c =
     rw (same_number c.unwrap.result (record { sfits = c.unwrap.type_inv }), same_number c.money_needed.result (record { sfits = c.money_needed.type_inv }), to_z-of_z w128 (c.unwrap.result -ℤ c.money_needed.result) (fits c), held c, c.money_needed.ensures.value, ← c.self.view_is) refl

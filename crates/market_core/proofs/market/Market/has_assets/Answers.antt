@@ -1,7 +1,7 @@
 use Rattle.std.proofs.Common.{refl, arith}
 use Rattle.flow_accounts.specs.Balances.{IsAsset}
 use Rattle.wire_records.proofs.EntryReads.{ended}
-use Rattle.market_core.proofs.Placing.{read_within, one_more, one_lacks}
+use Rattle.market_core.proofs.Placing.{read_within, one_more}
 use Rattle.market_core.proofs.market.Market.has_assets.Goals as goal
 
 pub loop-entry-smaller : goal.loop-entry-smaller

@@ -1,9 +1,7 @@
-use Rattle.std.proofs.Common.{ℕ, ◌*◌, ◌-◌, ◌<◌, ◌≤◌, pos, length}
-use Rattle.std.specs.Prelude.{slice_index_or, ◌≤ℤ◌}
+use Rattle.std.proofs.Common.{ℕ, ◌-◌, ◌<◌, ◌≤◌, length}
+use Rattle.std.specs.Prelude.{slice_index_or}
 use Rattle.weight_rows.specs.declared.entries.Entry.{Entry}
 use Rattle.flow_accounts.specs.Balances.{IsAsset}
-use Rattle.flow_orders.specs.Orders.{sold}
-use Rattle.market_core.specs.Market.{free_units}
 use Rattle.market_core.proofs.market.Market.has_assets.Given as goal
 
 abbrev pub invariant-loop-entry : goal.invariant-loop-entry

@@ -1,5 +1,3 @@
-use Rattle.std.proofs.Common.{◌≡◌, arith}
-use Rattle.std.proofs.lemmas.Int.{ints}
 use Rattle.wire_records.specs.Commands.{WithdrawMoney, Plain}
 use Rattle.flow_orders.specs.Orders.{needed_money}
 use Rattle.flow_orders.specs.Own.{IsOwnOutcome}

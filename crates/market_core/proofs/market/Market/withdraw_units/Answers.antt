@@ -1,5 +1,3 @@
-use Rattle.std.proofs.Common.{◌≡◌, arith}
-use Rattle.std.proofs.lemmas.Int.{ints}
 use Rattle.wire_records.specs.Commands.{WithdrawAsset, Plain}
 use Rattle.flow_orders.specs.Orders.{needed_units}
 use Rattle.flow_orders.specs.Own.{IsOwnOutcome}
