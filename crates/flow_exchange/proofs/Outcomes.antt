@@ -16,7 +16,7 @@ use Rattle.flow_exchange.specs.declared.status.Status.{Status}
 use Rattle.flow_exchange.specs.declared.status.Status.TheVariants as answer
 use Rattle.flow_exchange.specs.Statuses.{reading_status}
 use Rattle.flow_exchange.specs.Running.{Journals, WritesOf, RunsTo}
-use Rattle.flow_exchange.specs.Program.{ComesTo, Determines, Meets}
+use Rattle.flow_exchange.specs.Program.{Determines, Meets}
 use Rattle.flow_exchange.specs.Laws.{OneForm, OneOutcome}
 
 pub one_form : OneForm

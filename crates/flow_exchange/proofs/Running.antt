@@ -1,5 +1,5 @@
 -- What a run comes to.
-use Rattle.std.proofs.Common.{◌≡◌, ◌≢◌, ◌<◌, ℕ, List, [], ◌∷◌, ◌++◌, Option, Some, None, IfSome, IsTrue, ◌↔◌, length, take, drop, refl, sym, ap, ◌∙◌, inl, inr, ◌+◌, ◌≤◌, append_assoc, arith}
+use Rattle.std.proofs.Common.{◌≡◌, ◌≢◌, ◌<◌, ℕ, List, [], ◌++◌, Option, Some, None, IfSome, IsTrue, ◌↔◌, length, take, drop, refl, sym, ap, ◌∙◌, inl, inr, ◌+◌, ◌≤◌, append_assoc, arith}
 use Rattle.std.specs.List.{flat_map}
 use Rattle.std.proofs.lemmas.List.{take-append-drop, take_at, drop_all, flat_map_more}
 use Rattle.std.proofs.lemmas.List.Elements.{All-nil, All-push}

@@ -2,13 +2,12 @@
 use Rattle.std.proofs.Common.{◌≡◌, ◌+◌, ◌<◌, ◌≤◌, ℕ, List, [], ◌∷◌, ◌++◌, Option, Err, length, take, drop, refl, sym, ap, ◌∙◌, append_assoc, length-append, arith}
 use Rattle.std.specs.Prelude.{All}
 use Rattle.std.specs.List.{flat_map}
-use Rattle.std.proofs.lemmas.List.{append-nil, drop-drop, map-append, flat_map_more, length-drop, length-take}
+use Rattle.std.proofs.lemmas.List.{drop-drop, map-append, flat_map_more, length-drop, length-take}
 use Rattle.std.proofs.lemmas.List.Elements.{All-push, All-nil}
 use Rattle.flow_io.specs.Streams.{Grows, GrowsByFront}
 use Rattle.wire_records.specs.Records.{Record, IsRecord, StatesLength, HasNoFront, spelling, command_magic}
 use Rattle.wire_records.specs.Commands.{Pair}
 use Rattle.wire_records.specs.CommandRecords.{IsReadAs}
-use Rattle.wire_records.specs.Grammars.{spell_all}
 use Rattle.wire_records.specs.Reading.{Ending, EndsAs}
 use Rattle.wire_records.specs.Formats.{StatesOver, commands}
 use Rattle.wire_records.proofs.Spelled.{length-spelling}
@@ -24,8 +23,8 @@ use Rattle.exchange_session.specs.Serving.{AnswersOne}
 use Rattle.flow_exchange.specs.declared.status.Status.{Status}
 use Rattle.flow_exchange.specs.declared.status.Status.TheVariants.{Done, Usage, NotFlow, Torn, ReadFault, WriteFault, NoMemory, TooLong}
 use Rattle.flow_exchange.specs.Statuses.{ending_status}
-use Rattle.flow_exchange.specs.Private.{most_plain_pair, Answers, ServesOne, AnswersAll, AnswersSome, ServesSome, StopsAtWant, ServesAll}
-use Rattle.flow_exchange.proofs.Growth.{Grows-nothing, Grows-more, GrowsByFront-whole, GrowsByFront-more}
+use Rattle.flow_exchange.specs.Private.{most_plain_pair, ServesOne, AnswersAll, ServesSome, StopsAtWant, ServesAll}
+use Rattle.flow_exchange.proofs.Growth.{Grows-nothing, Grows-more, GrowsByFront-more}
 
 -- the records between the magic and this place were served, and their pairs written
 pub record HasServed (start : Market) (bytes : List ℕ) (market : Market) (place : ℕ) (before now : Option (List ℕ)) (faults faults_now capacity : ℕ) : Type 0 where

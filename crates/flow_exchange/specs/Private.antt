@@ -1,5 +1,5 @@
 -- Words that only the private functions of a run use: what serving records, one after the other, appends to a journal.
-use Rattle.std.specs.Prelude.{◌≡◌, ◌++◌, ◌∷◌, [], ℕ, List, Result, Ok, Err, Option, All}
+use Rattle.std.specs.Prelude.{◌≡◌, ◌++◌, ℕ, List, Result, Ok, Err, Option, All}
 use Rattle.std.specs.List.{flat_map}
 use Rattle.flow_io.specs.Streams.{Grows, GrowsByFront}
 use Rattle.wire_records.specs.Records.{Record, IsRecord, spelling}
