@@ -1,0 +1,60 @@
+//! The rates at which the orders of a batch trade: what each asks for at the prices, in whole units.
+//!
+//! An order's demand is a fraction, and trades are whole. Each rate here is the demand rounded down, so an order never
+//! trades more than it asks for. What rounding leaves over of an asset, the exchange takes.
+//!
+//! Prices are in grains, and 2^32 grains are a tick; there is one for each asset, by its number. Rates are in whole
+//! units of an order's portfolio per batch.
+//!
+//! # Costs
+//!
+//! A call goes once over the entries of all orders and divides at most once an order. It takes memory once, 4 bytes for
+//! each order, before it rounds anything.
+#![tactic(auto)]
+
+ghost use Rattle.std.specs.Prelude.{◌≡◌, ◌≤◌, IfOk, length, All};
+ghost use Rattle.weight_rows.specs.Rows.{IsPrice, IsPricedBy};
+ghost use Rattle.flow_orders.specs.Orders.{most_orders};
+ghost use Rattle.flow_orders.specs.Own.{floor_at, floor_rates};
+
+pub mod laws;
+#[cfg(test)]
+mod tests;
+
+use flow_orders::Order;
+use std::alloc::{AllocError, Global};
+
+/// There is no memory for the rates.
+#[derive(Clone, Copy, Debug, PartialEq, Eq)]
+pub struct Memory;
+
+impl From<AllocError> for Memory {
+    fn from(_error: AllocError) -> Memory {
+        Memory
+    }
+}
+
+/// Each order's demand at these prices, rounded down: one rate for each order, in their order.
+///
+/// There are at most 16,384 orders, and `prices` has one price for each asset that they name, within 2^62 grains of 0.
+pub fn floor_rates(alloc: Global, orders: &[Order], prices: &[i64]) -> Result<Vec<u32>, Memory>
+    requires few { length orders.now ≤ most_orders }
+    requires range { All IsPrice prices.now }
+    requires priced { All (λ o. IsPricedBy o.row prices.now) orders.now }
+    ensures { IfOk result (λ rates. rates.items ≡ floor_rates orders.now prices.now) }
+{
+    let mut rates = Vec::with_capacity(alloc, orders.len())?;
+    for order in orders {
+        rates.push_reserved(floor_rate(order, prices));
+    }
+    Ok(rates)
+}
+
+// One order's demand, rounded down.
+fn floor_rate(order: &Order, prices: &[i64]) -> u32
+    requires range { All IsPrice prices.now }
+    requires priced { IsPricedBy order.now.row prices.now }
+    ensures { result ≡ floor_at prices.now order.now }
+{
+    order.curve().floor_rate(order.row().price(prices))
+}
