@@ -1,0 +1,51 @@
+-- The true excess lies between the rounded ones, and moves by at most the steepness for each grain.
+use Rattle.std.proofs.Common.{ℕ, suc, ◌*◌, ◌<◌, ℤ, pos, negsuc, ◌+ℤ◌, ◌*ℤ◌, ◌≤ℤ◌, List, length, set, arith}
+use Rattle.std.specs.Prelude.{All, slice_index_or}
+use Rattle.std.proofs.Math.Nat.{mul-le-mul_left}
+use Rattle.std.proofs.lemmas.Int.{ints}
+use Rattle.weight_rows.specs.Rows.{weight_in, portfolio_price}
+use Rattle.demand_curve.specs.Demand.{Terms, IsWithinLimits, scaled_demand}
+use Rattle.demand_curve.proofs.RoundingLaws.{demand_never_rises}
+use Rattle.list_sums.proofs.SumLemmas.{int_sum_by-le}
+use Rattle.flow_orders.specs.Orders.{Order, IsOrder, terms_of}
+use Rattle.flow_orders.specs.Duals.{share}
+use Rattle.flow_orders.proofs.Book.{IsSound}
+use Rattle.flow_orders.proofs.BookSums.{price_one_more}
+use Rattle.flow_orders.proofs.Progress.{low_excess-below, high_excess-above, true_excess_step}
+use Rattle.excess_bounds.specs.Laws.{true_excess, ExcessIsEnclosed, GrainsMoveExcessLittle}
+
+all_sound : (orders : List Order) → All IsOrder orders → All IsSound orders
+all_sound orders each k d inside = let o = each k d inside in record { limits = o.terms; lawful = o.row }
+
+pub excess_is_enclosed : ExcessIsEnclosed
+excess_is_enclosed N orders prices asset each common =
+    let sound = all_sound orders each in
+    (low_excess-below N orders common.1 sound prices asset, high_excess-above N orders common.1 sound prices asset)
+
+-- a grain more of an asset of weight w doesn't raise what an order asks for of it
+no_more : (w : ℤ) (t : Terms) → IsWithinLimits t → (c : ℤ) (k : ℕ) → (w *ℤ pos (k * scaled_demand t (c +ℤ w))) ≤ℤ (w *ℤ pos (k * scaled_demand t c))
+no_more (pos n) t h c k =
+    let more : c ≤ℤ (c +ℤ pos n) = omega (arith, ints) in
+    omega (arith, ints, mul-le-mul_left (n * k) (demand_never_rises t h c (c +ℤ pos n) more).demand)
+no_more (negsuc n) t h c k =
+    let less : (c +ℤ negsuc n) ≤ℤ c = omega (arith, ints) in
+    omega (arith, ints, mul-le-mul_left (suc n * k) (demand_never_rises t h (c +ℤ negsuc n) c less).demand)
+
+no_rise : (N : ℕ) (orders : List Order) (prices : List ℤ) (asset : ℕ) (x : ℤ) → All IsSound orders → asset < length prices
+    → true_excess N orders (set prices asset (x +ℤ pos 1)) asset ≤ℤ true_excess N orders (set prices asset x) asset
+no_rise N orders prices asset x sound within =
+    let asked = λ (prices : List ℤ) (o : Order). weight_in o.row asset *ℤ pos (share N (terms_of o) * (2 * o.rate) * scaled_demand (terms_of o) (portfolio_price o.row prices)) in
+    int_sum_by-le (asked (set prices asset (x +ℤ pos 1))) (asked (set prices asset x)) orders
+    (λ k d inside.
+    let o : Order = slice_index_or orders k d in
+    let h : IsSound o = sound k d inside in
+    rw (price_one_more o.row prices asset x h.lawful within)
+    (no_more (weight_in o.row asset) (terms_of o) h.limits (portfolio_price o.row (set prices asset x)) (share N (terms_of o) * (2 * o.rate))))
+
+pub grains_move_excess_little : GrainsMoveExcessLittle
+grains_move_excess_little N orders prices asset x each common within =
+    let sound = all_sound orders each in
+    record {
+      no_rise = no_rise N orders prices asset x sound within;
+      little = true_excess_step N orders common.1 sound prices asset x within;
+    }

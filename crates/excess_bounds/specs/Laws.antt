@@ -1,0 +1,30 @@
+-- What holds of the excess of an asset as its price moves.
+use Rattle.std.specs.Prelude.{ℕ, ◌*◌, ◌<◌, ℤ, pos, ◌+ℤ◌, ◌*ℤ◌, ◌≤ℤ◌, List, length, All, slice_set}
+use Rattle.list_sums.specs.Sums.{int_sum_by}
+use Rattle.weight_rows.specs.Rows.{weight_in}
+use Rattle.demand_curve.specs.Demand.{scaled_demand}
+use Rattle.flow_orders.specs.Orders.{Order, IsOrder, terms_of}
+use Rattle.flow_orders.specs.Excess.{price_for, low_excess, high_excess, steepness}
+use Rattle.flow_orders.specs.Duals.{share, IsCommonPart}
+
+-- the true excess of an asset, in parts of 1/N of a unit: each weight times the demand, not rounded
+abbrev pub true_excess : ℕ → List Order → List ℤ → ℕ → ℤ
+true_excess N orders prices asset =
+    int_sum_by (λ o. weight_in o.row asset *ℤ pos (share N (terms_of o) * (2 * o.rate) * scaled_demand (terms_of o) (price_for prices o))) orders
+
+-- the low excess is at most the true one, and the high excess at least that
+abbrev pub ExcessIsEnclosed : Type 0
+ExcessIsEnclosed = (N : ℕ) (orders : List Order) (prices : List ℤ) (asset : ℕ) → All IsOrder orders → IsCommonPart N orders
+    → ((pos N *ℤ low_excess orders prices asset) ≤ℤ true_excess N orders prices asset)
+    × (true_excess N orders prices asset ≤ℤ (pos N *ℤ high_excess orders prices asset))
+
+-- the true excess at a price x of the asset, and at x + 1
+pub record MovesLittle (N : ℕ) (orders : List Order) (prices : List ℤ) (asset : ℕ) (x : ℤ) : Type 0 where
+  pub no_rise : true_excess N orders (slice_set prices asset (x +ℤ pos 1)) asset ≤ℤ true_excess N orders (slice_set prices asset x) asset
+  pub little : true_excess N orders (slice_set prices asset x) asset
+      ≤ℤ (true_excess N orders (slice_set prices asset (x +ℤ pos 1)) asset +ℤ pos (N * steepness orders asset))
+
+-- a grain more of the asset's price doesn't raise the true excess, and lowers it by at most the steepness
+abbrev pub GrainsMoveExcessLittle : Type 0
+GrainsMoveExcessLittle = (N : ℕ) (orders : List Order) (prices : List ℤ) (asset : ℕ) (x : ℤ)
+    → All IsOrder orders → IsCommonPart N orders → asset < length prices → MovesLittle N orders prices asset x

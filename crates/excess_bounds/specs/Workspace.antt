@@ -1,0 +1,20 @@
+-- What contracts see of the state of a search for prices, and what holds of every one.
+use Rattle.std.specs.Prelude.{ℕ, ℤ, ◌≤◌, List, length, All}
+use Rattle.weight_rows.specs.Rows.{IsPrice, IsPricedBy}
+use Rattle.flow_orders.specs.Orders.{Order, most_orders}
+
+-- the orders of a batch, and one price for each asset
+pub record Workspace : Type 0 where
+  pub orders : List Order
+  pub prices : List ℤ
+
+-- no more assets have a price
+abbrev pub most_prices : ℕ
+most_prices = 64
+
+-- not too many orders and prices, prices within their range, and one for each asset that an order names
+pub record ArePriced (orders : List Order) (prices : List ℤ) : Type 0 where
+  pub few : length orders ≤ most_orders
+  pub assets : length prices ≤ most_prices
+  pub range : All IsPrice prices
+  pub priced : All (λ o. IsPricedBy o.row prices) orders
