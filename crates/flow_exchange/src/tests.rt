@@ -222,6 +222,114 @@ fn counts_accounts(rt: HostRuntime) -> Result<(), Fail> {
     Ok(())
 }
 
+// Runs these records, and compares the journal with their pairs.
+fn expect_pairs(rt: &impl Abort, alloc: Global, pairs: &[(&[u8], &[u8])]) -> Result<(), Fail> {
+    let mut input = Vec::from_slice(alloc, b"FLOWCMD1")?;
+    let mut journal = Vec::from_slice(alloc, b"FLOWJNL1")?;
+    for (record, reply) in pairs {
+        input.extend_from_slice(record)?;
+        journal.extend_from_slice(record)?;
+        journal.extend_from_slice(reply)?;
+    }
+    expect_run(rt, alloc, &input, &journal, Status::Done, b"")
+}
+
+const ASSET: &[u8] = b"\x01\0\0\0\x08AAPL    ";
+
+const ACCOUNT: &[u8] = b"\x02\0\0\0\0";
+
+const DONE: &[u8] = b"\x80\0\0\0\0";
+
+// Account 1 buys 10 units of asset 0 in all, one a batch, between 0 and 1 ticks: it needs 10 ticks.
+const BUY: &[u8] =
+    b"\x07\0\0\0\x27\0\0\0\x01\0\0\0\0\0\0\0\0\0\0\0\0\0\0\0\x01\0\0\0\x01\0\0\0\0\0\0\0\x0A\x01\0\0\0\0\0\x01";
+
+// Account 1 sells one unit of asset 0, between -2 and -1 ticks: it needs the unit.
+const SALE: &[u8] =
+    b"\x07\0\0\0\x27\0\0\0\x01\xFF\xFF\xFF\xFF\xFF\xFF\xFF\xFE\xFF\xFF\xFF\xFF\xFF\xFF\xFF\xFF\0\0\0\x01\0\0\0\0\0\0\0\x01\x01\0\0\xFF\xFF\xFF\xFF";
+
+// Account 1 gets one unit of asset 0 and is to be paid for it, between -2 and -1 ticks: it needs nothing.
+const GIFT: &[u8] =
+    b"\x07\0\0\0\x27\0\0\0\x01\xFF\xFF\xFF\xFF\xFF\xFF\xFF\xFE\xFF\xFF\xFF\xFF\xFF\xFF\xFF\xFF\0\0\0\x01\0\0\0\0\0\0\0\x01\x01\0\0\0\0\0\x01";
+
+// Order 1 is cancelled, by account 1 and by account 2.
+const CANCEL: &[u8] = b"\x08\0\0\0\x0C\0\0\0\x01\0\0\0\0\0\0\0\x01";
+
+const OTHERS_CANCEL: &[u8] = b"\x08\0\0\0\x0C\0\0\0\x02\0\0\0\0\0\0\0\x01";
+
+#[test]
+fn reserves_money_to_the_cap(rt: HostRuntime) -> Result<(), Fail> {
+    let deposit = b"\x03\0\0\0\x0C\0\0\0\x01\0\0\0\0\0\0\0\x0A".as_slice();
+    let withdrawal = b"\x05\0\0\0\x0C\0\0\0\x01\0\0\0\0\0\0\0\x01".as_slice();
+    let not_free = b"\x84\0\0\0\x01\x0B".as_slice();
+    let no_order = b"\x84\0\0\0\x01\x11".as_slice();
+    let pairs: [(&[u8], &[u8]); 14] = [
+        (ASSET, b"\x81\0\0\0\x02\0\0"),
+        (ACCOUNT, b"\x82\0\0\0\x04\0\0\0\x01"),
+        (ACCOUNT, b"\x82\0\0\0\x04\0\0\0\x02"),
+        (BUY, not_free),
+        (deposit, DONE),
+        (BUY, b"\x83\0\0\0\x08\0\0\0\0\0\0\0\x01"),
+        (BUY, not_free),
+        (withdrawal, not_free),
+        (OTHERS_CANCEL, no_order),
+        (CANCEL, DONE),
+        (CANCEL, no_order),
+        (BUY, b"\x83\0\0\0\x08\0\0\0\0\0\0\0\x02"),
+        (CANCEL, no_order),
+        (withdrawal, not_free),
+    ];
+    expect_pairs(&rt, rt.alloc(), &pairs)
+}
+
+#[test]
+fn reserves_units_that_are_sold(rt: HostRuntime) -> Result<(), Fail> {
+    let deposit = b"\x04\0\0\0\x0E\0\0\0\x01\0\0\0\0\0\0\0\0\0\x01".as_slice();
+    let withdrawal = b"\x06\0\0\0\x0E\0\0\0\x01\0\0\0\0\0\0\0\0\0\x01".as_slice();
+    let not_free = b"\x84\0\0\0\x01\x0B".as_slice();
+    let pairs: [(&[u8], &[u8]); 8] = [
+        (ASSET, b"\x81\0\0\0\x02\0\0"),
+        (ACCOUNT, b"\x82\0\0\0\x04\0\0\0\x01"),
+        (SALE, not_free),
+        (deposit, DONE),
+        (SALE, b"\x83\0\0\0\x08\0\0\0\0\0\0\0\x01"),
+        (withdrawal, not_free),
+        (CANCEL, DONE),
+        (withdrawal, DONE),
+    ];
+    expect_pairs(&rt, rt.alloc(), &pairs)
+}
+
+#[test]
+fn counts_orders(rt: HostRuntime) -> Result<(), Fail> {
+    let alloc = rt.alloc();
+    let mut input = Vec::from_slice(alloc, b"FLOWCMD1")?;
+    input.extend_from_slice(ASSET)?;
+    input.extend_from_slice(ACCOUNT)?;
+    for _ in 0..16_385u32 {
+        input.extend_from_slice(GIFT)?;
+    }
+    input.extend_from_slice(CANCEL)?;
+    input.extend_from_slice(GIFT)?;
+    let mut source = SteadySource::new(input);
+    let mut out = SteadySink::new(alloc, 1 << 20)?;
+    let mut notes = SteadySink::new(alloc, 64)?;
+    let run = words(alloc, &["run"])?;
+    assert_eq!(rt;
+        flow(alloc, &run, &mut source, &mut out, &mut notes),
+        Status::Done
+    );
+    // The order past the limit is refused, and after a cancel the next one gets the number 16,385.
+    let mut ending = Vec::new(alloc);
+    ending.extend_from_slice(b"\x84\0\0\0\x01\x10")?;
+    ending.extend_from_slice(CANCEL)?;
+    ending.extend_from_slice(DONE)?;
+    ending.extend_from_slice(GIFT)?;
+    ending.extend_from_slice(b"\x83\0\0\0\x08\0\0\0\0\0\0\x40\x01")?;
+    assert!(rt; out.bytes().ends_with(&ending));
+    Ok(())
+}
+
 // A file of one record.
 const ONE: &[u8] = b"FLOWCMD1\x02\0\0\0\0";
 
