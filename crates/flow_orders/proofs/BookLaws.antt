@@ -20,7 +20,7 @@ use Rattle.flow_orders.specs.Excess.{low_excess, high_excess, steepness}
 use Rattle.flow_orders.specs.Moves.{risen}
 use Rattle.flow_orders.proofs.BookSums.{squares-le, squares_are, price_follows, price_one_more, own_price, from_distance}
 
--- ---- E2
+-- ---- one grain more
 
 -- 256 times the low excess, an order at a time
 low_step : (orders : List Order) (prices : List ℤ) (asset : ℕ) (x : ℤ) → All IsSound orders → asset < length prices
@@ -39,7 +39,7 @@ low_step orders prices asset x sound within =
     let split = int_sum_by-add (λ o. pos 256 *ℤ high o) square orders in
     rw (int_sum_by-scale low (pos 256) orders, int_sum_by-scale high (pos 256) orders, ← squares_are orders asset, ← split) each
 
--- E2: a price that rises by one grain takes the high excess at most the steepness below the low excess
+-- a price that rises by one grain takes the high excess at most the steepness below the low excess
 pub low_above_next_high : (orders : List Order) (prices : List ℤ) (asset : ℕ) (x : ℤ) → All IsSound orders → asset < length prices
     → low_excess orders (set prices asset x) asset ≤ℤ (high_excess orders (set prices asset (x +ℤ pos 1)) asset +ℤ pos (steepness orders asset))
 low_above_next_high orders prices asset x sound within =
@@ -56,7 +56,7 @@ low_above_risen_high orders prices asset sound within =
     let step = low_above_next_high orders prices asset (price_of prices asset) sound within in
     rw (own_price prices asset) at step
 
--- ---- E3
+-- ---- the excess never rises with the price
 
 -- an order's part never rises as the price moves by its weight
 pub low_part-falls : (w : ℤ) (t : Terms) → IsWithinLimits t → (c : ℤ) (d : ℕ) → low_part w t (c +ℤ w *ℤ pos d) ≤ℤ low_part w t c
@@ -83,7 +83,7 @@ price_risen row prices asset x y lawful within rise =
     let gap : y -ℤ x ≡ pos (distance y x) = omega (arith, ints, from_distance x y rise) in
     rw gap at (price_follows row prices asset x y lawful within)
 
--- E3: the low excess never rises as the asset's price rises
+-- the low excess never rises as the asset's price rises
 pub low_excess-falls : (orders : List Order) (prices : List ℤ) (asset : ℕ) (x y : ℤ) → All IsSound orders → asset < length prices → x ≤ℤ y
     → low_excess orders (set prices asset y) asset ≤ℤ low_excess orders (set prices asset x) asset
 low_excess-falls orders prices asset x y sound within rise =

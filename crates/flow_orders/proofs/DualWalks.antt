@@ -36,7 +36,7 @@ IsMove orders prices asset reach d next =
     (IsRise orders prices asset reach d × (next ≡ risen prices asset d)) ⊎ (IsFall orders prices asset reach d × (next ≡ fallen prices asset d))
 
 module _ (N : ℕ) (orders : List Order) (common : AreShares N orders) (sound : All IsSound orders) where
-  -- E11: a rise by d lowers the exact dual by at least N * d parts
+  -- a rise by d lowers the exact dual by at least N * d parts
   pub rise_lowers_dual : (prices : List ℤ) (asset reach d : ℕ) → asset < length prices → IsRise orders prices asset reach d → exact_dual N orders (risen prices asset d) + N * d ≤ exact_dual N orders prices
   rise_lowers_dual prices asset reach d within move =
       let p = price_of prices asset in
@@ -92,7 +92,7 @@ module _ (orders : List Order) (reach : ℕ) where
   movement_at_least (asset ∷ assets) start stop movement (next, d, rest, within, move, walk, sum) =
       omega (arith, sum, move_is_some start asset d next move, movement_at_least assets next stop rest walk)
 
-  -- E12: a walk lowers the exact dual by at least N times its movement
+  -- a walk lowers the exact dual by at least N times its movement
   pub walk_lowers_dual : (N : ℕ) → AreShares N orders → All IsSound orders → (assets : List ℕ) (start stop : List ℤ) (movement : ℕ) → IsWalk orders reach start assets stop movement
       → exact_dual N orders stop + N * movement ≤ exact_dual N orders start
   walk_lowers_dual N common sound [] start stop movement (same, none) = rw (same, none) (omega arith)
@@ -180,7 +180,7 @@ common_parts-common orders sound k d inside =
 pub common_part_is_there : (orders : List Order) → All IsSound orders → (N : ℕ) × IsCommonPart N orders
 common_part_is_there orders sound = (common_parts orders, (common_parts-some orders sound, common_parts-common orders sound))
 
--- E12: the dual floors fall by more than the movement less the number of orders
+-- the dual floors fall by more than the movement less the number of orders
 pub floors_fall : (orders : List Order) (reach : ℕ) → All IsSound orders → 1 ≤ length orders → (assets : List ℕ) (start stop : List ℤ) (movement : ℕ) → IsWalk orders reach start assets stop movement
     → dual_floors orders stop + movement < dual_floors orders start + length orders
 floors_fall orders reach sound some assets start stop movement walk =

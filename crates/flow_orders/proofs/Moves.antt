@@ -47,7 +47,7 @@ pub fall_before : (orders : List Order) (prices : List ℤ) (asset reach e : ℕ
 fall_before orders prices asset reach zero move = rw (fallen_none prices asset) move.below
 fall_before orders prices asset reach (suc e) move = move.first (suc e) (omega arith) (omega arith)
 
--- what E2 says at neighbours: a rise from above the steepness to at most it leaves the high excess at 1 or more
+-- at neighbours: a rise from above the steepness to at most it leaves the high excess at 1 or more
 pub settled_above : (orders : List Order) (prices : List ℤ) (asset : ℕ) (x : ℤ) → All IsSound orders → asset < length prices
     → pos (steepness orders asset) <ℤ low_excess orders (set prices asset x) asset
     → low_excess orders (set prices asset (x +ℤ pos 1)) asset ≤ℤ pos (steepness orders asset)
@@ -74,7 +74,7 @@ risen_more prices asset e = omega (arith, ints)
 pub fallen_more : (prices : List ℤ) (asset e : ℕ) → price_of prices asset -ℤ pos (suc e) +ℤ pos 1 ≡ price_of prices asset -ℤ pos e
 fallen_more prices asset e = omega (arith, ints)
 
--- E5: a rise that ends at or below the steepness settles the asset, with a high excess of 1 or more
+-- a rise that ends at or below the steepness settles the asset, with a high excess of 1 or more
 pub settled_after_rise : (orders : List Order) (prices : List ℤ) (asset reach d : ℕ) → All IsSound orders → asset < length prices → IsRise orders prices asset reach d
     → low_excess orders (risen prices asset d) asset ≤ℤ pos (steepness orders asset)
     → (pos 1 ≤ℤ high_excess orders (risen prices asset d) asset) × IsSettled orders (risen prices asset d) asset

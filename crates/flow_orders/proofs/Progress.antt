@@ -41,7 +41,7 @@ dual_floors orders prices = sum_by (λ o. dual_floor (terms_of o) (portfolio_pri
 
 -- ---- the true excess
 
--- E8's mirror: the high part is at least what is asked for
+-- and the high part is at least what is asked for
 pub high_above : (w : ℤ) (t : Terms) → IsWithinLimits t → (c : ℤ) (k N : ℕ) → k * span t ≡ N → (w *ℤ pos (k * scaled_demand t c)) ≤ℤ (pos N *ℤ high_part w t c)
 high_above (pos n) t h c k N parts =
     omega (arith, ints, ap (λ y. n * ceil_rate t c * y) parts, mul-le-mul_left (n * k) (roundings_enclose_demand t h c).ceil_above)
@@ -61,7 +61,7 @@ units : (N s q S : ℕ) → s * (2 * q * S) ≡ N → s * (2 * q) * S ≡ N
 units N s q S parts = omega (arith, parts)
 
 module _ (N : ℕ) (orders : List Order) (common : AreShares N orders) (sound : All IsSound orders) where
-  -- E8: the low excess is at most the true one
+  -- the low excess is at most the true one
   pub low_excess-below : (prices : List ℤ) (asset : ℕ) → (pos N *ℤ low_excess orders prices asset) ≤ℤ true_excess N orders prices asset
   low_excess-below prices asset =
       let low = λ (o : Order). low_part (weight_in o.row asset) (terms_of o) (portfolio_price o.row prices) in
@@ -83,7 +83,7 @@ module _ (N : ℕ) (orders : List Order) (common : AreShares N orders) (sound : 
       let h : IsSound o = sound k d inside in
       high_above (weight_in o.row asset) (terms_of o) h.limits (portfolio_price o.row prices) (share N (terms_of o) * (2 * (terms_of o).rate)) N (units N (share N (terms_of o)) (terms_of o).rate (span (terms_of o)) (common k d inside))))
 
-  -- E9: a grain lowers the true excess by at most the steepness
+  -- a grain lowers the true excess by at most the steepness
   pub true_excess_step : (prices : List ℤ) (asset : ℕ) (x : ℤ) → asset < length prices
       → true_excess N orders (set prices asset x) asset ≤ℤ (true_excess N orders (set prices asset (x +ℤ pos 1)) asset +ℤ pos (N * steepness orders asset))
   true_excess_step prices asset x within =
@@ -112,7 +112,7 @@ times_keeps n a b h =
     let sides : up a + down b ≤ up b + down a = omega (arith, ints, h) in
     omega (arith, ints, mul-le-mul_left n sides)
 
--- ---- E10
+-- ---- a rise ends where the true excess is 1 or more
 
 -- a true excess that the bound tells from the steepness at one place is 1 or more at the next
 above_one : (N steep : ℕ) (low now next : ℤ) → pos steep <ℤ low → (pos N *ℤ low) ≤ℤ now → now ≤ℤ (next +ℤ pos (N * steep)) → pos N ≤ℤ next
@@ -127,7 +127,7 @@ below_one N steep high now next below above step =
     omega (arith, ints, times_keeps N high (negsuc steep) most, above, step)
 
 module _ (N : ℕ) (orders : List Order) (common : AreShares N orders) (sound : All IsSound orders) where
-  -- E10: after a rise the true excess is 1 unit or more
+  -- after a rise the true excess is 1 unit or more
   pub excess_after_rise : (prices : List ℤ) (asset reach d : ℕ) → asset < length prices → IsRise orders prices asset reach d → pos N ≤ℤ true_excess N orders (risen prices asset d) asset
   excess_after_rise prices asset reach zero within move = absurd (omega (arith, move.least))
   excess_after_rise prices asset reach (suc e) within move =
@@ -145,7 +145,7 @@ module _ (N : ℕ) (orders : List Order) (common : AreShares N orders) (sound : 
       (high_excess-above N orders common sound (fallen prices asset e) asset)
       (rw (fallen_more prices asset e) at (true_excess_step N orders common sound prices asset (price_of prices asset -ℤ pos (suc e)) within))
 
--- ---- E11
+-- ---- a move lowers the exact dual
 
 -- three factors, turned
 turn : (k q e : ℕ) (w d : ℤ) → pos (k * (2 * q * e)) *ℤ (w *ℤ d) ≡ d *ℤ (w *ℤ pos (k * (2 * q) * e))
@@ -163,7 +163,7 @@ dual_part_falls t h c w d k =
     rw (move, turn k t.rate (scaled_demand t after) w d) at (dual_falls_in_parts t h c after k)
 
 module _ (N : ℕ) (orders : List Order) (sound : All IsSound orders) where
-  -- E11: where an asset's price moves from x to y, the exact dual falls by at least the move times the true excess after it
+  -- where an asset's price moves from x to y, the exact dual falls by at least the move times the true excess after it
   pub dual_falls_by_excess : (prices : List ℤ) (asset : ℕ) (x y : ℤ) → asset < length prices
       → (pos (exact_dual N orders (set prices asset y)) +ℤ (y -ℤ x) *ℤ true_excess N orders (set prices asset y) asset) ≤ℤ pos (exact_dual N orders (set prices asset x))
   dual_falls_by_excess prices asset x y within =

@@ -82,7 +82,7 @@ module _ {X : Type 0} (order : X → Order) (rate : X → ℕ) where
   sound_orders (x ∷ xs) sound zero d inside = sound 0 x (omega arith)
   sound_orders (x ∷ xs) sound (suc k) d inside = sound_orders xs (λ j e within. sound (suc j) e (omega (arith, within))) k d (omega (arith, inside))
 
-  -- E4: any roundings trade between the low and the high excess, which are at most the spread apart
+  -- any roundings trade between the low and the high excess, which are at most the spread apart
   pub residual_between : (xs : List X) (prices : List ℤ) (asset : ℕ) → All (λ x. IsSound (order x)) xs → AreRoundings order rate xs prices
       → IsBetween (low_excess (map order xs) prices asset) (residual order rate xs asset) (high_excess (map order xs) prices asset) (spread (map order xs) asset)
   residual_between xs prices asset sound roundings =

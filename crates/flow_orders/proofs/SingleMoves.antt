@@ -30,7 +30,7 @@ module _ (orders : List Order) (prices : List ℤ) (asset reach : ℕ) (sound : 
   high-none : (d : ℕ) → (price_of prices asset -ℤ pos d) ≤ℤ neg_ℤ (pos (2 ^ 60)) → pos 0 ≤ℤ high_excess orders (fallen prices asset d) asset
   high-none d low = high_excess-none orders (fallen prices asset d) asset sound single (rw (price_of-fallen prices asset d within) low)
 
-  -- E6: a rise ends at 2^60 or below
+  -- a rise ends at 2^60 or below
   pub rise_ends_within : (d : ℕ) → IsRise orders prices asset reach d → (price_of prices asset +ℤ pos d) ≤ℤ pos (2 ^ 60)
   rise_ends_within zero move = absurd (omega (arith, move.least))
   rise_ends_within (suc e) move =

@@ -88,7 +88,7 @@ module _ {X : Type 0} (f : X → ℤ) where
       let head : pos 0 ≤ℤ f x = h 0 x (omega arith) in
       omega (arith, ints, head, int_sum_by-not_below xs (λ k d inside. h (suc k) d (omega (arith, inside))))
 
--- E6: at a price of 2^60 or more the low excess is at most 0
+-- at a price of 2^60 or more the low excess is at most 0
 pub low_excess-none : (orders : List Order) (prices : List ℤ) (asset : ℕ) → All IsSound orders → All IsSingle orders → pos (2 ^ 60) ≤ℤ price_of prices asset → low_excess orders prices asset ≤ℤ pos 0
 low_excess-none orders prices asset sound single high =
     int_sum_by-not_above (λ o. low_part (weight_in o.row asset) (terms_of o) (portfolio_price o.row prices)) orders
@@ -112,7 +112,7 @@ high_excess-none orders prices asset sound single low =
     (λ own. rw own (high_part-none (weight_in o.row asset) (terms_of o) h.limits (price_of prices asset) low))
     (one_price o.row prices asset (single k d inside)))
 
--- E7: another asset's price leaves the price of an order that names this asset alone
+-- another asset's price leaves the price of an order that names this asset alone
 pub price_stays : (row : List Entry) (prices : List ℤ) (other : ℕ) (x : ℤ) → IsLawfulRow row → other < length prices → weight_in row other ≡ pos 0 → portfolio_price row (set prices other x) ≡ portfolio_price row prices
 price_stays row prices other x lawful within none =
     let follows = rw (none, zero-*ℤ) at (price_follows_one_price row prices other x lawful within) in

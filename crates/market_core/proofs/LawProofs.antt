@@ -20,7 +20,7 @@ use Rattle.std.specs.Prelude.{All, ◌<ℤ◌}
 use Rattle.market_core.proofs.OneStep.{HasOneOutcome, one_first, one_service}
 use Rattle.market_core.proofs.OneJournal.{step_market, journal_market, one_own_journal as one_journal, follows-append, follows-parts}
 use Rattle.market_core.proofs.Soundness.{sound_served, sound_step, sound_follows, sound-empty}
-use Rattle.market_core.proofs.Totals34.{batch_keeps_held, held_money_is, held_units_are, held_money_changes, held_units_change}
+use Rattle.market_core.proofs.HeldTotals.{batch_keeps_held, held_money_is, held_units_are, held_money_changes, held_units_change}
 use Rattle.market_core.proofs.Fills.{fills_within_cap, live_fills_within_cap}
 use Rattle.market_core.proofs.Exists.{own_journal_is_there, served_is_there}
 use Rattle.wire_records.specs.Records.{AreBytes}

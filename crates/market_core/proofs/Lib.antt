@@ -23,5 +23,5 @@ pub mod SoundBatch
 pub mod SoundOrders
 pub mod Soundness
 pub mod Totals
-pub mod Totals34
+pub mod HeldTotals
 pub mod WorkedRows

@@ -117,6 +117,14 @@ impl Market {
         }
     }
 
+    /// The tickers of the assets, by the assets' numbers.
+    pub fn tickers(&self) -> &TickerTable
+        ensures value { result.now ≡ self.now.tickers }
+        ensures sound { IsSound self.now }
+    {
+        &self.tickers
+    }
+
     /// The accounts, which hold all that was deposited less what was withdrawn.
     pub fn accounts(&self) -> &Accounts
         ensures value { result.now ≡ self.now.balances }
