@@ -9,7 +9,7 @@ use Rattle.flow_accounts.specs.Lawful.{AreLawful, IsLawfulAccount, IsUnitTotal}
 use Rattle.flow_accounts.specs.Sums.{money_of_all, units_of_all}
 use Rattle.list_sums.proofs.SumLemmas.{int_sum_by-positive}
 use Rattle.market_core.specs.Market.{Market, IsSound}
-use Rattle.market_core.proofs.Joined.{money_fits, units_fit}
+use Rattle.fill_caps.proofs.Joined.{money_fits, units_fit}
 
 -- the account at a place
 pub account_at : (b : Balances) (k : ℕ) (d : Account) → k < length b.accounts → slice_index_or b.accounts k d ≡ account_of b (k + 1)

@@ -9,7 +9,7 @@ use Rattle.weight_rows.specs.declared.entries.Entry.{Entry}
 use Rattle.weight_rows.specs.Rows.{weight_in}
 use Rattle.flow_accounts.specs.Balances.{Balances, IsAsset, money_of, units_of}
 use Rattle.flow_orders.specs.Orders.{Order, own_sum, money_need, unit_need, needed_money, needed_units}
-use Rattle.market_core.specs.Market.{CoversNeeds}
+use Rattle.fill_caps.specs.Covers.{CoversNeeds}
 use Rattle.flow_orders.proofs.OwnSums.{own_sum-append}
 
 -- an asset above all that a row names has no weight in it

@@ -4,7 +4,7 @@ use Rattle.std.specs.Int.{w128}
 use Rattle.std.specs.Prelude.{SomeIff, is_some}
 use Rattle.std.proofs.lemmas.Int.{ints, fits_signed_from_abs, to_z-of_z}
 use Rattle.flow_orders.specs.Orders.{Order, money_need, unit_need, needed_money, needed_units}
-use Rattle.market_core.proofs.Needs.{own_not_negative}
+use Rattle.fill_caps.proofs.Needs.{own_not_negative}
 
 -- the value of an option that is one
 pub value_of : {T : Type 0} (o : Option T) (P : Type 0) (v x : T) → SomeIff o P v → o ≡ Some x → x ≡ v

@@ -9,7 +9,8 @@ use Rattle.flow_accounts.specs.Balances.{Account, Balances, IsAccount, IsAsset, 
 use Rattle.flow_accounts.specs.Lawful.{money_limit, unit_limit}
 use Rattle.flow_accounts.proofs.Moves.{money_changes, units_change, accounts_open_empty}
 use Rattle.flow_orders.specs.Orders.{Order, needed_money, needed_units, money_need, unit_need}
-use Rattle.market_core.specs.Market.{Market, IsSound, IsLiveOrder, CoversNeeds, HoldsTotals, held_units}
+use Rattle.fill_caps.specs.Covers.{CoversNeeds}
+use Rattle.market_core.specs.Market.{Market, IsSound, IsLiveOrder, HoldsTotals, held_units}
 use Rattle.market_core.proofs.Made.{with_balances}
 use Rattle.market_core.proofs.Lawful.{sound_is_lawful}
 use Rattle.market_core.proofs.OwnNeeds.{own_sum-none}

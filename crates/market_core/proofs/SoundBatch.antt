@@ -13,15 +13,15 @@ use Rattle.flow_orders.specs.Orders.{Order, terms_of, own_sum}
 use Rattle.flow_orders.specs.Excess.{price_for, residual_bound}
 use Rattle.flow_orders.specs.Outcomes.{Clearing, Fill, Outcome, Cleared, Skipped, trades_of, IsRightClearing, IsRightOutcome}
 use Rattle.flow_orders.specs.Trades.{Trade, trader, paid, received, residual, residual_cost, after_fill, is_live, staying}
-use Rattle.market_core.specs.Settlement.{settled_account, settled_balances, settled_exchange}
+use Rattle.fill_caps.specs.Settlement.{settled_account, settled_balances, settled_exchange}
 use Rattle.market_core.specs.Market.{Market, IsSound, IsLiveOrder, start_prices, most_batches}
 use Rattle.market_core.specs.Step.{after_batch}
-use Rattle.market_core.proofs.Settles.{Settles}
+use Rattle.fill_caps.proofs.Settles.{Settles}
 use Rattle.flow_orders.proofs.TradeFacts.{IsAllowed, before_fills, after_fills}
-use Rattle.market_core.proofs.Needs.{rounding_is_allowed, needs_kept_by_batch}
-use Rattle.market_core.proofs.Totals.{money_kept, units_kept}
+use Rattle.fill_caps.proofs.Needs.{rounding_is_allowed, needs_kept_by_batch}
+use Rattle.fill_caps.proofs.Totals.{money_kept, units_kept}
 use Rattle.flow_orders.proofs.Moved.{exchange_units_move, exchange_money_moves}
-use Rattle.market_core.proofs.Settled.{staying_are_live, numbers_ascend}
+use Rattle.fill_caps.proofs.Settled.{staying_are_live, numbers_ascend}
 use Rattle.market_core.proofs.SoundBalances.{live_still}
 use Rattle.market_core.proofs.SoundOrders.{filter_few}
 use Rattle.flow_orders.proofs.TradeFacts.{before-trades, All-trades}

@@ -1,5 +1,4 @@
 pub mod Market
-pub mod Settlement
 pub mod Step
 pub mod Journal
 pub mod Wanting

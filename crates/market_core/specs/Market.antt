@@ -8,6 +8,7 @@ use Rattle.flow_accounts.specs.Balances.{units_of, units_in, total_units_of, no_
 use Rattle.flow_accounts.specs.Lawful.{most_accounts, money_limit, unit_limit}
 use Rattle.flow_accounts.specs.Sums.{money_of_all, units_of_all}
 use Rattle.flow_orders.specs.Orders.{Order, IsOrder, most_orders, needed_money, needed_units}
+use Rattle.fill_caps.specs.Covers.{CoversNeeds}
 
 -- no more batches are held
 abbrev pub most_batches : ℕ
@@ -65,11 +66,6 @@ pub record IsLiveOrder (m : Market) (o : Order) : Type 0 where
   pub numbered : (1 ≤ o.number) × (o.number < m.next_order)
   pub account : IsAccount m.balances o.account
   pub assets : All (λ e. IsAsset m.balances e.asset) o.row
-
--- each account holds at least what its live orders need
-pub record CoversNeeds (b : Balances) (orders : List Order) : Type 0 where
-  pub money : (account : ℕ) → IsAccount b account → needed_money orders account ≤ℤ money_of b account
-  pub units : (account asset : ℕ) → IsAccount b account → IsAsset b asset → needed_units orders account asset ≤ℤ units_of b account asset
 
 -- accounts and exchange together hold the totals
 pub record HoldsTotals (m : Market) : Type 0 where

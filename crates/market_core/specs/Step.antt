@@ -18,7 +18,7 @@ use Rattle.flow_orders.specs.Outcomes.{Outcome, BatchRule, Cleared, Skipped, tra
 use Rattle.flow_orders.specs.Trades.{staying}
 use Rattle.order_book.specs.Book.{HasOrder, without}
 use Rattle.market_core.specs.Market.{Market, most_batches, start_prices, free_money, free_units}
-use Rattle.market_core.specs.Settlement.{settled_balances, settled_exchange}
+use Rattle.fill_caps.specs.Settlement.{settled_balances, settled_exchange}
 
 -- ---- refusals
 

@@ -17,12 +17,12 @@ use Rattle.flow_accounts.specs.Balances.{Account, Balances, IsAccount, IsAsset, 
 use Rattle.flow_accounts.specs.Sums.{money_of_all, units_of_all}
 use Rattle.flow_orders.specs.Orders.{Order, own_sum, money_need, unit_need}
 use Rattle.flow_orders.specs.Trades.{Trade, trades, paid, received, trader, residual, residual_cost}
-use Rattle.market_core.proofs.Settles.{Settles}
-use Rattle.market_core.specs.Market.{CoversNeeds}
+use Rattle.fill_caps.proofs.Settles.{Settles}
+use Rattle.fill_caps.specs.Covers.{CoversNeeds}
 use Rattle.flow_orders.proofs.Duality.{costs_by_asset}
 use Rattle.flow_orders.proofs.OwnSums.{own_sum-append}
-use Rattle.market_core.proofs.Needs.{own_not_negative}
-use Rattle.market_core.proofs.Totals.{money_by_account, units_by_account}
+use Rattle.fill_caps.proofs.Needs.{own_not_negative}
+use Rattle.fill_caps.proofs.Totals.{money_by_account, units_by_account}
 
 -- what the residuals cost is what all trades paid
 pub cost_is_paid : (prices : List ℤ) (ts : List Trade) → All (λ t. IsLawfulRow t.order.row) ts → All (λ t. IsPricedBy t.order.row prices) ts → int_sum_by (paid prices) ts ≡ residual_cost prices ts

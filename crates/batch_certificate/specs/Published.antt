@@ -1,0 +1,23 @@
+-- What the parts of an outcome say of a batch of orders.
+use Rattle.std.specs.Prelude.{List, map}
+use Rattle.flow_orders.specs.Orders.{Order}
+use Rattle.flow_orders.specs.Trades.{trades}
+use Rattle.flow_orders.specs.Outcomes.{Clearing, Skipping, fill_of}
+use Rattle.flow_orders.specs.Outcomes as outcomes
+use Rattle.batch_certificate.specs.declared.outcome.Cleared.{Cleared}
+use Rattle.batch_certificate.specs.declared.outcome.Skipped.{Skipped}
+use Rattle.batch_certificate.specs.declared.outcome.Outcome.{Outcome}
+use Rattle.batch_certificate.specs.declared.outcome.Outcome.TheVariants as parts
+
+-- a clearing of these orders: each rate is that of the order at its place
+abbrev pub clearing_of : List Order → Cleared → Clearing
+clearing_of orders c = record { prices = c.prices; fills = map fill_of (trades orders c.rates); residuals = c.residuals; gap = c.gap }
+
+-- a skip
+abbrev pub skipping_of : Skipped → Skipping
+skipping_of s = record { trace = s.trace; start_dual = s.start_dual; end_dual = s.end_dual }
+
+-- the outcome of a batch of these orders
+abbrev pub outcome_of : List Order → Outcome → outcomes.Outcome
+outcome_of orders (parts.Cleared c) = outcomes.Cleared (clearing_of orders c)
+outcome_of orders (parts.Skipped s) = outcomes.Skipped (skipping_of s)

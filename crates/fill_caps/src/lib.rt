@@ -1,0 +1,2 @@
+//! Settlement of a batch.
+#![tactic(auto)]
