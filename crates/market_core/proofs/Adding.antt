@@ -8,7 +8,7 @@ use Rattle.ticker_table.specs.Adding.{IsAddable}
 use Rattle.wire_records.specs.Commands.{AddAsset, OpenAccount, Plain}
 use Rattle.wire_records.specs.declared.reply.Reply.TheVariants.{Asset, Account, Refused}
 use Rattle.wire_records.specs.declared.reply.Refusal.TheVariants.{BadTicker, TickerTaken, AssetLimit, AccountLimit}
-use Rattle.flow_accounts.specs.Balances.{Balances, account_count, add_asset, open_account}
+use Rattle.flow_accounts.specs.Balances.{Account as AccountOf, Balances, account_count, add_asset, with_asset, open_account}
 use Rattle.flow_accounts.specs.Lawful.{most_accounts}
 use Rattle.flow_accounts.specs.Answers.{RefusesAccount}
 use Rattle.flow_accounts.specs.declared.fault.AccountFault.{AccountFault}
@@ -18,12 +18,8 @@ use Rattle.flow_orders.specs.Outcomes.{BatchRule}
 use Rattle.flow_orders.specs.Own.{IsOwnOutcome}
 use Rattle.market_core.specs.Market.{Market, IsSound}
 use Rattle.market_core.specs.Step.{FirstRefusal, Serves}
-use Rattle.market_core.specs.Private.{without_batches, IsAnswered, refusal_for}
+use Rattle.market_core.specs.Private.{IsAnswered, refusal_for}
 use Rattle.market_core.proofs.Fitting.{sound-served}
-
--- one value more
-replicate-pushed : {X Y : Type 0} (xs : List X) (x : X) (y : Y) → replicate (length (xs ++ x ∷ [])) y ≡ replicate (length xs) y ++ y ∷ []
-replicate-pushed xs x y = ap (λ n. replicate n y) (length_push xs x) ∙ sym (replicate-append-replicate (length xs) 1 y)
 
 -- a ticker that can be added is refused by nothing
 pub addable_is_accepted : (m : Market) (ticker : List ℕ) → IsAddable m.tickers ticker → FirstRefusal m (AddAsset ticker) None
@@ -31,19 +27,20 @@ addable_is_accepted m ticker addable = inr (addable.valid, inr (addable.absent, 
 
 module _ (Rule : BatchRule) where
   -- the asset is added
-  pub serves-add_asset : (tickers : List (List ℕ)) (b : Balances) (orders : List Order) (next : ℕ) (now : Balances) (ticker : List ℕ) → IsAddable tickers ticker → now ≡ add_asset b
-      → Serves Rule (without_batches tickers b orders next) (AddAsset ticker) (Plain (Asset (length tickers))) (without_batches (tickers ++ ticker ∷ []) now orders next)
-  serves-add_asset tickers b orders next now ticker addable added =
-      let with_zeros : List ℤ → Market = λ zeros. record (without_batches tickers b orders next) {
-        tickers = tickers ++ ticker ∷ [];
-        balances = add_asset b;
-        exchange = record { money = pos 0; units = zeros };
-        last_prices = zeros;
-      } in
+  pub serves-add_asset : (m : Market) (now : Balances) (exchange : AccountOf) (prices : List ℤ) (ticker : List ℕ) → IsAddable m.tickers ticker
+      → now ≡ add_asset m.balances → exchange ≡ with_asset m.exchange → prices ≡ m.last_prices ++ pos 0 ∷ []
+      → Serves Rule m (AddAsset ticker) (Plain (Asset (length m.tickers))) (record m { tickers = m.tickers ++ ticker ∷ []; balances = now; exchange = exchange; last_prices = prices })
+  serves-add_asset m now exchange prices ticker addable balances_are exchange_is prices_are =
+      let longer = m.tickers ++ ticker ∷ [] in
       record {
         first = None;
-        refused = addable_is_accepted (without_batches tickers b orders next) ticker addable;
-        answered = (refl, ap (λ b. without_batches (tickers ++ ticker ∷ []) b orders next) added ∙ ap with_zeros (replicate-pushed tickers ticker (pos 0)));
+        refused = addable_is_accepted m ticker addable;
+        answered = (
+          refl,
+          ap (λ b. record m { tickers = longer; balances = b; exchange = exchange; last_prices = prices }) balances_are
+          ∙ ap (λ e. record m { tickers = longer; balances = add_asset m.balances; exchange = e; last_prices = prices }) exchange_is
+          ∙ ap (λ l. record m { tickers = longer; balances = add_asset m.balances; exchange = with_asset m.exchange; last_prices = l }) prices_are,
+        );
       }
 
   module _ (old new : Market) (ticker : List ℕ) (same : new ≡ old) where

@@ -4,3 +4,5 @@ pub mod Journal
 pub mod Wanting
 pub mod Laws
 pub mod Private
+pub mod Prices
+pub mod Kept

@@ -10,19 +10,6 @@ use Rattle.wire_records.specs.declared.reply.Reply.TheVariants.{Done, Refused}
 use Rattle.flow_orders.specs.Orders.{Order}
 use Rattle.market_core.specs.Market.{Market}
 
--- the market of these tickers, balances and orders in which no batch was held: all that the program keeps as long as it
--- serves none
-abbrev pub without_batches : List (List ℕ) → Balances → List Order → ℕ → Market
-without_batches tickers balances orders next = record {
-  tickers = tickers;
-  balances = balances;
-  exchange = empty_account (length tickers);
-  orders = orders;
-  next_order = next;
-  batches = 0;
-  last_prices = replicate (length tickers) (pos 0);
-}
-
 -- every fault but want of memory is answered by a refusal
 abbrev pub IsAnswered : AccountFault → Type 0
 IsAnswered fault.Memory = ⊥

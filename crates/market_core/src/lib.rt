@@ -2,13 +2,13 @@
 //! of it.
 //!
 //! The definitions in `specs` are those that everything above cites: `Market` (what is kept, and when it is sound), `Step`
-//! (the first refusal of a command, or what it is answered and makes of the market), `Settlement` (what a batch does to
-//! accounts and exchange), `Journal` (sequences of steps, totals, fills), `Wanting` (where memory may be wanted). [`Market`]
+//! (the first refusal of a command, or what it is answered and makes of the market), `Journal` (sequences of steps, totals, fills), `Wanting` (where memory may be wanted). [`Market`]
 //! is the program's market, and each of its calls is one step. [`laws`] has what holds of steps and journals.
 #![tactic(auto)]
 
 pub mod laws;
 mod market;
 mod orders;
+mod prices;
 
 pub use market::Market;

@@ -7,32 +7,38 @@ ghost use Rattle.wire_records.specs.Views.{command_of};
 ghost use Rattle.market_core.specs.Private.{refusal_for, IsAnswered};
 
 use flow_accounts::{AccountFault, Accounts};
+use crate::prices::LastPrices;
 use flow_orders::Order;
 use order_book::Book;
+use residual_account::ResidualAccount;
 use std::alloc::Global;
 use std::marker::Model;
 use ticker_table::{TickerFault, TickerTable};
 use wire_records::{CommandView, Memory, Refusal, Reply};
 
-/// The assets by their tickers, all balances, the live orders, and the number that the next order gets.
+/// The assets by their tickers, all balances, the exchange's own account, the live orders, the number that the next order
+/// gets, how many batches were held, and the last cleared prices.
 #[derive(Drop)]
 pub struct Market {
     pub(crate) alloc: Global,
     pub(crate) tickers: TickerTable,
     pub(crate) accounts: Accounts,
+    pub(crate) exchange: ResidualAccount,
     pub(crate) book: Book,
     pub(crate) next_order: u64,
+    pub(crate) batches: u32,
+    pub(crate) last_prices: LastPrices,
 }
 
 impl Model for Market {
     ghost use Rattle.market_core.specs.Market.{Market as market_value, IsSound};
-    ghost use Rattle.market_core.specs.Private.{without_batches};
+    ghost use Rattle.market_core.specs.Kept.{market_in};
 
     ghost Value = { market_value };
 
-    ghost view = { λ m. without_batches m.tickers m.accounts m.book.orders m.next_order };
+    ghost view = { market_in };
 
-    ghost invariant = { λ m. IsSound (without_batches m.tickers m.accounts m.book.orders m.next_order) };
+    ghost invariant = { λ m. IsSound (market_in m) };
 }
 
 // The refusal for a fault of the accounts.
@@ -77,8 +83,11 @@ impl Market {
             alloc,
             tickers: TickerTable::new(alloc),
             accounts: Accounts::new(alloc),
+            exchange: ResidualAccount::new(),
             book: Book::new(alloc),
             next_order: 1,
+            batches: 0,
+            last_prices: LastPrices::new(),
         }
     }
 
@@ -160,6 +169,8 @@ impl Market {
         match self.tickers.add(bytes) {
             Ok(number) => {
                 self.accounts.add_asset();
+                self.exchange.add_asset();
+                self.last_prices.add_asset();
                 Ok(Reply::Asset(number))
             }
             Err(TickerFault::BadTicker) => Ok(Reply::Refused(Refusal::BadTicker)),

@@ -3,26 +3,26 @@ use Rattle.wire_records.specs.Commands.{CancelOrder, Plain}
 use Rattle.flow_accounts.specs.Balances.{IsAccount, money_of}
 use Rattle.flow_orders.specs.Own.{IsOwnOutcome}
 use Rattle.market_core.specs.Step.{Serves}
-use Rattle.market_core.specs.Private.{without_batches}
+use Rattle.market_core.specs.Kept.{market_in}
 use Rattle.market_core.proofs.Fitting.{sound-served}
 use Rattle.market_core.proofs.Reserving.{none_where, some_where}
 use Rattle.market_core.proofs.Placing.{refuses-no_account, serves-cancel}
 use Rattle.market_core.proofs.market.Market.cancel_order.Goals as goal
 
-served : (c : goal.After-cancel_reply) → Serves IsOwnOutcome (without_batches c.self.inside.tickers c.self.inside.accounts c.self.inside.book.orders c.self.inside.next_order) (CancelOrder c.args.account c.args.number) (Plain c.cancel_reply.result) (without_batches c.self.inside.tickers c.self.inside.accounts c.cancel.new.self.orders c.self.inside.next_order)
+served : (c : goal.After-cancel_reply) → Serves IsOwnOutcome (market_in c.self.inside) (CancelOrder c.args.account c.args.number) (Plain c.cancel_reply.result) (record (market_in c.self.inside) { orders = c.cancel.new.self.orders })
 served c =
-    let m = without_batches c.self.inside.tickers c.self.inside.accounts c.self.inside.book.orders c.self.inside.next_order in
+    let m = market_in c.self.inside in
     let there = some_where c.money.result (IsAccount c.self.inside.accounts c.args.account) (money_of c.self.inside.accounts c.args.account) c.money.ensures (c.is_none.ensures ∙ ap not c.if-is_none.false) in
     let is = c.cancel.ensures in
     rw c.cancel_reply.ensures
     (serves-cancel IsOwnOutcome m c.args.account c.args.number c.cancel.result c.self.inside.book c.cancel.new.self there is.none is.stays is.order is.account is.number is.orders)
 
 pub invariant_of-self : goal.invariant_of-self
-invariant_of-self c = sound-served (without_batches c.self.inside.tickers c.self.inside.accounts c.self.inside.book.orders c.self.inside.next_order) _ _ _ c.self.invariant (served c)
+invariant_of-self c = sound-served (market_in c.self.inside) _ _ _ c.self.invariant (served c)
 
 pub returns-then-is_none : goal.returns-then-is_none
 returns-then-is_none c =
-    let m = without_batches c.self.inside.tickers c.self.inside.accounts c.self.inside.book.orders c.self.inside.next_order in
+    let m = market_in c.self.inside in
     let none = none_where c.money.result (IsAccount c.self.inside.accounts c.args.account) (money_of c.self.inside.accounts c.args.account) c.money.ensures (c.is_none.ensures ∙ ap not c.if-is_none.true) in
     rw (← c.self.view_is) (refuses-no_account IsOwnOutcome m c.args.account c.args.number m none refl)
 

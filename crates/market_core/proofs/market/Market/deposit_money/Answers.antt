@@ -1,22 +1,22 @@
 use Rattle.wire_records.specs.Commands.{DepositMoney, Plain}
 use Rattle.flow_orders.specs.Own.{IsOwnOutcome}
 use Rattle.market_core.specs.Step.{Serves}
-use Rattle.market_core.specs.Private.{without_batches}
+use Rattle.market_core.specs.Kept.{market_in}
 use Rattle.market_core.proofs.Answering.{serves-deposit_money}
 use Rattle.market_core.proofs.Fitting.{sound_changes_fit, sound-served}
 use Rattle.market_core.proofs.market.Market.deposit_money.Goals as goal
 
 pub deposit_money-requires : goal.deposit_money-requires
-deposit_money-requires c = record { fits = (sound_changes_fit (without_batches c.self.inside.tickers c.self.inside.accounts c.self.inside.book.orders c.self.inside.next_order) c.self.invariant).money_deposit c.args.account c.args.ticks }
+deposit_money-requires c = record { fits = (sound_changes_fit (market_in c.self.inside) c.self.invariant).money_deposit c.args.account c.args.ticks }
 
-served : (c : goal.After-reply_to) → Serves IsOwnOutcome (without_batches c.self.inside.tickers c.self.inside.accounts c.self.inside.book.orders c.self.inside.next_order) (DepositMoney c.args.account c.args.ticks) (Plain c.reply_to.result) (without_batches c.self.inside.tickers c.deposit_money.new.self c.self.inside.book.orders c.self.inside.next_order)
+served : (c : goal.After-reply_to) → Serves IsOwnOutcome (market_in c.self.inside) (DepositMoney c.args.account c.args.ticks) (Plain c.reply_to.result) (record (market_in c.self.inside) { balances = c.deposit_money.new.self })
 served c =
     let answers = c.deposit_money.ensures in
-    serves-deposit_money IsOwnOutcome (without_batches c.self.inside.tickers c.self.inside.accounts c.self.inside.book.orders c.self.inside.next_order) c.deposit_money.new.self c.args.account c.args.ticks c.deposit_money.result c.reply_to.result
+    serves-deposit_money IsOwnOutcome (market_in c.self.inside) c.deposit_money.new.self c.args.account c.args.ticks c.deposit_money.result c.reply_to.result
     answers.accepted answers.refused answers.ok answers.err c.reply_to.ensures
 
 pub invariant_of-self : goal.invariant_of-self
-invariant_of-self c = sound-served (without_batches c.self.inside.tickers c.self.inside.accounts c.self.inside.book.orders c.self.inside.next_order) _ _ _ c.self.invariant (served c)
+invariant_of-self c = sound-served (market_in c.self.inside) _ _ _ c.self.invariant (served c)
 
 pub returns : goal.returns
 returns c = rw (← c.self.view_is) (served c)

@@ -1,6 +1,6 @@
 use Rattle.std.proofs.Common.{ap}
 use Rattle.flow_orders.specs.Own.{IsOwnOutcome}
-use Rattle.market_core.specs.Private.{without_batches}
+use Rattle.market_core.specs.Kept.{market_in}
 use Rattle.market_core.proofs.Adding.{serves-open_account, refuses-account_fault, sound-opened}
 use Rattle.market_core.proofs.market.Market.open_account.Goals as goal
 use Rattle.market_core.proofs.market.Market.open_account.Goals.{in-Ok, in-Err-Memory, in-Err}
@@ -8,11 +8,11 @@ use Rattle.market_core.proofs.market.Market.open_account.Goals.{in-Ok, in-Err-Me
 pub invariant_of-self : goal.invariant_of-self
 invariant_of-self c =
     let opened = c.add_account.ensures in
-    sound-opened (without_batches c.self.inside.tickers c.self.inside.accounts c.self.inside.book.orders c.self.inside.next_order) c.add_account.new.self c.add_account.result c.self.invariant opened.not_full opened.ok opened.err
+    sound-opened (market_in c.self.inside) c.add_account.new.self c.add_account.result c.self.invariant opened.not_full opened.ok opened.err
 
 pub returns-clause-served : goal.returns-clause-served
 returns-clause-served c =
-    let m = without_batches c.self.inside.tickers c.self.inside.accounts c.self.inside.book.orders c.self.inside.next_order in
+    let m = market_in c.self.inside in
     let now = c.add_account.new.self in
     elim c.match-add_account.branch [
       | in-Ok w ↦

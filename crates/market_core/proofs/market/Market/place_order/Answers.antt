@@ -5,20 +5,20 @@ use Rattle.wire_records.specs.Commands.{PlaceOrder, Plain}
 use Rattle.wire_records.specs.declared.reply.Reply.TheVariants.{Order as OrderPlaced}
 use Rattle.flow_orders.specs.Own.{IsOwnOutcome}
 use Rattle.market_core.specs.Step.{FirstRefusal, Serves, placed}
-use Rattle.market_core.specs.Private.{without_batches}
+use Rattle.market_core.specs.Kept.{market_in}
 use Rattle.market_core.proofs.Fitting.{sound-served}
 use Rattle.market_core.proofs.Placing.{accepted_is_few, serves-place}
 use Rattle.market_core.proofs.market.Market.place_order.Goals as goal
 
 pub add-requires-clause-few : goal.add-requires-clause-few
 add-requires-clause-few c =
-    let m = without_batches c.self.inside.tickers c.self.inside.accounts c.self.inside.book.orders c.self.inside.next_order in
+    let m = market_in c.self.inside in
     let first : FirstRefusal m (PlaceOrder c.args.place.now) None = rw (← c.self.view_is) at c.in_default.ensures in
     rw c.in-Ok.ensures.orders (accepted_is_few m c.args.place.now first)
 
-served : (c : goal.After-add) → Serves IsOwnOutcome (without_batches c.self.inside.tickers c.self.inside.accounts c.self.inside.book.orders c.self.inside.next_order) (PlaceOrder c.args.place.now) (Plain (OrderPlaced c.self.inside.next_order)) (without_batches c.self.inside.tickers c.self.inside.accounts c.add.new.self.orders (c.self.inside.next_order + 1))
+served : (c : goal.After-add) → Serves IsOwnOutcome (market_in c.self.inside) (PlaceOrder c.args.place.now) (Plain (OrderPlaced c.self.inside.next_order)) (record (market_in c.self.inside) { orders = c.add.new.self.orders; next_order = c.self.inside.next_order + 1 })
 served c =
-    let m = without_batches c.self.inside.tickers c.self.inside.accounts c.self.inside.book.orders c.self.inside.next_order in
+    let m = market_in c.self.inside in
     let first : FirstRefusal m (PlaceOrder c.args.place.now) None = rw (← c.self.view_is) at c.in_default.ensures in
     let low = to_z-of_z w64 c.low.result (record { sfits = c.low.type_inv }) in
     let high = to_z-of_z w64 c.high.result (record { sfits = c.high.type_inv }) in
@@ -27,4 +27,4 @@ served c =
     serves-place IsOwnOutcome m c.args.place.now c.new.result c.add.new.self.orders first is (c.add.ensures.orders ∙ ap (λ os. os ++ c.new.result ∷ []) c.in-Ok.ensures.orders)
 
 pub invariant_of-self-2 : goal.invariant_of-self-2
-invariant_of-self-2 c = sound-served (without_batches c.self.inside.tickers c.self.inside.accounts c.self.inside.book.orders c.self.inside.next_order) _ _ _ c.self.invariant (served c)
+invariant_of-self-2 c = sound-served (market_in c.self.inside) _ _ _ c.self.invariant (served c)

@@ -2,7 +2,7 @@ use Rattle.wire_records.specs.Commands.{WithdrawAsset, Plain}
 use Rattle.flow_orders.specs.Orders.{needed_units}
 use Rattle.flow_orders.specs.Own.{IsOwnOutcome}
 use Rattle.market_core.specs.Step.{Serves}
-use Rattle.market_core.specs.Private.{without_batches}
+use Rattle.market_core.specs.Kept.{market_in}
 use Rattle.market_core.proofs.Answering.{serves-withdraw_units}
 use Rattle.market_core.proofs.Fitting.{sound_changes_fit, sound-served}
 use Rattle.market_core.proofs.Reserving.{same_number, needed_units_not_negative}
@@ -21,17 +21,17 @@ withdraw_units-requires-clause-covered c =
 pub withdraw_units-requires-clause-fits : goal.withdraw_units-requires-clause-fits
 withdraw_units-requires-clause-fits c =
     rw (same_number c.units_needed-reserved.result (record { sfits = c.units_needed-reserved.type_inv }), c.units_needed-reserved.ensures.value)
-    ((sound_changes_fit (without_batches c.self.inside.tickers c.self.inside.accounts c.self.inside.book.orders c.self.inside.next_order) c.self.invariant).unit_withdrawal c.args.account c.args.asset c.args.units
+    ((sound_changes_fit (market_in c.self.inside) c.self.invariant).unit_withdrawal c.args.account c.args.asset c.args.units
     (needed_units c.self.inside.book.orders c.args.account c.args.asset) (needed_units_not_negative c.self.inside.book.orders c.args.account c.args.asset))
 
-served : (c : goal.After-reply_to) → Serves IsOwnOutcome (without_batches c.self.inside.tickers c.self.inside.accounts c.self.inside.book.orders c.self.inside.next_order) (WithdrawAsset c.args.account c.args.asset c.args.units) (Plain c.reply_to.result) (without_batches c.self.inside.tickers c.withdraw_units.new.self c.self.inside.book.orders c.self.inside.next_order)
+served : (c : goal.After-reply_to) → Serves IsOwnOutcome (market_in c.self.inside) (WithdrawAsset c.args.account c.args.asset c.args.units) (Plain c.reply_to.result) (record (market_in c.self.inside) { balances = c.withdraw_units.new.self })
 served c =
     let answers = rw (same_number c.units_needed-reserved.result (record { sfits = c.units_needed-reserved.type_inv }), c.units_needed-reserved.ensures.value) at c.withdraw_units.ensures in
-    serves-withdraw_units IsOwnOutcome (without_batches c.self.inside.tickers c.self.inside.accounts c.self.inside.book.orders c.self.inside.next_order) c.withdraw_units.new.self c.args.account c.args.asset c.args.units c.withdraw_units.result c.reply_to.result
+    serves-withdraw_units IsOwnOutcome (market_in c.self.inside) c.withdraw_units.new.self c.args.account c.args.asset c.args.units c.withdraw_units.result c.reply_to.result
     answers.accepted answers.refused answers.ok answers.err c.reply_to.ensures
 
 pub invariant_of-self : goal.invariant_of-self
-invariant_of-self c = sound-served (without_batches c.self.inside.tickers c.self.inside.accounts c.self.inside.book.orders c.self.inside.next_order) _ _ _ c.self.invariant (served c)
+invariant_of-self c = sound-served (market_in c.self.inside) _ _ _ c.self.invariant (served c)
 
 pub returns : goal.returns
 returns c = rw (← c.self.view_is) (served c)

@@ -1,0 +1,15 @@
+-- What the fields of a market stand for.
+use Rattle.market_core.specs.declared.market.Market.TheInside.{Inside}
+use Rattle.market_core.specs.Market.{Market}
+
+-- the market that the fields stand for
+abbrev pub market_in : Inside → Market
+market_in m = record {
+  tickers = m.tickers;
+  balances = m.accounts;
+  exchange = m.exchange;
+  orders = m.book.orders;
+  next_order = m.next_order;
+  batches = m.batches;
+  last_prices = m.last_prices;
+}
