@@ -1,2 +1,21 @@
 //! Moves of prices, one asset at a time, until all assets are settled.
+//!
+//! [`step`] moves the price of one asset that isn't settled, [`settle_single`] settles a book in which each order names
+//! one asset. Both change the prices of a [`Workspace`](excess_bounds::Workspace); the words are those of `flow_orders`.
+//!
+//! A price rises while the low excess of its asset is above the steepness, since then more of it is asked for than
+//! can come from rounding, and it falls while the high excess is below minus the steepness. As a price rises its
+//! asset's excess never does, so the end of a move is found by halving.
+//!
+//! # Costs
+//!
+//! A move asks for the excess of its asset at most 64 times, however far it goes, and once for its steepness. Each ask
+//! is one pass over the entries of all orders. No call takes memory.
 #![tactic(auto)]
+
+mod moves;
+mod probes;
+mod single;
+
+pub use moves::step;
+pub use single::settle_single;

@@ -1,0 +1,20 @@
+use Rattle.std.proofs.Common.{◌∙◌}
+use Rattle.coordinate_search.proofs.Settling.{one_more_settled, AreSettled-all, kept}
+use Rattle.coordinate_search.proofs.single.settle_single.Goals as goal
+
+pub loop-asset-preserved : goal.loop-asset-preserved
+loop-asset-preserved c =
+    let orders = c.loop-asset.invariant.0 in
+    let turn = c.settle_one.ensures in
+    let inside = rw c.prices.ensures.value at c.loop-asset-test.true in
+    (turn.orders ∙ orders, one_more_settled _ c.requires.single c.requires.each _ _ _ _ inside c.loop-asset.invariant.1 (rw orders at turn.prices))
+
+pub returns-clause-settled : goal.returns-clause-settled
+returns-clause-settled c =
+    let past = rw c.prices.ensures.value at c.loop-asset-test.false in
+    rw c.loop-asset.invariant.0 (AreSettled-all _ c.requires.single c.requires.each _ c.requires.start _ _ past c.loop-asset.invariant.1)
+
+pub returns-clause-kept : goal.returns-clause-kept
+returns-clause-kept c =
+    let past = rw c.prices.ensures.value at c.loop-asset-test.false in
+    kept _ c.requires.single c.requires.each _ c.requires.start _ _ past c.loop-asset.invariant.1

@@ -1,0 +1,112 @@
+//! The move of one asset's price.
+ghost use Rattle.std.specs.Prelude.{◌≡◌, ◌^◌, ◌<◌, ◌≤ℤ◌, ◌+ℤ◌, ◌-ℤ◌, pos, neg_ℤ, true, length, slice_set, unsigned_abs, All};
+ghost use Rattle.weight_rows.specs.Rows.{IsPrice, price_of};
+ghost use Rattle.flow_orders.specs.Orders.{IsOrder};
+ghost use Rattle.flow_orders.specs.Excess.{is_above, is_below, is_unsettled, steepness};
+ghost use Rattle.flow_orders.specs.Moves.{moved};
+
+use crate::probes::{Fall, Rise};
+use excess_bounds::Workspace;
+use single_bisect::{greatest_true, least_true};
+
+/// Moves the price of an asset that isn't settled, by at most `reach` grains.
+///
+/// Where its low excess is above the steepness, the price rises by the least amount from 1 to `reach` at which it no
+/// longer is, else by `reach`. Where the high excess is below minus the steepness, the price falls in the same way. The
+/// other prices stay.
+///
+/// It asks for the excess of the asset at most 64 times, each time in one pass over the entries of all orders, and takes
+/// no memory.
+pub fn step(work: &mut Workspace<'_>, asset: u16, reach: i64)
+    requires asset { asset < length work.old.prices }
+    requires unsettled { is_unsettled work.old.orders work.old.prices asset ≡ true }
+    requires some { pos 1 ≤ℤ reach }
+    requires far { reach ≤ℤ pos (2 ^ 61) }
+    requires room_below { neg_ℤ (pos (2 ^ 62)) ≤ℤ (price_of work.old.prices asset -ℤ reach) }
+    requires room_above { (price_of work.old.prices asset +ℤ reach) ≤ℤ pos (2 ^ 62) }
+    requires each { All IsOrder work.old.orders }
+    ensures orders { work.new.orders ≡ work.old.orders }
+    ensures moved { work.new.prices ≡ moved work.old.orders (unsigned_abs reach) work.old.prices asset }
+{
+    let end = end_of_move(work, asset, reach);
+    work.set_price(asset, end);
+}
+
+// The price at which a move ends.
+fn end_of_move(work: &Workspace<'_>, asset: u16, reach: i64) -> i64
+    requires asset { asset < length work.now.prices }
+    requires unsettled { is_unsettled work.now.orders work.now.prices asset ≡ true }
+    requires some { pos 1 ≤ℤ reach }
+    requires far { reach ≤ℤ pos (2 ^ 61) }
+    requires room_below { neg_ℤ (pos (2 ^ 62)) ≤ℤ (price_of work.now.prices asset -ℤ reach) }
+    requires room_above { (price_of work.now.prices asset +ℤ reach) ≤ℤ pos (2 ^ 62) }
+    requires each { All IsOrder work.now.orders }
+    ensures moved { slice_set work.now.prices asset result ≡ moved work.now.orders (unsigned_abs reach) work.now.prices asset }
+    ensures range { IsPrice result }
+{
+    let price = price_in(work, asset);
+    let steepness = work.steepness(asset);
+    if steepness < work.excess(asset).low {
+        return end_of_rise(work, asset, steepness, price, reach);
+    }
+    end_of_fall(work, asset, -steepness, price, reach)
+}
+
+// The price of an asset.
+fn price_in(work: &Workspace<'_>, asset: u16) -> i64
+    requires { asset < length work.now.prices }
+    ensures value { result ≡ price_of work.now.prices asset }
+    ensures range { IsPrice result }
+{
+    work.prices()[usize::from(asset)]
+}
+
+// The price at which a rise from a price by `reach` at most ends.
+fn end_of_rise(work: &Workspace<'_>, asset: u16, bound: i64, price: i64, reach: i64) -> i64
+    requires asset { asset < length work.now.prices }
+    requires above { is_above work.now.orders work.now.prices asset ≡ true }
+    requires bound { bound ≡ pos (steepness work.now.orders asset) }
+    requires price { price ≡ price_of work.now.prices asset }
+    requires range { IsPrice price }
+    requires some { pos 1 ≤ℤ reach }
+    requires room { (price +ℤ reach) ≤ℤ pos (2 ^ 62) }
+    requires each { All IsOrder work.now.orders }
+    ensures moved { slice_set work.now.prices asset result ≡ moved work.now.orders (unsigned_abs reach) work.now.prices asset }
+    ensures range { IsPrice result }
+{
+    let last = price + reach;
+    let mut rise = Rise {
+        work,
+        asset,
+        bound,
+        first: price,
+        last,
+        asks: 0,
+    };
+    least_true(&mut rise, price, last)
+}
+
+// The price at which a fall from a price by `reach` at most ends.
+fn end_of_fall(work: &Workspace<'_>, asset: u16, bound: i64, price: i64, reach: i64) -> i64
+    requires asset { asset < length work.now.prices }
+    requires below { is_below work.now.orders work.now.prices asset ≡ true }
+    requires bound { bound ≡ neg_ℤ (pos (steepness work.now.orders asset)) }
+    requires price { price ≡ price_of work.now.prices asset }
+    requires range { IsPrice price }
+    requires some { pos 1 ≤ℤ reach }
+    requires room { neg_ℤ (pos (2 ^ 62)) ≤ℤ (price -ℤ reach) }
+    requires each { All IsOrder work.now.orders }
+    ensures moved { slice_set work.now.prices asset result ≡ moved work.now.orders (unsigned_abs reach) work.now.prices asset }
+    ensures range { IsPrice result }
+{
+    let first = price - reach;
+    let mut fall = Fall {
+        work,
+        asset,
+        bound,
+        first,
+        last: price,
+        asks: 0,
+    };
+    greatest_true(&mut fall, first, price)
+}

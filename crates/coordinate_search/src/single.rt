@@ -1,0 +1,54 @@
+//! The prices of a book in which each order names one asset.
+ghost use Rattle.std.specs.Prelude.{◌≡◌, ℕ, ◌^◌, ◌<◌, true, false, if◌then◌else◌, length, All};
+ghost use Rattle.weight_rows.specs.Rows.{price_of};
+ghost use Rattle.demand_curve.specs.Demand.{IsWithin};
+ghost use Rattle.flow_orders.specs.Orders.{IsOrder};
+ghost use Rattle.flow_orders.specs.Excess.{is_unsettled};
+ghost use Rattle.flow_orders.specs.Moves.{moved, single_reach};
+ghost use Rattle.flow_orders.specs.Turns.{visits};
+ghost use Rattle.flow_orders.specs.Walks.{AreSettled};
+ghost use Rattle.flow_orders.specs.Own.{are_single, moved_once};
+
+use crate::moves::step;
+use excess_bounds::Workspace;
+
+// As far as any two prices within 2^60 of 0 are apart, in grains.
+const REACH: i64 = 1 << 61;
+
+/// Settles a book in which each order names one asset: each asset that isn't settled is moved once, as far as is
+/// needed.
+///
+/// The prices are within 2^60 grains of 0, as all limits of orders are, and stay so. An asset that was settled keeps its
+/// price. It costs one move for each asset that isn't settled, and three passes over the entries of all orders for each
+/// asset besides, and takes no memory.
+pub fn settle_single(work: &mut Workspace<'_>)
+    requires single { are_single work.old.orders ≡ true }
+    requires start { All (IsWithin (2 ^ 60)) work.old.prices }
+    requires each { All IsOrder work.old.orders }
+    ensures orders { work.new.orders ≡ work.old.orders }
+    ensures prices { work.new.prices
+        ≡ moved_once work.old.orders (visits (length work.old.prices) 0) work.old.prices }
+    ensures settled { AreSettled (length work.new.prices) (is_unsettled work.new.orders) work.new.prices }
+    ensures within { All (IsWithin (2 ^ 60)) work.new.prices }
+    ensures kept { (asset : ℕ) → is_unsettled work.old.orders work.old.prices asset ≡ false
+        → price_of work.new.prices asset ≡ price_of work.old.prices asset }
+{
+    let count = work.prices().len() as u16;
+    for asset in 0..count {
+        settle_one(work, asset);
+    }
+}
+
+// Moves an asset where it isn't settled.
+fn settle_one(work: &mut Workspace<'_>, asset: u16)
+    requires asset { asset < length work.old.prices }
+    requires start { All (IsWithin (2 ^ 60)) work.old.prices }
+    requires each { All IsOrder work.old.orders }
+    ensures orders { work.new.orders ≡ work.old.orders }
+    ensures prices { work.new.prices
+        ≡ (if is_unsettled work.old.orders work.old.prices asset then moved work.old.orders single_reach work.old.prices asset else work.old.prices) }
+{
+    if !work.is_settled(asset) {
+        step(work, asset, REACH);
+    }
+}
