@@ -1,0 +1,208 @@
+-- The residuals and the losses of trades, trade by trade, and what residuals cost, asset by asset.
+use Rattle.std.proofs.Common.{◌≡◌, ℕ, zero, suc, ◌+◌, ◌*◌, ◌^◌, ◌<◌, ◌≤◌, ℤ, pos, ◌+ℤ◌, ◌-ℤ◌, ◌*ℤ◌, List, [], ◌∷◌, ◌++◌, map, length, take, get_or, to_z, of_z, refl, sym, ap, ◌∙◌, subst, ⊎_elim, arith}
+use Rattle.std.specs.Prelude.{unsigned_abs, All, slice_index_or, FitsSigned}
+use mir.Syntax.{w128}
+use Rattle.std.specs.List.{range_with_len, sum_by}
+use Rattle.std.proofs.lemmas.Int.{ints, to_z-of_z, fits_signed_from_abs}
+use Rattle.std.proofs.lemmas.Bool.{cases_lt}
+use Rattle.std.proofs.lemmas.List.{take_all, get_or_past, ext_get_or}
+use Rattle.std.proofs.lemmas.List.Sums.{sum_by_more}
+use Rattle.std.proofs.lemmas.List.FromFn.{length-range_with_len, length-map-range_with_len, get_or-map-range_with_len}
+use Rattle.list_sums.specs.Sums.{int_sum_by}
+use Rattle.list_sums.proofs.Products.{unsigned_abs-add, unsigned_abs-mul_le}
+use Rattle.list_sums.proofs.SumLemmas.{int_sum_by_more, int_sum_by-range}
+use Rattle.weight_rows.specs.Rows.{IsLawfulRow, IsPrice, weight_in, price_of}
+use Rattle.weight_rows.proofs.RowLawProofs.{weights_are_small}
+use Rattle.demand_curve.specs.Demand.{most_rate, loss}
+use Rattle.flow_orders.specs.Orders.{Order, most_orders, terms_of}
+use Rattle.flow_orders.specs.Excess.{price_for}
+use Rattle.flow_orders.specs.Trades.{Trade, trades, received, residual, residual_cost}
+use Rattle.flow_orders.specs.Outcomes.{residuals_of, gap_of}
+use Rattle.batch_certificate.specs.Residuals.{most_prices, AreNear, HasEach, AreZeros, IsTradeAdded, cost_at}
+
+-- ---- sums as the code makes them
+fits : (z : ℤ) → unsigned_abs z ≤ 2 ^ 120 → FitsSigned w128 z
+fits z small = fits_signed_from_abs w128 z (omega (arith, small))
+
+-- a sum that fits is kept
+sum_kept : (a b : ℤ) → unsigned_abs b ≤ 2 ^ 120 → unsigned_abs (a +ℤ b) ≤ 2 ^ 120 → to_z w128 (of_z w128 (a +ℤ to_z w128 (of_z w128 b))) ≡ a +ℤ b
+sum_kept a b part both = rw (to_z-of_z w128 b (fits b part)) (to_z-of_z w128 (a +ℤ b) (fits (a +ℤ b) both))
+
+-- a difference that fits is kept
+difference_kept : (a b : ℤ) → unsigned_abs a ≤ 2 ^ 120 → unsigned_abs b ≤ 2 ^ 120 → to_z w128 (of_z w128 (to_z w128 (of_z w128 a) -ℤ to_z w128 (of_z w128 b))) ≡ a -ℤ b
+difference_kept a b first second =
+    let both : unsigned_abs (a -ℤ b) ≤ 2 ^ 121 = omega (arith, ints, first, second) in
+    rw (to_z-of_z w128 a (fits a first), to_z-of_z w128 b (fits b second)) (to_z-of_z w128 (a -ℤ b) (fits_signed_from_abs w128 (a -ℤ b) (omega (arith, both))))
+
+-- ---- trades by their places
+pub length-trades : (orders : List Order) (rates : List ℕ) → length rates ≡ length orders → length (trades orders rates) ≡ length orders
+length-trades [] rates count = refl
+length-trades (o ∷ orders) [] count = absurd (omega (arith, count))
+length-trades (o ∷ orders) (x ∷ rates) count = omega (arith, length-trades orders rates (omega (arith, count)))
+
+get_or-trades : (orders : List Order) (rates : List ℕ) (i : ℕ) (d : Trade) (o : Order) (x : ℕ) → length rates ≡ length orders → i < length orders
+    → get_or (trades orders rates) i d ≡ record { order = get_or orders i o; traded = get_or rates i x }
+get_or-trades [] rates i d o x count inside = absurd (omega (arith, inside))
+get_or-trades (e ∷ orders) [] i d o x count inside = absurd (omega (arith, count))
+get_or-trades (e ∷ orders) (y ∷ rates) zero d o x count inside = refl
+get_or-trades (e ∷ orders) (y ∷ rates) (suc i) d o x count inside = get_or-trades orders rates i d o x (omega (arith, count)) (omega (arith, inside))
+
+-- the trade of the loop's turn
+pub record IsTurn (orders : List Order) (rates : List ℕ) (i : ℕ) (o : Order) (x : ℕ) : Type 0 where
+  pub count : length rates ≡ length orders
+  pub inside : i < length orders
+  pub order : o ≡ get_or orders i o
+  pub rate : x ≡ get_or rates i x
+
+pub trade_at : (orders : List Order) (rates : List ℕ) (i : ℕ) (o : Order) (x : ℕ) → IsTurn orders rates i o x → get_or (trades orders rates) i (record { order = o; traded = x }) ≡ record { order = o; traded = x }
+trade_at orders rates i o x turn =
+    get_or-trades orders rates i (record { order = o; traded = x }) o x turn.count turn.inside ∙ (rw (← turn.order, ← turn.rate) refl)
+
+-- what holds of each trade holds of the turn's
+pub at_turn : (P : Trade → Type 0) (orders : List Order) (rates : List ℕ) (i : ℕ) (o : Order) (x : ℕ) → IsTurn orders rates i o x → All P (trades orders rates) → P (record { order = o; traded = x })
+at_turn P orders rates i o x turn each =
+    subst P (trade_at orders rates i o x turn) (each i (record { order = o; traded = x }) (omega (arith, turn.inside, length-trades orders rates turn.count)))
+
+-- ---- the loop over the orders
+-- what a trade loses
+abbrev pub loss_at : List ℤ → Trade → ℕ
+loss_at prices t = loss (terms_of t.order) t.traded (price_for prices t.order)
+
+-- the first i trades are added
+pub record AreSummed (n : ℕ) (prices : List ℤ) (ts : List Trade) (i : ℕ) (residuals : List ℤ) (lost : ℤ) : Type 0 where
+  pub left : HasEach n (residual (take i ts)) residuals
+  pub near : AreNear (i * 2 ^ 36) residuals
+  pub lost_is : lost ≡ pos (sum_by (loss_at prices) (take i ts))
+  pub small : unsigned_abs lost ≤ i * 2 ^ 60
+
+pub none_summed : (n : ℕ) (prices : List ℤ) (ts : List Trade) (residuals : List ℤ) → AreZeros n residuals → AreSummed n prices ts 0 residuals (pos 0)
+none_summed n prices ts residuals zeros = record {
+  left = record { count = zeros.count; each = zeros.each };
+  near = λ a.
+      ⊎_elim
+      (λ inside. rw (zeros.each a (omega (arith, inside, zeros.count))) (omega arith))
+      (λ past. rw (get_or_past residuals a (pos 0) past) (omega arith))
+      (cases_lt a (length residuals));
+  lost_is = refl;
+  small = omega arith;
+}
+
+received_small : (t : Trade) (asset : ℕ) → IsLawfulRow t.order.row → t.traded ≤ most_rate → unsigned_abs (received asset t) ≤ 2 ^ 36
+received_small t asset lawful slow =
+    omega (arith, unsigned_abs-mul_le (weight_in t.order.row asset) (pos t.traded) 4096 (2 ^ 24) (weights_are_small t.order.row asset lawful) slow)
+
+pub one_summed : (n : ℕ) (prices : List ℤ) (orders : List Order) (rates : List ℕ) (i : ℕ) (o : Order) (x : ℕ) (now new : List ℤ) (sum lost : ℤ)
+    → IsTurn orders rates i o x → AreSummed n prices (trades orders rates) i now sum → IsTradeAdded o.row x now new
+    → lost ≡ pos (loss (terms_of o) x (price_for prices o)) → unsigned_abs lost ≤ 2 ^ 60 → IsLawfulRow o.row → x ≤ most_rate
+    → length orders ≤ most_orders → AreSummed n prices (trades orders rates) (i + 1) new (to_z w128 (of_z w128 (sum +ℤ to_z w128 (of_z w128 lost))))
+one_summed n prices orders rates i o x now new sum lost turn before added is small lawful slow few =
+    let ts = trades orders rates in
+    let t : Trade = record { order = o; traded = x } in
+    let there : i < length ts = omega (arith, turn.inside, length-trades orders rates turn.count) in
+    let here : get_or ts i t ≡ t = trade_at orders rates i o x turn in
+    let count : length new ≡ n = added.count ∙ before.left.count in
+    let bound : unsigned_abs (sum +ℤ lost) ≤ (i + 1) * 2 ^ 60 = omega (arith, unsigned_abs-add sum lost, before.small, small) in
+    let kept = sum_kept sum lost (omega (arith, small)) (omega (arith, bound, few, turn.inside)) in
+    let grown : (a : ℕ) → a < n → price_of new a ≡ price_of now a +ℤ received a t = λ a inside. added.each a (omega (arith, inside, before.left.count)) in
+    record {
+      left = record {
+        count = count;
+        each = λ a inside.
+            let more : residual (take (i + 1) ts) a ≡ residual (take i ts) a +ℤ received a t = int_sum_by_more (received a) ts i t there ∙ ap (λ u. residual (take i ts) a +ℤ received a u) here in
+            rw (grown a inside, before.left.each a inside, more) refl;
+      };
+      near = λ a.
+          ⊎_elim
+          (λ inside. rw (grown a inside) (omega (arith, unsigned_abs-add (price_of now a) (received a t), before.near a, received_small t a lawful slow)))
+          (λ past. rw (get_or_past new a (pos 0) (omega (arith, past, count))) (omega arith))
+          (cases_lt a n);
+      lost_is =
+          let more : sum_by (loss_at prices) (take (i + 1) ts) ≡ sum_by (loss_at prices) (take i ts) + loss_at prices t = sum_by_more (loss_at prices) ts i t there ∙ ap (λ u. sum_by (loss_at prices) (take i ts) + loss_at prices u) here in
+          kept ∙ omega (arith, ints, more, before.lost_is, is);
+      small = rw kept bound;
+    }
+
+-- numbers for each place are the list of them
+pub each_is : (n : ℕ) (f : ℕ → ℤ) (list : List ℤ) → HasEach n f list → list ≡ map f (range_with_len 0 n)
+each_is n f list has =
+    ext_get_or (pos 0) list (map f (range_with_len 0 n)) (has.count ∙ sym (length-map-range_with_len f 0 n))
+    (λ i inside. let within : i < n = omega (arith, inside, has.count) in has.each i within ∙ sym (get_or-map-range_with_len f 0 n i i (pos 0) within (omega arith)))
+
+pub record AllSummed (n : ℕ) (prices : List ℤ) (ts : List Trade) (residuals : List ℤ) (lost : ℤ) : Type 0 where
+  pub residuals_are : residuals ≡ residuals_of n ts
+  pub near : AreNear (2 ^ 50) residuals
+  pub lost_is : lost ≡ pos (sum_by (loss_at prices) ts)
+  pub small : unsigned_abs lost ≤ 2 ^ 74
+
+pub all_summed : (n : ℕ) (prices : List ℤ) (orders : List Order) (rates : List ℕ) (i : ℕ) (residuals : List ℤ) (lost : ℤ) → length orders ≤ most_orders → length rates ≡ length orders → i ≡ length orders
+    → AreSummed n prices (trades orders rates) i residuals lost → AllSummed n prices (trades orders rates) residuals lost
+all_summed n prices orders rates i residuals lost few count all before =
+    let ts = trades orders rates in
+    let whole : take i ts ≡ ts = take_all i ts (omega (arith, all, length-trades orders rates count)) in
+    record {
+      residuals_are = each_is n (residual (take i ts)) residuals before.left ∙ ap (residuals_of n) whole;
+      near = λ a. omega (arith, before.near a, few, all);
+      lost_is = before.lost_is ∙ ap (λ l. pos (sum_by (loss_at prices) l)) whole;
+      small = omega (arith, before.small, few, all);
+    }
+
+-- ---- the loop over the prices
+-- the sum over one number more of a range
+range_more : (f : ℕ → ℤ) (a n : ℕ) → int_sum_by f (range_with_len a (n + 1)) ≡ int_sum_by f (range_with_len a n) +ℤ f (a + n)
+range_more f a zero =
+    let same : a + 0 ≡ a = omega arith in
+    let one : int_sum_by f (range_with_len a 1) ≡ f a +ℤ pos 0 = refl in
+    let turned : f a +ℤ pos 0 ≡ pos 0 +ℤ f a = omega (arith, ints) in
+    rw same (one ∙ turned)
+range_more f a (suc n) =
+    let next : a + 1 + n ≡ a + suc n = omega arith in
+    let shift : suc n + 1 ≡ suc (n + 1) = omega arith in
+    let sum = range_more f (a + 1) n in
+    rw shift (omega (arith, ints, sum, ap f next))
+
+-- the first i residuals' cost
+pub record IsCostBefore (prices residuals : List ℤ) (i : ℕ) (sum : ℤ) : Type 0 where
+  pub value : sum ≡ int_sum_by (cost_at prices residuals) (range_with_len 0 i)
+  pub small : unsigned_abs sum ≤ i * 2 ^ 112
+
+pub no_cost : (prices residuals : List ℤ) → IsCostBefore prices residuals 0 (pos 0)
+no_cost prices residuals = record { value = refl; small = omega arith }
+
+-- what the code has after one residual more: its sum in 128 bits fits, and is the sum of one cost more
+pub record HasGrown (prices residuals : List ℤ) (i : ℕ) (sum part : ℤ) : Type 0 where
+  pub fits : FitsSigned w128 (sum +ℤ to_z w128 (of_z w128 part))
+  pub next : IsCostBefore prices residuals (i + 1) (to_z w128 (of_z w128 (sum +ℤ to_z w128 (of_z w128 part))))
+
+pub cost_grows : (prices residuals : List ℤ) (i : ℕ) (sum part : ℤ) → length prices ≤ most_prices → i < length prices
+    → All IsPrice prices → AreNear (2 ^ 50) residuals → part ≡ cost_at prices residuals i → IsCostBefore prices residuals i sum → HasGrown prices residuals i sum part
+cost_grows prices residuals i sum part few inside range near is before =
+    let small : unsigned_abs part ≤ 2 ^ 62 * 2 ^ 50 = rw is (unsigned_abs-mul_le (price_of prices i) (price_of residuals i) (2 ^ 62) (2 ^ 50) (range i (pos 0) inside) (near i)) in
+    let bound : unsigned_abs (sum +ℤ part) ≤ (i + 1) * 2 ^ 112 = omega (arith, unsigned_abs-add sum part, before.small, small) in
+    let little : unsigned_abs (sum +ℤ part) ≤ 2 ^ 120 = omega (arith, bound, few, inside) in
+    let part_small : unsigned_abs part ≤ 2 ^ 120 = omega (arith, small) in
+    let kept = sum_kept sum part part_small little in
+    let at : 0 + i ≡ i = omega arith in
+    let more : sum +ℤ part ≡ int_sum_by (cost_at prices residuals) (range_with_len 0 (i + 1)) = rw (range_more (cost_at prices residuals) 0 i, before.value, is, at) refl in
+    record {
+      fits = rw (to_z-of_z w128 part (fits part part_small)) (fits (sum +ℤ part) little);
+      next = rw kept (record { value = more; small = bound });
+    }
+
+pub all_costs : (prices residuals : List ℤ) (i : ℕ) (sum : ℤ) → i ≡ length prices → IsCostBefore prices residuals i sum → sum ≡ int_sum_by (cost_at prices residuals) (range_with_len 0 (length prices))
+all_costs prices residuals i sum all before = rw (← all) before.value
+
+-- the cost of residuals that are those of trades
+pub cost_is : (prices : List ℤ) (ts : List Trade) → int_sum_by (cost_at prices (residuals_of (length prices) ts)) (range_with_len 0 (length prices)) ≡ residual_cost prices ts
+cost_is prices ts =
+    let n = length prices in
+    int_sum_by-range (cost_at prices (residuals_of n ts)) (λ a. price_of prices a *ℤ residual ts a) 0 n
+    (λ a least inside. ap (λ r. price_of prices a *ℤ r) (get_or-map-range_with_len (residual ts) 0 n a a (pos 0) (omega (arith, inside)) (omega arith)))
+
+-- the gap, as the code subtracts the cost
+pub gap_is : (prices : List ℤ) (ts : List Trade) (residuals : List ℤ) (lost cost : ℤ) → residuals ≡ residuals_of (length prices) ts
+    → lost ≡ pos (sum_by (loss_at prices) ts) → unsigned_abs lost ≤ 2 ^ 74
+    → cost ≡ int_sum_by (cost_at prices residuals) (range_with_len 0 (length prices)) → unsigned_abs cost ≤ 2 ^ 118
+    → to_z w128 (of_z w128 (to_z w128 (of_z w128 lost) -ℤ to_z w128 (of_z w128 cost))) ≡ gap_of prices ts
+gap_is prices ts residuals lost cost left lost_is lost_small is small =
+    let costs : cost ≡ residual_cost prices ts = (rw (← left) is) ∙ cost_is prices ts in
+    difference_kept lost cost (omega (arith, lost_small)) (omega (arith, small)) ∙ rw (lost_is, costs) refl

@@ -1,0 +1,148 @@
+//! The certificate of a batch: what its rates leave over, and by how much they may miss the best welfare.
+ghost use Rattle.std.specs.Prelude.{◌≡◌, ◌^◌, ◌≤◌, ◌<◌, pos, ◌*ℤ◌, unsigned_abs, IfOk, length, All};
+ghost use Rattle.std.specs.List.{sum_by, range_with_len};
+ghost use Rattle.list_sums.specs.Sums.{int_sum_by};
+ghost use Rattle.weight_rows.specs.Rows.{IsPrice, IsPricedBy, price_of};
+ghost use Rattle.demand_curve.specs.Demand.{IsRounding, loss};
+ghost use Rattle.flow_orders.specs.Orders.{most_orders, terms_of};
+ghost use Rattle.flow_orders.specs.Excess.{price_for};
+ghost use Rattle.flow_orders.specs.Trades.{trades};
+ghost use Rattle.flow_orders.specs.Outcomes.{residuals_of, gap_of};
+ghost use Rattle.flow_orders.specs.Own.{clearing_at};
+ghost use Rattle.batch_certificate.specs.Published.{clearing_of};
+ghost use Rattle.batch_certificate.specs.Residuals.{most_prices, AreZeros, AreNear, cost_at};
+
+use crate::lists::{PriceList, RateList, ResidualList};
+use crate::outcome::Cleared;
+use crate::trade::add_trade;
+use flow_orders::Order;
+use std::alloc::{AllocError, Global};
+
+/// There is no memory for the residuals.
+#[derive(Clone, Copy, Debug, PartialEq, Eq)]
+pub struct Memory;
+
+impl From<AllocError> for Memory {
+    fn from(_error: AllocError) -> Memory {
+        Memory
+    }
+}
+
+/// The certificate of a batch that cleared: adds to its prices and rates what the rates leave over of each asset, in
+/// units, and the gap, in grains.
+///
+/// The gap is what rounding loses on all orders, less what the residuals cost at the prices. No rates at which nothing
+/// is left over beat these rates by more than it, as `flow_orders` proves. The dual of Flow Trading (Budish, Cramton,
+/// Kyle, Lee and Malec, 2023) has no gap; whole rates and so this certificate are this project's own.
+///
+/// There are at most 16,384 orders and 64 prices, in grains and within 2^62 of 0, one for each asset that an order
+/// names. There is one rate for each order, in its place, and each is the order's demand at the prices, rounded up or
+/// down.
+///
+/// It costs one pass over the entries of all orders, one division for each order, and one pass over the prices.
+/// It takes memory once, 8 bytes for each price, before it adds anything; `Memory` comes only where there is none.
+pub fn certify(
+    alloc: Global,
+    orders: &[Order],
+    prices: PriceList,
+    rates: RateList,
+) -> Result<Cleared, Memory>
+    requires few { length orders.now ≤ most_orders }
+    requires assets { length prices ≤ most_prices }
+    requires range { All IsPrice prices }
+    requires priced { All (λ o. IsPricedBy o.row prices) orders.now }
+    requires one_each { length rates ≡ length orders.now }
+    requires roundings { All
+        (λ t. IsRounding (terms_of t.order) t.traded (price_for prices t.order))
+        (trades orders.now rates) }
+    ensures prices { IfOk result (λ c. c.prices ≡ prices) }
+    ensures rates { IfOk result (λ c. c.rates ≡ rates) }
+    ensures residuals { IfOk result (λ c. c.residuals
+        ≡ residuals_of (length prices) (trades orders.now rates)) }
+    ensures gap { IfOk result (λ c. c.gap ≡ gap_of prices (trades orders.now rates)) }
+    ensures certified { IfOk result (λ c. clearing_of orders.now c
+        ≡ clearing_at (length prices) prices (trades orders.now rates)) }
+{
+    let mut residuals = vec![in alloc; 0; prices.as_slice().len()]?;
+    let gap = measure(
+        orders,
+        prices.as_slice(),
+        rates.as_slice(),
+        residuals.as_mut_slice(),
+    );
+    Ok(Cleared {
+        prices,
+        rates,
+        residuals: ResidualList::new(residuals),
+        gap,
+    })
+}
+
+// Makes zeros the residuals of all trades, and answers the gap.
+fn measure(orders: &[Order], prices: &[i64], rates: &[u32], residuals: &mut [i64]) -> i128
+    requires few { length orders.now ≤ most_orders }
+    requires assets { length prices.now ≤ most_prices }
+    requires range { All IsPrice prices.now }
+    requires priced { All (λ o. IsPricedBy o.row prices.now) orders.now }
+    requires one_each { length rates.now ≡ length orders.now }
+    requires roundings { All
+        (λ t. IsRounding (terms_of t.order) t.traded (price_for prices.now t.order))
+        (trades orders.now rates.now) }
+    requires zeros { AreZeros (length prices.now) residuals.old }
+    ensures residuals { residuals.new ≡ residuals_of (length prices.now) (trades orders.now rates.now) }
+    ensures gap { result ≡ gap_of prices.now (trades orders.now rates.now) }
+{
+    let lost = add_trades(orders, prices, rates, residuals);
+    lost - cost(prices, residuals)
+}
+
+// Makes zeros the residuals of all trades, and answers what all rates lose.
+fn add_trades(orders: &[Order], prices: &[i64], rates: &[u32], residuals: &mut [i64]) -> i128
+    requires few { length orders.now ≤ most_orders }
+    requires range { All IsPrice prices.now }
+    requires priced { All (λ o. IsPricedBy o.row prices.now) orders.now }
+    requires one_each { length rates.now ≡ length orders.now }
+    requires roundings { All
+        (λ t. IsRounding (terms_of t.order) t.traded (price_for prices.now t.order))
+        (trades orders.now rates.now) }
+    requires zeros { AreZeros (length prices.now) residuals.old }
+    ensures residuals { residuals.new ≡ residuals_of (length prices.now) (trades orders.now rates.now) }
+    ensures near { AreNear (2 ^ 50) residuals.new }
+    ensures lost { result ≡ pos (sum_by
+        (λ t. loss (terms_of t.order) t.traded (price_for prices.now t.order))
+        (trades orders.now rates.now)) }
+    ensures small { unsigned_abs result ≤ 2 ^ 74 }
+{
+    let mut lost = 0;
+    for (place, order) in orders.iter().enumerate() {
+        lost += add_trade(order, rates[place], prices, residuals);
+    }
+    lost
+}
+
+// What the residuals cost at the prices.
+fn cost(prices: &[i64], residuals: &[i64]) -> i128
+    requires assets { length prices.now ≤ most_prices }
+    requires range { All IsPrice prices.now }
+    requires places { length residuals.now ≡ length prices.now }
+    requires near { AreNear (2 ^ 50) residuals.now }
+    ensures value { result ≡ int_sum_by (cost_at prices.now residuals.now) (range_with_len 0 (length prices.now)) }
+    ensures small { unsigned_abs result ≤ 2 ^ 118 }
+{
+    let mut sum = 0;
+    for asset in 0..prices.len() {
+        sum += cost_of(prices, residuals, asset);
+    }
+    sum
+}
+
+// What the residual of an asset costs.
+fn cost_of(prices: &[i64], residuals: &[i64], asset: usize) -> i128
+    requires range { All IsPrice prices.now }
+    requires near { AreNear (2 ^ 50) residuals.now }
+    requires price { asset < length prices.now }
+    requires place { asset < length residuals.now }
+    ensures { result ≡ cost_at prices.now residuals.now asset }
+{
+    i128::from(prices[asset]) * i128::from(residuals[asset])
+}
