@@ -16,7 +16,7 @@ use Rattle.flow_orders.specs.Trades.{Trade, trader, paid, received, residual, re
 use Rattle.fill_caps.specs.Settlement.{settled_account, settled_balances, settled_exchange}
 use Rattle.market_core.specs.Market.{Market, IsSound, IsLiveOrder, start_prices, most_batches}
 use Rattle.market_core.specs.Step.{after_batch}
-use Rattle.fill_caps.proofs.Settles.{Settles}
+use Rattle.fill_caps.specs.Settles.{Settles}
 use Rattle.flow_orders.proofs.TradeFacts.{IsAllowed, before_fills, after_fills}
 use Rattle.fill_caps.proofs.Needs.{rounding_is_allowed, needs_kept_by_batch}
 use Rattle.fill_caps.proofs.Totals.{money_kept, units_kept}

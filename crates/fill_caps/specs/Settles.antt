@@ -1,4 +1,4 @@
--- What settling a batch does, account by account.
+-- What settling trades does, account by account.
 use Rattle.std.specs.Prelude.{◌≡◌, ℕ, ℤ, ◌+ℤ◌, ◌-ℤ◌, List}
 use Rattle.flow_accounts.specs.Balances.{Account, Balances, IsAccount, IsAsset, account_count, money_of, units_of, units_in}
 use Rattle.flow_orders.specs.Orders.{own_sum}
