@@ -2,6 +2,8 @@ pub mod Amounts
 pub mod Joined
 pub mod Needs
 pub mod OrderMoves
+pub mod Parts
 pub mod RowMoves
 pub mod Settled
+pub mod SettledBalances
 pub mod Totals

@@ -10,7 +10,7 @@ ghost use Rattle.flow_orders.specs.Excess.{price_for};
 ghost use Rattle.flow_orders.specs.Trades.{Trade, trades, staying};
 ghost use Rattle.fill_caps.specs.Covers.{CoversNeeds};
 ghost use Rattle.fill_caps.specs.Settlement.{settled_balances, settled_exchange};
-ghost use Rattle.fill_caps.specs.Settles.{Settles};
+ghost use Rattle.fill_caps.specs.Settles.{HasRoom, Settles};
 
 use crate::entries::settle_entries;
 use flow_accounts::Accounts;
@@ -60,13 +60,13 @@ pub fn settle(
         ≡ units_of_all accounts.old asset +ℤ units_in exchange.old asset }
 {
     // Its contract tells that the accounts are lawful.
-    let _count = accounts.count();
+    let _accounts = accounts.count();
     for (order, rate) in orders.iter().zip(rates) {
         settle_order(accounts, exchange, order, prices, *rate);
     }
 }
 
-// Settles one order, whose account holds what it needs.
+// Settles one order: its account pays, and then each entry of its row is moved.
 fn settle_order(
     accounts: &mut Accounts,
     exchange: &mut ResidualAccount,
@@ -80,15 +80,7 @@ fn settle_order(
     requires exchange_each { length exchange.old.units ≡ asset_count accounts.old }
     requires account_there { IsAccount accounts.old order.now.account }
     requires assets_there { All (λ e. IsAsset accounts.old e.asset) order.now.row }
-    requires money_covered { pos (money_need order.now) ≤ℤ money_of accounts.old order.now.account }
-    requires money_most { money_of accounts.old order.now.account ≤ℤ pos (2 ^ 123 + 2 ^ 117) }
-    requires units_covered { (asset : ℕ) → IsAsset accounts.old asset →
-        pos (unit_need asset order.now) ≤ℤ units_of accounts.old order.now.account asset }
-    requires units_most { (asset : ℕ) → IsAsset accounts.old asset →
-        units_of accounts.old order.now.account asset ≤ℤ pos (2 ^ 61) }
-    requires exchange_money { unsigned_abs exchange.old.money ≤ 2 ^ 124 }
-    requires exchange_units { (asset : ℕ) → IsAsset accounts.old asset →
-        unsigned_abs (units_in exchange.old asset) ≤ 2 ^ 56 }
+    requires room { HasRoom order.now accounts.old exchange.old }
     ensures settles { Settles prices.now (record { order = order.now; traded = rate } ∷ [])
         accounts.old accounts.new exchange.old exchange.new }
     ensures lawful { AreLawful accounts.new }

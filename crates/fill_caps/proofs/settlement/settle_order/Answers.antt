@@ -7,13 +7,13 @@ pub add_money-requires-clause-not_negative : goal.add_money-requires-clause-not_
 add_money-requires-clause-not_negative c =
     let is = c.account-account.ensures.order in
     let cost = cost_is_paid c.args.prices.now c.args.order.now c.args.rate is c.requires.rounding c.row-row.result.now c.price.result c.cost_at-cost.result c.row-row.ensures.value c.price.ensures.value (record { sfits = c.price.type_inv }) c.cost_at-cost.ensures.value in
-    rw c.account-account.ensures.value (money_stays c.args.prices.now c.args.order.now c.args.rate is c.requires.rounding c.requires.range (money_of c.args.accounts.now c.args.order.now.account) c.cost_at-cost.result c.requires.money_covered c.requires.money_most (record { sfits = c.cost_at-cost.type_inv }) cost).0
+    rw c.account-account.ensures.value (money_stays c.args.prices.now c.args.order.now c.args.rate is c.requires.rounding c.requires.range (money_of c.args.accounts.now c.args.order.now.account) c.cost_at-cost.result c.requires.room.money_covered c.requires.room.money_most (record { sfits = c.cost_at-cost.type_inv }) cost).0
 
 pub add_money-requires-clause-fits : goal.add_money-requires-clause-fits
 add_money-requires-clause-fits c =
     let is = c.account-account.ensures.order in
     let cost = cost_is_paid c.args.prices.now c.args.order.now c.args.rate is c.requires.rounding c.row-row.result.now c.price.result c.cost_at-cost.result c.row-row.ensures.value c.price.ensures.value (record { sfits = c.price.type_inv }) c.cost_at-cost.ensures.value in
-    rw c.account-account.ensures.value (money_stays c.args.prices.now c.args.order.now c.args.rate is c.requires.rounding c.requires.range (money_of c.args.accounts.now c.args.order.now.account) c.cost_at-cost.result c.requires.money_covered c.requires.money_most (record { sfits = c.cost_at-cost.type_inv }) cost).1
+    rw c.account-account.ensures.value (money_stays c.args.prices.now c.args.order.now c.args.rate is c.requires.rounding c.requires.range (money_of c.args.accounts.now c.args.order.now.account) c.cost_at-cost.result c.requires.room.money_covered c.requires.room.money_most (record { sfits = c.cost_at-cost.type_inv }) cost).1
 
 pub settle_entries-requires-clause-rate : goal.settle_entries-requires-clause-rate
 settle_entries-requires-clause-rate c =
@@ -22,7 +22,7 @@ settle_entries-requires-clause-rate c =
 pub settle_entries-requires-clause-units : goal.settle_entries-requires-clause-units
 settle_entries-requires-clause-units c =
     units_stay_after c.args.prices.now c.args.order.now c.args.rate c.account-account.ensures.order c.requires.rounding c.args.accounts.now c.add_money.new.self _ c.entries.result.now c.account-account.result
-    (c.entries.ensures.value ∙ c.row-row.ensures.value) c.account-account.ensures.value c.requires.account_there c.add_money.ensures.moved c.requires.units_covered c.requires.units_most
+    (c.entries.ensures.value ∙ c.row-row.ensures.value) c.account-account.ensures.value c.requires.account_there c.add_money.ensures.moved c.requires.room.units_covered c.requires.room.units_most
 
 pub returns-clause-settles : goal.returns-clause-settles
 returns-clause-settles c =
