@@ -17,7 +17,7 @@ use Rattle.flow_accounts.specs.Balances.{Account, Balances, IsAccount, IsAsset, 
 use Rattle.flow_accounts.specs.Sums.{money_of_all, units_of_all}
 use Rattle.flow_orders.specs.Orders.{Order, own_sum, money_need, unit_need}
 use Rattle.flow_orders.specs.Trades.{Trade, trades, paid, received, trader, residual, residual_cost}
-use Rattle.fill_caps.proofs.Settles.{Settles}
+use Rattle.fill_caps.specs.Settles.{Settles}
 use Rattle.fill_caps.specs.Covers.{CoversNeeds}
 use Rattle.flow_orders.proofs.Duality.{costs_by_asset}
 use Rattle.flow_orders.proofs.OwnSums.{own_sum-append}

@@ -1,5 +1,9 @@
+pub mod Amounts
 pub mod Joined
 pub mod Needs
+pub mod OrderMoves
+pub mod Parts
+pub mod RowMoves
 pub mod Settled
-pub mod Settles
+pub mod SettledBalances
 pub mod Totals

@@ -15,7 +15,7 @@ use Rattle.demand_curve.proofs.RoundingLaws.{rounding_is_within_room, rounding_i
 use Rattle.flow_accounts.specs.Balances.{Account, Balances, IsAccount, IsAsset, money_of, units_of}
 use Rattle.flow_orders.specs.Orders.{Order, left_of, terms_of, money_need, sold, unit_need, own_sum}
 use Rattle.flow_orders.specs.Trades.{Trade, paid, received, trader, after_fill, is_live, staying}
-use Rattle.fill_caps.proofs.Settles.{Settles}
+use Rattle.fill_caps.specs.Settles.{Settles}
 use Rattle.flow_orders.proofs.TradeFacts.{before_fills, after_fills, IsAllowed}
 use Rattle.fill_caps.specs.Covers.{CoversNeeds}
 use Rattle.list_sums.proofs.SumLemmas.{int_sum_by-filter}

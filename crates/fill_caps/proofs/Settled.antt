@@ -9,7 +9,7 @@ use Rattle.std.proofs.lemmas.List.{same_lists, get_or_default}
 use Rattle.flow_accounts.specs.Balances.{Account, Balances, IsAccount, asset_count, account_of, empty_account, units_in}
 use Rattle.flow_orders.specs.Orders.{Order}
 use Rattle.flow_orders.specs.Trades.{Trade, after_fill, is_live, staying}
-use Rattle.fill_caps.proofs.Settles.{Settles}
+use Rattle.fill_caps.specs.Settles.{Settles}
 use Rattle.flow_orders.proofs.TradeFacts.{before_fills, after_fills, IsAllowed}
 
 -- an account is its money and its units, asset by asset

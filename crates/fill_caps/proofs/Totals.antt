@@ -11,7 +11,7 @@ use Rattle.flow_accounts.specs.Balances.{Account, Balances, IsAccount, IsAsset, 
 use Rattle.flow_accounts.specs.Sums.{money_of_all, units_of_all}
 use Rattle.flow_orders.specs.Trades.{Trade, paid, received, trader}
 use Rattle.flow_orders.specs.Orders.{own_sum}
-use Rattle.fill_caps.proofs.Settles.{Settles}
+use Rattle.fill_caps.specs.Settles.{Settles}
 use Rattle.flow_orders.proofs.Duality.{costs_by_asset}
 use Rattle.flow_orders.proofs.OwnSums.{own_sums_are_all}
 

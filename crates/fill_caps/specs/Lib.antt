@@ -1,2 +1,4 @@
 pub mod Covers
+pub mod Moves
 pub mod Settlement
+pub mod Settles

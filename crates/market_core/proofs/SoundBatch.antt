@@ -16,50 +16,16 @@ use Rattle.flow_orders.specs.Trades.{Trade, trader, paid, received, residual, re
 use Rattle.fill_caps.specs.Settlement.{settled_account, settled_balances, settled_exchange}
 use Rattle.market_core.specs.Market.{Market, IsSound, IsLiveOrder, start_prices, most_batches}
 use Rattle.market_core.specs.Step.{after_batch}
-use Rattle.fill_caps.proofs.Settles.{Settles}
+use Rattle.fill_caps.specs.Settles.{Settles}
 use Rattle.flow_orders.proofs.TradeFacts.{IsAllowed, before_fills, after_fills}
 use Rattle.fill_caps.proofs.Needs.{rounding_is_allowed, needs_kept_by_batch}
 use Rattle.fill_caps.proofs.Totals.{money_kept, units_kept}
 use Rattle.flow_orders.proofs.Moved.{exchange_units_move, exchange_money_moves}
 use Rattle.fill_caps.proofs.Settled.{staying_are_live, numbers_ascend}
+use Rattle.fill_caps.proofs.SettledBalances.{settles, settled_units_count, exchange_units_count}
 use Rattle.market_core.proofs.SoundBalances.{live_still}
 use Rattle.market_core.proofs.SoundOrders.{filter_few}
 use Rattle.flow_orders.proofs.TradeFacts.{before-trades, All-trades}
-
--- ---- the settled balances
-
-module _ (prices : List ℤ) (ts : List Trade) (b : Balances) (exchange : Account) where
-  settled_at : (account : ℕ) → IsAccount b account → account_of (settled_balances prices ts b) account ≡ settled_account prices ts b account
-  settled_at account there = get_or-map-range_with_len (settled_account prices ts b) 1 (account_count b) (account - 1) account (empty_account 0) (omega (arith, there.0, there.1)) (omega (arith, there.0))
-
-  money_at : (account : ℕ) → (settled_account prices ts b account).money ≡ money_of b account -ℤ own_sum trader account (paid prices) ts
-  unfolding settled_account
-  money_at account = refl
-
-  units_at : (account asset : ℕ) → IsAsset b asset → units_in (settled_account prices ts b account) asset ≡ units_of b account asset +ℤ own_sum trader account (received asset) ts
-  unfolding settled_account
-  units_at account asset is_asset = get_or-map-range_with_len (λ s. units_of b account s +ℤ own_sum trader account (received s) ts) 0 (asset_count b) asset asset (pos 0) is_asset (omega arith)
-
-  units_count : (account : ℕ) → length (settled_account prices ts b account).units ≡ asset_count b
-  unfolding settled_account
-  units_count account = length-map (range_with_len 0 (asset_count b)) (λ s. units_of b account s +ℤ own_sum trader account (received s) ts) ∙ length-range_with_len 0 (asset_count b)
-
-  pub settles : Settles prices ts b (settled_balances prices ts b) exchange (settled_exchange prices ts b exchange)
-  settles = record {
-    accounts = length-map (range_with_len 1 (account_count b)) (settled_account prices ts b) ∙ length-range_with_len 1 (account_count b);
-    total_money = refl;
-    total_units = refl;
-    money = λ account there. ap (λ (a : Account). a.money) (settled_at account there) ∙ money_at account;
-    units = λ account asset there is_asset. ap (λ (a : Account). units_in a asset) (settled_at account there) ∙ units_at account asset is_asset;
-    exchange_money = refl;
-    exchange_units = λ asset is_asset. get_or-map-range_with_len (λ s. units_in exchange s -ℤ residual ts s) 0 (asset_count b) asset asset (pos 0) is_asset (omega arith);
-  }
-
-  pub settled_units_count : All (λ (a : Account). length a.units ≡ asset_count b) (settled_balances prices ts b).accounts
-  settled_units_count = All-map (λ (a : Account). length a.units ≡ asset_count b) (settled_account prices ts b) (range_with_len 1 (account_count b)) (λ k d inside. units_count (slice_index_or (range_with_len 1 (account_count b)) k d))
-
-  pub exchange_units_count : length (settled_exchange prices ts b exchange).units ≡ asset_count b
-  exchange_units_count = length-map (range_with_len 0 (asset_count b)) (λ s. units_in exchange s -ℤ residual ts s) ∙ length-range_with_len 0 (asset_count b)
 
 -- ---- the market after a cleared batch
 
