@@ -1,3 +1,4 @@
 pub mod Batches
 pub mod Spelled
+pub mod Fills
 pub mod Files

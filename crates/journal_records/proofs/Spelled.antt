@@ -1,17 +1,19 @@
 -- Answers and pairs from their spellings.
-use Rattle.std.proofs.Common.{◌≡◌, ◌≤◌, ℕ, List, ◌++◌, length, length-append, refl, sym, ap, ◌∙◌, append_assoc, arith}
+use Rattle.std.proofs.Common.{◌≡◌, ◌+◌, ◌*◌, ◌≤◌, ℕ, List, ◌++◌, length, length-append, refl, sym, ap, ◌∙◌, append_assoc, arith}
+use Rattle.std.specs.List.{flat_map}
+use Rattle.wire_fields.specs.Numbers.{unsigned, signed}
 use Rattle.wire_fields.proofs.Spelling.{length-unsigned}
 use Rattle.wire_records.specs.declared.reply.Reply.{Reply}
 use Rattle.wire_records.specs.declared.reply.Reply.TheVariants.{Done, Asset, Account, Order, Refused}
-use Rattle.wire_records.specs.Records.{Record, IsRecord, spelling, most_body}
+use Rattle.wire_records.specs.Records.{Record, IsRecord, head, spelling, most_body}
 use Rattle.wire_records.specs.Commands.{Answer, Plain, Batch, Pair}
 use Rattle.wire_records.specs.Refusals.{code_of}
 use Rattle.wire_records.proofs.Bodies.{number_unique}
 use Rattle.wire_records.proofs.Codes.{code_of-unique, code_of-byte}
-use Rattle.wire_records.proofs.Spelled.{length-spelling, spelling_unique}
-use Rattle.flow_orders.specs.Outcomes.{Outcome, Cleared, Skipped}
-use Rattle.journal_records.specs.Replies.{reply_tag, reply_body, answer_tag, answer_body, answer_record, IsReply, IsAnswer, IsWithinLimits, most_reply_body}
-use Rattle.journal_records.specs.Pairs.{IsPair, pair_spelling, plain_room}
+use Rattle.wire_records.proofs.Spelled.{length-spelling, spelling_unique, head_and_body}
+use Rattle.flow_orders.specs.Outcomes.{Clearing, Outcome, Cleared, Skipped}
+use Rattle.journal_records.specs.Replies.{reply_tag, reply_body, answer_tag, answer_body, answer_record, fill_spelling, clearing_spelling, IsReply, IsAnswer, IsWithinLimits, most_reply_body}
+use Rattle.journal_records.specs.Pairs.{IsPair, pair_spelling, plain_room, cleared_room}
 use Rattle.journal_records.proofs.Batches.{clearing_unique, skipping_unique, clearing_size, skipping_size}
 
 -- two plain replies of one tag and one body are one
@@ -91,6 +93,27 @@ unfolding pair_spelling answer_body
 pair_room asked reply =
     let answered = answer_record (Plain reply) in
     omega (arith, length-append (spelling asked) (spelling answered), length-spelling answered, length-reply_body reply)
+
+-- a pair with a batch that cleared takes the room that is set aside for it
+pub cleared_pair_room : (asked : Record) (number : ℕ) (c : Clearing) → length c.residuals ≡ length c.prices
+    → length (pair_spelling (record { asked = asked; answer = Batch number (Cleared c) })) ≡ cleared_room asked (length c.prices) (length c.fills)
+unfolding pair_spelling answer_body
+cleared_pair_room asked number c each =
+    let answered = answer_record (Batch number (Cleared c)) in
+    omega (arith, length-append (spelling asked) (spelling answered), length-spelling answered, clearing_size number c, each)
+
+-- what is written of a batch that cleared, part by part, is one record
+joined : (old a b c d e f g h : List ℕ) → ((((((((old ++ a) ++ b) ++ c) ++ d) ++ e) ++ f) ++ g) ++ h) ≡ (old ++ a) ++ (b ++ (c ++ (d ++ (e ++ (f ++ (g ++ h))))))
+joined old a b c d e f g h = simp append_assoc
+
+pub put_together : (old : List ℕ) (number : ℕ) (c : Clearing) (n orders : ℕ) → length c.residuals ≡ length c.prices → length c.fills ≡ orders → n ≡ 26 + 16 * length c.prices + 12 * orders
+    → (((((((old ++ head 133 n) ++ unsigned 4 number) ++ unsigned 2 (length c.prices)) ++ flat_map (signed 8) c.prices) ++ unsigned 4 orders) ++ flat_map fill_spelling c.fills) ++ flat_map (signed 8) c.residuals) ++ signed 16 c.gap
+    ≡ old ++ spelling (answer_record (Batch number (Cleared c)))
+unfolding answer_body clearing_spelling
+put_together old number c n orders residuals fills size =
+    ap (λ k. (((((((old ++ head 133 n) ++ unsigned 4 number) ++ unsigned 2 (length c.prices)) ++ flat_map (signed 8) c.prices) ++ unsigned 4 k) ++ flat_map fill_spelling c.fills) ++ flat_map (signed 8) c.residuals) ++ signed 16 c.gap) (sym fills)
+    ∙ joined old (head 133 n) (unsigned 4 number) (unsigned 2 (length c.prices)) (flat_map (signed 8) c.prices) (unsigned 4 (length c.fills)) (flat_map fill_spelling c.fills) (flat_map (signed 8) c.residuals) (signed 16 c.gap)
+    ∙ head_and_body old (clearing_spelling number c) 133 n (omega (arith, clearing_size number c, residuals, fills, size))
 
 -- the record of a plain reply is short
 pub plain_short : (reply : Reply) → IsRecord most_reply_body (answer_record (Plain reply))

@@ -6,9 +6,9 @@ use Rattle.wire_records.specs.Commands.{Answer, Plain, Batch, Pair}
 use Rattle.wire_records.specs.Grammars.{spell_all}
 use Rattle.wire_records.specs.Reading.{Reading, File, End, Reads}
 use Rattle.wire_records.specs.Formats.{Version, One}
-use Rattle.flow_orders.specs.Outcomes.{Outcome}
+use Rattle.flow_orders.specs.Outcomes.{Clearing, Outcome, Cleared}
 use Rattle.journal_records.specs.Replies.{answer_record, IsAnswer, most_reply_body, IsWithinLimits}
-use Rattle.journal_records.specs.Pairs.{IsPair, pair_spelling, journal_magic, journal, plain_room}
+use Rattle.journal_records.specs.Pairs.{IsPair, pair_spelling, journal_magic, journal, plain_room, cleared_room}
 use Rattle.journal_records.specs.Formats.{journals, records_of}
 
 -- a record spells at most one answer
@@ -22,6 +22,12 @@ OnePair = (p q : Pair Record Outcome) (x y : List ℕ) → IsPair p → IsPair q
 -- a pair with a plain reply takes at most the room that is set aside for one
 abbrev pub PairFits : Type 0
 PairFits = (asked : Record) (reply : Reply) → length (pair_spelling (record { asked = asked; answer = Plain reply })) ≤ plain_room asked
+
+-- a pair with a batch that cleared takes the room that is set aside for it, and no more
+abbrev pub ClearedPairFits : Type 0
+ClearedPairFits =
+    (asked : Record) (number : ℕ) (c : Clearing) → length c.residuals ≡ length c.prices
+    → length (pair_spelling (record { asked = asked; answer = Batch number (Cleared c) })) ≡ cleared_room asked (length c.prices) (length c.fills)
 
 -- the record of a plain reply is within the limit of replies
 abbrev pub PlainRepliesFit : Type 0

@@ -1,5 +1,5 @@
 -- Pairs of a command record and its answer, and the journals that they make up.
-use Rattle.std.specs.Prelude.{◌+◌, ℕ, List, ◌++◌, length, codes}
+use Rattle.std.specs.Prelude.{◌+◌, ◌*◌, ℕ, List, ◌++◌, length, codes}
 use Rattle.std.specs.List.{flat_map}
 use Rattle.wire_records.specs.Records.{Record, IsRecord, spelling, most_body}
 use Rattle.wire_records.specs.Commands.{Pair}
@@ -27,3 +27,7 @@ journal pairs = journal_magic ++ flat_map pair_spelling pairs
 -- how many bytes a pair with any plain reply takes at most
 abbrev pub plain_room : Record → ℕ
 plain_room asked = length (spelling asked) + 13
+
+-- how many bytes a pair with a batch of so many assets and orders takes that cleared
+abbrev pub cleared_room : Record → (assets orders : ℕ) → ℕ
+cleared_room asked assets orders = length (spelling asked) + (31 + 16 * assets + 12 * orders)

@@ -2,7 +2,7 @@
 //! does nothing.
 ghost use Rattle.std.specs.Prelude.{◌≡◌};
 ghost use Rattle.journal_records.specs.Pairs.{journal_magic};
-ghost use Rattle.journal_records.specs.Laws.{OneAnswer, OnePair, PairFits, PlainRepliesFit, BatchRepliesFit, OneJournalFile, JournalIsFile, JournalIsRead};
+ghost use Rattle.journal_records.specs.Laws.{OneAnswer, OnePair, PairFits, ClearedPairFits, PlainRepliesFit, BatchRepliesFit, OneJournalFile, JournalIsFile, JournalIsRead};
 
 use crate::JOURNAL_MAGIC;
 
@@ -20,6 +20,11 @@ pub fn one_pair()
 /// A pair with a plain reply takes at most the room that `reserve_plain` takes for its command record.
 pub fn pair_fits()
     ensures { PairFits }
+{}
+
+/// A pair with a batch that cleared takes the room that [`write_cleared`](crate::write_cleared) takes for it, and no more.
+pub fn cleared_pair_fits()
+    ensures { ClearedPairFits }
 {}
 
 /// The record of a plain reply is within the limit of 262,144 bytes in its body.

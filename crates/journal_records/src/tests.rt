@@ -47,8 +47,8 @@ const PAIRS: [(&[u8], Reply, &[u8]); 11] = [
     ),
     (
         b"\x09\0\0\0\x04\0\0\0\x01",
-        Reply::Refused(Refusal::NotBuilt),
-        b"\x09\0\0\0\x04\0\0\0\x01\x84\0\0\0\x01\x14",
+        Reply::Refused(Refusal::NotSingle),
+        b"\x09\0\0\0\x04\0\0\0\x01\x84\0\0\0\x01\x15",
     ),
     (
         b"\x07\0\0\0\0",

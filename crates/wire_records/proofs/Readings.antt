@@ -6,10 +6,10 @@ use Rattle.std.proofs.lemmas.List.{nil_from_length}
 use Rattle.wire_fields.specs.Numbers.{unsigned, IsUnsigned}
 use Rattle.wire_fields.proofs.Spelling.{length-unsigned}
 use Rattle.wire_records.specs.declared.command.BodyFault.{BodyFault}
-use Rattle.wire_records.specs.declared.command.BodyFault.TheVariants.{UnknownTag, NotBuilt, BadBody}
+use Rattle.wire_records.specs.declared.command.BodyFault.TheVariants.{UnknownTag, BadBody}
 use Rattle.wire_records.specs.Records.{Record, AreBytes, IsRecord, most_body}
 use Rattle.wire_records.specs.Commands.{Request, Command, AddAsset, OpenAccount, DepositMoney, DepositAsset, WithdrawMoney, WithdrawAsset, PlaceOrder, CancelOrder, RunBatch}
-use Rattle.wire_records.specs.CommandRecords.{tag_of, body_of, record_of, IsCommand, HasShortRow, Spells, IsTag, IsUnbuiltTag, IsReadAs}
+use Rattle.wire_records.specs.CommandRecords.{tag_of, body_of, record_of, IsCommand, HasShortRow, Spells, IsTag, IsReadAs}
 use Rattle.wire_records.specs.Private.{SpellsRequest}
 use Rattle.wire_records.proofs.Fields.{whole_number, front_number}
 use Rattle.wire_records.proofs.Requests.{request_size}
@@ -28,36 +28,30 @@ tag_of-range (PlaceOrder request) = (omega arith, omega arith)
 tag_of-range (CancelOrder account number) = (omega arith, omega arith)
 tag_of-range (RunBatch budget) = (omega arith, omega arith)
 
--- the record of a command that is built is read as no fault
-no_fault : (c : Command) (r : Record) (why : BodyFault) → Spells c r → (IsUnbuiltTag r.tag → ⊥) → IsReadAs r (Err why) → ⊥
-no_fault c r UnknownTag s built unknown =
+-- the record of a command is read as no fault
+no_fault : (c : Command) (r : Record) (why : BodyFault) → Spells c r → IsReadAs r (Err why) → ⊥
+no_fault c r UnknownTag s unknown =
     let tag = tag_is c r s in
     let range = tag_of-range c in
     unknown (omega (arith, tag, range.0), omega (arith, tag, range.1))
-no_fault c r NotBuilt s built unbuilt = built unbuilt
-no_fault c r BadBody s built bad = bad.2 c s
+no_fault c r BadBody s bad = bad.1 c s
 
 -- a record is read as one fault
 fault_unique : (e f : BodyFault) (r : Record) → IsReadAs r (Err e) → IsReadAs r (Err f) → e ≡ f
 fault_unique UnknownTag UnknownTag r p q = refl
-fault_unique UnknownTag NotBuilt r p q = absurd (p (omega (arith, q), omega (arith, q)))
 fault_unique UnknownTag BadBody r p q = absurd (p q.0)
-fault_unique NotBuilt UnknownTag r p q = absurd (q (omega (arith, p), omega (arith, p)))
-fault_unique NotBuilt NotBuilt r p q = refl
-fault_unique NotBuilt BadBody r p q = absurd (q.1 p)
 fault_unique BadBody UnknownTag r p q = absurd (q p.0)
-fault_unique BadBody NotBuilt r p q = absurd (p.1 q)
 fault_unique BadBody BadBody r p q = refl
 
--- the record of a command that is built is read as that command
-pub command_read : (c : Command) (r : Record) (read : Result Command BodyFault) → Spells c r → (IsUnbuiltTag r.tag → ⊥) → IsReadAs r read → read ≡ Ok c
-command_read c r (Ok d) s built found = ap Ok (command_unique d c r found.0 s)
-command_read c r (Err why) s built found = absurd (no_fault c r why s built found)
+-- the record of a command is read as that command
+pub command_read : (c : Command) (r : Record) (read : Result Command BodyFault) → Spells c r → IsReadAs r read → read ≡ Ok c
+command_read c r (Ok d) s found = ap Ok (command_unique d c r found s)
+command_read c r (Err why) s found = absurd (no_fault c r why s found)
 
 -- a record has at most one reading
 pub reading_unique : (r : Record) (a b : Result Command BodyFault) → IsReadAs r a → IsReadAs r b → a ≡ b
-reading_unique r (Ok c) b p q = sym (command_read c r b p.0 p.1 q)
-reading_unique r a (Ok c) p q = command_read c r a q.0 q.1 p
+reading_unique r (Ok c) b p q = sym (command_read c r b p q)
+reading_unique r a (Ok c) p q = command_read c r a q p
 reading_unique r (Err e) (Err f) p q = ap Err (fault_unique e f r p q)
 
 -- 12 bytes are a number of four and one of eight
@@ -79,10 +73,10 @@ fourteen bytes len small =
 from_body : (c : Command) (r : Record) → IsCommand c → r.tag ≡ tag_of c → r.body ≡ body_of c → Spells c r
 from_body c r fits tag body = record { fits = fits; spelled = same_record r (tag_of c) (body_of c) tag body }
 
--- the command of each tag from 1 to 6 and of 8, if the body has the length of the tag
-spelled : (r : Record) → AreBytes r.body → IsTag r.tag → r.tag ≢ 7 → r.tag ≢ 9 → length r.body ≡ size_of r.tag → (c : Command) × Spells c r
+-- the command of each tag but 7, if the body has the length of the tag
+spelled : (r : Record) → AreBytes r.body → IsTag r.tag → r.tag ≢ 7 → length r.body ≡ size_of r.tag → (c : Command) × Spells c r
 unfolding body_of
-spelled r small tag order batch len =
+spelled r small tag order len =
     elim (cases_eq r.tag 1) [
       | inl is ↦ (AddAsset r.body, from_body (AddAsset r.body) r (len ∙ ap size_of is, small) is refl)
       | inr no_1 ↦
@@ -101,9 +95,13 @@ spelled r small tag order batch len =
                                   elim (cases_eq r.tag 6) [
                                     | inl is ↦ let m = fourteen r.body (len ∙ ap size_of is) small in (WithdrawAsset m.0 m.1 m.2, from_body (WithdrawAsset m.0 m.1 m.2) r m.3 is m.4)
                                     | inr no_6 ↦
-                                        let is : r.tag ≡ 8 = omega (arith, tag.0, tag.1, order, batch, no_1, no_2, no_3, no_4, no_5, no_6) in
-                                        let m = twelve r.body (len ∙ ap size_of is) small in
-                                        (CancelOrder m.0 m.1, from_body (CancelOrder m.0 m.1) r m.2 is m.3)
+                                        elim (cases_eq r.tag 8) [
+                                          | inl is ↦ let m = twelve r.body (len ∙ ap size_of is) small in (CancelOrder m.0 m.1, from_body (CancelOrder m.0 m.1) r m.2 is m.3)
+                                          | inr no_8 ↦
+                                              let is : r.tag ≡ 9 = omega (arith, tag.0, tag.1, order, no_1, no_2, no_3, no_4, no_5, no_6, no_8) in
+                                              let m = whole_number 4 r.body (len ∙ ap size_of is) small in
+                                              (RunBatch m.0, from_body (RunBatch m.0) r m.1 is m.2)
+                                        ]
                                   ]
                             ]
                       ]
@@ -130,20 +128,16 @@ reading_some r small =
     elim (tag_or_not r.tag) [
       | inr unknown ↦ (Err UnknownTag, unknown)
       | inl tag ↦
-          elim (cases_eq r.tag 9) [
-            | inl unbuilt ↦ (Err NotBuilt, unbuilt)
-            | inr built ↦
-                elim (cases_eq r.tag 7) [
-                  | inl is ↦
-                      elim (request_told r.body small) [
-                        | inl found ↦ (Ok (PlaceOrder found.0), (order_spelled r found.0 is found.1, built))
-                        | inr none ↦ (Err BadBody, (tag, built, spells_none-from_request r is none))
-                      ]
-                  | inr order ↦
-                      elim (cases_eq (length r.body) (size_of r.tag)) [
-                        | inl len ↦ let found = spelled r small tag order built len in (Ok found.0, (found.1, built))
-                        | inr other ↦ (Err BadBody, (tag, built, spells_none r order other))
-                      ]
+          elim (cases_eq r.tag 7) [
+            | inl is ↦
+                elim (request_told r.body small) [
+                  | inl found ↦ (Ok (PlaceOrder found.0), order_spelled r found.0 is found.1)
+                  | inr none ↦ (Err BadBody, (tag, spells_none-from_request r is none))
+                ]
+            | inr order ↦
+                elim (cases_eq (length r.body) (size_of r.tag)) [
+                  | inl len ↦ let found = spelled r small tag order len in (Ok found.0, found.1)
+                  | inr other ↦ (Err BadBody, (tag, spells_none r order other))
                 ]
           ]
     ]

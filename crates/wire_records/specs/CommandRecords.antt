@@ -6,7 +6,7 @@ use Rattle.weight_rows.specs.declared.entries.Entry.{Entry}
 use Rattle.wire_records.specs.Records.{Record, AreBytes}
 use Rattle.wire_records.specs.Commands.{Request, Command, AddAsset, OpenAccount, DepositMoney, DepositAsset, WithdrawMoney, WithdrawAsset, PlaceOrder, CancelOrder, RunBatch}
 use Rattle.wire_records.specs.declared.command.BodyFault.{BodyFault}
-use Rattle.wire_records.specs.declared.command.BodyFault.TheVariants.{UnknownTag, NotBuilt, BadBody}
+use Rattle.wire_records.specs.declared.command.BodyFault.TheVariants.{UnknownTag, BadBody}
 
 -- the tag of each command
 abbrev pub tag_of : Command → ℕ
@@ -97,18 +97,13 @@ pub record Spells (command : Command) (r : Record) : Type 0 where
 abbrev pub IsTag : ℕ → Type 0
 IsTag tag = (1 ≤ tag) × (tag ≤ 9)
 
--- a tag of a command that isn't built yet, 9 alone
-abbrev pub IsUnbuiltTag : ℕ → Type 0
-IsUnbuiltTag tag = tag ≡ 9
-
 -- no command of any tag has this record
 abbrev pub SpellsNone : Record → Type 0
 SpellsNone r = (command : Command) → ¬ Spells command r
 
--- What a record is read as: the command that it spells, or why there is none to serve. Each record of bytes has
+-- What a record is read as: the command that it spells, or why there is none. Each record of bytes has
 -- exactly one reading, by the laws.
 abbrev pub IsReadAs : Record → Result Command BodyFault → Type 0
-IsReadAs r (Ok command) = Spells command r × (¬ IsUnbuiltTag r.tag)
+IsReadAs r (Ok command) = Spells command r
 IsReadAs r (Err UnknownTag) = ¬ IsTag r.tag
-IsReadAs r (Err NotBuilt) = IsUnbuiltTag r.tag
-IsReadAs r (Err BadBody) = IsTag r.tag × (¬ IsUnbuiltTag r.tag) × SpellsNone r
+IsReadAs r (Err BadBody) = IsTag r.tag × SpellsNone r

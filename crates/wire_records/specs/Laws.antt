@@ -3,7 +3,7 @@ use Rattle.std.specs.Prelude.{◌≡◌, ◌<◌, ◌≤◌, ◌^◌, ℕ, List,
 use Rattle.wire_records.specs.Records.{Record, AreBytes, IsRecord, spelling, most_body}
 use Rattle.wire_records.specs.Framing.{IsFront}
 use Rattle.wire_records.specs.Commands.{Command}
-use Rattle.wire_records.specs.CommandRecords.{record_of, IsCommand, HasShortRow, Spells, IsUnbuiltTag, IsReadAs}
+use Rattle.wire_records.specs.CommandRecords.{record_of, IsCommand, HasShortRow, Spells, IsReadAs}
 use Rattle.wire_records.specs.declared.reply.Refusal.{Refusal}
 use Rattle.wire_records.specs.Refusals.{code_of}
 use Rattle.wire_records.specs.declared.command.BodyFault.{BodyFault}
@@ -43,9 +43,9 @@ OneReading = (r : Record) (a b : Result Command BodyFault) → IsReadAs r a → 
 abbrev pub EachIsRead : Type 0
 EachIsRead = (r : Record) → AreBytes r.body → (read : Result Command BodyFault) × IsReadAs r read
 
--- the record of a command that is built is read as that command
+-- the record of a command is read as that command
 abbrev pub CommandIsRead : Type 0
-CommandIsRead = (c : Command) (r : Record) (read : Result Command BodyFault) → Spells c r → (¬ IsUnbuiltTag r.tag) → IsReadAs r read → read ≡ Ok c
+CommandIsRead = (c : Command) (r : Record) (read : Result Command BodyFault) → Spells c r → IsReadAs r read → read ≡ Ok c
 
 -- the record of a command whose row has at most 165 entries, if it has one, is within the limit of command records
 abbrev pub CommandIsShort : Type 0

@@ -1,6 +1,6 @@
 -- What contracts see of the program's own commands and of views of borrowed bytes.
 use Rattle.std.specs.Prelude.{Result, Ok, Err}
-use Rattle.wire_records.specs.Commands.{Command, AddAsset, OpenAccount, DepositMoney, DepositAsset, WithdrawMoney, WithdrawAsset, PlaceOrder, CancelOrder}
+use Rattle.wire_records.specs.Commands.{Command, AddAsset, OpenAccount, DepositMoney, DepositAsset, WithdrawMoney, WithdrawAsset, PlaceOrder, CancelOrder, RunBatch}
 use Rattle.wire_records.specs.declared.command.Command as owned
 use Rattle.wire_records.specs.declared.command.Command.TheVariants as own
 use Rattle.wire_records.specs.declared.command.CommandView.{CommandView}
@@ -17,6 +17,7 @@ command_in (own.WithdrawMoney account ticks) = WithdrawMoney account ticks
 command_in (own.WithdrawAsset account asset units) = WithdrawAsset account asset units
 command_in (own.PlaceOrder account low high rate cap row) = PlaceOrder (record { account = account; low = low; high = high; rate = rate; cap = cap; row = row })
 command_in (own.CancelOrder account order) = CancelOrder account order
+command_in (own.RunBatch budget) = RunBatch budget
 
 -- the command that a view shows
 abbrev pub command_of : CommandView → Command
@@ -28,6 +29,7 @@ command_of (view.WithdrawMoney account ticks) = WithdrawMoney account ticks
 command_of (view.WithdrawAsset account asset units) = WithdrawAsset account asset units
 command_of (view.PlaceOrder place) = PlaceOrder place
 command_of (view.CancelOrder account order) = CancelOrder account order
+command_of (view.RunBatch budget) = RunBatch budget
 
 -- what was read, with the command in place of its view
 abbrev pub reading : Result CommandView BodyFault → Result Command BodyFault

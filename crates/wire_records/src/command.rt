@@ -55,6 +55,10 @@ pub enum Command {
         account: u32,
         order: u64,
     },
+    /// A batch, whose prices are looked for with at most `budget` steps.
+    RunBatch {
+        budget: u32,
+    },
 }
 
 /// A command in borrowed bytes: the fields are those of [`Command`], in the same units.
@@ -93,15 +97,17 @@ pub enum CommandView<'a> {
         account: u32,
         order: u64,
     },
+    /// A batch, whose prices are looked for with at most `budget` steps.
+    RunBatch {
+        budget: u32,
+    },
 }
 
-/// Why a record spells no command that can be served.
+/// Why a record spells no command.
 #[derive(Clone, Copy, Debug, PartialEq, Eq)]
 pub enum BodyFault {
     /// The tag is no command's.
     UnknownTag,
-    /// The command of this tag isn't built yet, whatever the body holds.
-    NotBuilt,
     /// The body isn't that of the tag.
     BadBody,
 }
@@ -138,15 +144,29 @@ fn asset_fields(body: &[u8]) -> Option<(u32, u16, u64)>
     Some((account, asset, units))
 }
 
+// A budget, which takes all of a body of 4 bytes.
+fn batch_field(body: &[u8]) -> Option<u32>
+    ensures spelled { IfSome result (λ budget. body.now ≡ unsigned 4 budget) }
+    ensures fits { IfSome result (λ budget. budget < 2 ^ 32) }
+    ensures other { IfNone result (length body.now ≢ 4) }
+{
+    let mut cursor = Cursor::new(body);
+    let budget = cursor.take_u32()?;
+    if cursor.left() != 0 {
+        return None;
+    }
+    Some(budget)
+}
+
 impl<'a> RecordView<'a> {
     ghost use Rattle.wire_records.specs.CommandRecords.{IsReadAs};
     ghost use Rattle.wire_records.specs.Views.{reading};
 
     /// The command that the record spells, with its fields in the borrowed bytes. Constant cost.
     ///
-    /// `UnknownTag` exactly where the tag is outside 1 to 9, `NotBuilt` exactly where it is 9, `BadBody` exactly
-    /// where it is 1 to 8 and no command of the tag has this body: a byte more or fewer than the fields take. The
-    /// entries of an order aren't looked at, beyond how many bytes they take.
+    /// `UnknownTag` exactly where the tag is outside 1 to 9, `BadBody` exactly where it is 1 to 9 and no command of
+    /// the tag has this body: a byte more or fewer than the fields take. The entries of an order aren't looked at,
+    /// beyond how many bytes they take.
     pub fn command(&self) -> Result<CommandView<'a>, BodyFault>
         ensures { IsReadAs self.now (reading result) }
     {
@@ -186,8 +206,11 @@ impl<'a> RecordView<'a> {
                 Some((account, order)) => Ok(CommandView::CancelOrder { account, order }),
                 None => Err(BodyFault::BadBody),
             },
+            9 => match batch_field(body) {
+                Some(budget) => Ok(CommandView::RunBatch { budget }),
+                None => Err(BodyFault::BadBody),
+            },
             1 | 2 => Err(BodyFault::BadBody),
-            9 => Err(BodyFault::NotBuilt),
             _ => Err(BodyFault::UnknownTag),
         }
     }

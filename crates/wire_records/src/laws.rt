@@ -44,7 +44,7 @@ pub fn each_is_read()
     ensures { EachIsRead }
 {}
 
-/// The record of a command that is built is read as that command, and as no fault.
+/// The record of a command is read as that command, and as no fault.
 pub fn command_is_read()
     ensures { CommandIsRead }
 {}

@@ -59,14 +59,14 @@ pub enum Refusal {
     BadBudget,
     /// 2^24 batches were held.
     BatchLimit,
-    /// The command of this tag isn't built yet.
-    NotBuilt,
+    /// Some live order names two or more assets. For the time being a batch clears orders of one asset each.
+    NotSingle,
 }
 
 impl Refusal {
     ghost use Rattle.wire_records.specs.Refusals.{code_of};
 
-    /// The number of the refusal, as a reply spells it: 1 to 20. Each refusal has its own.
+    /// The number of the refusal, as a reply spells it: 1 to 19, or 21. Each refusal has its own.
     pub fn code(&self) -> u8
         ensures { result ≡ code_of self.now }
     {
@@ -90,7 +90,7 @@ impl Refusal {
             Refusal::NoOrder => 17,
             Refusal::BadBudget => 18,
             Refusal::BatchLimit => 19,
-            Refusal::NotBuilt => 20,
+            Refusal::NotSingle => 21,
         }
     }
 }

@@ -40,6 +40,7 @@ enum Asked<'a> {
     WithdrawAsset(u32, u16, u64),
     PlaceOrder(u32, i64, i64, u32, u64, usize),
     CancelOrder(u32, u64),
+    RunBatch(u32),
 }
 
 fn asked_of(command: CommandView<'_>) -> Asked<'_> {
@@ -67,6 +68,7 @@ fn asked_of(command: CommandView<'_>) -> Asked<'_> {
             place.row().len(),
         ),
         CommandView::CancelOrder { account, order } => Asked::CancelOrder(account, order),
+        CommandView::RunBatch { budget } => Asked::RunBatch(budget),
     }
 }
 
@@ -339,18 +341,40 @@ fn cancels_as_commands(rt: HostRuntime) {
 }
 
 #[test]
+fn batches_as_commands(rt: HostRuntime) {
+    let bad = Err(BodyFault::BadBody);
+    are_read_as(
+        &rt,
+        &[
+            // A budget is read as it is: whether it is accepted is the market's to say.
+            (b"\x09\0\0\0\x04\0\0\0\x0a", Ok(Asked::RunBatch(10))),
+            (b"\x09\0\0\0\x04\0\0\0\0", Ok(Asked::RunBatch(0))),
+            (
+                b"\x09\0\0\0\x04\x01\x02\x03\x04",
+                Ok(Asked::RunBatch(16909060)),
+            ),
+            (
+                b"\x09\0\0\0\x04\xff\xff\xff\xff",
+                Ok(Asked::RunBatch(4294967295)),
+            ),
+            (b"\x09\0\0\0\0", bad),
+            (b"\x09\0\0\0\x03\0\0\0", bad),
+            (b"\x09\0\0\0\x05\0\0\0\x0a\0", bad),
+            (b"\x09\0\0\0\x08\0\0\0\0\0\0\0\x0a", bad),
+        ],
+    );
+}
+
+#[test]
 fn records_without_a_command(rt: HostRuntime) {
-    let unbuilt = Err(BodyFault::NotBuilt);
     let unknown = Err(BodyFault::UnknownTag);
     are_read_as(
         &rt,
         &[
             (b"\0\0\0\0\0", unknown),
             (b"\0\0\0\0\x08AAPL    ", unknown),
-            // What isn't built yet is so whatever its body holds.
-            (b"\x09\0\0\0\0", unbuilt),
-            (b"\x09\0\0\0\x04\0\0\0\x01", unbuilt),
             (b"\x0a\0\0\0\0", unknown),
+            (b"\x0a\0\0\0\x04\0\0\0\x0a", unknown),
             (b"\x0a\0\0\0\x0c\0\0\0\x01\0\0\0\0\0\0\0\x01", unknown),
             (b"\x0f\0\0\0\0", unknown),
             (b"\x80\0\0\0\0", unknown),
@@ -415,7 +439,7 @@ fn orders_as_records(rt: HostRuntime) -> Result<(), Fail> {
 
 #[test]
 fn commands_as_records(rt: HostRuntime) -> Result<(), Fail> {
-    let rows: [(Command, &[u8]); 6] = [
+    let rows: [(Command, &[u8]); 8] = [
         (
             Command::AddAsset {
                 ticker: *b"AAPL    ",
@@ -452,6 +476,14 @@ fn commands_as_records(rt: HostRuntime) -> Result<(), Fail> {
                 units: 506664896818842894,
             },
             b"\x06\0\0\0\x0e\x01\x02\x03\x04\x05\x06\x07\x08\x09\x0a\x0b\x0c\x0d\x0e",
+        ),
+        (
+            Command::RunBatch { budget: 10 },
+            b"\x09\0\0\0\x04\0\0\0\x0a",
+        ),
+        (
+            Command::RunBatch { budget: 16909060 },
+            b"\x09\0\0\0\x04\x01\x02\x03\x04",
         ),
     ];
     are_written(&rt, rt.alloc(), &rows)
@@ -572,7 +604,7 @@ fn codes_of_refusals(rt: HostRuntime) {
         (Refusal::NoOrder, 17),
         (Refusal::BadBudget, 18),
         (Refusal::BatchLimit, 19),
-        (Refusal::NotBuilt, 20),
+        (Refusal::NotSingle, 21),
     ];
     for (refusal, code) in rows {
         assert_eq!(rt; refusal.code(), code, "{refusal:?}");

@@ -119,6 +119,15 @@ fn put_order(
     put_entries(out, row);
 }
 
+// A record of a batch.
+fn put_batch(out: &mut Vec<u8>, budget: u32)
+    requires { vec_len out.old + 9 ≤ vec_capacity out.old }
+    ensures { out.new.items ≡ out.old.items ++ spelling (record { tag = 9; body = unsigned 4 budget }) }
+{
+    put_head(out, 9, 4);
+    put_u32(out, budget);
+}
+
 // The most bytes that the record of a command takes.
 fn room_for(command: &Command) -> usize
     requires { HasShortRow (command_in command.now) }
@@ -167,6 +176,7 @@ pub fn write_command(command: &Command, out: &mut Vec<u8>) -> Result<(), Memory>
             row,
         } => put_order(out, *account, *low, *high, *rate, *cap, row.as_slice()),
         Command::CancelOrder { account, order } => put_money(out, 8, *account, *order),
+        Command::RunBatch { budget } => put_batch(out, *budget),
     }
     Ok(())
 }

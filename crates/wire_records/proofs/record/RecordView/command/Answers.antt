@@ -2,37 +2,32 @@ use Rattle.std.proofs.Common.{◌≡◌, ◌≢◌, ◌≤◌, ℕ, [], length, 
 use Rattle.std.proofs.lemmas.List.{nil_from_length}
 use Rattle.std.proofs.lemmas.Bool.Decides.{nat_tests}
 use Rattle.wire_records.specs.Records.{Record}
-use Rattle.wire_records.specs.CommandRecords.{body_of, SpellsNone, IsTag, IsUnbuiltTag}
+use Rattle.wire_records.specs.CommandRecords.{body_of, SpellsNone, IsTag}
 use Rattle.wire_records.proofs.Bodies.{same_record, spells_none, spells_none-from_request, size_of}
 use Rattle.wire_records.proofs.Readings.{order_spelled}
 use Rattle.wire_records.proofs.record.RecordView.command.Goals as goal
 use Rattle.wire_records.proofs.record.RecordView.command.Goals.{in-1+else-body-eq8, in-2+else-is_empty}
 
--- a tag up to 8 is built
-is_built : (r : Record) → r.tag ≤ 8 → IsUnbuiltTag r.tag → ⊥
-is_built r few unbuilt = omega (arith, few, unbuilt)
-
--- a body of another length than its tag's, at a tag that is built
-bad : (r : Record) (tag size : ℕ) → r.tag ≡ tag → (1 ≤ tag) × (tag ≤ 8) → tag ≢ 7 → size ≡ size_of tag → (length r.body ≡ size → ⊥) → IsTag r.tag × (IsUnbuiltTag r.tag → ⊥) × SpellsNone r
-bad r tag size is built order size_is other = (
+-- a body of another length than its tag's
+bad : (r : Record) (tag size : ℕ) → r.tag ≡ tag → IsTag tag → tag ≢ 7 → size ≡ size_of tag → (length r.body ≡ size → ⊥) → IsTag r.tag × SpellsNone r
+bad r tag size is named order size_is other = (
   (omega arith, omega arith),
-  is_built r (omega arith),
   spells_none r (λ e. order (sym is ∙ e)) (λ e. other (e ∙ ap size_of is ∙ sym size_is)),
 )
 
 pub returns-in-1 : goal.returns-in-1
 unfolding body_of
-returns-in-1 c = (record { fits = (c.if-body-eq8.true, rw c.body-body.ensures.value c.body-body.ensures.bytes); spelled = same_record c.args.self.now 1 c.body-body.result.now (omega arith) (sym c.body-body.ensures.value) }, is_built c.args.self.now (omega arith))
+returns-in-1 c = record { fits = (c.if-body-eq8.true, rw c.body-body.ensures.value c.body-body.ensures.bytes); spelled = same_record c.args.self.now 1 c.body-body.result.now (omega arith) (sym c.body-body.ensures.value) }
 
 pub returns-in-2 : goal.returns-in-2
 unfolding body_of
 returns-in-2 c =
     let empty : length c.body-body.result.now ≡ 0 = grind (arith, nat_tests) in
-    (record { fits = tt; spelled = same_record c.args.self.now 2 [] (omega arith) (sym c.body-body.ensures.value ∙ nil_from_length c.body-body.result.now empty) }, is_built c.args.self.now (omega arith))
+    record { fits = tt; spelled = same_record c.args.self.now 2 [] (omega arith) (sym c.body-body.ensures.value ∙ nil_from_length c.body-body.result.now empty) }
 
 pub returns-in-Some : goal.returns-in-Some
 unfolding body_of
-returns-in-Some c = (record { fits = c.in-Some.ensures.fits; spelled = same_record c.args.self.now 3 _ (omega arith) (sym c.body-body.ensures.value ∙ c.in-Some.ensures.spelled) }, is_built c.args.self.now (omega arith))
+returns-in-Some c = record { fits = c.in-Some.ensures.fits; spelled = same_record c.args.self.now 3 _ (omega arith) (sym c.body-body.ensures.value ∙ c.in-Some.ensures.spelled) }
 
 pub returns-in-None : goal.returns-in-None
 returns-in-None c = bad c.args.self.now 3 12 (omega arith) (omega arith, omega arith) (omega arith) refl (λ e. c.in-None.ensures.other (ap length c.body-body.ensures.value ∙ e))
@@ -41,7 +36,7 @@ pub returns-in-Some-asset_fields : goal.returns-in-Some-asset_fields
 unfolding body_of
 returns-in-Some-asset_fields c =
     let arm = c.in-Some-asset_fields in
-    (record { fits = arm.ensures.fits; spelled = same_record c.args.self.now 4 _ (omega arith) (sym c.body-body.ensures.value ∙ arm.ensures.spelled) }, is_built c.args.self.now (omega arith))
+    record { fits = arm.ensures.fits; spelled = same_record c.args.self.now 4 _ (omega arith) (sym c.body-body.ensures.value ∙ arm.ensures.spelled) }
 
 pub returns-in-None-asset_fields : goal.returns-in-None-asset_fields
 returns-in-None-asset_fields c = bad c.args.self.now 4 14 (omega arith) (omega arith, omega arith) (omega arith) refl (λ e. c.in-None-asset_fields.ensures.other (ap length c.body-body.ensures.value ∙ e))
@@ -50,7 +45,7 @@ pub returns-in-Some-money_fields : goal.returns-in-Some-money_fields
 unfolding body_of
 returns-in-Some-money_fields c =
     let arm = c.in-Some-money_fields in
-    (record { fits = arm.ensures.fits; spelled = same_record c.args.self.now 5 _ (omega arith) (sym c.body-body.ensures.value ∙ arm.ensures.spelled) }, is_built c.args.self.now (omega arith))
+    record { fits = arm.ensures.fits; spelled = same_record c.args.self.now 5 _ (omega arith) (sym c.body-body.ensures.value ∙ arm.ensures.spelled) }
 
 pub returns-in-None-money_fields : goal.returns-in-None-money_fields
 returns-in-None-money_fields c = bad c.args.self.now 5 12 (omega arith) (omega arith, omega arith) (omega arith) refl (λ e. c.in-None-money_fields.ensures.other (ap length c.body-body.ensures.value ∙ e))
@@ -59,7 +54,7 @@ pub returns-in-Some-asset_fields-2 : goal.returns-in-Some-asset_fields-2
 unfolding body_of
 returns-in-Some-asset_fields-2 c =
     let arm = c.in-Some-asset_fields-2 in
-    (record { fits = arm.ensures.fits; spelled = same_record c.args.self.now 6 _ (omega arith) (sym c.body-body.ensures.value ∙ arm.ensures.spelled) }, is_built c.args.self.now (omega arith))
+    record { fits = arm.ensures.fits; spelled = same_record c.args.self.now 6 _ (omega arith) (sym c.body-body.ensures.value ∙ arm.ensures.spelled) }
 
 pub returns-in-None-asset_fields-2 : goal.returns-in-None-asset_fields-2
 returns-in-None-asset_fields-2 c = bad c.args.self.now 6 14 (omega arith) (omega arith, omega arith) (omega arith) refl (λ e. c.in-None-asset_fields-2.ensures.other (ap length c.body-body.ensures.value ∙ e))
@@ -75,17 +70,26 @@ returns-in-1-2 c =
 
 pub returns-in-Some-place_in : goal.returns-in-Some-place_in
 returns-in-Some-place_in c =
-    (order_spelled c.args.self.now c.in-Some-place_in.place (omega arith) (rw c.body-body.ensures.value at c.in-Some-place_in.ensures.found), is_built c.args.self.now (omega arith))
+    order_spelled c.args.self.now c.in-Some-place_in.place (omega arith) (rw c.body-body.ensures.value at c.in-Some-place_in.ensures.found)
 
 pub returns-in-None-place_in : goal.returns-in-None-place_in
 returns-in-None-place_in c =
-    ((omega arith, omega arith), is_built c.args.self.now (omega arith), spells_none-from_request c.args.self.now (omega arith) (rw c.body-body.ensures.value at c.in-None-place_in.ensures.none))
+    ((omega arith, omega arith), spells_none-from_request c.args.self.now (omega arith) (rw c.body-body.ensures.value at c.in-None-place_in.ensures.none))
 
 pub returns-in-Some-money_fields-2 : goal.returns-in-Some-money_fields-2
 unfolding body_of
 returns-in-Some-money_fields-2 c =
     let arm = c.in-Some-money_fields-2 in
-    (record { fits = arm.ensures.fits; spelled = same_record c.args.self.now 8 _ (omega arith) (sym c.body-body.ensures.value ∙ arm.ensures.spelled) }, is_built c.args.self.now (omega arith))
+    record { fits = arm.ensures.fits; spelled = same_record c.args.self.now 8 _ (omega arith) (sym c.body-body.ensures.value ∙ arm.ensures.spelled) }
 
 pub returns-in-None-money_fields-2 : goal.returns-in-None-money_fields-2
 returns-in-None-money_fields-2 c = bad c.args.self.now 8 12 (omega arith) (omega arith, omega arith) (omega arith) refl (λ e. c.in-None-money_fields-2.ensures.other (ap length c.body-body.ensures.value ∙ e))
+
+pub returns-in-Some-batch_field : goal.returns-in-Some-batch_field
+unfolding body_of
+returns-in-Some-batch_field c =
+    let arm = c.in-Some-batch_field in
+    record { fits = arm.ensures.fits; spelled = same_record c.args.self.now 9 _ (omega arith) (sym c.body-body.ensures.value ∙ arm.ensures.spelled) }
+
+pub returns-in-None-batch_field : goal.returns-in-None-batch_field
+returns-in-None-batch_field c = bad c.args.self.now 9 4 (omega arith) (omega arith, omega arith) (omega arith) refl (λ e. c.in-None-batch_field.ensures.other (ap length c.body-body.ensures.value ∙ e))

@@ -1,0 +1,125 @@
+//! Pairs whose reply is a batch that cleared.
+ghost use Rattle.std.specs.Prelude.{◌≡◌, ◌+◌, ◌*◌, ◌<◌, ◌≤◌, ◌++◌, length, map, All, OnOk, OnErr, vec_len, vec_capacity};
+ghost use Rattle.std.specs.List.{flat_map};
+ghost use Rattle.wire_fields.specs.Numbers.{signed, IsSigned};
+ghost use Rattle.wire_records.specs.Records.{spelling};
+ghost use Rattle.wire_records.specs.Commands.{Batch};
+ghost use Rattle.flow_orders.specs.Orders.{most_orders};
+ghost use Rattle.flow_orders.specs.Trades.{trades};
+ghost use Rattle.flow_orders.specs.Outcomes.{fill_of, Cleared as cleared_outcome};
+ghost use Rattle.batch_certificate.specs.Published.{clearing_of};
+ghost use Rattle.journal_records.specs.Replies.{fill_spelling, answer_record, IsFill, IsAnswer};
+ghost use Rattle.journal_records.specs.Pairs.{pair_spelling, cleared_room};
+
+use batch_certificate::Cleared;
+use flow_orders::Order;
+use wire_fields::{put_bytes, put_i64, put_i128, put_u16, put_u32, put_u64};
+use wire_records::{Memory, RecordView, put_head};
+
+// A tag and the length of a body take as many bytes.
+const HEAD: usize = 5;
+
+// A body takes as many bytes besides its prices, fills and residuals.
+const NUMBERS: usize = 26;
+
+// How many bytes the body takes.
+fn body_len(assets: usize, orders: usize) -> usize
+    requires assets { assets ≤ 64 }
+    requires orders { orders ≤ most_orders }
+    ensures { result ≡ 26 + 16 * assets + 12 * orders }
+{
+    NUMBERS + 16 * assets + 12 * orders
+}
+
+// Prices or residuals.
+fn put_numbers(out: &mut Vec<u8>, numbers: &[i64])
+    requires { vec_len out.old + 8 * length numbers.now ≤ vec_capacity out.old }
+    ensures written { out.new.items ≡ out.old.items ++ flat_map (signed 8) numbers.now }
+    ensures len { vec_len out.new ≡ vec_len out.old + 8 * length numbers.now }
+    ensures capacity { vec_capacity out.new ≡ vec_capacity out.old }
+    ensures fit { All (IsSigned 8) numbers.now }
+{
+    for number in numbers {
+        put_i64(out, *number);
+    }
+}
+
+// The number of each order, and its rate.
+fn put_fills(out: &mut Vec<u8>, orders: &[Order], rates: &[u32])
+    requires count { length rates.now ≡ length orders.now }
+    requires room { vec_len out.old + 12 * length orders.now ≤ vec_capacity out.old }
+    ensures written { out.new.items
+        ≡ out.old.items ++ flat_map fill_spelling (map fill_of (trades orders.now rates.now)) }
+    ensures len { vec_len out.new ≡ vec_len out.old + 12 * length orders.now }
+    ensures capacity { vec_capacity out.new ≡ vec_capacity out.old }
+    ensures fit { All IsFill (map fill_of (trades orders.now rates.now)) }
+{
+    for (order, rate) in orders.iter().zip(rates) {
+        put_u64(out, order.number());
+        put_u32(out, *rate);
+    }
+}
+
+// The record of the reply.
+fn put_cleared(batch: u32, orders: &[Order], cleared: &Cleared, out: &mut Vec<u8>)
+    requires one_rate_each { length cleared.now.rates ≡ length orders.now }
+    requires one_residual_each { length cleared.now.residuals ≡ length cleared.now.prices }
+    requires few_assets { length cleared.now.prices ≤ 64 }
+    requires few_orders { length orders.now ≤ most_orders }
+    requires room { vec_len out.old + (31 + 16 * length cleared.now.prices + 12 * length orders.now)
+        ≤ vec_capacity out.old }
+    ensures written { out.new.items ≡ out.old.items
+        ++ spelling (answer_record (Batch batch (cleared_outcome (clearing_of orders.now cleared.now)))) }
+    ensures capacity { vec_capacity out.new ≡ vec_capacity out.old }
+    ensures fits { IsAnswer (Batch batch (cleared_outcome (clearing_of orders.now cleared.now))) }
+{
+    let prices = cleared.prices.as_slice();
+    put_head(out, 133, body_len(prices.len(), orders.len()) as u32);
+    put_u32(out, batch);
+    put_u16(out, prices.len() as u16);
+    put_numbers(out, prices);
+    put_u32(out, orders.len() as u32);
+    put_fills(out, orders, cleared.rates.as_slice());
+    put_numbers(out, cleared.residuals.as_slice());
+    put_i128(out, cleared.gap);
+}
+
+/// Appends the pair of a batch that cleared: the command record, byte for byte as it was given, and the record of its
+/// reply, with the batch's number, a price in grains and a residual in units for each asset, the number of each order
+/// with its rate in units of its portfolio, and the gap in grains. Rates of 0 are listed too.
+///
+/// The body of the reply has 26 bytes, 16 for each of at most 64 assets and 12 for each of at most 16,384 orders, so
+/// at most 197,658. The room of the whole pair is taken first, and nothing fails after that; `Memory` comes only where
+/// it wasn't there, and then `out` is as before. The cost is that of the bytes, each of which is written once, and of a
+/// move of `out` where it has to grow.
+pub fn write_cleared(
+    asked: &RecordView<'_>,
+    batch: u32,
+    orders: &[Order],
+    cleared: &Cleared,
+    out: &mut Vec<u8>,
+) -> Result<(), Memory>
+    requires one_rate_each { length cleared.now.rates ≡ length orders.now }
+    requires one_residual_each { length cleared.now.residuals ≡ length cleared.now.prices }
+    requires few_assets { length cleared.now.prices ≤ 64 }
+    requires few_orders { length orders.now ≤ most_orders }
+    ensures written { OnOk result (out.new.items ≡ out.old.items ++ pair_spelling (record {
+      asked = asked.now;
+      answer = Batch batch (cleared_outcome (clearing_of orders.now cleared.now));
+    })) }
+    ensures stays { OnErr result (out.new.items ≡ out.old.items) }
+    ensures room { vec_capacity out.old ≤ vec_capacity out.new }
+
+    // Memory is wanted only where the room isn't there already.
+    ensures wanted { OnErr result (vec_capacity out.old
+        < vec_len out.old + cleared_room asked.now (length cleared.now.prices) (length orders.now)) }
+
+    // So the reply is this answer's, and by the laws it is read as it, whatever follows it.
+    ensures fits { OnOk result (IsAnswer (Batch batch (cleared_outcome (clearing_of orders.now cleared.now)))) }
+{
+    let body = body_len(cleared.prices.as_slice().len(), orders.len());
+    out.reserve(asked.bytes().len() + HEAD + body)?;
+    put_bytes(out, asked.bytes());
+    put_cleared(batch, orders, cleared, out);
+    Ok(())
+}
