@@ -44,7 +44,7 @@ zip_trades R (o ∷ orders) (x ∷ rates) all zero d inside = all.0
 zip_trades R (o ∷ orders) (x ∷ rates) all (suc k) d inside = zip_trades R orders rates all.1 k d (omega (arith, inside))
 
 -- the rates of trades
-rates_back : (orders : List Order) (rates : List ℕ) → length rates ≡ length orders → map (λ (f : Fill). f.rate) (map fill_of (trades orders rates)) ≡ rates
+pub rates_back : (orders : List Order) (rates : List ℕ) → length rates ≡ length orders → map (λ (f : Fill). f.rate) (map fill_of (trades orders rates)) ≡ rates
 rates_back [] [] count = refl
 rates_back [] (x ∷ rates) count = absurd (omega (arith, count))
 rates_back (o ∷ orders) [] count = absurd (omega (arith, count))
@@ -129,7 +129,7 @@ right_at orders start prices rates each roundings count small unnamed settled =
 
 -- ---- one-asset orders
 
-single_each : (orders : List Order) → are_single orders ≡ true → All IsSingle orders
+pub single_each : (orders : List Order) → are_single orders ≡ true → All IsSingle orders
 single_each [] all k d inside = absurd (omega (arith, inside))
 single_each (o ∷ orders) all zero d inside =
     let parts = and_parts (eqb (length o.row) 1) (list_all (λ (o : Order). eqb (length o.row) 1) orders) all in
@@ -137,7 +137,7 @@ single_each (o ∷ orders) all zero d inside =
 single_each (o ∷ orders) all (suc k) d inside = single_each orders (and_parts (eqb (length o.row) 1) (list_all (λ (o : Order). eqb (length o.row) 1) orders) all).1 k d (omega (arith, inside))
 
 -- a book that isn't of one-asset orders has an order that names two or more
-wide_is : (orders : List Order) → All IsOrder orders → are_single orders ≡ false → IsWide orders
+pub wide_is : (orders : List Order) → All IsOrder orders → are_single orders ≡ false → IsWide orders
 wide_is [] each is = absurd (false≢true (sym is))
 wide_is (o ∷ orders) each is =
     ⊎_elim

@@ -19,7 +19,7 @@ use Rattle.flow_orders.proofs.OwnIsRight.{own_is_right}
 cut_within : (p : ℤ) → IsWithin (2 ^ 60) (cut_price p)
 cut_within p = (omega (arith, ints, clamps), omega (arith, ints, clamps))
 
-start_within : (m : Market) → All (IsWithin (2 ^ 60)) (start_prices m)
+pub start_within : (m : Market) → All (IsWithin (2 ^ 60)) (start_prices m)
 start_within m = All-map (IsWithin (2 ^ 60)) cut_price m.last_prices (λ k d inside. cut_within (slice_index_or m.last_prices k d))
 
 accepted_right : (m : Market) (c : Command) (a : Answer Outcome) (n : Market) → IsSound m → FirstRefusal m c None → Accepts IsOwnOutcome m c a n → Accepts IsRightOutcome m c a n

@@ -1,4 +1,5 @@
 pub mod Market
+pub mod Settling
 pub mod Step
 pub mod Journal
 pub mod Wanting

@@ -6,6 +6,7 @@
 //! is the program's market, and each of its calls is one step. [`laws`] has what holds of steps and journals.
 #![tactic(auto)]
 
+mod batches;
 pub mod laws;
 mod market;
 mod orders;

@@ -1,7 +1,7 @@
 //! The market of a run, and what a command makes of it.
-ghost use Rattle.std.specs.Prelude.{◌≡◌, ◌≢◌, ◌+◌, ◌<◌, ◌^◌, IfOk, OnErr, MatchResult, length};
+ghost use Rattle.std.specs.Prelude.{◌≡◌, ◌≢◌, ℕ, ◌+◌, ◌<◌, ◌^◌, IfOk, OnErr, MatchResult, length};
 ghost use Rattle.std.specs.Result.{ForErr};
-ghost use Rattle.wire_records.specs.Commands.{AddAsset, OpenAccount, DepositMoney, DepositAsset, WithdrawMoney, WithdrawAsset, PlaceOrder, CancelOrder, Plain};
+ghost use Rattle.wire_records.specs.Commands.{AddAsset, OpenAccount, DepositMoney, DepositAsset, WithdrawMoney, WithdrawAsset, PlaceOrder, CancelOrder, RunBatch, Plain};
 ghost use Rattle.wire_records.specs.CommandRecords.{IsCommand};
 ghost use Rattle.wire_records.specs.Views.{command_of};
 ghost use Rattle.market_core.specs.Private.{refusal_for, IsAnswered};
@@ -91,13 +91,14 @@ impl Market {
         }
     }
 
-    /// Serves one command, and answers its reply. Only a new asset, account or order may want memory; then
+    /// Serves one command that holds no batch, and answers its reply. Only a new asset, account or order may want memory; then
     /// nothing is changed. The number that the next order gets is below 2^64 - 1.
     ///
     /// The cost is that of the command's own fields, however many accounts and orders there are; a cancelled order
     /// leaves a gap among the live ones that is closed by a move.
     pub fn apply(&mut self, command: &CommandView<'_>) -> Result<Reply, Memory>
         requires command { IsCommand (command_of command.now) }
+        requires no_batch { (budget : ℕ) → ¬ (command_of command.now ≡ RunBatch budget) }
         requires next { self.old.next_order + 1 < 2 ^ 64 }
         ensures served { IfOk result (λ reply. Serves IsOwnOutcome self.old (command_of command.now) (Plain reply) self.new) }
         ensures stays { OnErr result (self.new ≡ self.old) }
@@ -123,6 +124,7 @@ impl Market {
             } => Ok(self.withdraw_units(account, asset, units)),
             CommandView::PlaceOrder(ref place) => self.place_order(place),
             CommandView::CancelOrder { account, order } => Ok(self.cancel_order(account, order)),
+            CommandView::RunBatch { .. } => unreachable!(),
         }
     }
 

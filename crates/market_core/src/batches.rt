@@ -1,0 +1,135 @@
+//! Batches: whether one may be held, where its prices start, and what settling it makes of the market.
+ghost use Rattle.std.specs.Prelude.{◌≡◌, ◌<◌, ◌≤◌, ◌^◌, ◌↔◌, true, length, All, IsTrue, IfOk, OnOk, MatchResult, Some, None};
+ghost use Rattle.demand_curve.specs.Demand.{IsWithin};
+ghost use Rattle.wire_records.specs.Commands.{RunBatch};
+ghost use Rattle.flow_orders.specs.Own.{are_single};
+ghost use Rattle.batch_certificate.specs.Published.{clearing_of, outcome_of};
+ghost use Rattle.flow_orders.specs.Outcomes.{Cleared as ClearedBatch};
+ghost use Rattle.market_core.specs.Market.{IsSound, most_batches, start_prices, cut_price};
+ghost use Rattle.market_core.specs.Step.{FirstRefusal, after_batch};
+ghost use Rattle.market_core.specs.Settling.{MaySettle, MaySettleAt};
+
+use crate::Market;
+use batch_certificate::{Cleared, Outcome, PriceList};
+use fill_caps::settle;
+use flow_orders::Order;
+use residual_account::ResidualAccount;
+use std::alloc::Global;
+use wire_records::{Memory, Refusal};
+
+// The highest budget of a batch, in moves.
+const MOST_BUDGET: u32 = 65_536;
+
+// No more batches are held.
+const MOST_BATCHES: u32 = 1 << 24;
+
+// A batch starts with prices within so many grains of 0.
+const FARTHEST_START: i64 = 1 << 60;
+
+// Whether each order names one asset alone.
+fn are_single(orders: &[Order]) -> bool
+    ensures { IsTrue result ↔ All (λ o. length o.row ≡ 1) orders.now }
+{
+    orders.iter().all(|order| order.row().is_single())
+}
+
+// A price, cut to the range in which a search starts.
+fn cut_price(price: i64) -> i64
+    ensures value { result ≡ cut_price price }
+    ensures range { IsWithin (2 ^ 60) result }
+{
+    price.clamp(-FARTHEST_START, FARTHEST_START)
+}
+
+impl Market {
+    /// Whether a batch with this budget of moves may be held now, or else the first refusal: `BadBudget` exactly where
+    /// the budget isn't from 1 to 65,536, then `BatchLimit` exactly where 2^24 batches were held, then `NotSingle` exactly
+    /// where some live order names two or more assets.
+    ///
+    /// It costs a pass over the live orders.
+    pub fn batch_allowed(&self, budget: u32) -> Result<(), Refusal>
+        ensures first { MatchResult result
+            (λ _. FirstRefusal self.now (RunBatch budget) None)
+            (λ refusal. FirstRefusal self.now (RunBatch budget) (Some refusal)) }
+        ensures single { OnOk result (are_single self.now.orders ≡ true) }
+        ensures more { OnOk result (self.now.batches < most_batches) }
+    {
+        if budget == 0 || budget > MOST_BUDGET {
+            return Err(Refusal::BadBudget);
+        }
+        if self.batches >= MOST_BATCHES {
+            return Err(Refusal::BatchLimit);
+        }
+        if !are_single(self.book.orders()) {
+            return Err(Refusal::NotSingle);
+        }
+        Ok(())
+    }
+
+    /// How many batches were held, cleared or skipped: at most 2^24.
+    pub fn batches(&self) -> u32
+        ensures value { result ≡ self.now.batches }
+        ensures sound { IsSound self.now }
+    {
+        self.batches
+    }
+
+    /// The exchange's own account, which takes what rounding leaves over.
+    pub fn exchange(&self) -> &ResidualAccount
+        ensures value { result.now ≡ self.now.exchange }
+        ensures sound { IsSound self.now }
+    {
+        &self.exchange
+    }
+
+    /// The prices at which a batch starts, in grains, by the assets' numbers: the last cleared ones, each cut to the range
+    /// from -2^60 to 2^60, and 0 for an asset that was never priced. `Memory` is the one fault: there is none for the list.
+    pub fn start_prices(&self, alloc: Global) -> Result<PriceList, Memory>
+        ensures value { IfOk result (λ prices. prices ≡ start_prices self.now) }
+        ensures range { IfOk result (All (IsWithin (2 ^ 60))) }
+    {
+        let last = self.last_prices.as_slice();
+        let mut prices = Vec::with_capacity(alloc, last.len())?;
+        for price in last {
+            prices.push_reserved(cut_price(*price));
+        }
+        Ok(PriceList::new(prices))
+    }
+
+    /// Counts a batch that ended so. Where it cleared it is settled: each account pays for its orders' rates and
+    /// receives their units, the exchange takes the other side of the residuals, each order is filled by its rate and
+    /// leaves once it is filled to its cap, and the prices are the last ones. A batch that was skipped changes nothing
+    /// else.
+    ///
+    /// The outcome is right for the live orders and the start prices, and fewer than 2^24 batches were held. It takes no
+    /// memory and can't fail. It costs two passes over the entries of the live orders, however many accounts there are.
+    pub fn settle(&mut self, outcome: &Outcome)
+        requires right { MaySettle self.old outcome.now }
+        requires more { self.old.batches < most_batches }
+        ensures { self.new ≡ after_batch self.old (outcome_of self.old.orders outcome.now) }
+    {
+        match outcome {
+            Outcome::Cleared(cleared) => self.settle_cleared(cleared),
+            Outcome::Skipped(_) => self.batches += 1,
+        }
+    }
+
+    fn settle_cleared(&mut self, cleared: &Cleared)
+        requires right { MaySettleAt self.old cleared.now }
+        requires more { self.old.batches < most_batches }
+        ensures { self.new ≡ after_batch self.old (ClearedBatch (clearing_of self.old.orders cleared.now)) }
+    {
+        let prices = cleared.prices.as_slice();
+        let rates = cleared.rates.as_slice();
+        settle(
+            &mut self.accounts,
+            &mut self.exchange,
+            self.book.orders(),
+            prices,
+            rates,
+        );
+        self.book.fill(rates);
+        self.last_prices.set(prices);
+        self.batches += 1;
+    }
+}
