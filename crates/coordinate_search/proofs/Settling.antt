@@ -25,12 +25,19 @@ pub record IsSettling (orders : List Order) (start prices : List ℤ) (asset : �
   pub range : All (IsWithin (2 ^ 60)) prices
   pub rest : moved_once orders (range_with_len asset (length start - asset)) prices ≡ moved_once orders (visits (length start) 0) start
 
+-- where every order names one asset, each does
 single_each : (orders : List Order) → are_single orders ≡ true → All IsSingle orders
 single_each [] all k d inside = absurd (omega (arith, inside))
 single_each (o ∷ orders) all zero d inside =
     let parts = and_parts (eqb (length o.row) 1) (list_all (λ (o : Order). eqb (length o.row) 1) orders) all in
     ⊎_elim (λ same. same.1) (λ other. absurd (false≢true (sym other.0 ∙ parts.0))) (eqb_tells (length o.row) 1)
 single_each (o ∷ orders) all (suc k) d inside = single_each orders (and_parts (eqb (length o.row) 1) (list_all (λ (o : Order). eqb (length o.row) 1) orders) all).1 k d (omega (arith, inside))
+
+pub single_all : (orders : List Order) → All (λ (o : Order). length o.row ≡ 1) orders → are_single orders ≡ true
+single_all [] all = refl
+single_all (o ∷ orders) all =
+    let one : length o.row ≡ 1 = all 0 o (omega arith) in
+    rw one (single_all orders (λ k d inside. all (suc k) d (omega (arith, inside))))
 
 -- a turn is a visit
 visit_of : (orders : List Order) (prices : List ℤ) (asset : ℕ) (b : Bool) → is_unsettled orders prices asset ≡ b → IsVisit orders single_reach prices asset (cond b (moved orders single_reach prices asset) prices)

@@ -16,6 +16,8 @@
 mod moves;
 mod probes;
 mod single;
+#[cfg(test)]
+mod tests;
 
 pub use moves::step;
 pub use single::settle_single;

@@ -15,8 +15,8 @@ use single_bisect::{greatest_true, least_true};
 /// longer is, else by `reach`. Where the high excess is below minus the steepness, the price falls in the same way. The
 /// other prices stay.
 ///
-/// It asks for the excess of the asset at most 64 times, each time in one pass over the entries of all orders, and takes
-/// no memory.
+/// It asks for the excess of the asset at most 64 times and once for its steepness, each in one pass over the entries of
+/// all orders, and takes no memory.
 pub fn step(work: &mut Workspace<'_>, asset: u16, reach: i64)
     requires asset { asset < length work.old.prices }
     requires unsettled { is_unsettled work.old.orders work.old.prices asset ≡ true }

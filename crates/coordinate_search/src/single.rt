@@ -19,8 +19,8 @@ const REACH: i64 = 1 << 61;
 /// needed.
 ///
 /// The prices are within 2^60 grains of 0, as all limits of orders are, and stay so. An asset that was settled keeps its
-/// price. It costs one move for each asset that isn't settled, and three passes over the entries of all orders for each
-/// asset besides, and takes no memory.
+/// price. Each asset costs two passes over the entries of all orders, and one that isn't settled a move besides. No
+/// memory is taken.
 pub fn settle_single(work: &mut Workspace<'_>)
     requires single { are_single work.old.orders ≡ true }
     requires start { All (IsWithin (2 ^ 60)) work.old.prices }

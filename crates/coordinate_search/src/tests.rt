@@ -1,0 +1,154 @@
+ghost use Rattle.std.specs.Prelude.{◌≡◌, ◌^◌, ◌≤◌, true, length, IsTrue, All};
+ghost use Rattle.weight_rows.specs.Rows.{IsPricedBy};
+ghost use Rattle.demand_curve.specs.Demand.{IsWithin};
+ghost use Rattle.flow_orders.specs.Orders.{IsOrder};
+ghost use Rattle.flow_orders.specs.Own.{are_single};
+
+use super::*;
+use excess_bounds::Workspace;
+use flow_orders::{Order, order_fault};
+use std::alloc::{AllocError, Global};
+use std::process::Abort;
+use std::test::Fail;
+use weight_rows::{Entry, EntryList, WeightRow, row_fault};
+
+// Limits in ticks, rate and cap, how much is filled, and the asset with its weight.
+type Placed = ((i64, i64), (u32, u64), u32, (u16, i32));
+
+const BUYER: Placed = ((90, 110), (1000, 10_000), 0, (0, 1));
+
+const SELLER: Placed = ((-110, -90), (1000, 10_000), 0, (0, -1));
+
+const TOP: i64 = 1 << 60;
+
+// The order, or None where its numbers or its row have a fault.
+fn order_of(alloc: Global, placed: Placed) -> Result<Option<Order>, AllocError> {
+    let ((low, high), (rate, cap), filled, (asset, weight)) = placed;
+    let entries = EntryList::new(Vec::from_array(alloc, [Entry { asset, weight }])?);
+    if row_fault(entries.as_slice()).is_some() || order_fault(low, high, rate, cap).is_some() {
+        return Ok(None);
+    }
+    let mut order = Order::new(1, 1, low, high, rate, cap, WeightRow::new(entries));
+    if filled > order.curve().room {
+        return Ok(None);
+    }
+    order.add_fill(filled);
+    Ok(Some(order))
+}
+
+fn orders_of(alloc: Global, placed: &[Placed]) -> Result<Vec<Order>, AllocError> {
+    let mut orders = Vec::new(alloc);
+    for one in placed {
+        if let Some(order) = order_of(alloc, *one)? {
+            orders.push(order)?;
+        }
+    }
+    Ok(orders)
+}
+
+fn is_priced(order: &Order, prices: &[i64]) -> bool
+    ensures { IsTrue result → IsPricedBy order.now.row prices.now }
+{
+    order
+        .row()
+        .entries()
+        .iter()
+        .all(|entry| usize::from(entry.asset) < prices.len())
+}
+
+fn is_order(order: &Order) -> bool
+    ensures { IsTrue result → IsOrder order.now }
+{
+    order.cap() > 0
+}
+
+// Whether each order names one asset.
+#[tactic(auto, using(crate::proofs::Settling::single_all))]
+fn are_all_single(orders: &[Order]) -> bool
+    ensures { IsTrue result → are_single orders.now ≡ true }
+{
+    orders.iter().all(|order| order.row().entries().len() == 1)
+}
+
+// Sees to it that these orders, each of one asset, may be settled from these prices.
+fn may_settle(rt: &impl Abort, orders: &[Order], prices: &[i64])
+    ensures few { length orders.now ≤ 16384 }
+    ensures assets { length prices.now ≤ 64 }
+    ensures start { All (IsWithin (2 ^ 60)) prices.now }
+    ensures priced { All (λ o. IsPricedBy o.row prices.now) orders.now }
+    ensures each { All IsOrder orders.now }
+    ensures single { are_single orders.now ≡ true }
+{
+    assert!(rt; orders.len() <= 16_384);
+    assert!(rt; prices.len() <= 64);
+    assert!(rt; prices.iter().all(|price| -TOP <= *price && *price <= TOP));
+    assert!(rt; orders.iter().all(|order| is_priced(order, prices)));
+    assert!(rt; orders.iter().all(|order| is_order(order)));
+    assert!(rt; are_all_single(orders));
+}
+
+#[test]
+fn a_book_of_one_asset_orders_settles(rt: HostRuntime) -> Result<(), Fail> {
+    let far = [
+        BUYER,
+        SELLER,
+        ((90, 110), (1000, 10_000), 0, (1, 1)),
+        ((-110, -90), (1000, 10_000), 0, (1, -1)),
+    ];
+    let steep = [
+        ((0, 1), (16_777_216, 16_777_216), 0, (0, 4096)),
+        ((-1, 0), (16_777_216, 16_777_216), 0, (0, -4096)),
+    ];
+    let filled = [
+        ((90, 110), (1000, 501), 500, (0, 1)),
+        ((-110, -90), (1000, 10_000), 499, (0, -1)),
+    ];
+    let cases: [(&[Placed], &[i64], &[i64]); 5] = [
+        (&far[..2], &[0], &[429_410_830_255]),
+        (&steep, &[0], &[524_287]),
+        (&filled, &[429_410_830_255], &[386_804_754_677]),
+        (
+            &far,
+            &[0, 429_410_830_260, -5],
+            &[429_410_830_255, 429_410_830_260, -5],
+        ),
+        (&far[..2], &[TOP, TOP], &[429_582_628_945, TOP]),
+    ];
+    for (placed, start, end) in cases {
+        let orders = orders_of(rt.alloc(), placed)?;
+        assert_eq!(rt; orders.len(), placed.len());
+        may_settle(&rt, orders.as_slice(), start);
+        let mut work = Workspace::new(rt.alloc(), orders.as_slice(), start).map_err(
+            |_| "no memory",
+        )?;
+        settle_single(&mut work);
+        assert_eq!(rt; work.prices(), end);
+    }
+    Ok(())
+}
+
+#[test]
+fn a_move_ends_at_its_reach_or_before(rt: HostRuntime) -> Result<(), Fail> {
+    let orders = orders_of(rt.alloc(), &[BUYER, SELLER])?;
+    let cases = [
+        (0, 1 << 20, 1_048_576),
+        (0, 1, 1),
+        (0, 429_410_830_254, 429_410_830_254),
+        (0, 429_410_830_255, 429_410_830_255),
+        (0, 1 << 61, 429_410_830_255),
+        (TOP, 1 << 20, 1_152_921_504_605_798_400),
+        (TOP, 1 << 61, 429_582_628_945),
+    ];
+    for (start, reach, end) in cases {
+        let start: [i64; 1] = [start];
+        may_settle(&rt, orders.as_slice(), &start);
+        assert!(rt; 1 <= reach && reach <= 1 << 61);
+        let mut work = Workspace::new(rt.alloc(), orders.as_slice(), &start).map_err(
+            |_| "no memory",
+        )?;
+        assert!(rt; !work.is_settled(0));
+        step(&mut work, 0, reach);
+        assert_eq!(rt; work.prices(), [end].as_slice());
+    }
+    Ok(())
+}
