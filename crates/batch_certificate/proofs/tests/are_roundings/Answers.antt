@@ -1,10 +1,10 @@
-use Rattle.std.proofs.Common.{◌≡◌, ◌≤◌, length, get_or, take, subst, refl, arith}
+use Rattle.std.proofs.Common.{◌≡◌, get_or, take, subst, refl, arith}
 use Rattle.std.specs.Prelude.{All}
 use Rattle.std.proofs.lemmas.List.{get_or_default, take_all}
 use Rattle.demand_curve.specs.Demand.{IsRounding}
 use Rattle.flow_orders.specs.Orders.{terms_of}
 use Rattle.flow_orders.specs.Excess.{price_for}
-use Rattle.flow_orders.specs.Trades.{Trade, trades}
+use Rattle.flow_orders.specs.Trades.{trades}
 use Rattle.batch_certificate.proofs.Sums.{IsTurn, one_more_holds, length-trades}
 use Rattle.batch_certificate.proofs.tests.are_roundings.Goals as goal
 
