@@ -1,13 +1,14 @@
 -- The residuals and the losses of trades, trade by trade, and what residuals cost, asset by asset.
-use Rattle.std.proofs.Common.{◌≡◌, ℕ, zero, suc, ◌+◌, ◌*◌, ◌^◌, ◌<◌, ◌≤◌, ℤ, pos, ◌+ℤ◌, ◌-ℤ◌, ◌*ℤ◌, List, [], ◌∷◌, ◌++◌, map, length, take, get_or, to_z, of_z, refl, sym, ap, ◌∙◌, subst, ⊎_elim, arith}
-use Rattle.std.specs.Prelude.{unsigned_abs, All, slice_index_or, FitsSigned}
+use Rattle.std.proofs.Common.{◌≡◌, ℕ, zero, suc, ◌+◌, ◌*◌, ◌^◌, ◌<◌, ◌≤◌, ℤ, pos, ◌+ℤ◌, ◌-ℤ◌, ◌*ℤ◌, List, [], ◌∷◌, map, length, take, get_or, to_z, of_z, refl, sym, ap, ◌∙◌, subst, ⊎_elim, arith}
+use Rattle.std.specs.Prelude.{unsigned_abs, All, FitsSigned}
 use mir.Syntax.{w128}
 use Rattle.std.specs.List.{range_with_len, sum_by}
 use Rattle.std.proofs.lemmas.Int.{ints, to_z-of_z, fits_signed_from_abs}
 use Rattle.std.proofs.lemmas.Bool.{cases_lt}
 use Rattle.std.proofs.lemmas.List.{take_all, get_or_past, ext_get_or}
 use Rattle.std.proofs.lemmas.List.Sums.{sum_by_more}
-use Rattle.std.proofs.lemmas.List.FromFn.{length-range_with_len, length-map-range_with_len, get_or-map-range_with_len}
+use Rattle.std.proofs.lemmas.List.Elements.{All-more}
+use Rattle.std.proofs.lemmas.List.FromFn.{length-map-range_with_len, get_or-map-range_with_len}
 use Rattle.list_sums.specs.Sums.{int_sum_by}
 use Rattle.list_sums.proofs.Products.{unsigned_abs-add, unsigned_abs-mul_le}
 use Rattle.list_sums.proofs.SumLemmas.{int_sum_by_more, int_sum_by-range}
@@ -62,6 +63,12 @@ trade_at orders rates i o x turn =
 pub at_turn : (P : Trade → Type 0) (orders : List Order) (rates : List ℕ) (i : ℕ) (o : Order) (x : ℕ) → IsTurn orders rates i o x → All P (trades orders rates) → P (record { order = o; traded = x })
 at_turn P orders rates i o x turn each =
     subst P (trade_at orders rates i o x turn) (each i (record { order = o; traded = x }) (omega (arith, turn.inside, length-trades orders rates turn.count)))
+
+-- and what holds of the first trades holds of the turn's too
+pub one_more_holds : (P : Trade → Type 0) (orders : List Order) (rates : List ℕ) (i : ℕ) (o : Order) (x : ℕ) → IsTurn orders rates i o x → All P (take i (trades orders rates)) → P (record { order = o; traded = x })
+    → All P (take (i + 1) (trades orders rates))
+one_more_holds P orders rates i o x turn before holds =
+    All-more P (trades orders rates) i (record { order = o; traded = x }) (omega (arith, turn.inside, length-trades orders rates turn.count)) before (subst P (sym (trade_at orders rates i o x turn)) holds)
 
 -- ---- the loop over the orders
 -- what a trade loses

@@ -1,14 +1,16 @@
 //! The certificate of a batch: what its rates leave over, and by how much they may miss the best welfare.
-ghost use Rattle.std.specs.Prelude.{◌≡◌, ◌^◌, ◌≤◌, ◌<◌, pos, ◌*ℤ◌, unsigned_abs, IfOk, length, All};
+ghost use Rattle.std.specs.Prelude.{◌≡◌, ◌^◌, ◌≤◌, ◌<◌, ◌≤ℤ◌, pos, ◌*ℤ◌, unsigned_abs, IfOk, length, All};
 ghost use Rattle.std.specs.List.{sum_by, range_with_len};
 ghost use Rattle.list_sums.specs.Sums.{int_sum_by};
 ghost use Rattle.weight_rows.specs.Rows.{IsPrice, IsPricedBy, price_of};
 ghost use Rattle.demand_curve.specs.Demand.{IsRounding, loss};
-ghost use Rattle.flow_orders.specs.Orders.{most_orders, terms_of};
+ghost use Rattle.flow_orders.specs.Orders.{most_orders, IsOrder, terms_of};
 ghost use Rattle.flow_orders.specs.Excess.{price_for};
 ghost use Rattle.flow_orders.specs.Trades.{trades};
 ghost use Rattle.flow_orders.specs.Outcomes.{residuals_of, gap_of};
 ghost use Rattle.flow_orders.specs.Own.{clearing_at};
+ghost use Rattle.flow_orders.specs.Welfare.{IsOptimalWithin};
+ghost use Rattle.batch_certificate.specs.Laws.{AreBounded, AreBoundedWhereSettled, gap_bound};
 ghost use Rattle.batch_certificate.specs.Published.{clearing_of};
 ghost use Rattle.batch_certificate.specs.Residuals.{most_prices, AreZeros, AreNear, cost_at};
 
@@ -28,19 +30,21 @@ impl From<AllocError> for Memory {
     }
 }
 
-/// The certificate of a batch that cleared: adds to its prices and rates what the rates leave over of each asset, in
-/// units, and the gap, in grains.
+/// The certificate of a batch that cleared: adds to its prices and rates what the rates leave over of each asset, bought
+/// less sold, in units, and the gap, in grains.
 ///
 /// The gap is what rounding loses on all orders, less what the residuals cost at the prices. No rates at which nothing
-/// is left over beat these rates by more than it, as `flow_orders` proves. The dual of Flow Trading (Budish, Cramton,
-/// Kyle, Lee and Malec, 2023) has no gap; whole rates and so this certificate are this project's own.
+/// is left over beat these rates by more than the gap, at whatever prices. Where an asset is settled its residual is
+/// within its bound, and the gap of residuals within their bounds has a bound itself. Orders, welfare and settled
+/// prices are those of Flow Trading (Budish, Cramton, Kyle, Lee and Malec, 2023); whole rates, and so residuals and gaps,
+/// are this project's own.
 ///
-/// There are at most 16,384 orders and 64 prices, in grains and within 2^62 of 0, one for each asset that an order
-/// names. There is one rate for each order, in its place, and each is the order's demand at the prices, rounded up or
-/// down.
+/// There are at most 16,384 orders, and at most 64 prices, in grains and within 2^62 of 0, one for each asset that an
+/// order names. There is one rate for each order, in its place, and each is the order's demand at the prices, rounded
+/// up or down.
 ///
-/// It costs one pass over the entries of all orders, one division for each order, and one pass over the prices.
-/// It takes memory once, 8 bytes for each price, before it adds anything; `Memory` comes only where there is none.
+/// It costs one pass over the entries of all orders, one division for each order, and one pass over the prices. It takes
+/// memory once, 8 bytes for each price, before it adds anything; `Memory` comes only where there is none.
 pub fn certify(
     alloc: Global,
     orders: &[Order],
@@ -60,6 +64,9 @@ pub fn certify(
     ensures residuals { IfOk result (λ c. c.residuals
         ≡ residuals_of (length prices) (trades orders.now rates)) }
     ensures gap { IfOk result (λ c. c.gap ≡ gap_of prices (trades orders.now rates)) }
+    ensures settled { IfOk result (λ c. AreBoundedWhereSettled orders.now prices c.residuals) }
+    ensures bounded { IfOk result (λ c. AreBounded orders.now c.residuals → c.gap ≤ℤ pos (gap_bound orders.now prices)) }
+    ensures optimal { IfOk result (λ c. IsOptimalWithin c.gap orders.now c.rates) }
     ensures certified { IfOk result (λ c. clearing_of orders.now c
         ≡ clearing_at (length prices) prices (trades orders.now rates)) }
 {
@@ -91,6 +98,7 @@ fn measure(orders: &[Order], prices: &[i64], rates: &[u32], residuals: &mut [i64
     requires zeros { AreZeros (length prices.now) residuals.old }
     ensures residuals { residuals.new ≡ residuals_of (length prices.now) (trades orders.now rates.now) }
     ensures gap { result ≡ gap_of prices.now (trades orders.now rates.now) }
+    ensures orders { All IsOrder orders.now }
 {
     let lost = add_trades(orders, prices, rates, residuals);
     lost - cost(prices, residuals)
@@ -112,6 +120,7 @@ fn add_trades(orders: &[Order], prices: &[i64], rates: &[u32], residuals: &mut [
         (λ t. loss (terms_of t.order) t.traded (price_for prices.now t.order))
         (trades orders.now rates.now)) }
     ensures small { unsigned_abs result ≤ 2 ^ 74 }
+    ensures orders { All IsOrder orders.now }
 {
     let mut lost = 0;
     for (place, order) in orders.iter().enumerate() {

@@ -1,7 +1,8 @@
 //! What is published of a batch, and the certificate of one that cleared.
 //!
 //! The types of an outcome are values without conditions. [`certify`] makes a [`Cleared`] of prices and rates: it adds what
-//! the rates leave over of each asset, and the gap. The definitions of both stand in `flow_orders`.
+//! the rates leave over of each asset, and the gap. The definitions of both stand in `flow_orders`; [`laws`] bounds what is
+//! left over of settled assets.
 //!
 //! # Costs
 //!
@@ -10,8 +11,11 @@
 #![tactic(auto)]
 
 mod certificate;
+pub mod laws;
 mod lists;
 mod outcome;
+#[cfg(test)]
+mod tests;
 mod trade;
 
 pub use certificate::{Memory, certify};

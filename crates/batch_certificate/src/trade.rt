@@ -1,8 +1,8 @@
 //! One order's part of the certificate.
 ghost use Rattle.std.specs.Prelude.{◌≡◌, ◌+◌, ◌*◌, ◌^◌, ◌<◌, ◌≤◌, pos, ◌+ℤ◌, ◌*ℤ◌, unsigned_abs, length, slice_set, All};
-ghost use Rattle.weight_rows.specs.Rows.{most_weight, IsPrice, IsPricedBy, IsLawfulRow, price_of};
+ghost use Rattle.weight_rows.specs.Rows.{most_weight, IsPrice, IsPricedBy, price_of};
 ghost use Rattle.demand_curve.specs.Demand.{most_rate, IsRounding, loss};
-ghost use Rattle.flow_orders.specs.Orders.{terms_of};
+ghost use Rattle.flow_orders.specs.Orders.{IsOrder, terms_of};
 ghost use Rattle.flow_orders.specs.Excess.{price_for};
 ghost use Rattle.batch_certificate.specs.Residuals.{AreNear, IsTradeAdded};
 
@@ -20,7 +20,7 @@ pub(crate) fn add_trade(order: &Order, rate: u32, prices: &[i64], residuals: &mu
     ensures lost { result ≡ pos (loss (terms_of order.now) rate (price_for prices.now order.now)) }
     ensures small { unsigned_abs result ≤ 2 ^ 60 }
     ensures rate { rate ≤ most_rate }
-    ensures lawful { IsLawfulRow order.now.row }
+    ensures order { IsOrder order.now }
 {
     let lost = loss_of(order, rate, prices);
     add_row(order.row(), rate, residuals);
@@ -35,7 +35,7 @@ fn loss_of(order: &Order, rate: u32, prices: &[i64]) -> i128
     ensures lost { result ≡ pos (loss (terms_of order.now) rate (price_for prices.now order.now)) }
     ensures small { unsigned_abs result ≤ 2 ^ 60 }
     ensures rate { rate ≤ most_rate }
-    ensures lawful { IsLawfulRow order.now.row }
+    ensures order { IsOrder order.now }
 {
     order.curve().loss(rate, order.row().price(prices))
 }

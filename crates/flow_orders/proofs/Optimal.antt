@@ -13,7 +13,7 @@ use Rattle.demand_curve.specs.Demand.{IsRounding, loss}
 use Rattle.flow_orders.specs.Orders.{Order, IsOrder, terms_of}
 use Rattle.flow_orders.specs.Excess.{price_for}
 use Rattle.flow_orders.specs.Trades.{Trade, trades, residual, residual_cost}
-use Rattle.flow_orders.specs.Outcomes.{Fill, Clearing, IsRightClearing}
+use Rattle.flow_orders.specs.Outcomes.{Fill, Clearing, gap_of, IsRightClearing}
 use Rattle.flow_orders.specs.Welfare.{welfare, IsOptimalWithin}
 use Rattle.flow_orders.proofs.Gap.{Part, IsPart, better, published, lost, net, cost_of_residuals, optimal_within_gap}
 
@@ -96,18 +96,22 @@ module _ (prices : List ℤ) (K M : ℕ) where
       (each_part orders xs ns (omega (arith, a)) (omega (arith, b)) (tail IsOrder o orders order) (tail (λ (o : Order). IsPricedBy o.row prices) o orders priced) (tail (λ (o : Order). M / (2 * o.rate) * (2 * o.rate) ≡ M) o orders share)
       (tail IsRounded t (trades orders xs) rounded) (tail IsWithinRoom s (trades orders ns) within))
 
--- no balanced rates beat the rates of a right clearing by more than its gap
+-- no balanced rates beat rates that are roundings of the demands at some prices by more than the gap at these prices
+pub roundings_are_optimal : (orders : List Order) (prices : List ℤ) (xs : List ℕ) → All IsOrder orders → All (λ o. IsPricedBy o.row prices) orders → length xs ≡ length orders
+    → All (λ t. IsRounding (terms_of t.order) t.traded (price_for prices t.order)) (trades orders xs) → IsOptimalWithin (gap_of prices (trades orders xs)) orders xs
+roundings_are_optimal orders prices xs order priced count rounded = record {
+  one_each = count;
+  best = λ M K ns common balanced.
+      let count_too = balanced.one_each in
+      let all = each_part prices K M orders xs ns count count_too order priced common.1 rounded balanced.within in
+      let best = optimal_within_gap prices K M (parts M orders xs ns) all (λ asset. net_others prices K M orders xs ns asset count count_too ∙ balanced.nothing_left asset) in
+      rw (← sum_better prices K M orders xs ns count count_too, ← sum_published prices K M orders xs ns count count_too, ← sum_lost prices K M orders xs ns count count_too, ← cost_is prices K M orders xs ns count count_too) best;
+}
+
+-- so none beat the rates of a right clearing by more than its gap
 pub right_is_optimal : (orders : List Order) (start : List ℤ) (c : Clearing) → All IsOrder orders → All (λ o. IsPricedBy o.row start) orders → IsRightClearing orders start c → IsOptimalWithin c.gap orders (map (λ (f : Fill). f.rate) c.fills)
 right_is_optimal orders start c order priced right =
     let xs = map (λ (f : Fill). f.rate) c.fills in
-    let prices = c.prices in
     let numbers = ap length right.numbers in
     let count : length xs ≡ length orders = omega (arith, numbers, length-map c.fills (λ (f : Fill). f.rate), length-map c.fills (λ (f : Fill). f.order), length-map orders (λ (o : Order). o.number)) in
-    record {
-      one_each = count;
-      best = λ M K ns common balanced.
-          let count_too = balanced.one_each in
-          let all = each_part prices K M orders xs ns count count_too order (λ k d inside j e within. let one = priced k d inside j e within in omega (arith, one, right.one_price_each)) common.1 right.roundings balanced.within in
-          let best = optimal_within_gap prices K M (parts M orders xs ns) all (λ asset. net_others prices K M orders xs ns asset count count_too ∙ balanced.nothing_left asset) in
-          rw (← sum_better prices K M orders xs ns count count_too, ← sum_published prices K M orders xs ns count count_too, right.gap_is, ← sum_lost prices K M orders xs ns count count_too, ← cost_is prices K M orders xs ns count count_too) best;
-    }
+    rw right.gap_is (roundings_are_optimal orders c.prices xs order (λ k d inside j e within. let one = priced k d inside j e within in omega (arith, one, right.one_price_each)) count right.roundings)

@@ -1,4 +1,4 @@
-use Rattle.std.proofs.Common.{◌≤◌, length, sym, subst, ◌∙◌, ap, arith, refl}
+use Rattle.std.proofs.Common.{sym, subst, arith}
 use Rattle.std.proofs.lemmas.List.{get_or_default}
 use Rattle.weight_rows.specs.Rows.{IsLawfulRow, IsPricedBy}
 use Rattle.batch_certificate.specs.Residuals.{IsTradeAdded}

@@ -1,0 +1,35 @@
+-- What holds of residuals and gaps.
+use Rattle.std.specs.Prelude.{◌≡◌, ◌+◌, ◌*◌, ◌<◌, ◌≤◌, ℕ, ℤ, false, unsigned_abs, List, length, All}
+use Rattle.std.specs.List.{range_with_len, sum_by}
+use Rattle.weight_rows.specs.Rows.{price_of}
+use Rattle.demand_curve.specs.Numbers.{rounded_up}
+use Rattle.demand_curve.specs.Demand.{IsRounding, span}
+use Rattle.flow_orders.specs.Orders.{Order, IsOrder, terms_of}
+use Rattle.flow_orders.specs.Excess.{price_for, residual_bound, is_unsettled}
+use Rattle.flow_orders.specs.Trades.{trades, residual}
+
+-- one rate for each order, which is a rounding of the order's demand at these prices
+pub record AreRoundings (orders : List Order) (prices : List ℤ) (rates : List ℕ) : Type 0 where
+  pub one_each : length rates ≡ length orders
+  pub roundings : All (λ t. IsRounding (terms_of t.order) t.traded (price_for prices t.order)) (trades orders rates)
+
+-- where an asset is settled, any roundings leave over at most its spread and its steepness together
+abbrev pub SettledResidualsAreBounded : Type 0
+SettledResidualsAreBounded = (orders : List Order) (prices : List ℤ) (rates : List ℕ) (asset : ℕ)
+    → All IsOrder orders → AreRoundings orders prices rates → is_unsettled orders prices asset ≡ false
+    → unsigned_abs (residual (trades orders rates) asset) ≤ residual_bound orders asset
+
+-- each residual is at most its bound
+abbrev pub AreBounded : List Order → List ℤ → Type 0
+AreBounded orders residuals = (asset : ℕ) → asset < length residuals → unsigned_abs (price_of residuals asset) ≤ residual_bound orders asset
+
+-- each residual whose asset is settled is at most its bound
+abbrev pub AreBoundedWhereSettled : List Order → List ℤ → List ℤ → Type 0
+AreBoundedWhereSettled orders prices residuals =
+    (asset : ℕ) → asset < length residuals → is_unsettled orders prices asset ≡ false → unsigned_abs (price_of residuals asset) ≤ residual_bound orders asset
+
+-- what all roundings can lose, and what residuals within their bounds can cost
+abbrev pub gap_bound : List Order → List ℤ → ℕ
+gap_bound orders prices =
+    sum_by (λ o. rounded_up (span (terms_of o)) (2 * o.rate)) orders
+    + sum_by (λ asset. unsigned_abs (price_of prices asset) * residual_bound orders asset) (range_with_len 0 (length prices))
