@@ -19,7 +19,8 @@ use Rattle.flow_orders.proofs.OwnSums.{own_sum-append}
 use Rattle.flow_orders.proofs.TradeFacts.{IsAllowed, before_fills, after_fills, before-trades, All-trades}
 use Rattle.fill_caps.specs.Covers.{CoversNeeds}
 use Rattle.fill_caps.specs.Settlement.{settled_balances, settled_exchange}
-use Rattle.fill_caps.specs.Settles.{HasRoom, Settles}
+use Rattle.fill_caps.specs.Room.{HasRoom}
+use Rattle.fill_caps.specs.Settles.{Settles}
 use Rattle.fill_caps.proofs.Joined.{settles_none, settles_more, cost_is_paid, part_money_is_small, part_units_are_small, money_is_bounded, units_are_bounded}
 use Rattle.fill_caps.proofs.Needs.{rounding_is_allowed, needs_kept, needs_kept_by_batch, own_not_negative}
 use Rattle.fill_caps.proofs.Settled.{settled_balances_are_one, settled_exchange_is_one}
