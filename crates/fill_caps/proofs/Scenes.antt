@@ -1,5 +1,5 @@
 -- What settling asks of the batches of the tests.
-use Rattle.std.proofs.Common.{◌≡◌, ℕ, zero, suc, ◌*◌, ◌^◌, ◌<◌, ◌≤◌, ℤ, pos, ◌≤ℤ◌, List, [], ◌∷◌, sym, subst, arith}
+use Rattle.std.proofs.Common.{◌≡◌, ℕ, zero, suc, ℤ, pos, ◌≤ℤ◌, List, [], ◌∷◌, sym, subst, arith}
 use Rattle.std.specs.Prelude.{neg_ℤ, All}
 use Rattle.std.proofs.lemmas.Int.{ints}
 use Rattle.std.proofs.lemmas.List.Elements.{All-from_recursion}
@@ -74,9 +74,10 @@ two_prices = pos 393590803005 ∷ pos 393161306276 ∷ []
 
 three_rounded : AreRounded two_prices (trades three (79 ∷ 81 ∷ 77 ∷ []))
 unfolding portfolio_price scaled_demand line span distance
-three_rounded = All-from_recursion (λ (t : Trade). IsRounding (terms_of t.order) t.traded (price_for two_prices t.order)) (trades three (79 ∷ 81 ∷ 77 ∷ []))
-    (record { less_than_one_above = omega arith; less_than_one_below = omega arith },
-        (record { less_than_one_above = omega arith; less_than_one_below = omega arith }, (record { less_than_one_above = omega arith; less_than_one_below = omega arith }, tt)))
+three_rounded = All-from_recursion (λ (t : Trade). IsRounding (terms_of t.order) t.traded (price_for two_prices t.order)) (trades three (79 ∷ 81 ∷ 77 ∷ [])) (
+  record { less_than_one_above = omega arith; less_than_one_below = omega arith },
+  (record { less_than_one_above = omega arith; less_than_one_below = omega arith }, (record { less_than_one_above = omega arith; less_than_one_below = omega arith }, tt)),
+)
 
 three_money : (account : ℕ) → IsAccount two_assets account → needed_money three account ≤ℤ money_of two_assets account
 three_money zero there = absurd (omega (arith, there.0))

@@ -176,7 +176,13 @@ fn a_basket_and_two_sellers(rt: HostRuntime) -> Result<(), Fail> {
         seller(rt.alloc(), 3, 1)?,
     ];
     let prices = [393_590_803_005, 393_161_306_276];
-    settle(&mut accounts, &mut exchange, &orders, &prices, &[79, 81, 77]);
+    settle(
+        &mut accounts,
+        &mut exchange,
+        &orders,
+        &prices,
+        &[79, 81, 77],
+    );
     for (account, money, units) in [
         (1, 2_085_330_231_366_801, (79, 79)),
         (2, 62_154_275_626_657, (9919, 9923)),
