@@ -45,7 +45,7 @@ amount_is units weight rate fits is = is ∙ ap (λ w. w *ℤ pos rate) (to_z-of
 pub exchange_is : (e : Account) (asset : ℕ) (amount price units read cost : ℤ) → FitsSigned w64 units → unsigned_abs units ≤ 2 ^ 36 → units ≡ amount → read ≡ price → unsigned_abs price ≤ 2 ^ 62 → FitsSigned w128 cost
     → cost ≡ to_z w64 (of_z w64 units) *ℤ to_z w64 (of_z w64 read)
     → ◌≡◌ {A = Account} (record { money = e.money +ℤ to_z w128 (of_z w128 cost); units = set e.units asset (units_in e asset +ℤ turned w64 units) })
-        (record { money = e.money +ℤ amount *ℤ price; units = set e.units asset (units_in e asset -ℤ amount) })
+    (record { money = e.money +ℤ amount *ℤ price; units = set e.units asset (units_in e asset -ℤ amount) })
 exchange_is e asset amount price units read cost units_fit small is read_is near cost_fits cost_is =
     let price_fits : FitsSigned w64 price = fits_signed_from_abs w64 price (omega (arith, near)) in
     let same_cost : to_z w128 (of_z w128 cost) ≡ amount *ℤ price =

@@ -1,5 +1,5 @@
 -- One order is settled: what its calls want, and what it comes to.
-use Rattle.std.proofs.Common.{◌≡◌, ◌≢◌, ℕ, ◌+◌, ◌*◌, ◌^◌, ◌≤◌, ◌<◌, ℤ, pos, ◌+ℤ◌, ◌-ℤ◌, ◌*ℤ◌, ◌≤ℤ◌, ◌<ℤ◌, List, [], ◌∷◌, ap, refl, sym, subst, ◌∙◌, FitsSigned, to_z, of_z, to_z-of_z, arith}
+use Rattle.std.proofs.Common.{◌≡◌, ℕ, ◌+◌, ◌^◌, ◌≤◌, ℤ, pos, ◌+ℤ◌, ◌-ℤ◌, ◌*ℤ◌, ◌≤ℤ◌, List, [], ◌∷◌, ap, subst, ◌∙◌, FitsSigned, to_z, of_z, to_z-of_z, arith}
 use Rattle.std.specs.Prelude.{All, unsigned_abs}
 use Rattle.std.specs.Int.{w128}
 use Rattle.std.proofs.lemmas.Int.{ints}
@@ -10,7 +10,7 @@ use Rattle.weight_rows.proofs.RowLemmas.{price_is_bounded}
 use Rattle.weight_rows.proofs.RowLawProofs.{weights_are_small}
 use Rattle.demand_curve.specs.Demand.{IsRounding}
 use Rattle.demand_curve.proofs.RoundingLaws.{rounding_is_within_room}
-use Rattle.flow_accounts.specs.Balances.{Account, Balances, IsAccount, IsAsset, money_of, units_of, units_in, move_money}
+use Rattle.flow_accounts.specs.Balances.{Account, Balances, IsAccount, IsAsset, units_of, move_money}
 use Rattle.flow_accounts.specs.Lawful.{IsMoneyBalance, IsUnitBalance}
 use Rattle.flow_accounts.proofs.Moves.{money_moves}
 use Rattle.flow_orders.specs.Orders.{Order, IsOrder, terms_of, money_need, unit_need}

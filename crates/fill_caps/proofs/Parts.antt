@@ -1,5 +1,5 @@
 -- A first part of a batch is settled, and the next order's turn is it.
-use Rattle.std.proofs.Common.{◌≡◌, ℕ, zero, suc, ◌+◌, ◌-◌, ◌*◌, ◌^◌, ◌≤◌, ◌<◌, ℤ, pos, ◌+ℤ◌, ◌-ℤ◌, ◌≤ℤ◌, List, [], ◌∷◌, ◌++◌, take, drop, map, length, get_or, cond, eqb, refl, ap, sym, subst, ◌∙◌, arith}
+use Rattle.std.proofs.Common.{◌≡◌, ℕ, zero, suc, ◌+◌, ◌-◌, ◌^◌, ◌≤◌, ◌<◌, ℤ, pos, ◌+ℤ◌, ◌≤ℤ◌, List, [], ◌∷◌, ◌++◌, take, drop, length, get_or, cond, eqb, refl, ap, sym, subst, ◌∙◌, arith}
 use Rattle.std.specs.Prelude.{All, slice_index_or, unsigned_abs}
 use Rattle.std.proofs.lemmas.Int.{ints}
 use Rattle.std.proofs.lemmas.Bool.{eq-eqb}
@@ -8,18 +8,19 @@ use Rattle.std.proofs.lemmas.List.Elements.{All-take, All-append, All-cons, All-
 use Rattle.weight_rows.specs.Rows.{IsLawfulRow, IsPricedBy, IsPrice}
 use Rattle.demand_curve.specs.Demand.{IsRounding}
 use Rattle.demand_curve.proofs.RoundingLaws.{rounding_is_within_room}
-use Rattle.flow_accounts.specs.Balances.{Account, Balances, IsAccount, IsAsset, account_count, asset_count, money_of, units_of, units_in, total_units_of}
+use Rattle.flow_accounts.specs.Balances.{Account, Balances, IsAccount, IsAsset, asset_count, money_of, units_of, units_in, total_units_of}
 use Rattle.flow_accounts.specs.Lawful.{AreLawful}
 use Rattle.flow_accounts.specs.Sums.{money_of_all, units_of_all}
 use Rattle.flow_accounts.proofs.Balance.{unit_total}
 use Rattle.flow_orders.specs.Orders.{Order, IsOrder, terms_of, money_need, unit_need, own_sum}
 use Rattle.flow_orders.specs.Excess.{price_for}
-use Rattle.flow_orders.specs.Trades.{Trade, trades, trader, paid, received, residual, residual_cost, after_fill, staying}
+use Rattle.flow_orders.specs.Trades.{Trade, trades, trader, staying}
 use Rattle.flow_orders.proofs.OwnSums.{own_sum-append}
 use Rattle.flow_orders.proofs.TradeFacts.{IsAllowed, before_fills, after_fills, before-trades, All-trades}
 use Rattle.fill_caps.specs.Covers.{CoversNeeds}
 use Rattle.fill_caps.specs.Settlement.{settled_balances, settled_exchange}
-use Rattle.fill_caps.specs.Settles.{HasRoom, Settles}
+use Rattle.fill_caps.specs.Room.{HasRoom}
+use Rattle.fill_caps.specs.Settles.{Settles}
 use Rattle.fill_caps.proofs.Joined.{settles_none, settles_more, cost_is_paid, part_money_is_small, part_units_are_small, money_is_bounded, units_are_bounded}
 use Rattle.fill_caps.proofs.Needs.{rounding_is_allowed, needs_kept, needs_kept_by_batch, own_not_negative}
 use Rattle.fill_caps.proofs.Settled.{settled_balances_are_one, settled_exchange_is_one}

@@ -1,6 +1,6 @@
 -- The entries of a row are settled one after the other.
-use Rattle.std.proofs.Common.{◌≡◌, ◌≢◌, ℕ, zero, suc, ◌+◌, ◌-◌, ◌*◌, ◌^◌, ◌≤◌, ◌<◌, ℤ, pos, ◌+ℤ◌, ◌-ℤ◌, ◌*ℤ◌, ◌≤ℤ◌, ◌<ℤ◌, List, [], ◌∷◌, drop, length, get_or, set, cond, eqb, refl, ap, sym, subst, ◌∙◌, ⊎_elim, FitsSigned, ne_eqb, arith}
-use Rattle.std.specs.Prelude.{All, AllPairs, unsigned_abs}
+use Rattle.std.proofs.Common.{◌≡◌, ◌≢◌, ℕ, suc, ◌+◌, ◌*◌, ◌^◌, ◌≤◌, ◌<◌, ℤ, pos, ◌+ℤ◌, ◌-ℤ◌, ◌*ℤ◌, List, [], ◌∷◌, drop, length, get_or, set, refl, ap, sym, subst, ◌∙◌, ⊎_elim, FitsSigned, ne_eqb, arith}
+use Rattle.std.specs.Prelude.{All, unsigned_abs}
 use Rattle.std.specs.Int.{w64, w128}
 use Rattle.std.proofs.Math.IntN.{*ℤ_comm, *ℤ-zero, zero-*ℤ}
 use Rattle.std.proofs.lemmas.Int.{ints, fits_signed_from_abs}
@@ -60,10 +60,10 @@ module _ (row : List Entry) (i : ℕ) (d : Entry) (lawful : IsLawfulRow row) (in
   -- no later entry names the asset of the one whose turn it is
   gone : weight_in (drop (i + 1) row) entry.asset ≡ pos 0
   gone = absent_later (drop (i + 1) row) entry.asset (λ k e within.
-    let ascend = AllPairs-from_increasing (assets_of row) lawful.ascending in
-    let there : i + 1 + k < length row = omega (arith, within, length-drop (i + 1) row) in
-    let below : get_or (assets_of row) i 0 < get_or (assets_of row) (i + 1 + k) 0 = ascend i (i + 1 + k) 0 (omega arith) (omega (arith, there, length-assets_of row)) in
-    omega (arith, below, asset_at row i d inside, asset_at row (i + 1 + k) e there, ap (λ (x : Entry). x.asset) (get_or-drop (i + 1) row k e)))
+      let ascend = AllPairs-from_increasing (assets_of row) lawful.ascending in
+      let there : i + 1 + k < length row = omega (arith, within, length-drop (i + 1) row) in
+      let below : get_or (assets_of row) i 0 < get_or (assets_of row) (i + 1 + k) 0 = ascend i (i + 1 + k) 0 (omega arith) (omega (arith, there, length-assets_of row)) in
+      omega (arith, below, asset_at row i d inside, asset_at row (i + 1 + k) e there, ap (λ (x : Entry). x.asset) (get_or-drop (i + 1) row k e)))
 
   -- its weight
   here : weight_in (drop i row) entry.asset ≡ entry.weight

@@ -1,4 +1,5 @@
 pub mod Covers
 pub mod Moves
+pub mod Room
 pub mod Settlement
 pub mod Settles

@@ -1,7 +1,7 @@
 -- What settling trades does, account by account.
-use Rattle.std.specs.Prelude.{◌≡◌, ℕ, ◌+◌, ◌^◌, ◌≤◌, ℤ, pos, ◌+ℤ◌, ◌-ℤ◌, ◌≤ℤ◌, unsigned_abs, List}
+use Rattle.std.specs.Prelude.{◌≡◌, ℕ, ℤ, ◌+ℤ◌, ◌-ℤ◌, List}
 use Rattle.flow_accounts.specs.Balances.{Account, Balances, IsAccount, IsAsset, account_count, money_of, units_of, units_in}
-use Rattle.flow_orders.specs.Orders.{Order, money_need, unit_need, own_sum}
+use Rattle.flow_orders.specs.Orders.{own_sum}
 use Rattle.flow_orders.specs.Trades.{Trade, trader, paid, received, residual, residual_cost}
 
 -- each account pays for its own trades and receives their units; the exchange takes the other side of the residuals; no total changes
@@ -13,12 +13,3 @@ pub record Settles (prices : List ℤ) (ts : List Trade) (old new : Balances) (e
   pub units : (account asset : ℕ) → IsAccount old account → IsAsset old asset → units_of new account asset ≡ units_of old account asset +ℤ own_sum trader account (received asset) ts
   pub exchange_money : exchange_new.money ≡ exchange_old.money +ℤ residual_cost prices ts
   pub exchange_units : (asset : ℕ) → IsAsset old asset → units_in exchange_new asset ≡ units_in exchange_old asset -ℤ residual ts asset
-
--- an order's account holds what the order needs, and there is room for what it receives; the exchange isn't far from 0
-pub record HasRoom (o : Order) (b : Balances) (exchange : Account) : Type 0 where
-  pub money_covered : pos (money_need o) ≤ℤ money_of b o.account
-  pub money_most : money_of b o.account ≤ℤ pos (2 ^ 123 + 2 ^ 117)
-  pub units_covered : (asset : ℕ) → IsAsset b asset → pos (unit_need asset o) ≤ℤ units_of b o.account asset
-  pub units_most : (asset : ℕ) → IsAsset b asset → units_of b o.account asset ≤ℤ pos (2 ^ 61)
-  pub exchange_money : unsigned_abs exchange.money ≤ 2 ^ 124
-  pub exchange_units : (asset : ℕ) → IsAsset b asset → unsigned_abs (units_in exchange asset) ≤ 2 ^ 56

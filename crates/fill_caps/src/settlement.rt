@@ -10,7 +10,8 @@ ghost use Rattle.flow_orders.specs.Excess.{price_for};
 ghost use Rattle.flow_orders.specs.Trades.{Trade, trades, staying};
 ghost use Rattle.fill_caps.specs.Covers.{CoversNeeds};
 ghost use Rattle.fill_caps.specs.Settlement.{settled_balances, settled_exchange};
-ghost use Rattle.fill_caps.specs.Settles.{HasRoom, Settles};
+ghost use Rattle.fill_caps.specs.Room.{HasRoom};
+ghost use Rattle.fill_caps.specs.Settles.{Settles};
 
 use crate::entries::settle_entries;
 use flow_accounts::Accounts;

@@ -5,15 +5,15 @@ use Rattle.std.specs.List.{range_with_len}
 use Rattle.std.proofs.lemmas.Int.{ints}
 use Rattle.std.proofs.lemmas.List.{length-map}
 use Rattle.std.proofs.lemmas.List.Elements.{All-map, All-filter}
-use Rattle.std.proofs.lemmas.List.FromFn.{length-range_with_len, get_or-range_with_len, get_or-map-range_with_len}
+use Rattle.std.proofs.lemmas.List.FromFn.{length-range_with_len, get_or-range_with_len}
 use Rattle.weight_rows.specs.Rows.{IsLawfulRow, IsPricedBy}
 use Rattle.demand_curve.specs.Demand.{IsRounding}
-use Rattle.flow_accounts.specs.Balances.{Account, Balances, IsAccount, IsAsset, account_count, asset_count, account_of, empty_account, money_of, units_of, units_in}
-use Rattle.flow_orders.specs.Orders.{Order, terms_of, own_sum}
+use Rattle.flow_accounts.specs.Balances.{Account, Balances, IsAccount, account_count, asset_count, units_in}
+use Rattle.flow_orders.specs.Orders.{Order, terms_of}
 use Rattle.flow_orders.specs.Excess.{price_for, residual_bound}
 use Rattle.flow_orders.specs.Outcomes.{Clearing, Fill, Outcome, Cleared, Skipped, trades_of, IsRightClearing, IsRightOutcome}
-use Rattle.flow_orders.specs.Trades.{Trade, trader, paid, received, residual, residual_cost, after_fill, is_live, staying}
-use Rattle.fill_caps.specs.Settlement.{settled_account, settled_balances, settled_exchange}
+use Rattle.flow_orders.specs.Trades.{Trade, trader, residual, residual_cost, after_fill, is_live, staying}
+use Rattle.fill_caps.specs.Settlement.{settled_balances, settled_exchange}
 use Rattle.market_core.specs.Market.{Market, IsSound, IsLiveOrder, start_prices, most_batches}
 use Rattle.market_core.specs.Step.{after_batch}
 use Rattle.fill_caps.specs.Settles.{Settles}
