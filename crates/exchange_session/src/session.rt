@@ -34,7 +34,6 @@ fn refusal_for(fault: BodyFault) -> Refusal
 {
     match fault {
         BodyFault::UnknownTag => Refusal::UnknownTag,
-        BodyFault::NotBuilt => Refusal::NotBuilt,
         BodyFault::BadBody => Refusal::BadBody,
     }
 }

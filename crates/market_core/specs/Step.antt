@@ -148,7 +148,6 @@ pub record Serves (Rule : BatchRule) (old : Market) (command : Command) (answer 
 -- the refusal of a record that can't be served
 abbrev pub refusal_of : BodyFault → Refusal
 refusal_of fault.UnknownTag = refusals.UnknownTag
-refusal_of fault.NotBuilt = refusals.NotBuilt
 refusal_of fault.BadBody = refusals.BadBody
 
 -- what a step does with what a record is read as: a command is served, and else the record is refused
