@@ -1,4 +1,4 @@
-use Rattle.std.proofs.Common.{◌≡◌, ◌+◌, ◌*◌, ℕ, List, length, map, FitsSigned, refl, sym, ap, ◌∙◌, rules, arith, subst}
+use Rattle.std.proofs.Common.{◌≡◌, ◌+◌, ◌*◌, ℕ, List, length, map, FitsSigned, refl, ap, ◌∙◌, rules, arith, subst}
 use Rattle.std.specs.Prelude.{All}
 use Rattle.std.specs.Int.{w128}
 use Rattle.std.proofs.lemmas.Int.{to_z-of_z}
