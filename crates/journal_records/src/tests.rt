@@ -1,6 +1,14 @@
 //! Pairs from outside: their bytes are written out by hand from the format.
+ghost use Rattle.std.specs.Prelude.{◌≡◌, ◌≤◌, length};
+ghost use Rattle.flow_orders.specs.Orders.{most_orders};
+
 use crate::*;
+use batch_certificate::{Cleared, PriceList, RateList, ResidualList};
+use flow_orders::{Order, order_fault};
+use std::alloc::Global;
+use std::process::Abort;
 use std::test::Fail;
+use weight_rows::{Entry, EntryList, WeightRow, row_fault};
 use wire_records::{Framed, Refusal, Reply, next_record};
 
 /// A command record, a reply, and then the pair of the two.
@@ -76,6 +84,107 @@ fn pairs_in_a_row(rt: HostRuntime) -> Result<(), Fail> {
         write_plain(&asked, &reply, &mut out);
         expected.extend_from_slice(pair)?;
         assert_eq!(rt; out.as_slice(), expected.as_slice(), "{reply:?}");
+    }
+    Ok(())
+}
+
+// A batch that cleared: its number, the prices, the number of each order with its rate, the residuals and the gap.
+type Batch<'a> = (u32, &'a [i64], &'a [(u64, u32)], &'a [i64], i128);
+
+// The command record of a batch with a budget of 10.
+const ASKED: &[u8] = b"\x09\0\0\0\x04\0\0\0\x0a";
+
+/// Batches, each with the record of its reply.
+const REPLIES: [(Batch<'_>, &[u8]); 3] = [
+    (
+        (
+            1,
+            &[429410830255],
+            &[(1, 500), (2, 499)],
+            &[1],
+            -429367880581,
+        ),
+        b"\x85\0\0\0\x42\0\0\0\x01\0\x01\0\0\0\x63\xfa\xe1\x47\xaf\0\0\0\x02\0\0\0\0\0\0\0\x01\0\0\x01\xf4\0\0\0\0\0\0\0\x02\0\0\x01\xf3\0\0\0\0\0\0\0\x01\xff\xff\xff\xff\xff\xff\xff\xff\xff\xff\xff\x9c\x07\xae\x14\x7b",
+    ),
+    // No order is live.
+    (
+        (1, &[0], &[], &[0], 0),
+        b"\x85\0\0\0\x2a\0\0\0\x01\0\x01\0\0\0\0\0\0\0\0\0\0\0\0\0\0\0\0\0\0\0\0\0\0\0\0\0\0\0\0\0\0\0\0\0\0\0\0",
+    ),
+    // Two assets, and an order that doesn't trade.
+    (
+        (
+            16909060,
+            &[393590803005, -393161306276],
+            &[(1, 79), (258, 0), (72623859790382856, 77)],
+            &[-2, 2],
+            1262935134,
+        ),
+        b"\x85\0\0\0\x5e\x01\x02\x03\x04\0\x02\0\0\0\x5b\xa3\xd7\x0a\x3d\xff\xff\xff\xa4\x75\xc2\x8f\x5c\0\0\0\x03\0\0\0\0\0\0\0\x01\0\0\0\x4f\0\0\0\0\0\0\x01\x02\0\0\0\0\x01\x02\x03\x04\x05\x06\x07\x08\0\0\0\x4d\xff\xff\xff\xff\xff\xff\xff\xfe\0\0\0\0\0\0\0\x02\0\0\0\0\0\0\0\0\0\0\0\0\x4b\x46\xdc\x5e",
+    ),
+];
+
+// An order of this number that buys asset 0.
+fn order_of(alloc: Global, number: u64) -> Result<Order, Fail> {
+    let entry = Entry {
+        asset: 0,
+        weight: 1,
+    };
+    let entries = EntryList::new(Vec::from_slice(alloc, &[entry])?);
+    if row_fault(entries.as_slice()).is_some() || order_fault(90, 110, 1000, 10000).is_some() {
+        return Err("no order".into());
+    }
+    let row = WeightRow::new(entries);
+    Ok(Order::new(number, 1, 90, 110, 1000, 10000, row))
+}
+
+fn orders_of(alloc: Global, fills: &[(u64, u32)]) -> Result<Vec<Order>, Fail> {
+    let mut orders = Vec::new(alloc);
+    for fill in fills {
+        orders.push(order_of(alloc, fill.0)?)?;
+    }
+    Ok(orders)
+}
+
+fn cleared_of(alloc: Global, batch: Batch<'_>) -> Result<Cleared, Fail> {
+    let (_, prices, fills, residuals, gap) = batch;
+    Ok(Cleared {
+        prices: PriceList::new(prices.to_vec(alloc)?),
+        rates: RateList::new(fills.iter().map(|fill| fill.1).collect(alloc)?),
+        residuals: ResidualList::new(residuals.to_vec(alloc)?),
+        gap,
+    })
+}
+
+// Sees to it that the parts fit one another and the limits.
+fn may_write(rt: &impl Abort, orders: &[Order], cleared: &Cleared)
+    ensures one_rate_each { length cleared.now.rates ≡ length orders.now }
+    ensures one_residual_each { length cleared.now.residuals ≡ length cleared.now.prices }
+    ensures few_assets { length cleared.now.prices ≤ 64 }
+    ensures few_orders { length orders.now ≤ most_orders }
+{
+    let assets = cleared.prices.as_slice().len();
+    assert!(rt; cleared.rates.as_slice().len() == orders.len());
+    assert!(rt; cleared.residuals.as_slice().len() == assets);
+    assert!(rt; assets <= 64);
+    assert!(rt; orders.len() <= 16384);
+}
+
+#[test]
+fn batches_that_cleared(rt: HostRuntime) -> Result<(), Fail> {
+    let Framed::Whole(asked, _) = next_record(ASKED, 1024) else {
+        return Err("no record".into());
+    };
+    let mut out = Vec::new(rt.alloc());
+    let mut expected = Vec::new(rt.alloc());
+    for (batch, reply) in REPLIES {
+        let orders = orders_of(rt.alloc(), batch.2)?;
+        let cleared = cleared_of(rt.alloc(), batch)?;
+        may_write(&rt, orders.as_slice(), &cleared);
+        write_cleared(&asked, batch.0, orders.as_slice(), &cleared, &mut out)?;
+        expected.extend_from_slice(ASKED)?;
+        expected.extend_from_slice(reply)?;
+        assert_eq!(rt; out.as_slice(), expected.as_slice());
     }
     Ok(())
 }

@@ -1,4 +1,4 @@
-use Rattle.std.proofs.Common.{◌≡◌, ◌+◌, ◌*◌, ℕ, List, length, map, FitsSigned, refl, sym, ap, ◌∙◌, rules, arith, subst}
+use Rattle.std.proofs.Common.{◌≡◌, ◌+◌, ◌*◌, ℕ, List, length, map, FitsSigned, refl, ap, ◌∙◌, rules, arith, subst}
 use Rattle.std.specs.Prelude.{All}
 use Rattle.std.specs.Int.{w128}
 use Rattle.std.proofs.lemmas.Int.{to_z-of_z}
@@ -25,13 +25,15 @@ pub returns-clause-fits : goal.returns-clause-fits
 returns-clause-fits c =
     let clearing : Clearing = clearing_of c.args.orders.now c.args.cleared.now in
     let count : length clearing.fills ≡ length c.args.orders.now = length-fills c.args.orders.now c.args.cleared.now.rates c.requires.one_rate_each in
-    let gap : FitsSigned w128 c.args.cleared.now.gap = search rules in
-    (omega (arith, c.ranges.batch), record {
-      count = omega (arith, c.requires.few_assets);
-      prices = subst (All (IsSigned 8)) c.as_slice-prices.ensures c.put_numbers.ensures.fit;
-      fill_count = omega (arith, count, c.requires.few_orders);
-      fills = subst (λ (rates : List ℕ). All IsFill (map fill_of (trades c.args.orders.now rates))) c.as_slice.ensures c.put_fills.ensures.fit;
-      residual_each = c.requires.one_residual_each;
-      residuals = subst (All (IsSigned 8)) c.as_slice-2.ensures c.put_numbers-2.ensures.fit;
-      gap = IsSigned-from_fits 16 w128 refl c.args.cleared.now.gap gap;
-    })
+    let gap : FitsSigned w128 c.args.cleared.now.gap = search rules in (
+      omega (arith, c.ranges.batch),
+      record {
+        count = omega (arith, c.requires.few_assets);
+        prices = subst (All (IsSigned 8)) c.as_slice-prices.ensures c.put_numbers.ensures.fit;
+        fill_count = omega (arith, count, c.requires.few_orders);
+        fills = subst (λ (rates : List ℕ). All IsFill (map fill_of (trades c.args.orders.now rates))) c.as_slice.ensures c.put_fills.ensures.fit;
+        residual_each = c.requires.one_residual_each;
+        residuals = subst (All (IsSigned 8)) c.as_slice-2.ensures c.put_numbers-2.ensures.fit;
+        gap = IsSigned-from_fits 16 w128 refl c.args.cleared.now.gap gap;
+      },
+    )

@@ -1,4 +1,4 @@
-use Rattle.std.proofs.Common.{pos, ℤ, w64, FitsSigned, get_or, take, refl, ◌∙◌, arith, rules}
+use Rattle.std.proofs.Common.{pos, w64, FitsSigned, get_or, take, refl, ◌∙◌, arith, rules}
 use Rattle.std.proofs.lemmas.Int.{to_z-of_z}
 use Rattle.std.proofs.lemmas.List.Elements.{All-more}
 use Rattle.std.proofs.lemmas.List.{take_more, flat_map_more}
