@@ -1,5 +1,5 @@
 -- What the parts of an outcome say of a batch of orders.
-use Rattle.std.specs.Prelude.{List, map}
+use Rattle.std.specs.Prelude.{◌≡◌, List, map, length}
 use Rattle.flow_orders.specs.Orders.{Order}
 use Rattle.flow_orders.specs.Trades.{trades}
 use Rattle.flow_orders.specs.Outcomes.{Clearing, Skipping, fill_of}
@@ -21,3 +21,8 @@ skipping_of s = record { trace = s.trace; start_dual = s.start_dual; end_dual = 
 abbrev pub outcome_of : List Order → Outcome → outcomes.Outcome
 outcome_of orders (parts.Cleared c) = outcomes.Cleared (clearing_of orders c)
 outcome_of orders (parts.Skipped s) = outcomes.Skipped (skipping_of s)
+
+-- a clearing has one rate for each order
+abbrev pub HasOneRateEach : List Order → Outcome → Type 0
+HasOneRateEach orders (parts.Cleared c) = length c.rates ≡ length orders
+HasOneRateEach orders (parts.Skipped s) = Unit {0}

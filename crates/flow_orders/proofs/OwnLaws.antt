@@ -28,7 +28,7 @@ own_outcomes_are_right = own_is_right
 pub one_asset_books_clear : OneAssetBooksClear
 one_asset_books_clear orders start budget (Cleared c) each is range own =
     let once = settles_once orders start budget c.prices is each range (subst (λ single. ArePricesOf single orders start budget c.prices) is own.0) in
-    (c, refl, once.range, λ asset settled. once.kept asset (settled_is orders start asset settled))
+    (once.range, λ asset settled. once.kept asset (settled_is orders start asset settled))
 one_asset_books_clear orders start budget (Skipped s) each is range own = absurd (false≢true (sym own.0 ∙ is))
 
 -- the residuals of orders and rates are those of the trades

@@ -12,7 +12,7 @@ use Rattle.flow_orders.specs.Trades.{trades, residual}
 use Rattle.flow_orders.specs.Outcomes.{Outcome, Fill, Clearing, Skipping, Cleared, dual_of, step_of, IsLegalFrom, end_of, IsRightOutcome, IsRightClearing, IsRightSkip, most_budget}
 use Rattle.flow_orders.specs.Welfare.{IsCommon, IsOptimalWithin}
 use Rattle.flow_orders.specs.Duals.{IsCommonPart, exact_dual, movement_of}
-use Rattle.flow_orders.specs.Own.{are_single, floor_rates, rates_by_choice, IsOwnOutcome}
+use Rattle.flow_orders.specs.Own.{are_single, floor_rates, rates_by_choice, IsOwnOutcome, ClearsNear}
 
 -- a batch has at most one own outcome
 abbrev pub OneOwnOutcome : Type 0
@@ -32,9 +32,7 @@ OwnOutcomesAreRight = (orders : List Order) (start : List ℤ) (budget : ℕ) (o
 -- where every order names one asset, an own outcome is a clearing at prices within 2^60, and an asset that was settled keeps its price
 abbrev pub OneAssetBooksClear : Type 0
 OneAssetBooksClear = (orders : List Order) (start : List ℤ) (budget : ℕ) (o : Outcome)
-    → All IsOrder orders → are_single orders ≡ true → All (IsWithin (2 ^ 60)) start → IsOwnOutcome orders start budget o
-    → (c : Clearing) × (o ≡ Cleared c) × All (IsWithin (2 ^ 60)) c.prices
-    × ((asset : ℕ) → is_unsettled orders start asset ≡ false → price_of c.prices asset ≡ price_of start asset)
+    → All IsOrder orders → are_single orders ≡ true → All (IsWithin (2 ^ 60)) start → IsOwnOutcome orders start budget o → ClearsNear orders start o
 
 -- rates that are chosen leave no larger sum of absolute residuals than all demands rounded down
 abbrev pub ChosenRatesAreNoWorse : Type 0

@@ -1,15 +1,15 @@
 -- The program's own outcome of a batch: its own prices or walk, and the rates that it chooses.
-use Rattle.std.specs.Prelude.{◌≡◌, ℕ, ◌==◌, nat_lt, Bool, true, false, if◌then◌else◌, ℤ, List, [], ◌∷◌, map, length}
+use Rattle.std.specs.Prelude.{◌≡◌, ℕ, ◌^◌, ◌==◌, nat_lt, Bool, true, false, if◌then◌else◌, ℤ, List, [], ◌∷◌, map, length, All}
 use Rattle.std.specs.List.{list_all}
-use Rattle.weight_rows.specs.Rows.{weight_in}
-use Rattle.demand_curve.specs.Demand.{floor_rate, ceil_rate}
+use Rattle.weight_rows.specs.Rows.{weight_in, price_of}
+use Rattle.demand_curve.specs.Demand.{IsWithin, floor_rate, ceil_rate}
 use Rattle.flow_orders.specs.Orders.{Order, terms_of}
 use Rattle.flow_orders.specs.Excess.{price_for, is_unsettled}
 use Rattle.flow_orders.specs.Moves.{moved, single_reach}
 use Rattle.flow_orders.specs.Turns.{visits, AreOwnPrices, IsOwnTrace}
 use Rattle.flow_orders.specs.Choice.{chosen_rates}
 use Rattle.flow_orders.specs.Trades.{Trade, trades}
-use Rattle.flow_orders.specs.Outcomes.{Clearing, BatchRule, Cleared, Skipped, fill_of, residuals_of, gap_of, step_of, skipping_at}
+use Rattle.flow_orders.specs.Outcomes.{Clearing, Outcome, BatchRule, Cleared, Skipped, fill_of, residuals_of, gap_of, step_of, skipping_at}
 
 -- the prices after one far move of each asset of a list that is unsettled when its turn comes
 abbrev pub moved_once : List Order → List ℕ → List ℤ → List ℤ
@@ -58,3 +58,9 @@ IsOwnOutcome orders start budget (Skipped s) =
     (are_single orders ≡ false)
     × IsOwnTrace (length start) (is_unsettled orders) (step_of orders) start budget s.trace
     × (s ≡ skipping_at orders start s.trace)
+
+-- a batch clears at prices within 2^60, and an asset that was settled keeps its price
+abbrev pub ClearsNear : List Order → List ℤ → Outcome → Type 0
+ClearsNear orders start (Cleared c) =
+    All (IsWithin (2 ^ 60)) c.prices × ((asset : ℕ) → is_unsettled orders start asset ≡ false → price_of c.prices asset ≡ price_of start asset)
+ClearsNear orders start (Skipped s) = ⊥

@@ -1,0 +1,16 @@
+//! One batch: from orders and start prices to its outcome.
+//!
+//! [`clear`] finds the prices, rounds each order's demand at them, and certifies what comes of it. The outcome is the
+//! program's own one, the same at each run, and it is a right one: whoever checks a journal finds it so. The words are
+//! those of `flow_orders`.
+//!
+//! # Costs
+//!
+//! For each asset three passes over the entries of all orders, and at most 64 more for one that isn't settled; then two
+//! passes more in all, one division for each order in each. Memory is taken for three lists of one number for each asset and
+//! one list of one number for each order, and nothing in between.
+#![tactic(auto)]
+
+mod batch;
+
+pub use batch::{Memory, clear};
