@@ -7,6 +7,7 @@ use Rattle.demand_curve.specs.Demand.{IsRounding, span}
 use Rattle.flow_orders.specs.Orders.{Order, IsOrder, terms_of}
 use Rattle.flow_orders.specs.Excess.{price_for, residual_bound, is_unsettled}
 use Rattle.flow_orders.specs.Trades.{trades, residual}
+use Rattle.batch_certificate.specs.Residuals.{residual_in}
 
 -- one rate for each order, which is a rounding of the order's demand at these prices
 pub record AreRoundings (orders : List Order) (prices : List ℤ) (rates : List ℕ) : Type 0 where
@@ -21,12 +22,12 @@ SettledResidualsAreBounded = (orders : List Order) (prices : List ℤ) (rates : 
 
 -- each residual is at most its bound
 abbrev pub AreBounded : List Order → List ℤ → Type 0
-AreBounded orders residuals = (asset : ℕ) → asset < length residuals → unsigned_abs (price_of residuals asset) ≤ residual_bound orders asset
+AreBounded orders residuals = (asset : ℕ) → asset < length residuals → unsigned_abs (residual_in residuals asset) ≤ residual_bound orders asset
 
 -- each residual whose asset is settled is at most its bound
 abbrev pub AreBoundedWhereSettled : List Order → List ℤ → List ℤ → Type 0
 AreBoundedWhereSettled orders prices residuals =
-    (asset : ℕ) → asset < length residuals → is_unsettled orders prices asset ≡ false → unsigned_abs (price_of residuals asset) ≤ residual_bound orders asset
+    (asset : ℕ) → asset < length residuals → is_unsettled orders prices asset ≡ false → unsigned_abs (residual_in residuals asset) ≤ residual_bound orders asset
 
 -- what all roundings can lose, and what residuals within their bounds can cost
 abbrev pub gap_bound : List Order → List ℤ → ℕ

@@ -1,5 +1,5 @@
 -- Residuals on the way, as the loop over the orders keeps them: one whole number for each asset.
-use Rattle.std.specs.Prelude.{◌≡◌, ℕ, ◌<◌, ◌≤◌, ℤ, pos, ◌+ℤ◌, ◌*ℤ◌, unsigned_abs, List, length}
+use Rattle.std.specs.Prelude.{◌≡◌, ℕ, ◌<◌, ◌≤◌, ℤ, pos, ◌+ℤ◌, ◌*ℤ◌, unsigned_abs, List, length, slice_index_or}
 use Rattle.weight_rows.specs.declared.entries.Entry.{Entry}
 use Rattle.weight_rows.specs.Rows.{weight_in, price_of}
 
@@ -7,23 +7,27 @@ use Rattle.weight_rows.specs.Rows.{weight_in, price_of}
 abbrev pub most_prices : ℕ
 most_prices = 64
 
--- each number is at most this far from 0
-abbrev pub AreNear : ℕ → List ℤ → Type 0
-AreNear bound list = (asset : ℕ) → unsigned_abs (price_of list asset) ≤ bound
+-- the residual of an asset in a list with one for each
+abbrev pub residual_in : List ℤ → ℕ → ℤ
+residual_in residuals asset = slice_index_or residuals asset (pos 0)
 
--- a list of n numbers, which a function gives for each place
-pub record HasEach (n : ℕ) (f : ℕ → ℤ) (list : List ℤ) : Type 0 where
-  pub count : length list ≡ n
-  pub each : (asset : ℕ) → asset < n → price_of list asset ≡ f asset
+-- each residual is at most this far from 0
+abbrev pub AreNear : ℕ → List ℤ → Type 0
+AreNear bound residuals = (asset : ℕ) → unsigned_abs (residual_in residuals asset) ≤ bound
+
+-- n residuals, which a function gives for each asset
+pub record HasEach (n : ℕ) (f : ℕ → ℤ) (residuals : List ℤ) : Type 0 where
+  pub count : length residuals ≡ n
+  pub each : (asset : ℕ) → asset < n → residual_in residuals asset ≡ f asset
 
 -- n zeros
 abbrev pub AreZeros : ℕ → List ℤ → Type 0
-AreZeros n list = HasEach n (λ asset. pos 0) list
+AreZeros n residuals = HasEach n (λ asset. pos 0) residuals
 
 -- each residual has grown by the asset's weight in a row times a rate
 abbrev pub IsTradeAdded : List Entry → ℕ → List ℤ → List ℤ → Type 0
-IsTradeAdded row rate old new = HasEach (length old) (λ asset. price_of old asset +ℤ weight_in row asset *ℤ pos rate) new
+IsTradeAdded row rate old new = HasEach (length old) (λ asset. residual_in old asset +ℤ weight_in row asset *ℤ pos rate) new
 
 -- what the residual of an asset costs
 abbrev pub cost_at : List ℤ → List ℤ → ℕ → ℤ
-cost_at prices residuals asset = price_of prices asset *ℤ price_of residuals asset
+cost_at prices residuals asset = price_of prices asset *ℤ residual_in residuals asset

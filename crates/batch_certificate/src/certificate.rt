@@ -1,8 +1,8 @@
 //! The certificate of a batch: what its rates leave over, and by how much they may miss the best welfare.
-ghost use Rattle.std.specs.Prelude.{◌≡◌, ◌^◌, ◌≤◌, ◌<◌, ◌≤ℤ◌, pos, ◌*ℤ◌, unsigned_abs, IfOk, length, All};
+ghost use Rattle.std.specs.Prelude.{◌≡◌, ◌^◌, ◌≤◌, ◌<◌, ◌≤ℤ◌, pos, unsigned_abs, IfOk, length, All};
 ghost use Rattle.std.specs.List.{sum_by, range_with_len};
 ghost use Rattle.list_sums.specs.Sums.{int_sum_by};
-ghost use Rattle.weight_rows.specs.Rows.{IsPrice, IsPricedBy, price_of};
+ghost use Rattle.weight_rows.specs.Rows.{IsPrice, IsPricedBy};
 ghost use Rattle.demand_curve.specs.Demand.{IsRounding, loss};
 ghost use Rattle.flow_orders.specs.Orders.{most_orders, IsOrder, terms_of};
 ghost use Rattle.flow_orders.specs.Excess.{price_for};
@@ -34,10 +34,10 @@ impl From<AllocError> for Memory {
 /// less sold, in units, and the gap, in grains.
 ///
 /// The gap is what rounding loses on all orders, less what the residuals cost at the prices. No rates at which nothing
-/// is left over beat these rates by more than the gap, at whatever prices. Where an asset is settled its residual is
-/// within its bound, and the gap of residuals within their bounds has a bound itself. Orders, welfare and settled
-/// prices are those of Flow Trading (Budish, Cramton, Kyle, Lee and Malec, 2023); whole rates, and so residuals and gaps,
-/// are this project's own.
+/// is left over beat these rates by more than the gap. Where an asset is settled at the prices its residual is within
+/// its bound, and where all residuals are within their bounds the gap has a bound too. Orders and their welfare are those
+/// of Flow Trading (Budish, Cramton, Kyle, Lee and Malec, 2023); whole rates, and so residuals, gaps and their bounds, are
+/// this project's own.
 ///
 /// There are at most 16,384 orders, and at most 64 prices, in grains and within 2^62 of 0, one for each asset that an
 /// order names. There is one rate for each order, in its place, and each is the order's demand at the prices, rounded

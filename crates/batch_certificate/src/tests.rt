@@ -1,10 +1,9 @@
-ghost use Rattle.std.specs.Prelude.{◌≡◌, ◌≤◌, length, IsTrue, All};
+ghost use Rattle.std.specs.Prelude.{◌≡◌, length, IsTrue, All};
 ghost use Rattle.weight_rows.specs.Rows.{IsPrice, IsPricedBy};
 ghost use Rattle.demand_curve.specs.Demand.{IsRounding};
-ghost use Rattle.flow_orders.specs.Orders.{most_orders, terms_of};
+ghost use Rattle.flow_orders.specs.Orders.{terms_of};
 ghost use Rattle.flow_orders.specs.Excess.{price_for};
 ghost use Rattle.flow_orders.specs.Trades.{trades};
-ghost use Rattle.batch_certificate.specs.Residuals.{most_prices};
 
 use super::*;
 use flow_orders::{Order, order_fault};

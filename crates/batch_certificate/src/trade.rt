@@ -1,10 +1,10 @@
 //! One order's part of the certificate.
-ghost use Rattle.std.specs.Prelude.{◌≡◌, ◌+◌, ◌*◌, ◌^◌, ◌<◌, ◌≤◌, pos, ◌+ℤ◌, ◌*ℤ◌, unsigned_abs, length, slice_set, All};
-ghost use Rattle.weight_rows.specs.Rows.{most_weight, IsPrice, IsPricedBy, price_of};
+ghost use Rattle.std.specs.Prelude.{◌≡◌, ◌^◌, ◌<◌, ◌≤◌, pos, ◌+ℤ◌, ◌*ℤ◌, unsigned_abs, length, slice_set, All};
+ghost use Rattle.weight_rows.specs.Rows.{most_weight, IsPrice, IsPricedBy};
 ghost use Rattle.demand_curve.specs.Demand.{most_rate, IsRounding, loss};
 ghost use Rattle.flow_orders.specs.Orders.{IsOrder, terms_of};
 ghost use Rattle.flow_orders.specs.Excess.{price_for};
-ghost use Rattle.batch_certificate.specs.Residuals.{AreNear, IsTradeAdded};
+ghost use Rattle.batch_certificate.specs.Residuals.{residual_in, AreNear, IsTradeAdded};
 
 use flow_orders::Order;
 use weight_rows::{Entry, WeightRow};
@@ -57,9 +57,9 @@ fn add_entry(entry: &Entry, rate: u32, residuals: &mut [i64])
     requires priced { entry.now.asset < length residuals.old }
     requires weight { unsigned_abs entry.now.weight ≤ most_weight }
     requires rate { rate ≤ most_rate }
-    requires near { unsigned_abs (price_of residuals.old entry.now.asset) ≤ 2 ^ 51 }
+    requires near { unsigned_abs (residual_in residuals.old entry.now.asset) ≤ 2 ^ 51 }
     ensures { residuals.new ≡ slice_set residuals.old entry.now.asset
-        (price_of residuals.old entry.now.asset +ℤ entry.now.weight *ℤ pos rate) }
+        (residual_in residuals.old entry.now.asset +ℤ entry.now.weight *ℤ pos rate) }
 {
     residuals[usize::from(entry.asset)] += units(entry.weight, rate);
 }
