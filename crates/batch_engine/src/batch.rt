@@ -1,5 +1,5 @@
 //! The outcome of a batch.
-ghost use Rattle.std.specs.Prelude.{◌≡◌, ◌^◌, ◌≤◌, true, length, All, IfOk};
+ghost use Rattle.std.specs.Prelude.{◌≡◌, ℕ, ◌^◌, ◌≤◌, true, length, All, IfOk};
 ghost use Rattle.weight_rows.specs.Rows.{IsPricedBy};
 ghost use Rattle.demand_curve.specs.Demand.{IsWithin};
 ghost use Rattle.flow_orders.specs.Orders.{IsOrder, IsFrom1To, most_orders};
@@ -76,7 +76,7 @@ fn clear_single(alloc: Global, orders: &[Order], start: &[i64]) -> Result<Cleare
     requires priced { All (λ o. IsPricedBy o.row start.now) orders.now }
     requires each { All IsOrder orders.now }
     requires single { are_single orders.now ≡ true }
-    ensures own { IfOk result (λ c. IsOwnOutcome orders.now start.now 1 (ClearedBatch (clearing_of orders.now c))) }
+    ensures own { IfOk result (λ c. (budget : ℕ) → IsOwnOutcome orders.now start.now budget (ClearedBatch (clearing_of orders.now c))) }
     ensures one_rate_each { IfOk result (λ c. length c.rates ≡ length orders.now) }
 {
     let mut work = Workspace::new(alloc, orders, start)?;

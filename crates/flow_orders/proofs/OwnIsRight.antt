@@ -180,6 +180,10 @@ all_visited orders start budget end own =
     let visits_of = visited_once orders (visits (length start) 0) start in
     rw (own, ← visits_all (length start)) visits_of
 
+-- and keeps the number of prices
+pub moved_once_count : (orders : List Order) (start : List ℤ) → length (moved_once orders (visits (length start) 0) start) ≡ length start
+moved_once_count orders start = visited_count orders (visits (length start) 0) start (moved_once orders (visits (length start) 0) start) (visited_once orders (visits (length start) 0) start)
+
 -- one far move of each unsettled asset settles them all
 pub settles_once : (orders : List Order) (start : List ℤ) (budget : ℕ) (end : List ℤ) → are_single orders ≡ true → All IsOrder orders → All (IsWithin (2 ^ 60)) start → ArePricesOf true orders start budget end → IsSettledOnce orders start end
 settles_once orders start budget end is each range own =
