@@ -3,6 +3,7 @@
 //! A [`Session`] holds the market from record to record. Each record gets one pair, which is a step of the market.
 #![tactic(auto)]
 
+mod batch;
 mod session;
 #[cfg(test)]
 mod tests;

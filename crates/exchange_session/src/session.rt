@@ -7,16 +7,19 @@ ghost use Rattle.flow_orders.specs.Own.{IsOwnOutcome};
 ghost use Rattle.market_core.specs.Step.{refusal_of};
 ghost use Rattle.market_core.specs.Journal.{Step};
 ghost use Rattle.market_core.specs.Wanting.{RecordMayWant};
+ghost use Rattle.exchange_session.specs.Asking.{IsAsked};
 
+use crate::batch::hold_batch;
 use journal_records::{reserve_plain, write_plain};
 use market_core::Market;
 use std::alloc::Global;
 use std::marker::Model;
-use wire_records::{BodyFault, Memory, RecordView, Refusal, Reply};
+use wire_records::{BodyFault, CommandView, Memory, RecordView, Refusal, Reply};
 
 /// The market of a run, from record to record. Contracts see it as that market.
 #[derive(Drop)]
 pub struct Session {
+    alloc: Global,
     market: Market,
 }
 
@@ -38,16 +41,26 @@ fn refusal_for(fault: BodyFault) -> Refusal
     }
 }
 
-// The reply to a record.
-fn reply_to(market: &mut Market, asked: &RecordView<'_>) -> Result<Reply, Memory>
+// What a record asks for: a plain reply, which is given, or a batch with this budget, which is allowed.
+enum Asked {
+    Plain(Reply),
+    Batch(u32),
+}
+
+// The reply to a record, or the batch that it asks for.
+fn reply_to(market: &mut Market, asked: &RecordView<'_>) -> Result<Asked, Memory>
     requires next { market.old.next_order + 1 < 2 ^ 64 }
-    ensures step { IfOk result (λ reply. Step IsReadAs IsOwnOutcome market.old asked.now (Plain reply) market.new) }
+    ensures step { IfOk result (IsAsked market.old asked.now market.new) }
     ensures stays { OnErr result (market.new ≡ market.old) }
     ensures wanted { OnErr result (RecordMayWant market.old asked.now) }
 {
     match asked.command() {
-        Ok(command) => market.apply(&command),
-        Err(fault) => Ok(Reply::Refused(refusal_for(fault))),
+        Ok(CommandView::RunBatch { budget }) => match market.batch_allowed(budget) {
+            Ok(()) => Ok(Asked::Batch(budget)),
+            Err(refusal) => Ok(Asked::Plain(Reply::Refused(refusal))),
+        },
+        Ok(command) => Ok(Asked::Plain(market.apply(&command)?)),
+        Err(fault) => Ok(Asked::Plain(Reply::Refused(refusal_for(fault)))),
     }
 }
 
@@ -60,6 +73,7 @@ impl Session {
         ensures { result ≡ empty_market }
     {
         Session {
+            alloc,
             market: Market::new(alloc),
         }
     }
@@ -76,11 +90,13 @@ impl Session {
 
     /// Serves one record, and appends its pair: the record as it was given, and the record of its one answer. The cost
     /// is that of the record, however many accounts and orders there are, but for the gap that a cancelled order leaves, which is
-    /// closed by a block move. The number that the next order gets is below 2^64 - 1.
+    /// closed by a block move, and for a batch, which goes over all live orders for each price that it looks at. The number that
+    /// the next order gets is below 2^64 - 1.
     ///
-    /// The room of the pair is taken first. After `Memory` market and bytes are as before, and `out` has the room that
-    /// it had or more; it comes only where that room was less than the pair's, or where the command adds an asset,
-    /// an account or an order and no refusal holds.
+    /// The room of a pair with a plain reply is taken first, and that of a batch's pair before the market changes. After
+    /// `Memory` market and bytes are as before, and `out` has the room that it had or more; it comes only where that room was
+    /// less than that of a pair with a plain reply, or where the command adds an asset, an account or an order or holds a batch
+    /// and no refusal holds.
     pub fn serve(&mut self, asked: &RecordView<'_>, out: &mut Vec<u8>) -> Result<(), Memory>
         requires next { self.old.next_order + 1 < 2 ^ 64 }
         ensures served { OnOk result ((text : List ℕ) × AnswersOne self.old asked.now self.new text
@@ -91,8 +107,10 @@ impl Session {
         ensures room { vec_capacity out.old ≤ vec_capacity out.new }
     {
         reserve_plain(asked, out)?;
-        let reply = reply_to(&mut self.market, asked)?;
-        write_plain(asked, &reply, out);
+        match reply_to(&mut self.market, asked)? {
+            Asked::Plain(reply) => write_plain(asked, &reply, out),
+            Asked::Batch(budget) => hold_batch(self.alloc, &mut self.market, asked, budget, out)?,
+        }
         Ok(())
     }
 }

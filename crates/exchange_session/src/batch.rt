@@ -1,0 +1,82 @@
+//! A batch: its outcome, the pair that tells it, and its settlement.
+ghost use Rattle.std.specs.Prelude.{◌≡◌, ◌++◌, ◌+◌, ◌<◌, ◌≤◌, ℕ, true, List, None, Ok, IfOk, OnErr, OnOk, length, vec_capacity};
+ghost use Rattle.wire_records.specs.Commands.{RunBatch, Batch};
+ghost use Rattle.wire_records.specs.CommandRecords.{IsReadAs};
+ghost use Rattle.flow_orders.specs.Orders.{most_orders};
+ghost use Rattle.flow_orders.specs.Own.{are_single, IsOwnOutcome, ClearsNear};
+ghost use Rattle.batch_certificate.specs.Published.{outcome_of};
+ghost use Rattle.journal_records.specs.Pairs.{pair_spelling};
+ghost use Rattle.market_core.specs.Market.{most_batches, start_prices};
+ghost use Rattle.market_core.specs.Step.{FirstRefusal, after_batch};
+ghost use Rattle.market_core.specs.Settling.{MaySettle};
+ghost use Rattle.exchange_session.specs.Serving.{AnswersOne, IsWritable};
+
+use batch_certificate::Outcome;
+use batch_engine::clear;
+use flow_orders::Order;
+use journal_records::write_cleared;
+use market_core::Market;
+use std::alloc::Global;
+use wire_records::{Memory, RecordView};
+
+// The outcome of a batch that is allowed.
+fn outcome_for(alloc: Global, market: &Market, budget: u32) -> Result<Outcome, Memory>
+    requires first { FirstRefusal market.now (RunBatch budget) None }
+    requires single { are_single market.now.orders ≡ true }
+    ensures own { IfOk result (λ outcome. IsOwnOutcome market.now.orders (start_prices market.now) budget
+        (outcome_of market.now.orders outcome)) }
+    ensures settles { IfOk result (MaySettle market.now) }
+    ensures writable { IfOk result (IsWritable market.now.orders) }
+{
+    let start = market.start_prices(alloc)?;
+    match clear(alloc, market.orders(), start.as_slice(), budget) {
+        Ok(outcome) => Ok(outcome),
+        Err(_) => Err(Memory),
+    }
+}
+
+// Appends the pair of a batch. Each batch clears, as long as each live order names one asset.
+fn write_outcome(
+    asked: &RecordView<'_>,
+    batch: u32,
+    orders: &[Order],
+    outcome: &Outcome,
+    out: &mut Vec<u8>,
+) -> Result<(), Memory>
+    requires few { length orders.now ≤ most_orders }
+    requires writable { IsWritable orders.now outcome.now }
+    ensures written { OnOk result (out.new.items ≡ out.old.items ++ pair_spelling (record {
+      asked = asked.now;
+      answer = Batch batch (outcome_of orders.now outcome.now);
+    })) }
+    ensures stays { OnErr result (out.new.items ≡ out.old.items) }
+    ensures room { vec_capacity out.old ≤ vec_capacity out.new }
+{
+    match outcome {
+        Outcome::Cleared(cleared) => write_cleared(asked, batch, orders, cleared, out),
+        Outcome::Skipped(_) => unreachable!(),
+    }
+}
+
+// Holds a batch that is allowed: its pair is written, and then it is settled.
+pub(crate) fn hold_batch(
+    alloc: Global,
+    market: &mut Market,
+    asked: &RecordView<'_>,
+    budget: u32,
+    out: &mut Vec<u8>,
+) -> Result<(), Memory>
+    requires first { FirstRefusal market.old (RunBatch budget) None }
+    requires single { are_single market.old.orders ≡ true }
+    requires more { market.old.batches < most_batches }
+    requires read { IsReadAs asked.now (Ok (RunBatch budget)) }
+    ensures served { OnOk result ((text : List ℕ) × AnswersOne market.old asked.now market.new text
+        × (out.new.items ≡ out.old.items ++ text)) }
+    ensures stays { OnErr result ((market.new ≡ market.old) × (out.new.items ≡ out.old.items)) }
+    ensures room { vec_capacity out.old ≤ vec_capacity out.new }
+{
+    let outcome = outcome_for(alloc, market, budget)?;
+    write_outcome(asked, market.batches() + 1, market.orders(), &outcome, out)?;
+    market.settle(&outcome);
+    Ok(())
+}
