@@ -1,5 +1,5 @@
 //! The outcome of a batch.
-ghost use Rattle.std.specs.Prelude.{◌≡◌, ℕ, ◌^◌, ◌≤◌, true, length, All, IfOk};
+ghost use Rattle.std.specs.Prelude.{◌≡◌, ℕ, ◌^◌, ◌≤◌, true, length, All, IfOk, OnOk};
 ghost use Rattle.weight_rows.specs.Rows.{IsPricedBy};
 ghost use Rattle.demand_curve.specs.Demand.{IsWithin};
 ghost use Rattle.flow_orders.specs.Orders.{IsOrder, IsFrom1To, most_orders};
@@ -57,7 +57,6 @@ pub fn clear(alloc: Global, orders: &[Order], start: &[i64], budget: u32) -> Res
     requires assets { length start.now ≤ most_prices }
     requires range { All (IsWithin (2 ^ 60)) start.now }
     requires priced { All (λ o. IsPricedBy o.row start.now) orders.now }
-    requires each { All IsOrder orders.now }
     requires single { are_single orders.now ≡ true }
     requires budget { IsFrom1To most_budget budget }
     ensures own { IfOk result (λ outcome. IsOwnOutcome orders.now start.now budget (outcome_of orders.now outcome)) }
@@ -74,10 +73,10 @@ fn clear_single(alloc: Global, orders: &[Order], start: &[i64]) -> Result<Cleare
     requires assets { length start.now ≤ most_prices }
     requires range { All (IsWithin (2 ^ 60)) start.now }
     requires priced { All (λ o. IsPricedBy o.row start.now) orders.now }
-    requires each { All IsOrder orders.now }
     requires single { are_single orders.now ≡ true }
     ensures own { IfOk result (λ c. (budget : ℕ) → IsOwnOutcome orders.now start.now budget (ClearedBatch (clearing_of orders.now c))) }
     ensures one_rate_each { IfOk result (λ c. length c.rates ≡ length orders.now) }
+    ensures each { OnOk result (All IsOrder orders.now) }
 {
     let mut work = Workspace::new(alloc, orders, start)?;
     settle_single(&mut work);

@@ -4,6 +4,7 @@ ghost use Rattle.weight_rows.specs.Rows.{IsPrice, price_of};
 ghost use Rattle.flow_orders.specs.Orders.{IsOrder};
 ghost use Rattle.flow_orders.specs.Excess.{is_above, is_below, is_unsettled, steepness};
 ghost use Rattle.flow_orders.specs.Moves.{moved};
+ghost use Rattle.excess_bounds.specs.Workspace.{ArePriced};
 
 use crate::probes::{Fall, Rise};
 use excess_bounds::Workspace;
@@ -24,7 +25,6 @@ pub fn step(work: &mut Workspace<'_>, asset: u16, reach: i64)
     requires far { reach ≤ℤ pos (2 ^ 61) }
     requires room_below { neg_ℤ (pos (2 ^ 62)) ≤ℤ (price_of work.old.prices asset -ℤ reach) }
     requires room_above { (price_of work.old.prices asset +ℤ reach) ≤ℤ pos (2 ^ 62) }
-    requires each { All IsOrder work.old.orders }
     ensures orders { work.new.orders ≡ work.old.orders }
     ensures moved { work.new.prices ≡ moved work.old.orders (unsigned_abs reach) work.old.prices asset }
 {
@@ -40,7 +40,6 @@ fn end_of_move(work: &Workspace<'_>, asset: u16, reach: i64) -> i64
     requires far { reach ≤ℤ pos (2 ^ 61) }
     requires room_below { neg_ℤ (pos (2 ^ 62)) ≤ℤ (price_of work.now.prices asset -ℤ reach) }
     requires room_above { (price_of work.now.prices asset +ℤ reach) ≤ℤ pos (2 ^ 62) }
-    requires each { All IsOrder work.now.orders }
     ensures moved { slice_set work.now.prices asset result ≡ moved work.now.orders (unsigned_abs reach) work.now.prices asset }
     ensures range { IsPrice result }
 {
@@ -57,6 +56,7 @@ fn price_in(work: &Workspace<'_>, asset: u16) -> i64
     requires { asset < length work.now.prices }
     ensures value { result ≡ price_of work.now.prices asset }
     ensures range { IsPrice result }
+    ensures priced { ArePriced work.now.orders work.now.prices }
 {
     work.prices()[usize::from(asset)]
 }

@@ -2,7 +2,6 @@
 ghost use Rattle.std.specs.Prelude.{◌≡◌, ℕ, ◌^◌, ◌<◌, true, false, if◌then◌else◌, length, All};
 ghost use Rattle.weight_rows.specs.Rows.{price_of};
 ghost use Rattle.demand_curve.specs.Demand.{IsWithin};
-ghost use Rattle.flow_orders.specs.Orders.{IsOrder};
 ghost use Rattle.flow_orders.specs.Excess.{is_unsettled};
 ghost use Rattle.flow_orders.specs.Moves.{moved, single_reach};
 ghost use Rattle.flow_orders.specs.Turns.{visits};
@@ -24,7 +23,6 @@ const REACH: i64 = 1 << 61;
 pub fn settle_single(work: &mut Workspace<'_>)
     requires single { are_single work.old.orders ≡ true }
     requires start { All (IsWithin (2 ^ 60)) work.old.prices }
-    requires each { All IsOrder work.old.orders }
     ensures orders { work.new.orders ≡ work.old.orders }
     ensures prices { work.new.prices
         ≡ moved_once work.old.orders (visits (length work.old.prices) 0) work.old.prices }
@@ -43,7 +41,6 @@ pub fn settle_single(work: &mut Workspace<'_>)
 fn settle_one(work: &mut Workspace<'_>, asset: u16)
     requires asset { asset < length work.old.prices }
     requires start { All (IsWithin (2 ^ 60)) work.old.prices }
-    requires each { All IsOrder work.old.orders }
     ensures orders { work.new.orders ≡ work.old.orders }
     ensures prices { work.new.prices
         ≡ (if is_unsettled work.old.orders work.old.prices asset then moved work.old.orders single_reach work.old.prices asset else work.old.prices) }

@@ -1,7 +1,6 @@
 ghost use Rattle.std.specs.Prelude.{◌≡◌, ◌^◌, ◌≤◌, true, length, IsTrue, All};
 ghost use Rattle.weight_rows.specs.Rows.{IsPricedBy};
 ghost use Rattle.demand_curve.specs.Demand.{IsWithin};
-ghost use Rattle.flow_orders.specs.Orders.{IsOrder};
 ghost use Rattle.flow_orders.specs.Own.{are_single};
 
 use super::*;
@@ -56,12 +55,6 @@ fn is_priced(order: &Order, prices: &[i64]) -> bool
         .all(|entry| usize::from(entry.asset) < prices.len())
 }
 
-fn is_order(order: &Order) -> bool
-    ensures { IsTrue result → IsOrder order.now }
-{
-    order.cap() > 0
-}
-
 // Whether each order names one asset.
 #[tactic(auto, using(crate::proofs::Settling::single_all))]
 fn are_all_single(orders: &[Order]) -> bool
@@ -76,14 +69,12 @@ fn may_settle(rt: &impl Abort, orders: &[Order], prices: &[i64])
     ensures assets { length prices.now ≤ 64 }
     ensures start { All (IsWithin (2 ^ 60)) prices.now }
     ensures priced { All (λ o. IsPricedBy o.row prices.now) orders.now }
-    ensures each { All IsOrder orders.now }
     ensures single { are_single orders.now ≡ true }
 {
     assert!(rt; orders.len() <= 16_384);
     assert!(rt; prices.len() <= 64);
     assert!(rt; prices.iter().all(|price| -TOP <= *price && *price <= TOP));
     assert!(rt; orders.iter().all(|order| is_priced(order, prices)));
-    assert!(rt; orders.iter().all(|order| is_order(order)));
     assert!(rt; are_all_single(orders));
 }
 

@@ -1,7 +1,7 @@
 -- What contracts see of the state of a search for prices, and what holds of every one.
 use Rattle.std.specs.Prelude.{ℕ, ℤ, ◌≤◌, List, length, All}
 use Rattle.weight_rows.specs.Rows.{IsPrice, IsPricedBy}
-use Rattle.flow_orders.specs.Orders.{Order, most_orders}
+use Rattle.flow_orders.specs.Orders.{Order, IsOrder, most_orders}
 
 -- the orders of a batch, and one price for each asset
 pub record Workspace : Type 0 where
@@ -12,9 +12,10 @@ pub record Workspace : Type 0 where
 abbrev pub most_prices : ℕ
 most_prices = 64
 
--- not too many orders and prices, prices within their range, and one for each asset that an order names
+-- not too many orders and prices, each order within its limits, prices within their range, and one for each asset that an order names
 pub record ArePriced (orders : List Order) (prices : List ℤ) : Type 0 where
   pub few : length orders ≤ most_orders
   pub assets : length prices ≤ most_prices
+  pub each : All IsOrder orders
   pub range : All IsPrice prices
   pub priced : All (λ o. IsPricedBy o.row prices) orders

@@ -6,9 +6,9 @@
 //!
 //! # Costs
 //!
-//! [`Workspace::new`] copies the prices and takes memory for them, 8 bytes each. No other call takes memory. Each ask for
-//! an asset goes once over the entries of all orders, and divides once for each order that names the asset and whose
-//! demand isn't cut, to nothing or to the whole room. To set a price takes constant time.
+//! [`Workspace::new`] copies the prices, takes memory for them, 8 bytes each, and goes once over the orders. No other
+//! call takes memory. Each ask for an asset goes once over the entries of all orders, and divides once for each order
+//! that names the asset and whose demand isn't cut, to nothing or to the whole room. To set a price takes constant time.
 #![tactic(auto)]
 
 pub mod laws;

@@ -1,7 +1,7 @@
 //! The orders of a batch and the prices of its search.
 ghost use Rattle.std.specs.Prelude.{◌≡◌, ◌^◌, ◌<◌, ◌≤◌, ◌≤ℤ◌, ◌↔◌, pos, neg_ℤ, false, length, slice_set, unsigned_abs, All, IsTrue, IfOk};
 ghost use Rattle.weight_rows.specs.Rows.{IsPrice, IsPricedBy, price_of};
-ghost use Rattle.flow_orders.specs.Orders.{most_orders};
+ghost use Rattle.flow_orders.specs.Orders.{IsOrder, most_orders};
 ghost use Rattle.flow_orders.specs.Excess.{low_excess, high_excess, spread, steepness, is_unsettled};
 ghost use Rattle.excess_bounds.specs.Workspace.{most_prices};
 
@@ -44,7 +44,7 @@ impl<'a> Workspace<'a> {
     ghost use Rattle.excess_bounds.specs.Workspace.{ArePriced};
 
     /// The state at the start of a search: the prices, in grains by the assets' numbers, are copied. It costs one pass over
-    /// them. `Memory` comes only where there is none for the copy.
+    /// them and one over the orders. `Memory` comes only where there is none for the copy.
     pub fn new(alloc: Global, orders: &'a [Order], prices: &[i64]) -> Result<Workspace<'a>, Memory>
         requires few { length orders.now ≤ most_orders }
         requires assets { length prices.now ≤ most_prices }
@@ -53,6 +53,7 @@ impl<'a> Workspace<'a> {
         ensures orders { IfOk result (λ w. w.orders ≡ orders.now) }
         ensures prices { IfOk result (λ w. w.prices ≡ prices.now) }
     {
+        see_orders(orders);
         Ok(Workspace {
             orders,
             prices: Vec::from_slice(alloc, prices)?,
@@ -140,6 +141,15 @@ impl<'a> Workspace<'a> {
         ensures prices { self.new.prices ≡ slice_set self.old.prices asset price }
     {
         self.prices[usize::from(asset)] = price;
+    }
+}
+
+// Each of them is within the limits, as `Order` itself keeps.
+fn see_orders(orders: &[Order])
+    ensures { All IsOrder orders.now }
+{
+    for order in orders {
+        order.number();
     }
 }
 

@@ -1,4 +1,6 @@
-use Rattle.std.proofs.Common.{◌≡◌, ◌∙◌, ap, sym}
+use Rattle.std.proofs.Common.{◌≡◌, ◌∙◌, ap, subst}
+use Rattle.std.specs.Prelude.{All}
+use Rattle.flow_orders.specs.Orders.{IsOrder}
 use Rattle.flow_orders.specs.Turns.{visits}
 use Rattle.flow_orders.specs.Own.{floor_rates, moved_once}
 use Rattle.batch_engine.proofs.SingleClearing.{rates_are_roundings, own_single}
@@ -7,7 +9,7 @@ use Rattle.batch_engine.proofs.batch.clear_single.Goals as goal
 pub certify-requires-clause-roundings : goal.certify-requires-clause-roundings
 certify-requires-clause-roundings c =
     let rounded = c.new-rates.ensures ∙ c.in_ok-floor_rates.ensures ∙ ap (floor_rates c.args.orders.now) c.as_slice.ensures in
-    rates_are_roundings c.args.orders.now c.args.start.now c.new-prices.result c.new-rates.result rounded c.requires.each
+    rates_are_roundings c.args.orders.now c.args.start.now c.new-prices.result c.new-rates.result rounded (subst (All IsOrder) (c.settle_single.ensures.orders ∙ c.in_ok-work.ensures.orders) c.prices.ensures.priced.each)
 
 pub returns-clause-own : goal.returns-clause-own
 returns-clause-own c =
