@@ -13,6 +13,7 @@ use Rattle.wire_records.specs.Formats.{Version, One, command_magic_of, commands}
 use Rattle.journal_records.specs.Pairs.{journal_magic}
 use Rattle.market_core.specs.Market.{Market, empty_market}
 use Rattle.market_core.proofs.LawProofs.{own_journals_are_legal, journals_hold_deposits}
+use Rattle.market_core.proofs.Promised.{own_journal_keeps_promises}
 use Rattle.flow_exchange.specs.declared.form.Form.TheVariants.{Run}
 use Rattle.flow_exchange.specs.declared.status.Status.{Status}
 use Rattle.flow_exchange.specs.declared.status.Status.TheVariants as answer
@@ -58,12 +59,13 @@ reads_file limit left input records ending whole begins reads = (
   },
 )
 
--- the records that were answered have a journal, whose market is sound and holds what was deposited
+-- the records that were answered have a journal, whose market is sound and holds what was deposited, and which keeps the promises
 journals : (records : List Record) (market : Market) (text : List ℕ) → Answers empty_market records market text → Journals records market (journal_magic ++ text)
 journals records market text answers = record {
   pairs = answers.pairs;
   journal_of = answers.answered;
   deposits = journals_hold_deposits records answers.pairs market (own_journals_are_legal records answers.pairs market answers.answered);
+  keeps = own_journal_keeps_promises records answers.pairs market answers.answered;
   spelled = ap (λ xs. journal_magic ++ xs) answers.spelled;
 }
 

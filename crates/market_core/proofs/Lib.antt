@@ -15,6 +15,7 @@ pub mod OneStep
 pub mod OwnIsLegal
 pub mod OwnNeeds
 pub mod Placing
+pub mod Promised
 pub mod Reserving
 pub mod SingleBooks
 pub mod SoundBalances

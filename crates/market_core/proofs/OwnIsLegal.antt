@@ -50,7 +50,7 @@ module _ {R : Type 0} (Reads : R → Result Command BodyFault → Type 0) where
   own_step_is_right : (m : Market) (asked : R) (a : Answer Outcome) (n : Market) → IsSound m → Step Reads IsOwnOutcome m asked a n → Step Reads IsRightOutcome m asked a n
   own_step_is_right m asked a n sound step = record { read = step.read; spelled = step.spelled; served = read_right m step.read a n sound step.served }
 
-  own_follows_are_right : (m : Market) (pairs : List (Pair R Outcome)) (n : Market) → IsSound m → Follows Reads IsOwnOutcome m pairs n → Follows Reads IsRightOutcome m pairs n
+  pub own_follows_are_right : (m : Market) (pairs : List (Pair R Outcome)) (n : Market) → IsSound m → Follows Reads IsOwnOutcome m pairs n → Follows Reads IsRightOutcome m pairs n
   own_follows_are_right m [] n sound follows = follows
   own_follows_are_right m (pair ∷ pairs) n sound follows =
       let step = own_step_is_right m pair.asked pair.answer follows.0 sound follows.1 in

@@ -16,6 +16,7 @@ use Rattle.flow_orders.specs.Welfare.{IsOptimalWithin}
 use Rattle.market_core.specs.Market.{Market, empty_market, IsSound, start_prices, held_money, held_units}
 use Rattle.market_core.specs.Step.{Serves}
 use Rattle.market_core.specs.Journal.{Step, Follows, IsJournal, money_added, units_added, AddTogether, Places, HoldsDeposits, fills_of}
+use Rattle.market_core.specs.Promises.{KeepsPromises}
 
 -- the pairs lead from a market to another one by steps
 abbrev pub Leads : Market → List (Pair Record Outcome) → Market → Type 0
@@ -132,3 +133,8 @@ pub record LimitsAgree : Type 0 where
 abbrev pub StepsNumberOne : Type 0
 StepsNumberOne = (old : Market) (asked : Record) (answer : Answer Outcome) (new : Market)
     → Step IsReadAs IsOwnOutcome old asked answer new → new.next_order ≤ old.next_order + 1
+
+-- the journal that the program's own rule makes of records keeps the promises of the exchange
+abbrev pub OwnJournalsKeepPromises : Type 0
+OwnJournalsKeepPromises = (records : List Record) (pairs : List (Pair Record Outcome)) (m : Market)
+    → IsJournal IsReadAs IsOwnOutcome records pairs m → KeepsPromises IsReadAs pairs

@@ -2,6 +2,7 @@ pub mod Market
 pub mod Settling
 pub mod Step
 pub mod Journal
+pub mod Promises
 pub mod Wanting
 pub mod Laws
 pub mod Private

@@ -2,7 +2,7 @@
 //! does nothing.
 ghost use Rattle.market_core.specs.Laws.{MarketIsDetermined, JournalsDetermineTheMarket, OneRefusal, PlainCommandsHaveOneAnswer, EveryCommandIsServed, OneOwnJournal};
 ghost use Rattle.market_core.specs.Laws.{OwnJournalsAreLegal, StepsKeepSoundness, HeldIsDeposited, BatchesKeepTotals, SkipsChangeNothing, FillsKeepCaps};
-ghost use Rattle.market_core.specs.Laws.{ClearedBatchesAreOptimal, SkipsLowerTheDual, LargeBudgetsClear, SequencesCompose, LimitsAgree, JournalsHoldDeposits, StepsNumberOne};
+ghost use Rattle.market_core.specs.Laws.{ClearedBatchesAreOptimal, SkipsLowerTheDual, LargeBudgetsClear, SequencesCompose, LimitsAgree, JournalsHoldDeposits, StepsNumberOne, OwnJournalsKeepPromises};
 
 /// Old market, record and answer determine the new market.
 pub fn market_is_determined()
@@ -97,4 +97,9 @@ pub fn limits_agree()
 /// A step gives out at most one number of an order.
 pub fn steps_number_one()
     ensures { StepsNumberOne }
+{}
+
+/// The journal that the program makes of command records keeps the promises of the exchange.
+pub fn own_journals_keep_promises()
+    ensures { OwnJournalsKeepPromises }
 {}

@@ -1,0 +1,74 @@
+-- The program's own journals keep the promises of the exchange.
+use Rattle.std.proofs.Common.{◌≡◌, ℕ, ◌≤◌, true, List, ◌∷◌, ◌++◌, Result, Ok, Err, refl, sym, subst}
+use Rattle.std.specs.Prelude.{All}
+use Rattle.wire_records.specs.Records.{Record}
+use Rattle.wire_records.specs.Commands.{Command, Answer, Plain, Batch, Pair}
+use Rattle.wire_records.specs.CommandRecords.{IsReadAs}
+use Rattle.wire_records.specs.declared.command.BodyFault.{BodyFault}
+use Rattle.wire_records.specs.declared.reply.Reply.{Reply}
+use Rattle.wire_records.specs.declared.reply.Reply.TheVariants.{Refused}
+use Rattle.wire_records.proofs.Readings.{reading_unique}
+use Rattle.flow_orders.specs.Outcomes.{Outcome, Cleared, BatchRule, IsRightOutcome}
+use Rattle.flow_orders.specs.Own.{are_single, IsOwnOutcome, ClearsNear}
+use Rattle.flow_orders.proofs.OwnLaws.{one_asset_books_clear}
+use Rattle.market_core.specs.Market.{Market, IsSound, empty_market, start_prices}
+use Rattle.market_core.specs.Step.{Serves, ServesRead}
+use Rattle.market_core.specs.Journal.{Step, Follows, IsJournal, Places, fills_of}
+use Rattle.market_core.specs.Promises.{HoldTheSame, HoldsBatch, KeepsPromises}
+use Rattle.market_core.proofs.OneJournal.{follows-parts, journal_market}
+use Rattle.market_core.proofs.OwnIsLegal.{own_journal_is_legal, own_follows_are_right, start_within}
+use Rattle.market_core.proofs.Soundness.{sound_follows, sound-empty}
+use Rattle.market_core.proofs.Fills.{fills_within_cap}
+use Rattle.market_core.proofs.LawProofs.{IsBatch, batch_of, batches_keep_totals, cleared_batches_are_optimal}
+
+no_plain : (n : ℕ) (o : Outcome) (r : Reply) → Batch n o ≡ Plain r → ⊥
+no_plain n o r e = cc
+
+-- a record that is answered by a batch was read as a command
+batch_served : (Rule : BatchRule) (old : Market) (read : Result Command BodyFault) (n : ℕ) (o : Outcome) (new : Market) → ServesRead Rule old read (Batch n o) new
+    → (command : Command) × Serves Rule old command (Batch n o) new
+batch_served Rule old (Ok command) n o new served = (command, served)
+batch_served Rule old (Err why) n o new served = absurd (no_plain n o _ served.0)
+
+module _ (records : List Record) (pairs : List (Pair Record Outcome)) (market : Market) (journal : IsJournal IsReadAs IsOwnOutcome records pairs market) where
+  legal : Follows IsReadAs IsRightOutcome empty_market pairs market
+  legal = (own_journal_is_legal IsReadAs records pairs market journal).steps
+
+  sound_before : (old : Market) (outcome : Outcome) (new : Market) → HoldsBatch IsReadAs pairs old outcome new → IsSound old
+  sound_before old outcome new batch = sound_follows IsReadAs empty_market batch.before old sound-empty batch.led
+
+  right_step : (old : Market) (outcome : Outcome) (new : Market) (batch : HoldsBatch IsReadAs pairs old outcome new) → (command : Command) × Serves IsRightOutcome old command (Batch batch.number outcome) new
+  right_step old outcome new batch = batch_served IsRightOutcome old batch.made.read batch.number outcome new batch.made.served
+
+  -- the batch is one by the program's own rule
+  own_step : (old : Market) (outcome : Outcome) (new : Market) → HoldsBatch IsReadAs pairs old outcome new → (budget : ℕ) × IsOwnOutcome old.orders (start_prices old) budget outcome
+  own_step old outcome new batch =
+      let pair : Pair Record Outcome = record { asked = batch.asked; answer = Batch batch.number outcome } in
+      let parts = follows-parts IsReadAs reading_unique IsOwnOutcome empty_market market batch.before (pair ∷ batch.after) (subst (λ ps. Follows IsReadAs IsOwnOutcome empty_market ps market) batch.stands journal.steps) in
+      let same : parts.0 ≡ old =
+      journal_market IsReadAs reading_unique IsRightOutcome empty_market batch.before parts.0 old (own_follows_are_right IsReadAs empty_market batch.before parts.0 sound-empty parts.1) batch.led in
+      let next = parts.2.0 in
+      let step : Step IsReadAs IsOwnOutcome old batch.asked (Batch batch.number outcome) next = subst (λ m. Step IsReadAs IsOwnOutcome m batch.asked (Batch batch.number outcome) next) same parts.2.1 in
+      let served = batch_served IsOwnOutcome old step.read batch.number outcome next step.served in
+      let held = batch_of IsOwnOutcome old served.0 batch.number outcome next served.1 in
+      (held.budget, held.ruled)
+
+  pub own_journal_keeps_promises : KeepsPromises IsReadAs pairs
+  own_journal_keeps_promises = record {
+    cleared = λ old new c batch.
+        let served = right_step old (Cleared c) new batch in
+        (batch_of IsRightOutcome old served.0 batch.number (Cleared c) new served.1).ruled;
+    optimal = λ old new c batch.
+        let served = right_step old (Cleared c) new batch in
+        cleared_batches_are_optimal old served.0 batch.number c new (sound_before old (Cleared c) new batch) served.1;
+    near = λ old new outcome batch single.
+        let own = own_step old outcome new batch in
+        one_asset_books_clear old.orders (start_prices old) own.0 outcome (λ k d inside. ((sound_before old outcome new batch).live k d inside).order) single (start_within old) own.1;
+    totals = λ old new outcome batch.
+        let served = right_step old outcome new batch in
+        let same = batches_keep_totals old served.0 batch.number outcome new (sound_before old outcome new batch) served.1 in
+        record { money = same.0; units = same.1 };
+    fills = λ before after pair number cap stands places.
+        subst (λ ps. fills_of number ps ≤ cap) (sym stands)
+        (fills_within_cap IsReadAs reading_unique empty_market before after pair market number cap sound-empty (subst (λ ps. Follows IsReadAs IsRightOutcome empty_market ps market) stands legal) places);
+  }

@@ -1,0 +1,42 @@
+-- What a journal promises of its batches, and of the fills of its orders.
+use Rattle.std.specs.Prelude.{◌≡◌, ℕ, ◌≤◌, true, List, ◌∷◌, ◌++◌, map, Result}
+use Rattle.wire_records.specs.Commands.{Command, Batch, Pair}
+use Rattle.wire_records.specs.declared.command.BodyFault.{BodyFault}
+use Rattle.flow_accounts.specs.Balances.{IsAsset}
+use Rattle.flow_orders.specs.Outcomes.{Fill, Clearing, Outcome, Cleared, IsRightOutcome, IsRightClearing}
+use Rattle.flow_orders.specs.Own.{are_single, ClearsNear}
+use Rattle.flow_orders.specs.Welfare.{IsOptimalWithin}
+use Rattle.market_core.specs.Market.{Market, empty_market, start_prices, held_money, held_units}
+use Rattle.market_core.specs.Journal.{Step, Follows, Places, fills_of}
+
+-- what accounts and exchange hold together is the same, of money and of each asset
+pub record HoldTheSame (old new : Market) : Type 0 where
+  pub money : held_money new ≡ held_money old
+  pub units : (asset : ℕ) → IsAsset old.balances asset → held_units new asset ≡ held_units old asset
+
+module _ {R : Type 0} (Reads : R → Result Command BodyFault → Type 0) where
+  -- One of the pairs tells of a batch: it leads from the market that the pairs before it lead to.
+  pub record HoldsBatch (pairs : List (Pair R Outcome)) (old : Market) (outcome : Outcome) (new : Market) : Type 0 where
+    pub before : List (Pair R Outcome)
+    pub after : List (Pair R Outcome)
+    pub asked : R
+    pub number : ℕ
+    pub stands : pairs ≡ before ++ record { asked = asked; answer = Batch number outcome } ∷ after
+    pub led : Follows Reads IsRightOutcome empty_market before old
+    pub made : Step Reads IsRightOutcome old asked (Batch number outcome) new
+
+  -- The pairs keep the promises of the exchange.
+  pub record KeepsPromises (pairs : List (Pair R Outcome)) : Type 0 where
+    -- Of each batch that cleared: there is one price for each asset and one rate for each live order, each rate is a rounding of
+    -- its order's demand at the prices, the residuals are what the rates leave over, each within its bound, and the gap is
+    -- that of rates and prices.
+    pub cleared : (old new : Market) (c : Clearing) → HoldsBatch pairs old (Cleared c) new → IsRightClearing old.orders (start_prices old) c
+    -- No balanced rates have a welfare above that of the published rates and the published gap.
+    pub optimal : (old new : Market) (c : Clearing) → HoldsBatch pairs old (Cleared c) new → IsOptimalWithin c.gap old.orders (map (λ (f : Fill). f.rate) c.fills)
+    -- Where each live order names one asset, the batch cleared, at prices within 2^60, and an asset that was settled kept its price.
+    pub near : (old new : Market) (outcome : Outcome) → HoldsBatch pairs old outcome new → are_single old.orders ≡ true → ClearsNear old.orders (start_prices old) outcome
+    -- No batch changes what is held in total.
+    pub totals : (old new : Market) (outcome : Outcome) → HoldsBatch pairs old outcome new → HoldTheSame old new
+    -- No order's fills pass the cap that it was placed with.
+    pub fills : (before after : List (Pair R Outcome)) (pair : Pair R Outcome) (number cap : ℕ)
+        → pairs ≡ before ++ pair ∷ after → Places Reads number cap pair → fills_of number pairs ≤ cap
