@@ -11,5 +11,7 @@ pub mod laws;
 mod market;
 mod orders;
 mod prices;
+#[cfg(test)]
+mod tests;
 
 pub use market::Market;
