@@ -77,12 +77,12 @@ fn refuses_with_one_code(rt: HostRuntime) -> Result<(), Fail> {
         Status::Done,
         b"",
     )?;
-    // An unknown tag, a byte after the fields, an empty body of a ticker, a command that isn't built.
+    // An unknown tag, a byte after the fields, an empty body of a ticker and of a budget.
     expect_run(
         &rt,
         alloc,
         b"FLOWCMD1\x0F\0\0\0\0\x02\0\0\0\x01\0\x01\0\0\0\0\x09\0\0\0\0",
-        b"FLOWJNL1\x0F\0\0\0\0\x84\0\0\0\x01\x01\x02\0\0\0\x01\0\x84\0\0\0\x01\x02\x01\0\0\0\0\x84\0\0\0\x01\x02\x09\0\0\0\0\x84\0\0\0\x01\x14",
+        b"FLOWJNL1\x0F\0\0\0\0\x84\0\0\0\x01\x01\x02\0\0\0\x01\0\x84\0\0\0\x01\x02\x01\0\0\0\0\x84\0\0\0\x01\x02\x09\0\0\0\0\x84\0\0\0\x01\x02",
         Status::Done,
         b"",
     )?;
@@ -328,6 +328,42 @@ fn counts_orders(rt: HostRuntime) -> Result<(), Fail> {
     ending.extend_from_slice(b"\x83\0\0\0\x08\0\0\0\0\0\0\x40\x01")?;
     assert!(rt; out.bytes().ends_with(&ending));
     Ok(())
+}
+
+// A batch with a budget of 1, and one with none.
+const BATCH: &[u8] = b"\x09\0\0\0\x04\0\0\0\x01";
+
+const NO_BUDGET: &[u8] = b"\x09\0\0\0\x04\0\0\0\0";
+
+// Account 1 buys up to 10,000 units of asset 0, 1,000 a batch, between 90 and 110 ticks; account 2 sells as many.
+const BUYS: &[u8] =
+    b"\x07\0\0\0\x27\0\0\0\x01\0\0\0\0\0\0\0\x5A\0\0\0\0\0\0\0\x6E\0\0\x03\xE8\0\0\0\0\0\0\x27\x10\x01\0\0\0\0\0\x01";
+
+const SELLS: &[u8] =
+    b"\x07\0\0\0\x27\0\0\0\x02\xFF\xFF\xFF\xFF\xFF\xFF\xFF\x92\xFF\xFF\xFF\xFF\xFF\xFF\xFF\xA6\0\0\x03\xE8\0\0\0\0\0\0\x27\x10\x01\0\0\xFF\xFF\xFF\xFF";
+
+// The price is 429,410,830,255 grains, the rates are 500 and 499, the residual is 1 and the gap -429,367,880,581.
+const CLEARED: &[u8] =
+    b"\x85\0\0\0\x42\0\0\0\x02\0\x01\0\0\0\x63\xFA\xE1\x47\xAF\0\0\0\x02\0\0\0\0\0\0\0\x01\0\0\x01\xF4\0\0\0\0\0\0\0\x02\0\0\x01\xF3\0\0\0\0\0\0\0\x01\xFF\xFF\xFF\xFF\xFF\xFF\xFF\xFF\xFF\xFF\xFF\x9C\x07\xAE\x14\x7B";
+
+#[test]
+fn holds_batches(rt: HostRuntime) -> Result<(), Fail> {
+    let money = b"\x03\0\0\0\x0C\0\0\0\x01\0\0\0\0\0\x10\xC8\xE0".as_slice();
+    let units = b"\x04\0\0\0\x0E\0\0\0\x02\0\0\0\0\0\0\0\0\x27\x10".as_slice();
+    let empty = b"\x85\0\0\0\x1A\0\0\0\x01\0\0\0\0\0\0\0\0\0\0\0\0\0\0\0\0\0\0\0\0\0\0".as_slice();
+    let pairs: [(&[u8], &[u8]); 10] = [
+        (BATCH, empty),
+        (NO_BUDGET, b"\x84\0\0\0\x01\x12"),
+        (ASSET, b"\x81\0\0\0\x02\0\0"),
+        (ACCOUNT, b"\x82\0\0\0\x04\0\0\0\x01"),
+        (ACCOUNT, b"\x82\0\0\0\x04\0\0\0\x02"),
+        (money, DONE),
+        (units, DONE),
+        (BUYS, b"\x83\0\0\0\x08\0\0\0\0\0\0\0\x01"),
+        (SELLS, b"\x83\0\0\0\x08\0\0\0\0\0\0\0\x02"),
+        (BATCH, CLEARED),
+    ];
+    expect_pairs(&rt, rt.alloc(), &pairs)
 }
 
 // A file of one record.
