@@ -23,5 +23,5 @@ module _ (orders : List Order) (start prices : List ℤ) (rates : List ℕ) (rou
       let count : length prices ≡ length start = ap length moved ∙ moved_once_count orders start in (
         subst (λ s. ArePricesOf s orders start budget c.prices) (sym single) (same ∙ moved),
         is ∙ ap (λ n. clearing_at n prices (trades orders rates)) count ∙ ap (λ xs. clearing_at (length start) prices (trades orders xs)) rounded
-        ∙ ap (λ p. clearing_at (length start) p (trades orders (floor_rates orders p))) (sym same),
+            ∙ ap (λ p. clearing_at (length start) p (trades orders (floor_rates orders p))) (sym same),
       )

@@ -12,5 +12,7 @@
 #![tactic(auto)]
 
 mod batch;
+#[cfg(test)]
+mod tests;
 
 pub use batch::{Memory, clear};

@@ -1,8 +1,7 @@
-use Rattle.std.proofs.Common.{◌≡◌, ◌∙◌, ap, subst}
+use Rattle.std.proofs.Common.{◌∙◌, ap, subst}
 use Rattle.std.specs.Prelude.{All}
 use Rattle.flow_orders.specs.Orders.{IsOrder}
-use Rattle.flow_orders.specs.Turns.{visits}
-use Rattle.flow_orders.specs.Own.{floor_rates, moved_once}
+use Rattle.flow_orders.specs.Own.{floor_rates}
 use Rattle.batch_engine.proofs.SingleClearing.{rates_are_roundings, own_single}
 use Rattle.batch_engine.proofs.batch.clear_single.Goals as goal
 

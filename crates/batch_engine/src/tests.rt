@@ -1,0 +1,185 @@
+ghost use Rattle.std.specs.Prelude.{◌≡◌, ◌^◌, ◌≤◌, true, length, IsTrue, All};
+ghost use Rattle.weight_rows.specs.Rows.{IsPricedBy};
+ghost use Rattle.demand_curve.specs.Demand.{IsWithin};
+ghost use Rattle.flow_orders.specs.Own.{are_single};
+
+use super::*;
+use batch_certificate::Outcome;
+use flow_orders::{Order, order_fault};
+use std::alloc::{AllocError, Global};
+use std::test::Fail;
+use weight_rows::{Entry, EntryList, WeightRow, row_fault};
+
+// Limits in ticks, rate and cap, how much is filled, and the asset with its weight.
+type Placed = ((i64, i64), (u32, u64), u32, (u16, i32));
+
+// Prices, rates, residuals and gap.
+type Cleared<'a> = (&'a [i64], &'a [u32], &'a [i64], i128);
+
+const BUYER: Placed = ((90, 110), (1000, 10_000), 0, (0, 1));
+
+const SELLER: Placed = ((-110, -90), (1000, 10_000), 0, (0, -1));
+
+const TOP: i64 = 1 << 60;
+
+// The order, or None where its numbers or its row have a fault.
+fn order_of(alloc: Global, placed: Placed) -> Result<Option<Order>, AllocError> {
+    let ((low, high), (rate, cap), filled, (asset, weight)) = placed;
+    let entries = EntryList::new(Vec::from_array(alloc, [Entry { asset, weight }])?);
+    if row_fault(entries.as_slice()).is_some() || order_fault(low, high, rate, cap).is_some() {
+        return Ok(None);
+    }
+    let mut order = Order::new(1, 1, low, high, rate, cap, WeightRow::new(entries));
+    if filled > order.curve().room || order.add_fill(filled) {
+        return Ok(None);
+    }
+    Ok(Some(order))
+}
+
+// The orders, without those that can't be.
+fn orders_of(alloc: Global, placed: &[Placed]) -> Result<Vec<Order>, AllocError> {
+    let mut orders = Vec::new(alloc);
+    for one in placed {
+        if let Some(order) = order_of(alloc, *one)? {
+            orders.push(order)?;
+        }
+    }
+    Ok(orders)
+}
+
+// Whether each asset that the order names has a price.
+fn is_priced(order: &Order, prices: &[i64]) -> bool
+    ensures { IsTrue result → IsPricedBy order.now.row prices.now }
+{
+    order
+        .row()
+        .entries()
+        .iter()
+        .all(|entry| usize::from(entry.asset) < prices.len())
+}
+
+// Whether each order names one asset.
+#[tactic(auto, using(coordinate_search::proofs::Settling::single_all))]
+fn are_all_single(orders: &[Order]) -> bool
+    ensures { IsTrue result → are_single orders.now ≡ true }
+{
+    orders.iter().all(|order| order.row().entries().len() == 1)
+}
+
+// The outcome, or None where a batch can't be of these orders and prices, or there is no memory.
+fn outcome(alloc: Global, orders: &[Order], start: &[i64]) -> Option<Outcome> {
+    if orders.len() > 16_384
+        || start.len() > 64
+        || !start.iter().all(|price| -TOP <= *price && *price <= TOP)
+        || !orders.iter().all(|order| is_priced(order, start))
+        || !are_all_single(orders)
+    {
+        return None;
+    }
+    clear(alloc, orders, start, 1).ok()
+}
+
+// Whether the orders that are placed are all there, and clear so from these start prices.
+fn get(
+    alloc: Global,
+    placed: &[Placed],
+    start: &[i64],
+    expected: Cleared<'_>,
+) -> Result<bool, AllocError> {
+    let orders = orders_of(alloc, placed)?;
+    let (prices, rates, residuals, gap) = expected;
+    let Some(Outcome::Cleared(cleared)) = outcome(alloc, orders.as_slice(), start) else {
+        return Ok(false);
+    };
+    Ok(
+        orders.len() == placed.len()
+            && cleared.prices.as_slice() == prices
+            && cleared.rates.as_slice() == rates
+            && cleared.residuals.as_slice() == residuals
+            && cleared.gap == gap,
+    )
+}
+
+#[test]
+fn books_of_one_asset_clear(rt: HostRuntime) -> Result<(), Fail> {
+    let pair = [BUYER, SELLER];
+    let steep = [
+        ((0, 1), (16_777_216, 16_777_216), 0, (0, 4096)),
+        ((-1, 0), (16_777_216, 16_777_216), 0, (0, -4096)),
+    ];
+    let filled = [
+        ((90, 110), (1000, 501), 500, (0, 1)),
+        ((-110, -90), (1000, 10_000), 499, (0, -1)),
+    ];
+    let cases: [(&[Placed], &[i64], Cleared<'_>); 5] = [
+        (
+            &pair,
+            &[0],
+            (&[429_410_830_255], &[500, 499], &[1], -429_367_880_581),
+        ),
+        (
+            &steep,
+            &[0],
+            (
+                &[524_287],
+                &[8_388_624, 8_388_592],
+                &[131_072],
+                -68_719_345_664,
+            ),
+        ),
+        (
+            &filled,
+            &[429_410_830_255],
+            (&[386_804_754_677], &[1, 2], &[-1], 386_847_704_350),
+        ),
+        (&[], &[0], (&[0], &[], &[0], 0)),
+        (&[], &[], (&[], &[], &[], 0)),
+    ];
+    for (placed, start, expected) in cases {
+        assert!(rt; get(rt.alloc(), placed, start, expected)?);
+    }
+    Ok(())
+}
+
+#[test]
+fn books_of_two_assets_clear(rt: HostRuntime) -> Result<(), Fail> {
+    let two = [
+        BUYER,
+        ((-8, -3), (77, 5000), 0, (1, -3)),
+        SELLER,
+        ((2, 9), (120, 100), 90, (1, 2)),
+    ];
+    let cases: [(&[i64], Cleared<'_>); 3] = [
+        (
+            &[0, 0],
+            (
+                &[429_410_830_255, 4_852_755_257],
+                &[500, 6, 499, 10],
+                &[1, 2],
+                -439_073_391_094,
+            ),
+        ),
+        (
+            &[429_410_830_260, 21_474_836_480],
+            (
+                &[429_410_830_260, 5_038_684_576],
+                &[500, 7, 499, 10],
+                &[1, -1],
+                -424_189_749_026,
+            ),
+        ),
+        (
+            &[-TOP, TOP],
+            (
+                &[429_410_830_255, 5_038_684_576],
+                &[500, 7, 499, 10],
+                &[1, -1],
+                -424_189_749_016,
+            ),
+        ),
+    ];
+    for (start, expected) in cases {
+        assert!(rt; get(rt.alloc(), &two, start, expected)?);
+    }
+    Ok(())
+}
