@@ -20,7 +20,7 @@ use wire_records::{COMMAND_MAGIC, Framed, MOST_BODY, RecordView, is_command_file
 // As many bytes has the longest pair with a plain reply.
 const MOST_PLAIN_PAIR: usize = 1042;
 
-// The buffer of a pair. It never has to grow.
+// The buffer of a pair. Only the pair of a batch makes it grow.
 fn pair_buffer(alloc: Global) -> Result<Vec<u8>, Status>
     ensures room { IfOk result (λ pair. most_plain_pair ≤ vec_capacity pair) }
     ensures status { IfErr result (λ status. status ≡ Status.NoMemory) }
