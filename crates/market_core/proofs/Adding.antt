@@ -1,7 +1,6 @@
 -- What the market answers to a new asset and to a new account.
-use Rattle.std.proofs.Common.{◌≡◌, ℕ, ◌+◌, ◌≤◌, ◌<◌, inl, inr, List, [], ◌∷◌, ◌++◌, length, replicate, Some, None, Result, Ok, Err, OnOk, OnErr, refl, ap, sym, subst, ◌∙◌, arith}
+use Rattle.std.proofs.Common.{◌≡◌, ℕ, ◌+◌, ◌≤◌, ◌<◌, inl, inr, List, [], ◌∷◌, ◌++◌, length, Some, None, Result, Ok, Err, OnOk, OnErr, refl, ap, sym, subst, ◌∙◌, arith}
 use Rattle.std.specs.Prelude.{Contains, pos, ℤ}
-use Rattle.std.proofs.lemmas.List.{replicate-append-replicate, length_push}
 use Rattle.std.proofs.lemmas.Option.{slice_get_within, get_or_from_slice_get}
 use Rattle.ticker_table.specs.Tickers.{IsTicker, HasNumber, ticker_limit}
 use Rattle.ticker_table.specs.Adding.{IsAddable}
@@ -13,7 +12,6 @@ use Rattle.flow_accounts.specs.Lawful.{most_accounts}
 use Rattle.flow_accounts.specs.Answers.{RefusesAccount}
 use Rattle.flow_accounts.specs.declared.fault.AccountFault.{AccountFault}
 use Rattle.flow_accounts.specs.declared.fault.AccountFault.TheVariants as fault
-use Rattle.flow_orders.specs.Orders.{Order}
 use Rattle.flow_orders.specs.Outcomes.{BatchRule}
 use Rattle.flow_orders.specs.Own.{IsOwnOutcome}
 use Rattle.market_core.specs.Market.{Market, IsSound}
@@ -38,8 +36,8 @@ module _ (Rule : BatchRule) where
         answered = (
           refl,
           ap (λ b. record m { tickers = longer; balances = b; exchange = exchange; last_prices = prices }) balances_are
-          ∙ ap (λ e. record m { tickers = longer; balances = add_asset m.balances; exchange = e; last_prices = prices }) exchange_is
-          ∙ ap (λ l. record m { tickers = longer; balances = add_asset m.balances; exchange = with_asset m.exchange; last_prices = l }) prices_are,
+              ∙ ap (λ e. record m { tickers = longer; balances = add_asset m.balances; exchange = e; last_prices = prices }) exchange_is
+              ∙ ap (λ l. record m { tickers = longer; balances = add_asset m.balances; exchange = with_asset m.exchange; last_prices = l }) prices_are,
         );
       }
 

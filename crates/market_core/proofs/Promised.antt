@@ -1,25 +1,23 @@
 -- The program's own journals keep the promises of the exchange.
-use Rattle.std.proofs.Common.{◌≡◌, ℕ, ◌≤◌, true, List, ◌∷◌, ◌++◌, Result, Ok, Err, refl, sym, subst}
-use Rattle.std.specs.Prelude.{All}
+use Rattle.std.proofs.Common.{◌≡◌, ℕ, ◌≤◌, List, ◌∷◌, Result, Ok, Err, sym, subst}
 use Rattle.wire_records.specs.Records.{Record}
-use Rattle.wire_records.specs.Commands.{Command, Answer, Plain, Batch, Pair}
+use Rattle.wire_records.specs.Commands.{Command, Plain, Batch, Pair}
 use Rattle.wire_records.specs.CommandRecords.{IsReadAs}
 use Rattle.wire_records.specs.declared.command.BodyFault.{BodyFault}
 use Rattle.wire_records.specs.declared.reply.Reply.{Reply}
-use Rattle.wire_records.specs.declared.reply.Reply.TheVariants.{Refused}
 use Rattle.wire_records.proofs.Readings.{reading_unique}
 use Rattle.flow_orders.specs.Outcomes.{Outcome, Cleared, BatchRule, IsRightOutcome}
-use Rattle.flow_orders.specs.Own.{are_single, IsOwnOutcome, ClearsNear}
+use Rattle.flow_orders.specs.Own.{IsOwnOutcome}
 use Rattle.flow_orders.proofs.OwnLaws.{one_asset_books_clear}
 use Rattle.market_core.specs.Market.{Market, IsSound, empty_market, start_prices}
 use Rattle.market_core.specs.Step.{Serves, ServesRead}
-use Rattle.market_core.specs.Journal.{Step, Follows, IsJournal, Places, fills_of}
-use Rattle.market_core.specs.Promises.{HoldTheSame, HoldsBatch, KeepsPromises}
+use Rattle.market_core.specs.Journal.{Step, Follows, IsJournal, fills_of}
+use Rattle.market_core.specs.Promises.{HoldsBatch, KeepsPromises}
 use Rattle.market_core.proofs.OneJournal.{follows-parts, journal_market}
 use Rattle.market_core.proofs.OwnIsLegal.{own_journal_is_legal, own_follows_are_right, start_within}
 use Rattle.market_core.proofs.Soundness.{sound_follows, sound-empty}
 use Rattle.market_core.proofs.Fills.{fills_within_cap}
-use Rattle.market_core.proofs.LawProofs.{IsBatch, batch_of, batches_keep_totals, cleared_batches_are_optimal}
+use Rattle.market_core.proofs.LawProofs.{batch_of, batches_keep_totals, cleared_batches_are_optimal}
 
 no_plain : (n : ℕ) (o : Outcome) (r : Reply) → Batch n o ≡ Plain r → ⊥
 no_plain n o r e = cc

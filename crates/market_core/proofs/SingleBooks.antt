@@ -1,10 +1,10 @@
 -- Whether a batch may be held: books of orders that each name one asset.
-use Rattle.std.proofs.Common.{◌≡◌, ℕ, ◌<◌, ◌≤◌, ◌↔◌, ◌∙◌, sym, inl, inr, Bool, true, false, IsTrue, List, length, ⊎_elim, Some, None, refl, ap, subst, arith}
+use Rattle.std.proofs.Common.{◌≡◌, ℕ, ◌<◌, ◌≤◌, ◌↔◌, ◌∙◌, sym, inl, inr, Bool, true, false, IsTrue, List, length, ⊎_elim, Some, None, refl, ap, arith}
 use Rattle.std.specs.Prelude.{All, slice_index_or}
 use Rattle.std.proofs.lemmas.Bool.{cases_Bool, false≢true}
 use Rattle.wire_records.specs.Commands.{RunBatch}
 use Rattle.wire_records.specs.declared.reply.Refusal.TheVariants.{NotSingle}
-use Rattle.flow_orders.specs.Orders.{Order, IsOrder, IsFrom1To}
+use Rattle.flow_orders.specs.Orders.{Order, IsOrder}
 use Rattle.flow_orders.specs.Outcomes.{IsWide, most_budget}
 use Rattle.flow_orders.specs.Own.{are_single}
 use Rattle.flow_orders.proofs.OwnIsRight.{single_each, wide_is}

@@ -1,14 +1,12 @@
 -- Words that only private functions of the market use.
-use Rattle.std.specs.Prelude.{ℕ, pos, List, length, replicate, Option, Some, None}
+use Rattle.std.specs.Prelude.{Option, Some, None}
 use Rattle.flow_accounts.specs.declared.fault.AccountFault.{AccountFault}
 use Rattle.flow_accounts.specs.declared.fault.AccountFault.TheVariants as fault
-use Rattle.flow_accounts.specs.Balances.{Balances, empty_account}
 use Rattle.wire_records.specs.declared.reply.Refusal.{Refusal}
 use Rattle.wire_records.specs.declared.reply.Refusal.TheVariants.{AccountLimit, NoAccount, NoAsset, ZeroAmount, TotalLimit, NotFree, NoOrder}
 use Rattle.wire_records.specs.declared.reply.Reply.{Reply}
 use Rattle.wire_records.specs.declared.reply.Reply.TheVariants.{Done, Refused}
 use Rattle.flow_orders.specs.Orders.{Order}
-use Rattle.market_core.specs.Market.{Market}
 
 -- every fault but want of memory is answered by a refusal
 abbrev pub IsAnswered : AccountFault → Type 0

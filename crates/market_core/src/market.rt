@@ -6,8 +6,8 @@ ghost use Rattle.wire_records.specs.CommandRecords.{IsCommand};
 ghost use Rattle.wire_records.specs.Views.{command_of};
 ghost use Rattle.market_core.specs.Private.{refusal_for, IsAnswered};
 
-use flow_accounts::{AccountFault, Accounts};
 use crate::prices::LastPrices;
+use flow_accounts::{AccountFault, Accounts};
 use flow_orders::Order;
 use order_book::Book;
 use residual_account::ResidualAccount;

@@ -6,8 +6,7 @@ use Rattle.exchange_session.proofs.batch.hold_batch.Goals as goal
 pub returns-clause-served : goal.returns-clause-served
 returns-clause-served c =
     let old = c.args.market.now in
-    let outcome = outcome_of old.orders c.in_ok-outcome.outcome in
-    (
+    let outcome = outcome_of old.orders c.in_ok-outcome.outcome in (
       _,
       record {
         answer = Batch (old.batches + 1) outcome;

@@ -1,4 +1,4 @@
-use Rattle.std.proofs.Common.{◌≡◌, ap, subst, sym}
+use Rattle.std.proofs.Common.{◌≡◌, subst, sym}
 use Rattle.batch_certificate.specs.Published.{clearing_of}
 use Rattle.flow_orders.specs.Outcomes as outcomes
 use Rattle.market_core.specs.Market.{IsSound}

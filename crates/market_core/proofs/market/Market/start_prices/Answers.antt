@@ -9,8 +9,7 @@ use Rattle.market_core.proofs.market.Market.start_prices.Goals as goal
 pub loop-price-preserved : goal.loop-price-preserved
 loop-price-preserved c =
     let so_far = c.loop-price.invariant in
-    let pushed = c.push_reserved.ensures in
-    (
+    let pushed = c.push_reserved.ensures in (
       pushed.items ∙ cut_more c.as_slice-last.result.now c.loop-price.price-index c.loop-price.prices.items _ c.cut_price.result c.loop-price-test.true
           (rw c.as_slice-last.ensures.value c.self.invariant.prices) so_far.0 c.cut_price.ensures.value c.cut_price.ensures.range,
       omega (arith, so_far.1, pushed.len),
