@@ -11,9 +11,9 @@ use Rattle.wire_records.specs.Refusals.{code_of}
 use Rattle.wire_records.proofs.Bodies.{number_unique}
 use Rattle.wire_records.proofs.Codes.{code_of-unique, code_of-byte}
 use Rattle.wire_records.proofs.Spelled.{length-spelling, spelling_unique, head_and_body}
-use Rattle.flow_orders.specs.Outcomes.{Clearing, Outcome, Cleared, Skipped}
-use Rattle.journal_records.specs.Replies.{reply_tag, reply_body, answer_tag, answer_body, answer_record, fill_spelling, clearing_spelling, IsReply, IsAnswer, IsWithinLimits, most_reply_body}
-use Rattle.journal_records.specs.Pairs.{IsPair, pair_spelling, plain_room, cleared_room}
+use Rattle.flow_orders.specs.Outcomes.{Clearing, Skipping, Outcome, Cleared, Skipped}
+use Rattle.journal_records.specs.Replies.{reply_tag, reply_body, answer_tag, answer_body, answer_record, fill_spelling, clearing_spelling, skipping_spelling, IsReply, IsAnswer, IsWithinLimits, most_reply_body}
+use Rattle.journal_records.specs.Pairs.{IsPair, pair_spelling, plain_room, cleared_room, skipped_room}
 use Rattle.journal_records.proofs.Batches.{clearing_unique, skipping_unique, clearing_size, skipping_size}
 
 -- two plain replies of one tag and one body are one
@@ -114,6 +114,26 @@ put_together old number c n orders residuals fills size =
     ap (λ k. (((((((old ++ head 133 n) ++ unsigned 4 number) ++ unsigned 2 (length c.prices)) ++ flat_map (signed 8) c.prices) ++ unsigned 4 k) ++ flat_map fill_spelling c.fills) ++ flat_map (signed 8) c.residuals) ++ signed 16 c.gap) (sym fills)
     ∙ joined old (head 133 n) (unsigned 4 number) (unsigned 2 (length c.prices)) (flat_map (signed 8) c.prices) (unsigned 4 (length c.fills)) (flat_map fill_spelling c.fills) (flat_map (signed 8) c.residuals) (signed 16 c.gap)
     ∙ head_and_body old (clearing_spelling number c) 133 n (omega (arith, clearing_size number c, residuals, fills, size))
+
+joined_skip : (old a b c d e f : List ℕ) → ((((((old ++ a) ++ b) ++ c) ++ d) ++ e) ++ f) ≡ (old ++ a) ++ (b ++ (c ++ (d ++ (e ++ f))))
+joined_skip old a b c d e f = simp append_assoc
+
+-- the bytes of a skip, one part after the other, are its record
+pub put_skip_together : (old : List ℕ) (number : ℕ) (s : Skipping) (n moves : ℕ) → length s.trace ≡ moves → n ≡ 40 + moves
+    → (((((old ++ head 134 n) ++ unsigned 4 number) ++ signed 16 s.start_dual) ++ signed 16 s.end_dual) ++ unsigned 4 moves) ++ s.trace
+    ≡ old ++ spelling (answer_record (Batch number (Skipped s)))
+unfolding answer_body skipping_spelling
+put_skip_together old number s n moves count size =
+    ap (λ k. (((((old ++ head 134 n) ++ unsigned 4 number) ++ signed 16 s.start_dual) ++ signed 16 s.end_dual) ++ unsigned 4 k) ++ s.trace) (sym count)
+    ∙ joined_skip old (head 134 n) (unsigned 4 number) (signed 16 s.start_dual) (signed 16 s.end_dual) (unsigned 4 (length s.trace)) s.trace
+    ∙ head_and_body old (skipping_spelling number s) 134 n (omega (arith, skipping_size number s, count, size))
+
+-- a pair with a batch that was skipped takes exactly the room that is set aside for it
+pub skipped_pair_room : (asked : Record) (number : ℕ) (s : Skipping) → length (pair_spelling (record { asked = asked; answer = Batch number (Skipped s) })) ≡ skipped_room asked (length s.trace)
+unfolding pair_spelling answer_body
+skipped_pair_room asked number s =
+    let answered = answer_record (Batch number (Skipped s)) in
+    omega (arith, length-append (spelling asked) (spelling answered), length-spelling answered, skipping_size number s)
 
 -- the record of a plain reply is short
 pub plain_short : (reply : Reply) → IsRecord most_reply_body (answer_record (Plain reply))

@@ -6,9 +6,9 @@ use Rattle.wire_records.specs.Commands.{Answer, Plain, Batch, Pair}
 use Rattle.wire_records.specs.Grammars.{spell_all}
 use Rattle.wire_records.specs.Reading.{Reading, File, End, Reads}
 use Rattle.wire_records.specs.Formats.{Version, One}
-use Rattle.flow_orders.specs.Outcomes.{Clearing, Outcome, Cleared}
+use Rattle.flow_orders.specs.Outcomes.{Clearing, Skipping, Outcome, Cleared, Skipped}
 use Rattle.journal_records.specs.Replies.{answer_record, IsAnswer, most_reply_body, IsWithinLimits}
-use Rattle.journal_records.specs.Pairs.{IsPair, pair_spelling, journal_magic, journal, plain_room, cleared_room}
+use Rattle.journal_records.specs.Pairs.{IsPair, pair_spelling, journal_magic, journal, plain_room, cleared_room, skipped_room}
 use Rattle.journal_records.specs.Formats.{journals, records_of}
 
 -- a record spells at most one answer
@@ -28,6 +28,11 @@ abbrev pub ClearedPairFits : Type 0
 ClearedPairFits =
     (asked : Record) (number : ℕ) (c : Clearing) → length c.residuals ≡ length c.prices
     → length (pair_spelling (record { asked = asked; answer = Batch number (Cleared c) })) ≡ cleared_room asked (length c.prices) (length c.fills)
+
+-- a pair with a batch that was skipped takes the room that is set aside for it, and no more
+abbrev pub SkippedPairFits : Type 0
+SkippedPairFits =
+    (asked : Record) (number : ℕ) (s : Skipping) → length (pair_spelling (record { asked = asked; answer = Batch number (Skipped s) })) ≡ skipped_room asked (length s.trace)
 
 -- the record of a plain reply is within the limit of replies
 abbrev pub PlainRepliesFit : Type 0

@@ -31,3 +31,7 @@ plain_room asked = length (spelling asked) + 13
 -- how many bytes a pair with a batch of so many assets and orders takes that cleared
 abbrev pub cleared_room : Record → (assets orders : ℕ) → ℕ
 cleared_room asked assets orders = length (spelling asked) + (31 + 16 * assets + 12 * orders)
+
+-- how many bytes a pair with a batch takes that was skipped after so many moves
+abbrev pub skipped_room : Record → (moves : ℕ) → ℕ
+skipped_room asked moves = length (spelling asked) + (45 + moves)

@@ -2,7 +2,7 @@
 //! does nothing.
 ghost use Rattle.std.specs.Prelude.{◌≡◌};
 ghost use Rattle.journal_records.specs.Pairs.{journal_magic};
-ghost use Rattle.journal_records.specs.Laws.{OneAnswer, OnePair, PairFits, ClearedPairFits, PlainRepliesFit, BatchRepliesFit, OneJournalFile, JournalIsFile, JournalIsRead};
+ghost use Rattle.journal_records.specs.Laws.{OneAnswer, OnePair, PairFits, ClearedPairFits, SkippedPairFits, PlainRepliesFit, BatchRepliesFit, OneJournalFile, JournalIsFile, JournalIsRead};
 
 use crate::JOURNAL_MAGIC;
 
@@ -25,6 +25,11 @@ pub fn pair_fits()
 /// A pair with a batch that cleared takes the room that [`write_cleared`](crate::write_cleared) takes for it, and no more.
 pub fn cleared_pair_fits()
     ensures { ClearedPairFits }
+{}
+
+/// A pair with a batch that was skipped takes exactly the room that [`write_skipped`](crate::write_skipped) takes for it.
+pub fn skipped_pair_fits()
+    ensures { SkippedPairFits }
 {}
 
 /// The record of a plain reply is within the limit of 262,144 bytes in its body.
