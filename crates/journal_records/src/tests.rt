@@ -3,7 +3,7 @@ ghost use Rattle.std.specs.Prelude.{◌≡◌, ◌≤◌, length};
 ghost use Rattle.flow_orders.specs.Orders.{most_orders};
 
 use crate::*;
-use batch_certificate::{Cleared, PriceList, RateList, ResidualList};
+use batch_certificate::{Cleared, PriceList, RateList, ResidualList, Skipped, Trace};
 use flow_orders::{Order, order_fault};
 use std::alloc::Global;
 use std::process::Abort;
@@ -182,6 +182,40 @@ fn batches_that_cleared(rt: HostRuntime) -> Result<(), Fail> {
         let cleared = cleared_of(rt.alloc(), batch)?;
         may_write(&rt, orders.as_slice(), &cleared);
         write_cleared(&asked, batch.0, orders.as_slice(), &cleared, &mut out)?;
+        expected.extend_from_slice(ASKED)?;
+        expected.extend_from_slice(reply)?;
+        assert_eq!(rt; out.as_slice(), expected.as_slice());
+    }
+    Ok(())
+}
+
+/// Batches that were skipped: number, duals and moves, each with the record of its reply.
+const SKIPS: [((u32, i128, i128, &[u8]), &[u8]); 2] = [
+    (
+        (1, 128849018880000, 89764988285090, &[0]),
+        b"\x86\0\0\0\x29\0\0\0\x01\0\0\0\0\0\0\0\0\0\0\x75\x30\0\0\0\0\0\0\0\0\0\0\0\0\0\0\x51\xa4\x0a\x3d\x70\xa2\0\0\0\x01\0",
+    ),
+    (
+        (16909060, 258, 0, &[2, 63, 2]),
+        b"\x86\0\0\0\x2b\x01\x02\x03\x04\0\0\0\0\0\0\0\0\0\0\0\0\0\0\x01\x02\0\0\0\0\0\0\0\0\0\0\0\0\0\0\0\0\0\0\0\x03\x02\x3f\x02",
+    ),
+];
+
+#[test]
+fn batches_that_were_skipped(rt: HostRuntime) -> Result<(), Fail> {
+    let Framed::Whole(asked, _) = next_record(ASKED, 1024) else {
+        return Err("no record".into());
+    };
+    let mut out = Vec::new(rt.alloc());
+    let mut expected = Vec::new(rt.alloc());
+    for ((batch, start_dual, end_dual, trace), reply) in SKIPS {
+        let skipped = Skipped {
+            trace: Trace::new(trace.to_vec(rt.alloc())?),
+            start_dual,
+            end_dual,
+        };
+        assert!(rt; skipped.trace.as_slice().len() <= 65_536);
+        write_skipped(&asked, batch, &skipped, &mut out)?;
         expected.extend_from_slice(ASKED)?;
         expected.extend_from_slice(reply)?;
         assert_eq!(rt; out.as_slice(), expected.as_slice());
