@@ -6,9 +6,9 @@
 //!
 //! # Costs
 //!
-//! For each asset three passes over the entries of all orders, and at most 64 more for one that isn't settled; then two
-//! passes more in all, one division for each order in each. Memory is taken for three lists of one number for each asset and
-//! one list of one number for each order, and nothing in between.
+//! One pass over the orders; for each asset two passes over the entries of all orders, and at most 65 more for one that
+//! isn't settled; then two passes more in all, one division for each order in each. Memory is taken for three lists of one
+//! number for each asset and one list of one number for each order, and nothing in between.
 #![tactic(auto)]
 
 mod batch;
