@@ -15,9 +15,13 @@
 
 mod moves;
 mod probes;
+mod retracing;
+mod searching;
 mod single;
 #[cfg(test)]
 mod tests;
 
 pub use moves::step;
+pub use retracing::{Retraced, retrace};
+pub use searching::{Found, search};
 pub use single::settle_single;
