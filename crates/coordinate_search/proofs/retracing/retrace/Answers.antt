@@ -12,9 +12,10 @@ pub returns-then-not-move_again-clause-orders : goal.returns-then-not-move_again
 returns-then-not-move_again-clause-orders c = c.move_again.ensures.orders ∙ c.loop-place.invariant.same
 
 pub returns-then-not-move_again-clause-retraced : goal.returns-then-not-move_again-clause-retraced
-returns-then-not-move_again-clause-retraced c =
-    (stops _ _ _ _ _ _ c.loop-place.invariant c.loop-place-test.true (c.move_again.ensures.illegal c.if-not-move_again.true),
-    c.move_again.ensures.stays c.if-not-move_again.true ∙ c.loop-place.invariant.end)
+returns-then-not-move_again-clause-retraced c = (
+  stops _ _ _ _ _ _ c.loop-place.invariant c.loop-place-test.true (c.move_again.ensures.illegal c.if-not-move_again.true),
+  c.move_again.ensures.stays c.if-not-move_again.true ∙ c.loop-place.invariant.end,
+)
 
 pub loop-place-preserved : goal.loop-place-preserved
 loop-place-preserved c =

@@ -22,9 +22,10 @@ make_move-requires-clause-near c =
 
 pub loop-made-preserved : goal.loop-made-preserved
 loop-made-preserved c =
-    rw c.push_reserved.ensures.items
-    (one_more_moved _ _ _ _ _ _ c.loop-made.invariant.0 _ c.next_unsettled.ensures.first _ _ _ c.in-Some.is c.make_move.ensures.orders c.make_move.ensures.prices,
-    omega (arith, length-append c.loop-made.trace.items (c.in-Some.asset ∷ []), c.loop-made.invariant.1))
+    rw c.push_reserved.ensures.items (
+      one_more_moved _ _ _ _ _ _ c.loop-made.invariant.0 _ c.next_unsettled.ensures.first _ _ _ c.in-Some.is c.make_move.ensures.orders c.make_move.ensures.prices,
+      omega (arith, length-append c.loop-made.trace.items (c.in-Some.asset ∷ []), c.loop-made.invariant.1),
+    )
 
 pub next_unsettled-requires-2 : goal.next_unsettled-requires-2
 next_unsettled-requires-2 c = record { next = next_so_far _ _ _ _ _ _ c.loop-made.invariant.0 }
