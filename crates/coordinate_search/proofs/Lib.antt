@@ -1,2 +1,4 @@
 pub mod Ends
 pub mod Settling
+pub mod InTurn
+pub mod MadeAgain

@@ -14,6 +14,9 @@ use weight_rows::{Entry, EntryList, WeightRow, row_fault};
 // Limits in ticks, rate and cap, how much is filled, and the asset with its weight.
 type Placed = ((i64, i64), (u32, u64), u32, (u16, i32));
 
+// Limits in ticks, rate and cap, and the row.
+type Portfolio<'a> = ((i64, i64), (u32, u64), &'a [(u16, i32)]);
+
 const BUYER: Placed = ((90, 110), (1000, 10_000), 0, (0, 1));
 
 const SELLER: Placed = ((-110, -90), (1000, 10_000), 0, (0, -1));
@@ -22,8 +25,25 @@ const TOP: i64 = 1 << 60;
 
 // The order, or None where its numbers or its row have a fault.
 fn order_of(alloc: Global, placed: Placed) -> Result<Option<Order>, AllocError> {
-    let ((low, high), (rate, cap), filled, (asset, weight)) = placed;
-    let entries = EntryList::new(Vec::from_array(alloc, [Entry { asset, weight }])?);
+    let (limits, terms, filled, pair) = placed;
+    portfolio_of(alloc, (limits, terms, &[pair]), filled)
+}
+
+// The same with a row of any length.
+fn portfolio_of(
+    alloc: Global,
+    placed: Portfolio<'_>,
+    filled: u32,
+) -> Result<Option<Order>, AllocError> {
+    let ((low, high), (rate, cap), row) = placed;
+    let entries = row
+        .iter()
+        .map(|pair| Entry {
+            asset: pair.0,
+            weight: pair.1,
+        })
+        .collect(alloc)?;
+    let entries = EntryList::new(entries);
     if row_fault(entries.as_slice()).is_some() || order_fault(low, high, rate, cap).is_some() {
         return Ok(None);
     }
@@ -63,6 +83,19 @@ fn are_all_single(orders: &[Order]) -> bool
     orders.iter().all(|order| order.row().entries().len() == 1)
 }
 
+// Sees to it that a search of these orders may begin at these prices.
+fn may_search(rt: &impl Abort, orders: &[Order], prices: &[i64])
+    ensures few { length orders.now ≤ 16384 }
+    ensures assets { length prices.now ≤ 64 }
+    ensures start { All (IsWithin (2 ^ 60)) prices.now }
+    ensures priced { All (λ o. IsPricedBy o.row prices.now) orders.now }
+{
+    assert!(rt; orders.len() <= 16_384);
+    assert!(rt; prices.len() <= 64);
+    assert!(rt; prices.iter().all(|price| -TOP <= *price && *price <= TOP));
+    assert!(rt; orders.iter().all(|order| is_priced(order, prices)));
+}
+
 // Sees to it that these orders, each of one asset, may be settled from these prices.
 fn may_settle(rt: &impl Abort, orders: &[Order], prices: &[i64])
     ensures few { length orders.now ≤ 16384 }
@@ -71,10 +104,7 @@ fn may_settle(rt: &impl Abort, orders: &[Order], prices: &[i64])
     ensures priced { All (λ o. IsPricedBy o.row prices.now) orders.now }
     ensures single { are_single orders.now ≡ true }
 {
-    assert!(rt; orders.len() <= 16_384);
-    assert!(rt; prices.len() <= 64);
-    assert!(rt; prices.iter().all(|price| -TOP <= *price && *price <= TOP));
-    assert!(rt; orders.iter().all(|order| is_priced(order, prices)));
+    may_search(rt, orders, prices);
     assert!(rt; are_all_single(orders));
 }
 
@@ -140,6 +170,184 @@ fn a_move_ends_at_its_reach_or_before(rt: HostRuntime) -> Result<(), Fail> {
         assert!(rt; !work.is_settled(0));
         step(&mut work, 0, reach);
         assert_eq!(rt; work.prices(), [end].as_slice());
+    }
+    Ok(())
+}
+
+fn portfolios_of(alloc: Global, placed: &[Portfolio<'_>]) -> Result<Vec<Order>, AllocError> {
+    let mut orders = Vec::new(alloc);
+    for one in placed {
+        if let Some(order) = portfolio_of(alloc, *one, 0)? {
+            orders.push(order)?;
+        }
+    }
+    Ok(orders)
+}
+
+// A buyer of two assets together, and a seller of each.
+fn pair_and_sellers(alloc: Global) -> Result<Vec<Order>, AllocError> {
+    portfolios_of(
+        alloc,
+        &[
+            ((100, 500), (100, 1000), &[(0, 1), (1, 1)]),
+            ((-110, -90), (1000, 10_000), &[(0, -1)]),
+            ((-110, -90), (1000, 10_000), &[(1, -1)]),
+        ],
+    )
+}
+
+// Five orders of four assets, of which the search passes over one and comes back to it.
+fn four_assets(alloc: Global) -> Result<Vec<Order>, AllocError> {
+    portfolios_of(
+        alloc,
+        &[
+            ((-144, 31), (820, 10_000), &[(2, 1)]),
+            ((32, 65), (695, 10_000), &[(0, 3), (2, -1), (3, -2)]),
+            ((-185, -48), (793, 10_000), &[(1, 2), (2, -1), (3, 1)]),
+            ((-8, 169), (840, 10_000), &[(0, 1)]),
+            ((117, 153), (727, 10_000), &[(2, 1), (3, 2)]),
+        ],
+    )
+}
+
+// How a search ends, its trace and its prices.
+type Searched<'a> = (u32, Found, &'a [u8], &'a [i64]);
+
+// Searches from these prices, and sees to it that this is found.
+fn see_search(
+    rt: &impl Abort,
+    alloc: Global,
+    orders: &[Order],
+    start: &[i64],
+    wanted: Searched<'_>,
+) -> Result<(), Fail> {
+    let (budget, found, walk, end) = wanted;
+    may_search(rt, orders, start);
+    assert!(rt; budget <= 65_536);
+    let mut trace = Vec::with_capacity(alloc, budget as usize)?;
+    let mut work = Workspace::new(alloc, orders, start).map_err(|_| "no memory")?;
+    assert_eq!(rt; search(&mut work, budget, &mut trace), found);
+    assert_eq!(rt; trace.as_slice(), walk);
+    assert_eq!(rt; work.prices(), end);
+    Ok(())
+}
+
+#[test]
+fn a_book_of_portfolios_is_searched_in_turn(rt: HostRuntime) -> Result<(), Fail> {
+    let orders = pair_and_sellers(rt.alloc())?;
+    assert_eq!(rt; orders.len(), 3);
+    let cases: [(&[i64], Searched<'_>); 6] = [
+        (&[0, 0], (1, Found::Spent, &[0], &[394_965_192_541, 0])),
+        (
+            &[0, 0],
+            (
+                2,
+                Found::Spent,
+                &[0, 1],
+                &[394_965_192_541, 393_161_306_276],
+            ),
+        ),
+        (
+            &[0, 0],
+            (
+                3,
+                Found::Settled,
+                &[0, 1, 0],
+                &[393_590_803_005, 393_161_306_276],
+            ),
+        ),
+        (
+            &[0, 0],
+            (
+                65_536,
+                Found::Settled,
+                &[0, 1, 0],
+                &[393_590_803_005, 393_161_306_276],
+            ),
+        ),
+        (
+            &[393_590_803_005, 393_161_306_276],
+            (1, Found::Settled, &[], &[393_590_803_005, 393_161_306_276]),
+        ),
+        (
+            &[TOP, TOP],
+            (
+                4,
+                Found::Spent,
+                &[0, 1, 0, 1],
+                &[1_152_851_135_862_669_312, 1_152_851_135_862_669_312],
+            ),
+        ),
+    ];
+    for (start, wanted) in cases {
+        see_search(&rt, rt.alloc(), orders.as_slice(), start, wanted)?;
+    }
+    see_search(&rt, rt.alloc(), &[], &[], (1, Found::Settled, &[], &[]))
+}
+
+#[test]
+fn a_settled_asset_is_passed_over_until_it_is_not(rt: HostRuntime) -> Result<(), Fail> {
+    let orders = four_assets(rt.alloc())?;
+    assert_eq!(rt; orders.len(), 5);
+    let cases: [Searched<'_>; 2] = [
+        (
+            3,
+            Found::Spent,
+            &[0, 2, 3],
+            &[724_039_451_093, 0, 556_319_374_639, 348_676_933_033],
+        ),
+        (
+            4,
+            Found::Settled,
+            &[0, 2, 3, 1],
+            &[
+                724_039_451_093,
+                371_002_850,
+                556_319_374_639,
+                348_676_933_033,
+            ],
+        ),
+    ];
+    for wanted in cases {
+        see_search(&rt, rt.alloc(), orders.as_slice(), &[0, 0, 0, 0], wanted)?;
+    }
+    Ok(())
+}
+
+#[test]
+fn a_walk_is_made_again_as_far_as_it_is_legal(rt: HostRuntime) -> Result<(), Fail> {
+    let orders = pair_and_sellers(rt.alloc())?;
+    assert_eq!(rt; orders.len(), 3);
+    let cases: [(&[u8], Retraced, &[i64]); 8] = [
+        (&[], Retraced::Legal, &[0, 0]),
+        (
+            &[0, 1, 0],
+            Retraced::Legal,
+            &[393_590_803_005, 393_161_306_276],
+        ),
+        (&[1], Retraced::Legal, &[0, 394_965_192_541]),
+        (
+            &[1, 0],
+            Retraced::Legal,
+            &[393_161_306_276, 394_965_192_541],
+        ),
+        (&[0, 0], Retraced::Illegal(1), &[394_965_192_541, 0]),
+        (&[2], Retraced::Illegal(0), &[0, 0]),
+        (&[0, 255, 1], Retraced::Illegal(1), &[394_965_192_541, 0]),
+        (
+            &[0, 1, 0, 1],
+            Retraced::Illegal(3),
+            &[393_590_803_005, 393_161_306_276],
+        ),
+    ];
+    may_search(&rt, orders.as_slice(), &[0, 0]);
+    for (walk, wanted, end) in cases {
+        assert!(rt; walk.len() <= 65_536);
+        let mut work = Workspace::new(rt.alloc(), orders.as_slice(), &[0, 0]).map_err(
+            |_| "no memory",
+        )?;
+        assert_eq!(rt; retrace(&mut work, walk), wanted);
+        assert_eq!(rt; work.prices(), end);
     }
     Ok(())
 }

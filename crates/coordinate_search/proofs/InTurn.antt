@@ -1,0 +1,165 @@
+-- The loop that searches a book for prices, asset by asset in turn, and the one that makes a walk again.
+use Rattle.std.proofs.Common.{◌≡◌, ℕ, zero, suc, ◌+◌, ◌-◌, ◌*◌, ◌^◌, ◌≤◌, ◌<◌, inl, inr, ⊎_elim, Bool, true, false, ℤ, pos, List, [], ◌∷◌, ◌++◌, length, Option, Some, None, refl, ap, sym, subst, ◌∙◌, arith}
+use Rattle.std.specs.Prelude.{All, unsigned_abs}
+use Rattle.std.specs.List.{range_with_len}
+use Rattle.std.proofs.lemmas.Bool.{cases_Bool, false≢true}
+use Rattle.std.proofs.lemmas.Int.{ints}
+use Rattle.std.proofs.lemmas.Option.{none-some}
+use Rattle.demand_curve.specs.Demand.{IsWithin}
+use Rattle.weight_rows.specs.Rows.{price_of}
+use Rattle.flow_orders.specs.Orders.{Order}
+use Rattle.flow_orders.specs.Excess.{is_unsettled}
+use Rattle.flow_orders.specs.Walks.{first_that, walk_end, IsLegal, AreSettled}
+use Rattle.flow_orders.specs.Turns.{visits, IsInTurnFrom, IsInTurn, IsOwnWalk, IsOwnTrace}
+use Rattle.flow_orders.specs.Outcomes.{step_of, end_of, IsLegalFrom, EndsSettled}
+use Rattle.flow_orders.proofs.Loops.{next_after}
+use Rattle.flow_orders.proofs.Walks.{visits-order, in_turn-push, next_after-push, walk_end-push, in_turn-legal, next_after-there, own_walk, own_trace, first_that-passes}
+use Rattle.flow_orders.proofs.Moving.{AreWithin, has_walked}
+
+-- ---- the first number that passes a test
+
+-- the numbers before it fail: it is looked for behind them
+pub skip_failed : (test : ℕ → Bool) (a end : ℕ) → a < end → test a ≡ false
+    → first_that test (range_with_len a (end - a)) ≡ first_that test (range_with_len (a + 1) (end - (a + 1)))
+skip_failed test a end inside fails =
+    let left : end - a ≡ suc (end - (a + 1)) = omega (arith, inside) in
+    rw (left, fails) refl
+
+-- it is here
+pub found_here : (test : ℕ → Bool) (a end : ℕ) → a < end → test a ≡ true → first_that test (range_with_len a (end - a)) ≡ Some a
+found_here test a end inside passes =
+    let left : end - a ≡ suc (end - (a + 1)) = omega (arith, inside) in
+    rw (left, passes) refl
+
+-- no number is left
+pub none_left : (test : ℕ → Bool) (a end : ℕ) → end ≤ a → first_that test (range_with_len a (end - a)) ≡ None
+none_left test a end past =
+    let none : end - a ≡ 0 = omega (arith, past) in
+    rw none refl
+
+-- it is found in the first part of two lists, else in the second
+pub found_before : (test : ℕ → Bool) (xs ys : List ℕ) (a : ℕ) → first_that test xs ≡ Some a → first_that test (xs ++ ys) ≡ Some a
+found_before test [] ys a found = absurd (none-some a found)
+found_before test (x ∷ xs) ys a found =
+    ⊎_elim
+    (λ yes_x. rw yes_x (rw yes_x at found))
+    (λ no_x. rw no_x (found_before test xs ys a (rw no_x at found)))
+    (cases_Bool (test x))
+
+pub found_behind : (test : ℕ → Bool) (xs ys : List ℕ) → first_that test xs ≡ None → first_that test (xs ++ ys) ≡ first_that test ys
+found_behind test [] ys none = refl
+found_behind test (x ∷ xs) ys none =
+    ⊎_elim
+    (λ yes_x. absurd (none-some x (sym (rw yes_x at none))))
+    (λ no_x. rw no_x (found_behind test xs ys (rw no_x at none)))
+    (cases_Bool (test x))
+
+-- ---- a walk
+
+-- prices within 2^60 at the start are this near after as many moves as a batch has at most
+pub near_of : (start : List ℤ) → All (IsWithin (2 ^ 60)) start → AreWithin (2 ^ 60) start
+near_of start range k d inside = let one = range k d inside in omega (arith, ints, one)
+
+pub legal_near : (orders : List Order) (start : List ℤ) (walk : List ℕ) → All (IsWithin (2 ^ 60)) start → IsLegalFrom orders start walk → length walk ≤ 65536
+    → AreWithin (2 ^ 60 + 2 ^ 61) (end_of orders start walk)
+legal_near orders start walk range legal few k d inside =
+    let one = (has_walked orders (length start) start walk refl legal).range (2 ^ 60) (near_of start range) k d inside in
+    omega (arith, one, few)
+
+-- what a look for the next unsettled asset answers
+abbrev pub IsNext : List Order → List ℤ → ℕ → Option ℕ → Type 0
+IsNext orders prices next found = found ≡ first_that (is_unsettled orders prices) (visits (length prices) next)
+
+-- it is the first from the place on, else the first before it
+pub next_from : (orders : List Order) (prices : List ℤ) (next asset : ℕ) (found : Option ℕ)
+    → found ≡ first_that (is_unsettled orders prices) (range_with_len next (length prices - next)) → found ≡ Some asset → IsNext orders prices next (Some asset)
+next_from orders prices next asset found first some =
+    sym (found_before (is_unsettled orders prices) (range_with_len next (length prices - next)) (range_with_len 0 next) asset (sym first ∙ some))
+
+pub next_before : (orders : List Order) (prices : List ℤ) (next : ℕ) (found other : Option ℕ)
+    → found ≡ first_that (is_unsettled orders prices) (range_with_len next (length prices - next)) → found ≡ None
+    → other ≡ first_that (is_unsettled orders prices) (range_with_len 0 (next - 0)) → IsNext orders prices next other
+next_before orders prices next found other first none second =
+    let all : next - 0 ≡ next = omega arith in
+    second ∙ ap (λ n. first_that (is_unsettled orders prices) (range_with_len 0 n)) all ∙ sym (found_behind (is_unsettled orders prices) (range_with_len next (length prices - next)) (range_with_len 0 next) (sym first ∙ none))
+
+-- the moves so far are a walk in turn, and the next asset is looked for behind the one moved last
+pub record IsSearching (orders : List Order) (start : List ℤ) (now : List Order) (prices : List ℤ) (next : ℕ) (walk : List ℕ) : Type 0 where
+  pub same : now ≡ orders
+  pub in_turn : IsInTurn (length start) (is_unsettled orders) (step_of orders) start walk
+  pub end : prices ≡ end_of orders start walk
+  pub behind : next ≡ next_after (length start) (is_unsettled orders) (step_of orders) 0 walk
+
+module _ (orders : List Order) (start : List ℤ) where
+  -- before the first move
+  pub none_moved : (walk : List ℕ) → walk ≡ [] → IsSearching orders start orders start 0 walk
+  none_moved walk empty = rw empty (record { same = refl; in_turn = tt; end = refl; behind = refl })
+
+module _ (orders : List Order) (start : List ℤ) (now : List Order) (prices : List ℤ) (next : ℕ) (walk : List ℕ) (so_far : IsSearching orders start now prices next walk) where
+  pub legal_so_far : IsLegalFrom orders start walk
+  legal_so_far = in_turn-legal (length start) (is_unsettled orders) (step_of orders) 0 start walk (omega arith) so_far.in_turn
+
+  count_so_far : length prices ≡ length start
+  count_so_far = ap length so_far.end ∙ (has_walked orders (length start) start walk refl legal_so_far).count
+
+  -- the next asset is looked for from one that is there, or behind the last one
+  pub next_so_far : next ≤ length prices
+  next_so_far =
+      let there = next_after-there (length start) (is_unsettled orders) (step_of orders) 0 start walk (omega arith) so_far.in_turn in
+      omega (arith, there, so_far.behind, count_so_far)
+
+  -- the price of an asset is near enough for a move
+  pub near_so_far : (asset : ℕ) → All (IsWithin (2 ^ 60)) start → length walk ≤ 65536 → asset < length prices → unsigned_abs (price_of prices asset) ≤ 2 ^ 60 + 2 ^ 61
+  near_so_far asset range few inside =
+      subst (AreWithin (2 ^ 60 + 2 ^ 61)) (sym so_far.end) (legal_near orders start walk range legal_so_far few) asset (pos 0) inside
+
+  -- what is found, in the words of the walk
+  found_in_turn : (found : Option ℕ) → IsNext now prices next found
+      → first_that (is_unsettled orders (end_of orders start walk)) (visits (length start) (next_after (length start) (is_unsettled orders) (step_of orders) 0 walk)) ≡ found
+  found_in_turn found first =
+      subst (λ p. first_that (is_unsettled orders p) (visits (length start) (next_after (length start) (is_unsettled orders) (step_of orders) 0 walk)) ≡ found) so_far.end
+      (subst (λ k. first_that (is_unsettled orders prices) (visits (length start) k) ≡ found) so_far.behind
+      (subst (λ n. first_that (is_unsettled orders prices) (visits n next) ≡ found) count_so_far
+      (subst (λ o. first_that (is_unsettled o prices) (visits (length prices) next) ≡ found) so_far.same (sym first))))
+
+  module _ (found : Option ℕ) (first : IsNext now prices next found) where
+    -- an asset that is found is unsettled
+    pub found_unsettled : (asset : ℕ) → found ≡ Some asset → is_unsettled now prices asset ≡ true
+    found_unsettled asset some = first_that-passes (is_unsettled now prices) (visits (length prices) next) asset (sym first ∙ some)
+
+    -- one move more
+    pub one_more_moved : (after : List Order) (moved : List ℤ) (asset : ℕ) → found ≡ Some asset → after ≡ now → moved ≡ step_of now prices asset
+        → IsSearching orders start after moved (asset + 1) (walk ++ asset ∷ [])
+    one_more_moved after moved asset some same move =
+        let n = length start in
+        record {
+          same = same ∙ so_far.same;
+          in_turn = in_turn-push n (is_unsettled orders) (step_of orders) 0 start walk asset so_far.in_turn (found_in_turn found first ∙ some);
+          end = move ∙ ap (λ o. step_of o prices asset) so_far.same ∙ ap (λ p. step_of orders p asset) so_far.end ∙ sym (walk_end-push n (is_unsettled orders) (step_of orders) start walk asset);
+          behind = sym (next_after-push n (is_unsettled orders) (step_of orders) 0 walk asset);
+        }
+
+    -- where none is found all are settled
+    pub ends_settled : (budget : ℕ) → found ≡ None → length walk ≤ budget → IsOwnWalk (length start) (is_unsettled orders) (step_of orders) start budget walk
+    ends_settled budget none within =
+        let n = length start in
+        let there = next_after-there n (is_unsettled orders) (step_of orders) 0 start walk (omega arith) so_far.in_turn in
+        let settled = (visits-order n (next_after n (is_unsettled orders) (step_of orders) 0 walk) there).covers (is_unsettled orders (end_of orders start walk)) (found_in_turn found first ∙ none) in
+        own_walk n (is_unsettled orders) (step_of orders) start budget walk so_far.in_turn settled within
+
+    -- where one is found not all are
+    unsettled_left : (asset : ℕ) → found ≡ Some asset → ¬ EndsSettled orders start walk
+    unsettled_left asset some settled =
+        let n = length start in
+        let behind = next_after n (is_unsettled orders) (step_of orders) 0 walk in
+        let there = next_after-there n (is_unsettled orders) (step_of orders) 0 start walk (omega arith) so_far.in_turn in
+        let here = found_in_turn found first ∙ some in
+        let test = is_unsettled orders (end_of orders start walk) in
+        let inside = (visits-order n behind there).within test asset here in
+        false≢true (sym (settled asset inside) ∙ first_that-passes test (visits n behind) asset here)
+
+    pub ends_spent : (budget asset : ℕ) → found ≡ Some asset → length walk ≡ budget
+        → IsOwnTrace (length start) (is_unsettled orders) (step_of orders) start budget walk × (¬ EndsSettled orders start walk)
+    ends_spent budget asset some whole =
+        let unsettled = unsettled_left asset some in
+        (own_trace (length start) (is_unsettled orders) (step_of orders) start budget walk so_far.in_turn whole unsettled, unsettled)

@@ -1,0 +1,30 @@
+-- What a search for prices leaves, and a walk that is made again.
+use Rattle.std.specs.Prelude.{◌≡◌, ℕ, ◌+◌, ◌<◌, true, ℤ, List, length, take}
+use Rattle.flow_orders.specs.Orders.{Order}
+use Rattle.flow_orders.specs.Excess.{is_unsettled}
+use Rattle.flow_orders.specs.Turns.{IsOwnWalk, IsOwnTrace}
+use Rattle.flow_orders.specs.Outcomes.{step_of, IsLegalFrom, EndsSettled, end_of}
+use Rattle.coordinate_search.specs.declared.searching.Found.{Found}
+use Rattle.coordinate_search.specs.declared.searching.Found.TheVariants.{Settled, Spent}
+use Rattle.coordinate_search.specs.declared.retracing.Retraced.{Retraced}
+use Rattle.coordinate_search.specs.declared.retracing.Retraced.TheVariants.{Legal, Illegal}
+
+-- a search of a book ended with this walk: the shortest one in turn that settles all assets, or the one in turn of the whole budget that leaves some unsettled
+abbrev pub IsFound : Found → List Order → List ℤ → ℕ → List ℕ → Type 0
+IsFound Settled orders start budget walk = IsOwnWalk (length start) (is_unsettled orders) (step_of orders) start budget walk
+IsFound Spent orders start budget walk = IsOwnTrace (length start) (is_unsettled orders) (step_of orders) start budget walk × (¬ EndsSettled orders start walk)
+
+-- the moves before a place are legal, and with the one at the place they aren't
+pub record IsFirstIllegal (orders : List Order) (start : List ℤ) (walk : List ℕ) (place : ℕ) : Type 0 where
+  pub inside : place < length walk
+  pub before : IsLegalFrom orders start (take place walk)
+  pub refused : ¬ IsLegalFrom orders start (take (place + 1) walk)
+
+-- a walk from a start was made again as far as it is legal, and led to these prices
+abbrev pub IsRetraced : Retraced → List Order → List ℤ → List ℕ → List ℤ → Type 0
+IsRetraced Legal orders start walk end = IsLegalFrom orders start walk × (end ≡ end_of orders start walk)
+IsRetraced (Illegal place) orders start walk end = IsFirstIllegal orders start walk place × (end ≡ end_of orders start (take place walk))
+
+-- a move of this asset at these prices is legal
+abbrev pub IsMovable : List Order → List ℤ → ℕ → Type 0
+IsMovable orders prices asset = (asset < length prices) × (is_unsettled orders prices asset ≡ true)

@@ -1,0 +1,106 @@
+//! The search for prices at which all assets are settled.
+ghost use Rattle.std.specs.Prelude.{◌≡◌, ℕ, [], ◌+◌, ◌-◌, ◌^◌, ◌<◌, ◌≤◌, true, length, unsigned_abs, vec_capacity, All, IfSome};
+ghost use Rattle.std.specs.List.{range_with_len};
+ghost use Rattle.weight_rows.specs.Rows.{price_of};
+ghost use Rattle.demand_curve.specs.Demand.{IsWithin};
+ghost use Rattle.flow_orders.specs.Excess.{is_unsettled};
+ghost use Rattle.flow_orders.specs.Walks.{first_that};
+ghost use Rattle.flow_orders.specs.Turns.{visits, IsInTurn};
+ghost use Rattle.flow_orders.specs.Outcomes.{most_budget, step_of, end_of, IsLegalFrom};
+ghost use Rattle.excess_bounds.specs.Workspace.{most_prices};
+ghost use Rattle.coordinate_search.specs.Search.{IsFound};
+
+use crate::moves::step;
+use excess_bounds::Workspace;
+
+// The reach of a move in a walk, in grains.
+const REACH: i64 = 1 << 45;
+
+/// How a search ended.
+#[derive(Clone, Copy, Debug, PartialEq, Eq)]
+pub enum Found {
+    /// All assets are settled, after at most as many moves as the budget.
+    Settled,
+    /// Exactly as many moves as the budget were made, and some asset isn't settled.
+    Spent,
+}
+
+/// Searches for prices at which all assets are settled, by at most `budget` moves of at most 2^45 grains each.
+///
+/// The assets are visited in turn: 0 to the last one, and again from 0. One that is settled is passed over, and each
+/// other one is moved and its number appended to `trace`. The search ends as soon as all are settled, also where the
+/// last move used up the budget.
+///
+/// The prices are within 2^60 grains of 0 at the start, and no price moves further than 2^61 grains from there. `trace`
+/// is empty and has room for `budget` bytes. A visit costs two passes over the entries of all orders, a move at most 64
+/// more; there are at most as many visits before a move as there are assets. No memory is taken.
+pub fn search(work: &mut Workspace<'_>, budget: u32, trace: &mut Vec<u8>) -> Found
+    requires empty { trace.old.items ≡ [] }
+    requires room { budget ≤ vec_capacity trace.old }
+    requires most { budget ≤ most_budget }
+    requires start { All (IsWithin (2 ^ 60)) work.old.prices }
+    ensures orders { work.new.orders ≡ work.old.orders }
+    ensures prices { work.new.prices ≡ end_of work.old.orders work.old.prices trace.new.items }
+    ensures in_turn { IsInTurn (length work.old.prices) (is_unsettled work.old.orders)
+        (step_of work.old.orders) work.old.prices trace.new.items }
+    ensures legal { IsLegalFrom work.old.orders work.old.prices trace.new.items }
+    ensures found { IsFound result work.old.orders work.old.prices budget trace.new.items }
+    ensures capacity { vec_capacity trace.new ≡ vec_capacity trace.old }
+{
+    let mut next = 0;
+    for _made in 0..budget {
+        match next_unsettled(work, next) {
+            None => return Found::Settled,
+            Some(asset) => {
+                make_move(work, asset);
+                trace.push_reserved(asset as u8);
+                next = asset + 1;
+            }
+        }
+    }
+    match next_unsettled(work, next) {
+        None => Found::Settled,
+        Some(_asset) => Found::Spent,
+    }
+}
+
+// The first asset from `next` on that isn't settled, where the last one is followed by 0. None where all are settled.
+fn next_unsettled(work: &Workspace<'_>, next: u16) -> Option<u16>
+    requires next { next ≤ length work.now.prices }
+    ensures first { result
+        ≡ first_that (is_unsettled work.now.orders work.now.prices) (visits (length work.now.prices) next) }
+    ensures there { IfSome result (λ asset. asset < length work.now.prices) }
+    ensures few { length work.now.prices ≤ most_prices }
+{
+    let count = work.prices().len() as u16;
+    match unsettled_between(work, next, count) {
+        Some(asset) => Some(asset),
+        None => unsettled_between(work, 0, next),
+    }
+}
+
+// The first asset from `first` on, and below `end`, that isn't settled.
+fn unsettled_between(work: &Workspace<'_>, first: u16, end: u16) -> Option<u16>
+    requires end { end ≤ length work.now.prices }
+    ensures first { result
+        ≡ first_that (is_unsettled work.now.orders work.now.prices) (range_with_len first (end - first)) }
+    ensures there { IfSome result (λ asset. asset < end) }
+{
+    for asset in first..end {
+        if !work.is_settled(asset) {
+            return Some(asset);
+        }
+    }
+    None
+}
+
+// Makes the move of an asset in a walk.
+pub(crate) fn make_move(work: &mut Workspace<'_>, asset: u16)
+    requires asset { asset < length work.old.prices }
+    requires unsettled { is_unsettled work.old.orders work.old.prices asset ≡ true }
+    requires near { unsigned_abs (price_of work.old.prices asset) ≤ 2 ^ 60 + 2 ^ 61 }
+    ensures orders { work.new.orders ≡ work.old.orders }
+    ensures prices { work.new.prices ≡ step_of work.old.orders work.old.prices asset }
+{
+    step(work, asset, REACH);
+}
