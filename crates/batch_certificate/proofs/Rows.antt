@@ -27,10 +27,10 @@ pub brought : ℕ → ℕ → Entry → ℤ
 brought rate asset e = cond (eqb e.asset asset) (e.weight *ℤ pos rate) (pos 0)
 
 -- no two entries name the same asset
-abbrev AreApart : List Entry → Type 0
+abbrev pub AreApart : List Entry → Type 0
 AreApart row = (i j : ℕ) (d : Entry) → i < j → j < length row → (get_or row i d).asset ≢ (get_or row j d).asset
 
-lawful_apart : (row : List Entry) → IsLawfulRow row → AreApart row
+pub lawful_apart : (row : List Entry) → IsLawfulRow row → AreApart row
 lawful_apart row lawful i j d before within same =
     let count = length-assets_of row in
     let rises : get_or (assets_of row) i 0 < get_or (assets_of row) j 0 = AllPairs-from_increasing (assets_of row) lawful.ascending i j 0 before (omega (arith, within, count)) in

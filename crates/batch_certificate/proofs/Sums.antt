@@ -22,7 +22,7 @@ use Rattle.flow_orders.specs.Outcomes.{residuals_of, gap_of}
 use Rattle.batch_certificate.specs.Residuals.{most_prices, AreNear, HasEach, AreZeros, IsTradeAdded, cost_at}
 
 -- ---- sums as the code makes them
-fits : (z : ℤ) → unsigned_abs z ≤ 2 ^ 120 → FitsSigned w128 z
+pub fits : (z : ℤ) → unsigned_abs z ≤ 2 ^ 120 → FitsSigned w128 z
 fits z small = fits_signed_from_abs w128 z (omega (arith, small))
 
 -- a sum that fits is kept

@@ -1,5 +1,5 @@
 -- What holds of residuals and gaps.
-use Rattle.std.specs.Prelude.{◌≡◌, ◌+◌, ◌*◌, ◌<◌, ◌≤◌, ℕ, ℤ, false, unsigned_abs, List, length, All}
+use Rattle.std.specs.Prelude.{◌≡◌, ◌+◌, ◌*◌, ◌<◌, ◌≤◌, ◌↔◌, ℕ, ℤ, false, unsigned_abs, List, length, All}
 use Rattle.std.specs.List.{range_with_len, sum_by}
 use Rattle.weight_rows.specs.Rows.{price_of}
 use Rattle.demand_curve.specs.Numbers.{rounded_up}
@@ -7,7 +7,11 @@ use Rattle.demand_curve.specs.Demand.{IsRounding, span}
 use Rattle.flow_orders.specs.Orders.{Order, IsOrder, terms_of}
 use Rattle.flow_orders.specs.Excess.{price_for, residual_bound, is_unsettled}
 use Rattle.flow_orders.specs.Trades.{trades, residual}
+use Rattle.flow_orders.specs.Outcomes.{Clearing, IsRightClearing}
 use Rattle.batch_certificate.specs.Residuals.{residual_in}
+use Rattle.batch_certificate.specs.declared.verdict.Verdict.{Verdict}
+use Rattle.batch_certificate.specs.declared.verdict.Verdict.TheVariants.{Right}
+use Rattle.batch_certificate.specs.Verdicts.{IsVerdict}
 
 -- one rate for each order, which is a rounding of the order's demand at these prices
 pub record AreRoundings (orders : List Order) (prices : List ℤ) (rates : List ℕ) : Type 0 where
@@ -34,3 +38,11 @@ abbrev pub gap_bound : List Order → List ℤ → ℕ
 gap_bound orders prices =
     sum_by (λ o. rounded_up (span (terms_of o)) (2 * o.rate)) orders
     + sum_by (λ asset. unsigned_abs (price_of prices asset) * residual_bound orders asset) (range_with_len 0 (length prices))
+
+-- a clearing has at most one verdict
+abbrev pub OneVerdict : Type 0
+OneVerdict = (orders : List Order) (start : List ℤ) (c : Clearing) (v w : Verdict) → IsVerdict orders start c v → IsVerdict orders start c w → v ≡ w
+
+-- and that it is right is the verdict on a right clearing, and on no other
+abbrev pub RightIsForRightClearings : Type 0
+RightIsForRightClearings = (orders : List Order) (start : List ℤ) (c : Clearing) → IsVerdict orders start c Right ↔ IsRightClearing orders start c

@@ -1,3 +1,5 @@
 pub mod Published
 pub mod Residuals
 pub mod Laws
+pub mod Verdicts
+pub mod Weighing

@@ -130,7 +130,7 @@ fn add_trades(orders: &[Order], prices: &[i64], rates: &[u32], residuals: &mut [
 }
 
 // What the residuals cost at the prices.
-fn cost(prices: &[i64], residuals: &[i64]) -> i128
+pub(crate) fn cost(prices: &[i64], residuals: &[i64]) -> i128
     requires assets { length prices.now ≤ most_prices }
     requires range { All IsPrice prices.now }
     requires places { length residuals.now ≡ length prices.now }

@@ -11,13 +11,20 @@
 #![tactic(auto)]
 
 mod certificate;
+mod check;
 pub mod laws;
 mod lists;
 mod outcome;
+mod parts;
 #[cfg(test)]
 mod tests;
 mod trade;
+mod verdict;
+mod weights;
 
 pub use certificate::{Memory, certify};
+pub use check::check_cleared;
 pub use lists::{PriceList, RateList, ResidualList, Trace};
 pub use outcome::{Cleared, Outcome, Skipped};
+pub use parts::ClearedParts;
+pub use verdict::Verdict;

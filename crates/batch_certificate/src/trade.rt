@@ -1,5 +1,5 @@
 //! One order's part of the certificate.
-ghost use Rattle.std.specs.Prelude.{◌≡◌, ◌^◌, ◌<◌, ◌≤◌, pos, ◌+ℤ◌, ◌*ℤ◌, unsigned_abs, length, slice_set, All};
+ghost use Rattle.std.specs.Prelude.{◌≡◌, ◌^◌, ◌<◌, ◌≤◌, pos, ◌+ℤ◌, ◌*ℤ◌, unsigned_abs, length, slice_set, All, IfSome, IfNone};
 ghost use Rattle.weight_rows.specs.Rows.{most_weight, IsPrice, IsPricedBy};
 ghost use Rattle.demand_curve.specs.Demand.{most_rate, IsRounding, loss};
 ghost use Rattle.flow_orders.specs.Orders.{IsOrder, terms_of};
@@ -25,6 +25,50 @@ pub(crate) fn add_trade(order: &Order, rate: u32, prices: &[i64], residuals: &mu
     let lost = loss_of(order, rate, prices);
     add_row(order.row(), rate, residuals);
     lost
+}
+
+/// Does the same where the rate is a rounding of the order's demand at the prices, and else answers None and adds nothing.
+pub(crate) fn try_trade(
+    order: &Order,
+    rate: u32,
+    prices: &[i64],
+    residuals: &mut [i64],
+) -> Option<i128>
+    requires range { All IsPrice prices.now }
+    requires priced { IsPricedBy order.now.row prices.now }
+    requires places { length residuals.old ≡ length prices.now }
+    requires near { AreNear (2 ^ 50) residuals.old }
+    ensures none { IfNone result (¬ IsRounding (terms_of order.now) rate (price_for prices.now order.now)) }
+    ensures rounding { IfSome result (λ lost. IsRounding (terms_of order.now) rate (price_for prices.now order.now)) }
+    ensures added { IfSome result (λ lost. IsTradeAdded order.now.row rate residuals.old residuals.new) }
+    ensures lost { IfSome result (λ lost. lost ≡ pos (loss (terms_of order.now) rate (price_for prices.now order.now))) }
+    ensures small { IfSome result (λ lost. unsigned_abs lost ≤ 2 ^ 60) }
+    ensures rate { IfSome result (λ lost. rate ≤ most_rate) }
+    ensures order { IsOrder order.now }
+{
+    let lost = rounding_loss(order, rate, prices)?;
+    add_row(order.row(), rate, residuals);
+    Some(lost)
+}
+
+// What an order loses at this rate, or None where the rate is no rounding of its demand.
+fn rounding_loss(order: &Order, rate: u32, prices: &[i64]) -> Option<i128>
+    requires range { All IsPrice prices.now }
+    requires priced { IsPricedBy order.now.row prices.now }
+    ensures none { IfNone result (¬ IsRounding (terms_of order.now) rate (price_for prices.now order.now)) }
+    ensures rounding { IfSome result (λ lost. IsRounding (terms_of order.now) rate (price_for prices.now order.now)) }
+    ensures lost { IfSome result (λ lost. lost ≡ pos (loss (terms_of order.now) rate (price_for prices.now order.now))) }
+    ensures small { IfSome result (λ lost. unsigned_abs lost ≤ 2 ^ 60) }
+    ensures rate { IfSome result (λ lost. rate ≤ most_rate) }
+    ensures order { IsOrder order.now }
+{
+    let curve = order.curve();
+    let price = order.row().price(prices);
+    if curve.is_rounded(rate, price) {
+        Some(curve.loss(rate, price))
+    } else {
+        None
+    }
 }
 
 // What an order loses at this rate.

@@ -1,0 +1,293 @@
+//! The check of a published clearing.
+ghost use Rattle.std.specs.Prelude.{List, ℤ, ◌-ℤ◌, ◌≡◌, ◌^◌, ◌+◌, ◌<◌, ◌≤◌, ◌↔◌, pos, map, unsigned_abs, length, All, IsTrue, IfSome, IfNone, IfOk, IfErr};
+ghost use Rattle.std.specs.List.{sum_by};
+ghost use Rattle.std.specs.Int.{div_ceil};
+ghost use Rattle.weight_rows.specs.Rows.{IsPrice, IsPricedBy, price_of};
+ghost use Rattle.demand_curve.specs.Demand.{most_rate, IsRounding, loss};
+ghost use Rattle.flow_orders.specs.Orders.{Order as OrderValue, IsOrder, most_orders, terms_of};
+ghost use Rattle.flow_orders.specs.Excess.{price_for, residual_bound};
+ghost use Rattle.flow_orders.specs.Trades.{trades};
+ghost use Rattle.flow_orders.specs.Outcomes.{Clearing, residuals_of, gap_of, trades_of, IsRightClearing};
+ghost use Rattle.flow_orders.specs.Welfare.{IsOptimalWithin};
+ghost use Rattle.batch_certificate.specs.Residuals.{most_prices, residual_in, AreNear, AreZeros, IsTradeAdded};
+ghost use Rattle.batch_certificate.specs.Verdicts.{HoldsBelow, IsFirstWrong, AreCounted, IsPriceRight, IsRateRight, IsResidualRight, IsGapRight, HasRightPrices, HasRightRates, HasRightResiduals, IsVerdict, numbers_in, rates_in};
+ghost use Rattle.batch_certificate.specs.Weighing.{count_in, AreSmall, HasCounts, IsKept, IsPriceKept, IsWithinBound, IsResidualWithin, square, weighed};
+ghost use Rattle.batch_certificate.specs.declared.verdict.Verdict.TheVariants.{Right};
+
+use crate::certificate::cost;
+use crate::parts::{ClearedParts, number_at, price_at, rate_at, residual_at};
+use crate::trade::try_trade;
+use crate::verdict::Verdict;
+use crate::weights::add_weights;
+use flow_orders::Order;
+
+// No more assets have a price.
+const PLACES: usize = 64;
+
+// The highest price, and minus the lowest, in grains.
+const MOST_PRICE: u64 = 1 << 62;
+
+/// Checks a published clearing of these orders.
+pub fn check_cleared<P: ClearedParts>(orders: &[Order], start: &[i64], parts: &P) -> Verdict
+    requires few { length orders.now ≤ most_orders }
+    requires assets { length start.now ≤ most_prices }
+    requires priced { All (λ o. IsPricedBy o.row start.now) orders.now }
+    ensures verdict { IsVerdict orders.now start.now (P.clearing parts.now) result }
+    ensures right { (result ≡ Right) ↔ IsRightClearing orders.now start.now (P.clearing parts.now) }
+    ensures optimal { result ≡ Right → IsOptimalWithin (P.clearing parts.now).gap orders.now (rates_in (P.clearing parts.now)) }
+{
+    if !are_counted(orders, start, parts) {
+        return Verdict::Count;
+    }
+    let mut spreads = no_counts();
+    let mut squares = no_counts();
+    let mut prices = no_units();
+    let mut residuals = no_units();
+    let assets = start.len();
+    check_counted(
+        orders,
+        start,
+        parts,
+        &mut spreads[..assets],
+        &mut squares[..assets],
+        &mut prices[..assets],
+        &mut residuals[..assets],
+    )
+}
+
+// A count of 0 for each asset that there may be.
+fn no_counts() -> [u64; PLACES]
+    ensures { HasCounts 64 (λ asset. 0) result }
+{
+    [0; PLACES]
+}
+
+// No units of each asset that there may be.
+fn no_units() -> [i64; PLACES]
+    ensures { AreZeros 64 result }
+{
+    [0; PLACES]
+}
+
+// Whether there is one price for each start price, and one rate for each order, under its number.
+fn are_counted<P: ClearedParts>(orders: &[Order], start: &[i64], parts: &P) -> bool
+    requires { length orders.now ≤ most_orders }
+    ensures { IsTrue result ↔ AreCounted orders.now start.now (P.clearing parts.now) }
+{
+    usize::from(parts.price_count()) == start.len()
+        && parts.rate_count() as usize == orders.len()
+        && are_numbered(orders, parts)
+}
+
+// Whether the numbers are those of the orders.
+fn are_numbered<P: ClearedParts>(orders: &[Order], parts: &P) -> bool
+    requires few { length orders.now ≤ most_orders }
+    requires one_each { length (P.clearing parts.now).fills ≡ length orders.now }
+    ensures { IsTrue result ↔ (numbers_in (P.clearing parts.now) ≡ map (λ (o : OrderValue). o.number) orders.now) }
+{
+    for (place, order) in orders.iter().enumerate() {
+        if number_at(parts, place as u32) != order.number() {
+            return false;
+        }
+    }
+    true
+}
+
+// The verdict where all are counted. Of what is kept of each asset, all is 0 before.
+fn check_counted<P: ClearedParts>(
+    orders: &[Order],
+    start: &[i64],
+    parts: &P,
+    spreads: &mut [u64],
+    squares: &mut [u64],
+    prices: &mut [i64],
+    residuals: &mut [i64],
+) -> Verdict
+    requires few { length orders.now ≤ most_orders }
+    requires assets { length start.now ≤ most_prices }
+    requires priced { All (λ o. IsPricedBy o.row start.now) orders.now }
+    requires counted { AreCounted orders.now start.now (P.clearing parts.now) }
+    requires no_spreads { HasCounts (length start.now) (λ asset. 0) spreads.old }
+    requires no_squares { HasCounts (length start.now) (λ asset. 0) squares.old }
+    requires no_prices { AreZeros (length start.now) prices.old }
+    requires no_residuals { AreZeros (length start.now) residuals.old }
+    ensures verdict { IsVerdict orders.now start.now (P.clearing parts.now) result }
+    ensures orders { All IsOrder orders.now }
+{
+    add_weights(orders, spreads, squares);
+    if let Some(asset) = wrong_price(start, parts, spreads, prices) {
+        return Verdict::Price(asset);
+    }
+    check_priced(orders, parts, spreads, squares, prices, residuals)
+}
+
+// The first asset whose price is wrong. Where there is none, all prices are copied.
+fn wrong_price<P: ClearedParts>(
+    start: &[i64],
+    parts: &P,
+    spreads: &[u64],
+    prices: &mut [i64],
+) -> Option<u16>
+    requires start { length start.now ≡ length (P.clearing parts.now).prices }
+    requires spreads { length spreads.now ≡ length (P.clearing parts.now).prices }
+    requires places { length prices.old ≡ length (P.clearing parts.now).prices }
+    ensures wrong { IfSome result (λ asset. IsFirstWrong
+        (IsPriceKept spreads.now start.now (P.clearing parts.now)) (length (P.clearing parts.now).prices) asset) }
+    ensures right { IfNone result (HoldsBelow
+        (IsPriceKept spreads.now start.now (P.clearing parts.now)) (length (P.clearing parts.now).prices)) }
+    ensures prices { IfNone result (prices.new ≡ (P.clearing parts.now).prices) }
+{
+    for asset in 0..parts.price_count() {
+        let price = price_at(parts, asset);
+        if !is_kept(price, start, spreads, asset) {
+            return Some(asset);
+        }
+        prices[usize::from(asset)] = price;
+    }
+    None
+}
+
+// Whether the price of an asset is within the range, and is the start price where the asset's spread is 0.
+fn is_kept(price: i64, start: &[i64], spreads: &[u64], asset: u16) -> bool
+    requires start { asset < length start.now }
+    requires spread { asset < length spreads.now }
+    ensures { IsTrue result ↔ IsKept price spreads.now start.now asset }
+{
+    let place = usize::from(asset);
+    price.unsigned_abs() <= MOST_PRICE && (spreads[place] != 0 || price == start[place])
+}
+
+// The verdict where all is right up to the prices, which are these.
+fn check_priced<P: ClearedParts>(
+    orders: &[Order],
+    parts: &P,
+    spreads: &[u64],
+    squares: &[u64],
+    prices: &[i64],
+    residuals: &mut [i64],
+) -> Verdict
+    requires few { length orders.now ≤ most_orders }
+    requires assets { length prices.now ≤ most_prices }
+    requires prices { prices.now ≡ (P.clearing parts.now).prices }
+    requires range { All IsPrice prices.now }
+    requires priced { All (λ o. IsPricedBy o.row prices.now) orders.now }
+    requires one_each { length (P.clearing parts.now).fills ≡ length orders.now }
+    requires places { length (P.clearing parts.now).residuals ≡ length prices.now }
+    requires spreads { HasCounts (length prices.now) (weighed unsigned_abs orders.now) spreads.now }
+    requires squares { HasCounts (length prices.now) (weighed square orders.now) squares.now }
+    requires small_spreads { AreSmall (2 ^ 40) spreads.now }
+    requires small_squares { AreSmall (2 ^ 40) squares.now }
+    requires zeros { AreZeros (length prices.now) residuals.old }
+    ensures { (start : List ℤ) → HasRightPrices orders.now start (P.clearing parts.now)
+        → IsVerdict orders.now start (P.clearing parts.now) result }
+{
+    let lost = match add_rates(orders, parts, prices, residuals) {
+        Ok(lost) => lost,
+        Err(place) => return Verdict::Rate(place),
+    };
+    if let Some(asset) = wrong_residual(parts, residuals, spreads, squares) {
+        return Verdict::Residual(asset);
+    }
+    if is_gap(parts, lost, cost(prices, residuals)) {
+        Verdict::Right
+    } else {
+        Verdict::Gap
+    }
+}
+
+// Whether the gap is what was lost less what the residuals cost.
+fn is_gap<P: ClearedParts>(parts: &P, lost: i128, cost: i128) -> bool
+    requires lost { unsigned_abs lost ≤ 2 ^ 74 }
+    requires cost { unsigned_abs cost ≤ 2 ^ 118 }
+    ensures { IsTrue result ↔ ((P.clearing parts.now).gap ≡ lost -ℤ cost) }
+{
+    parts.gap() == lost - cost
+}
+
+// Makes zeros what the rates leave over, and answers what they lose, or the first place whose rate is wrong.
+fn add_rates<P: ClearedParts>(
+    orders: &[Order],
+    parts: &P,
+    prices: &[i64],
+    residuals: &mut [i64],
+) -> Result<i128, u32>
+    requires few { length orders.now ≤ most_orders }
+    requires prices { prices.now ≡ (P.clearing parts.now).prices }
+    requires range { All IsPrice prices.now }
+    requires priced { All (λ o. IsPricedBy o.row prices.now) orders.now }
+    requires one_each { length (P.clearing parts.now).fills ≡ length orders.now }
+    requires zeros { AreZeros (length prices.now) residuals.old }
+    ensures wrong { IfErr result (λ place. IsFirstWrong
+        (IsRateRight orders.now (P.clearing parts.now)) (length orders.now) place) }
+    ensures right { IfOk result (λ lost. HoldsBelow
+        (IsRateRight orders.now (P.clearing parts.now)) (length orders.now)) }
+    ensures residuals { IfOk result (λ lost. residuals.new
+        ≡ residuals_of (length prices.now) (trades_of orders.now (P.clearing parts.now).fills)) }
+    ensures near { IfOk result (λ lost. AreNear (2 ^ 50) residuals.new) }
+    ensures lost { IfOk result (λ lost. lost ≡ pos (sum_by
+        (λ t. loss (terms_of t.order) t.traded (price_for prices.now t.order))
+        (trades_of orders.now (P.clearing parts.now).fills))) }
+    ensures small { IfOk result (λ lost. unsigned_abs lost ≤ 2 ^ 74) }
+{
+    let mut lost = 0;
+    for (place, order) in orders.iter().enumerate() {
+        match try_trade(order, rate_at(parts, place as u32), prices, residuals) {
+            None => return Err(place as u32),
+            Some(more) => lost += more,
+        }
+    }
+    Ok(lost)
+}
+
+// The first asset whose residual isn't this one, or is past its bound.
+fn wrong_residual<P: ClearedParts>(
+    parts: &P,
+    residuals: &[i64],
+    spreads: &[u64],
+    squares: &[u64],
+) -> Option<u16>
+    requires residuals { length residuals.now ≡ length (P.clearing parts.now).residuals }
+    requires spreads { length spreads.now ≡ length (P.clearing parts.now).residuals }
+    requires squares { length squares.now ≡ length (P.clearing parts.now).residuals }
+    requires small { AreSmall (2 ^ 40) spreads.now }
+    requires small_squares { AreSmall (2 ^ 40) squares.now }
+    ensures wrong { IfSome result (λ asset. IsFirstWrong
+        (IsResidualWithin residuals.now spreads.now squares.now (P.clearing parts.now))
+        (length (P.clearing parts.now).residuals) asset) }
+    ensures right { IfNone result (HoldsBelow
+        (IsResidualWithin residuals.now spreads.now squares.now (P.clearing parts.now))
+        (length (P.clearing parts.now).residuals)) }
+{
+    for asset in 0..parts.price_count() {
+        if !is_within_bound(
+            residual_at(parts, asset),
+            residuals,
+            spreads,
+            squares,
+            asset,
+        ) {
+            return Some(asset);
+        }
+    }
+    None
+}
+
+// Whether a residual is that of an asset, and within the bound that its spread and its sum of squares give.
+fn is_within_bound(
+    residual: i64,
+    residuals: &[i64],
+    spreads: &[u64],
+    squares: &[u64],
+    asset: u16,
+) -> bool
+    requires residual { asset < length residuals.now }
+    requires spread { asset < length spreads.now }
+    requires squares { asset < length squares.now }
+    requires small { count_in spreads.now asset ≤ 2 ^ 40 }
+    requires small_squares { count_in squares.now asset ≤ 2 ^ 40 }
+    ensures { IsTrue result ↔ IsWithinBound residual residuals.now spreads.now squares.now asset }
+{
+    let place = usize::from(asset);
+    residual == residuals[place]
+        && residual.unsigned_abs() <= spreads[place] + squares[place].div_ceil(256)
+}

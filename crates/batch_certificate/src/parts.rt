@@ -1,0 +1,76 @@
+//! What is published of a clearing, part by part.
+ghost use Rattle.std.specs.Prelude.{◌≡◌, ◌<◌, length, slice_get, slice_index_or};
+ghost use Rattle.weight_rows.specs.Rows.{price_of};
+ghost use Rattle.flow_orders.specs.Outcomes.{Clearing};
+ghost use Rattle.batch_certificate.specs.Residuals.{residual_in};
+ghost use Rattle.batch_certificate.specs.Verdicts.{numbers_in, rates_in};
+
+/// A published clearing whose numbers lie somewhere, in memory or in the bytes of a journal: one price and one residual
+/// for each asset, by the assets' numbers, one rate for each order that was live, by the orders' places, and the gap.
+///
+/// Each call takes constant time. It answers None exactly where `k` isn't below its count.
+pub trait ClearedParts {
+    // All of it.
+    ghost clearing: { Self → Clearing };
+
+    /// How many prices there are, and as many residuals.
+    fn price_count(&self) -> u16
+        ensures prices { result ≡ length (clearing self.now).prices }
+        ensures residuals { result ≡ length (clearing self.now).residuals };
+
+    /// The price of asset `k`, in grains.
+    fn price(&self, k: u16) -> Option<i64>
+        ensures { result ≡ slice_get (clearing self.now).prices k };
+
+    /// How many rates there are, and as many numbers of orders.
+    fn rate_count(&self) -> u32
+        ensures { result ≡ length (clearing self.now).fills };
+
+    /// The number of the order at place `k`.
+    fn order(&self, k: u32) -> Option<u64>
+        ensures { result ≡ slice_get (numbers_in (clearing self.now)) k };
+
+    /// The rate of the order at place `k`, in units of its portfolio.
+    fn rate(&self, k: u32) -> Option<u32>
+        ensures { result ≡ slice_get (rates_in (clearing self.now)) k };
+
+    /// What the rates leave over of asset `k`, in units, bought less sold.
+    fn residual(&self, k: u16) -> Option<i64>
+        ensures { result ≡ slice_get (clearing self.now).residuals k };
+
+    /// The gap, in grains. It may be negative.
+    fn gap(&self) -> i128
+        ensures { result ≡ (clearing self.now).gap };
+}
+
+// The price of an asset that has one.
+pub(crate) fn price_at<P: ClearedParts>(parts: &P, asset: u16) -> i64
+    requires { asset < length (P.clearing parts.now).prices }
+    ensures { result ≡ price_of (P.clearing parts.now).prices asset }
+{
+    parts.price(asset).unwrap()
+}
+
+// The number of the order at a place that has a rate.
+pub(crate) fn number_at<P: ClearedParts>(parts: &P, place: u32) -> u64
+    requires { place < length (P.clearing parts.now).fills }
+    ensures { result ≡ slice_index_or (numbers_in (P.clearing parts.now)) place 0 }
+{
+    parts.order(place).unwrap()
+}
+
+// The rate at a place that has one.
+pub(crate) fn rate_at<P: ClearedParts>(parts: &P, place: u32) -> u32
+    requires { place < length (P.clearing parts.now).fills }
+    ensures { result ≡ slice_index_or (rates_in (P.clearing parts.now)) place 0 }
+{
+    parts.rate(place).unwrap()
+}
+
+// The residual of an asset that has one.
+pub(crate) fn residual_at<P: ClearedParts>(parts: &P, asset: u16) -> i64
+    requires { asset < length (P.clearing parts.now).residuals }
+    ensures { result ≡ residual_in (P.clearing parts.now).residuals asset }
+{
+    parts.residual(asset).unwrap()
+}
