@@ -1,1 +1,1 @@
-pub mod SingleClearing
+pub mod OwnClearing

@@ -1,16 +1,18 @@
 //! The outcome of a batch.
-ghost use Rattle.std.specs.Prelude.{◌≡◌, ℕ, ◌^◌, ◌≤◌, true, length, All, IfOk, OnOk};
-ghost use Rattle.weight_rows.specs.Rows.{IsPricedBy};
+ghost use Rattle.std.specs.Prelude.{◌≡◌, ℕ, ◌^◌, ◌≤◌, ◌↔◌, true, false, length, All, IsTrue, IfOk};
+ghost use Rattle.weight_rows.specs.Rows.{IsPricedBy, IsPrice};
 ghost use Rattle.demand_curve.specs.Demand.{IsWithin};
 ghost use Rattle.flow_orders.specs.Orders.{IsOrder, IsFrom1To, most_orders};
 ghost use Rattle.flow_orders.specs.Outcomes.{most_budget, IsRightOutcome};
-ghost use Rattle.flow_orders.specs.Outcomes.{Cleared as ClearedBatch};
 ghost use Rattle.flow_orders.specs.Own.{are_single, IsOwnOutcome, ClearsNear};
 ghost use Rattle.excess_bounds.specs.Workspace.{most_prices};
-ghost use Rattle.batch_certificate.specs.Published.{clearing_of, outcome_of, HasOneRateEach};
+ghost use Rattle.batch_certificate.specs.Published.{outcome_of, HasOneRateEach};
+ghost use Rattle.batch_engine.specs.Certified.{IsCertified};
+ghost use Rattle.batch_engine.specs.Private.{IsClearedAt, IsClearedFrom, IsOutcomeFrom};
 
-use batch_certificate::{Cleared, Outcome, PriceList, RateList, certify};
-use coordinate_search::settle_single;
+use batch_certificate::{Cleared, Outcome, PriceList, RateList, Skipped, Trace, certify};
+use coordinate_search::{Found, search, settle_single};
+use dual_value::dual_floor;
 use excess_bounds::Workspace;
 use flow_orders::Order;
 use rate_rounding::floor_rates;
@@ -44,12 +46,14 @@ impl From<batch_certificate::Memory> for Memory {
     }
 }
 
-/// The outcome of a batch of these orders, from these start prices, in grains by the assets' numbers.
+/// The outcome of a batch of these orders, from these start prices, in grains by the assets' numbers, with this budget of
+/// moves: the program's own one.
 ///
-/// There are at most 16,384 orders, each of which names one asset, and at most 64 start prices, within 2^60 grains of 0,
-/// one for each asset that an order names. Such a batch always clears: each asset that isn't settled is moved once. The
-/// budget, from 1 to 65,536 moves, isn't used for it. Orders and clearing are those of Flow Trading (Budish, Cramton,
-/// Kyle, Lee and Malec, 2023); where prices start and end, and how demands are rounded, are this project's own.
+/// There are at most 16,384 orders and at most 64 start prices, within 2^60 grains of 0, one for each asset that an order
+/// names. Where each order names one asset the batch always clears: each asset that isn't settled is moved once, and the
+/// budget, from 1 to 65,536 moves, isn't used. Other books are searched, and the batch is skipped where the budget is
+/// used up before all assets are settled. Orders and clearing are those of Flow Trading (Budish, Cramton, Kyle, Lee and
+/// Malec, 2023); where prices start and end, and how demands are rounded, are this project's own.
 ///
 /// `Memory` is the one fault.
 pub fn clear(alloc: Global, orders: &[Order], start: &[i64], budget: u32) -> Result<Outcome, Memory>
@@ -57,14 +61,29 @@ pub fn clear(alloc: Global, orders: &[Order], start: &[i64], budget: u32) -> Res
     requires assets { length start.now ≤ most_prices }
     requires range { All (IsWithin (2 ^ 60)) start.now }
     requires priced { All (λ o. IsPricedBy o.row start.now) orders.now }
-    requires single { are_single orders.now ≡ true }
     requires budget { IsFrom1To most_budget budget }
     ensures own { IfOk result (λ outcome. IsOwnOutcome orders.now start.now budget (outcome_of orders.now outcome)) }
     ensures right { IfOk result (λ outcome. IsRightOutcome orders.now start.now budget (outcome_of orders.now outcome)) }
-    ensures near { IfOk result (λ outcome. ClearsNear orders.now start.now (outcome_of orders.now outcome)) }
+
+    // A book of one-asset orders clears.
+    ensures near { are_single orders.now ≡ true
+        → IfOk result (λ outcome. ClearsNear orders.now start.now (outcome_of orders.now outcome)) }
+
+    // No balanced rates beat those of a clearing by more than its gap, which is bounded.
+    ensures certified { IfOk result (IsCertified orders.now) }
     ensures one_rate_each { IfOk result (HasOneRateEach orders.now) }
 {
-    Ok(Outcome::Cleared(clear_single(alloc, orders, start)?))
+    if are_single(orders) {
+        return Ok(Outcome::Cleared(clear_single(alloc, orders, start)?));
+    }
+    clear_wide(alloc, orders, start, budget)
+}
+
+// Whether each order names one asset alone.
+fn are_single(orders: &[Order]) -> bool
+    ensures { IsTrue result ↔ (are_single orders.now ≡ true) }
+{
+    orders.iter().all(|order| order.row().is_single())
 }
 
 // The clearing of a book in which each order names one asset.
@@ -74,13 +93,45 @@ fn clear_single(alloc: Global, orders: &[Order], start: &[i64]) -> Result<Cleare
     requires range { All (IsWithin (2 ^ 60)) start.now }
     requires priced { All (λ o. IsPricedBy o.row start.now) orders.now }
     requires single { are_single orders.now ≡ true }
-    ensures own { IfOk result (λ c. (budget : ℕ) → IsOwnOutcome orders.now start.now budget (ClearedBatch (clearing_of orders.now c))) }
-    ensures one_rate_each { IfOk result (λ c. length c.rates ≡ length orders.now) }
-    ensures each { OnOk result (All IsOrder orders.now) }
+    ensures cleared { IfOk result (λ c. (budget : ℕ) → budget ≤ most_budget → IsClearedFrom orders.now start.now budget c) }
 {
     let mut work = Workspace::new(alloc, orders, start)?;
     settle_single(&mut work);
-    let prices = PriceList::new(Vec::from_slice(alloc, work.prices())?);
+    clear_at(alloc, orders, work.prices())
+}
+
+// The outcome of a book in which some order names two assets or more.
+fn clear_wide(alloc: Global, orders: &[Order], start: &[i64], budget: u32) -> Result<Outcome, Memory>
+    requires few { length orders.now ≤ most_orders }
+    requires assets { length start.now ≤ most_prices }
+    requires range { All (IsWithin (2 ^ 60)) start.now }
+    requires priced { All (λ o. IsPricedBy o.row start.now) orders.now }
+    requires wide { are_single orders.now ≡ false }
+    requires budget { IsFrom1To most_budget budget }
+    ensures own { IfOk result (IsOutcomeFrom orders.now start.now budget) }
+{
+    let mut trace = Vec::with_capacity(alloc, budget as usize)?;
+    let mut work = Workspace::new(alloc, orders, start)?;
+    match search(&mut work, budget, &mut trace) {
+        Found::Settled => Ok(Outcome::Cleared(clear_at(alloc, orders, work.prices())?)),
+        Found::Spent => Ok(Outcome::Skipped(Skipped {
+            trace: Trace::new(trace),
+            start_dual: dual_floor(orders, start),
+            end_dual: dual_floor(orders, work.prices()),
+        })),
+    }
+}
+
+// The clearing at these prices.
+fn clear_at(alloc: Global, orders: &[Order], prices: &[i64]) -> Result<Cleared, Memory>
+    requires few { length orders.now ≤ most_orders }
+    requires assets { length prices.now ≤ most_prices }
+    requires range { All IsPrice prices.now }
+    requires priced { All (λ o. IsPricedBy o.row prices.now) orders.now }
+    requires each { All IsOrder orders.now }
+    ensures { IfOk result (IsClearedAt orders.now prices.now) }
+{
+    let prices = PriceList::new(Vec::from_slice(alloc, prices)?);
     let rates = RateList::new(floor_rates(alloc, orders, prices.as_slice())?);
     Ok(certify(alloc, orders, prices, rates)?)
 }

@@ -180,10 +180,6 @@ all_visited orders start budget end own =
     let visits_of = visited_once orders (visits (length start) 0) start in
     rw (own, ← visits_all (length start)) visits_of
 
--- and keeps the number of prices
-pub moved_once_count : (orders : List Order) (start : List ℤ) → length (moved_once orders (visits (length start) 0) start) ≡ length start
-moved_once_count orders start = visited_count orders (visits (length start) 0) start (moved_once orders (visits (length start) 0) start) (visited_once orders (visits (length start) 0) start)
-
 -- one far move of each unsettled asset settles them all
 pub settles_once : (orders : List Order) (start : List ℤ) (budget : ℕ) (end : List ℤ) → are_single orders ≡ true → All IsOrder orders → All (IsWithin (2 ^ 60)) start → ArePricesOf true orders start budget end → IsSettledOnce orders start end
 settles_once orders start budget end is each range own =
@@ -213,6 +209,11 @@ prices_are_right false orders start budget end is each range few own =
   where
     near : (p : ℤ) → IsWithin (2 ^ 60) p → unsigned_abs p ≤ 2 ^ 60
     near p within = omega (arith, ints, within.0, within.1)
+
+-- there is one for each asset
+pub own_prices_count : (orders : List Order) (start : List ℤ) (budget : ℕ) (end : List ℤ) → All IsOrder orders → All (IsWithin (2 ^ 60)) start → budget ≤ most_budget
+    → ArePricesOf (are_single orders) orders start budget end → length end ≡ length start
+own_prices_count orders start budget end each range few own = (prices_are_right (are_single orders) orders start budget end refl each range few own).count
 
 -- an own outcome is a right one
 pub own_is_right : (orders : List Order) (start : List ℤ) (budget : ℕ) (o : Outcome) → All IsOrder orders → All (IsWithin (2 ^ 60)) start → budget ≤ most_budget → IsOwnOutcome orders start budget o → IsRightOutcome orders start budget o

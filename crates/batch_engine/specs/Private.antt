@@ -1,0 +1,37 @@
+-- Words that only private functions of a batch use.
+use Rattle.std.specs.Prelude.{◌≡◌, pos, ◌≤ℤ◌, ℕ, ℤ, List, length, All}
+use Rattle.flow_orders.specs.Orders.{Order, IsOrder}
+use Rattle.flow_orders.specs.Trades.{trades}
+use Rattle.flow_orders.specs.Welfare.{IsOptimalWithin}
+use Rattle.flow_orders.specs.Outcomes as outcomes
+use Rattle.flow_orders.specs.Own.{floor_rates, clearing_at, IsOwnOutcome}
+use Rattle.batch_certificate.specs.declared.outcome.Cleared.{Cleared}
+use Rattle.batch_certificate.specs.declared.outcome.Outcome.{Outcome}
+use Rattle.batch_certificate.specs.declared.outcome.Outcome.TheVariants as parts
+use Rattle.batch_certificate.specs.Published.{clearing_of, skipping_of}
+use Rattle.batch_certificate.specs.Laws.{AreBounded, gap_bound}
+
+-- what is certified of all demands rounded down, at these prices
+pub record IsClearedAt (orders : List Order) (prices : List ℤ) (c : Cleared) : Type 0 where
+  pub prices_are : c.prices ≡ prices
+  pub rates_are : c.rates ≡ floor_rates orders prices
+  pub one_rate_each : length c.rates ≡ length orders
+  pub certified : clearing_of orders c ≡ clearing_at (length prices) prices (trades orders c.rates)
+  pub optimal : IsOptimalWithin c.gap orders c.rates
+  pub bounded : AreBounded orders c.residuals → c.gap ≤ℤ pos (gap_bound orders prices)
+
+-- a clearing that is the own outcome of a batch
+pub record IsClearedFrom (orders : List Order) (start : List ℤ) (budget : ℕ) (c : Cleared) : Type 0 where
+  pub each : All IsOrder orders
+  pub own : IsOwnOutcome orders start budget (outcomes.Cleared (clearing_of orders c))
+  pub at : IsClearedAt orders c.prices c
+
+-- a skip that is
+pub record IsSkippedFrom (orders : List Order) (start : List ℤ) (budget : ℕ) (s : outcomes.Skipping) : Type 0 where
+  pub each : All IsOrder orders
+  pub own : IsOwnOutcome orders start budget (outcomes.Skipped s)
+
+-- either of the two
+abbrev pub IsOutcomeFrom : List Order → List ℤ → ℕ → Outcome → Type 0
+IsOutcomeFrom orders start budget (parts.Cleared c) = IsClearedFrom orders start budget c
+IsOutcomeFrom orders start budget (parts.Skipped s) = IsSkippedFrom orders start budget (skipping_of s)
