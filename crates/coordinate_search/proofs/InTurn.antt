@@ -1,5 +1,5 @@
 -- The loop that searches a book for prices, asset by asset in turn, and the one that makes a walk again.
-use Rattle.std.proofs.Common.{◌≡◌, ℕ, zero, suc, ◌+◌, ◌-◌, ◌*◌, ◌^◌, ◌≤◌, ◌<◌, inl, inr, ⊎_elim, Bool, true, false, ℤ, pos, List, [], ◌∷◌, ◌++◌, length, Option, Some, None, refl, ap, sym, subst, ◌∙◌, arith}
+use Rattle.std.proofs.Common.{◌≡◌, ℕ, suc, ◌+◌, ◌-◌, ◌^◌, ◌≤◌, ◌<◌, ⊎_elim, Bool, true, false, ℤ, pos, List, [], ◌∷◌, ◌++◌, length, Option, Some, None, refl, ap, sym, subst, ◌∙◌, arith}
 use Rattle.std.specs.Prelude.{All, unsigned_abs}
 use Rattle.std.specs.List.{range_with_len}
 use Rattle.std.proofs.lemmas.Bool.{cases_Bool, false≢true}
@@ -9,8 +9,8 @@ use Rattle.demand_curve.specs.Demand.{IsWithin}
 use Rattle.weight_rows.specs.Rows.{price_of}
 use Rattle.flow_orders.specs.Orders.{Order}
 use Rattle.flow_orders.specs.Excess.{is_unsettled}
-use Rattle.flow_orders.specs.Walks.{first_that, walk_end, IsLegal, AreSettled}
-use Rattle.flow_orders.specs.Turns.{visits, IsInTurnFrom, IsInTurn, IsOwnWalk, IsOwnTrace}
+use Rattle.flow_orders.specs.Walks.{first_that}
+use Rattle.flow_orders.specs.Turns.{visits, IsInTurn, IsOwnWalk, IsOwnTrace}
 use Rattle.flow_orders.specs.Outcomes.{step_of, end_of, IsLegalFrom, EndsSettled}
 use Rattle.flow_orders.proofs.Loops.{next_after}
 use Rattle.flow_orders.proofs.Walks.{visits-order, in_turn-push, next_after-push, walk_end-push, in_turn-legal, next_after-there, own_walk, own_trace, first_that-passes}

@@ -1,8 +1,8 @@
 -- The loop that makes a walk again.
-use Rattle.std.proofs.Common.{◌≡◌, ℕ, zero, suc, ◌+◌, ◌^◌, ◌≤◌, ◌<◌, Bool, true, false, ℤ, List, [], ◌∷◌, ◌++◌, length, take, get_or, refl, ap, sym, subst, ◌∙◌, arith}
+use Rattle.std.proofs.Common.{◌≡◌, ℕ, suc, ◌+◌, ◌^◌, ◌≤◌, ◌<◌, true, ℤ, List, [], ◌∷◌, ◌++◌, length, take, drop, get_or, refl, ap, sym, subst, ◌∙◌, arith}
 use Rattle.std.specs.Prelude.{All}
 use Rattle.std.proofs.Math.Seq.{take-suc}
-use Rattle.std.proofs.lemmas.List.{length-take, take_all}
+use Rattle.std.proofs.lemmas.List.{length-take, take_all, take-append-drop}
 use Rattle.demand_curve.specs.Demand.{IsWithin}
 use Rattle.flow_orders.specs.Orders.{Order}
 use Rattle.flow_orders.specs.Excess.{is_unsettled}
@@ -67,3 +67,9 @@ module _ (orders : List Order) (start : List ℤ) (walk : List ℕ) (now : List 
   all_retraced past =
       let all = take_all place walk past in
       (subst (IsLegalFrom orders start) all so_far.legal, so_far.end ∙ ap (end_of orders start) all)
+
+-- where a place is the first that isn't legal, the walk isn't
+pub illegal_whole : (orders : List Order) (start : List ℤ) (walk : List ℕ) (place : ℕ) → IsFirstIllegal orders start walk place → ¬ IsLegalFrom orders start walk
+illegal_whole orders start walk place first legal =
+    let whole = subst (IsLegalFrom orders start) (sym (take-append-drop (place + 1) walk)) legal in
+    first.refused (legal_parts (length start) (is_unsettled orders) (step_of orders) start (take (place + 1) walk) (drop (place + 1) walk) whole).0

@@ -23,7 +23,7 @@ pub enum Retraced {
 /// comes; the order of the assets is free.
 ///
 /// The prices are within 2^60 grains of 0 at the start, and there are at most 65,536 bytes. A byte costs two passes over
-/// the entries of all orders, and its move at most 64 more. No memory is taken.
+/// the entries of all orders, and its move at most 65. No memory is taken.
 pub fn retrace(work: &mut Workspace<'_>, trace: &[u8]) -> Retraced
     requires most { length trace.now ≤ most_budget }
     requires start { All (IsWithin (2 ^ 60)) work.old.prices }
