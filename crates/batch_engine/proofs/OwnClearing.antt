@@ -1,24 +1,47 @@
 -- What is certified at the program's own prices is its own outcome.
-use Rattle.std.proofs.Common.{◌≡◌, ℕ, ◌≤◌, ◌^◌, ℤ, pos, ◌≤ℤ◌, Bool, true, false, List, length, ap, refl, sym, subst, ◌∙◌, arith}
-use Rattle.std.specs.Prelude.{All, map}
+use Rattle.std.proofs.Common.{◌≡◌, ◌↔◌, ℕ, ◌<◌, ◌≤◌, ◌^◌, ℤ, pos, ◌≤ℤ◌, Bool, true, false, IsTrue, Result, Ok, Err, List, length, to_z, of_z, ap, refl, sym, subst, ◌∙◌, ⊎_elim, arith}
+use Rattle.std.specs.Prelude.{All, IfOk, map, unsigned_abs}
+use Rattle.std.specs.Int.{w128}
+use Rattle.std.proofs.lemmas.Int.{ints, to_z-of_z, fits_signed_from_abs}
+use Rattle.std.proofs.lemmas.Bool.{cases_Bool, false≢true}
+use Rattle.std.proofs.lemmas.List.FromFn.{length-range_with_len, get_or-map-range_with_len}
 use Rattle.std.specs.List.{range_with_len}
 use Rattle.std.proofs.lemmas.List.{length-map}
 use Rattle.demand_curve.specs.Demand.{IsRounding, IsWithin}
 use Rattle.flow_orders.specs.Orders.{Order, IsOrder, terms_of}
-use Rattle.flow_orders.specs.Excess.{price_for}
-use Rattle.flow_orders.specs.Trades.{trades}
-use Rattle.flow_orders.specs.Outcomes.{most_budget, IsRightOutcome}
+use Rattle.flow_orders.specs.Excess.{price_for, is_unsettled, residual_bound}
+use Rattle.flow_orders.specs.Turns.{visits, IsOwnTrace}
+use Rattle.flow_orders.specs.Trades.{trades, residual}
+use Rattle.flow_orders.specs.Outcomes.{most_budget, dual_of, step_of, end_of, trades_of, IsRightClearing, IsRightOutcome}
 use Rattle.flow_orders.specs.Outcomes as outcomes
-use Rattle.flow_orders.specs.Own.{are_single, ArePricesOf, floor_rates, clearing_at, IsOwnOutcome, ClearsNear}
-use Rattle.flow_orders.proofs.OwnIsRight.{own_prices_count, own_is_right}
+use Rattle.flow_orders.specs.Own.{are_single, moved_once, ArePricesOf, floor_rates, clearing_at, IsOwnOutcome, ClearsNear}
+use Rattle.flow_orders.proofs.OwnIsRight.{own_prices_count, own_is_right, single_each}
 use Rattle.flow_orders.proofs.OwnLaws.{one_asset_books_clear}
+use Rattle.coordinate_search.proofs.Settling.{single_all}
 use Rattle.rate_rounding.proofs.Roundings.{floors_are_roundings}
 use Rattle.batch_certificate.specs.declared.outcome.Cleared.{Cleared}
 use Rattle.batch_certificate.specs.declared.outcome.Outcome.{Outcome}
 use Rattle.batch_certificate.specs.declared.outcome.Outcome.TheVariants as parts
 use Rattle.batch_certificate.specs.Published.{clearing_of, outcome_of, HasOneRateEach}
 use Rattle.batch_engine.specs.Certified.{IsCertifiedClearing, IsCertified}
-use Rattle.batch_engine.specs.Private.{IsClearedAt, IsClearedFrom, IsOutcomeFrom}
+use Rattle.batch_engine.specs.Private.{IsClearedAt, IsClearedFrom, IsSkippedFrom, IsOutcomeFrom}
+use Rattle.batch_certificate.specs.Laws.{AreBounded}
+use Rattle.batch_certificate.specs.Residuals.{residual_in}
+
+-- what follows of each value holds of an answer
+pub on_ok : {T E : Type 0} {P Q : T → Type 0} → ((x : T) → P x → Q x) → (result : Result T E) → IfOk result P → IfOk result Q
+on_ok follows (Ok x) holds = follows x holds
+on_ok follows (Err e) holds = tt
+
+-- ---- books of one-asset orders, by a test of them
+
+pub single_where : (orders : List Order) (test : Bool) → (IsTrue test ↔ All (λ (o : Order). length o.row ≡ 1) orders) → test ≡ true → are_single orders ≡ true
+single_where orders test tests holds = single_all orders (tests.0 holds)
+
+pub wide_where : (orders : List Order) (test : Bool) → (IsTrue test ↔ All (λ (o : Order). length o.row ≡ 1) orders) → test ≡ false → are_single orders ≡ false
+wide_where orders test tests fails = ⊎_elim (λ single. absurd (false≢true (sym fails ∙ tests.1 (single_each orders single)))) (λ wide. wide) (cases_Bool (are_single orders))
+
+-- ---- clearings and skips
 
 -- demands that are rounded down are roundings
 pub rates_are_roundings : (orders : List Order) (prices : List ℤ) (rates : List ℕ) → rates ≡ floor_rates orders prices → All IsOrder orders
@@ -40,6 +63,42 @@ cleared_is_own orders start prices budget c each range few own at =
       );
       at = subst (λ p. IsClearedAt orders p c) (sym at.prices_are) at;
     }
+
+-- so it is where each order names one asset, whatever the budget is
+pub single_is_own : {E : Type 0} (orders : List Order) (start prices : List ℤ) (result : Result Cleared E) → All IsOrder orders → All (IsWithin (2 ^ 60)) start
+    → are_single orders ≡ true → prices ≡ moved_once orders (visits (length start) 0) start → IfOk result (IsClearedAt orders prices)
+    → IfOk result (λ c. (budget : ℕ) → budget ≤ most_budget → IsClearedFrom orders start budget c)
+single_is_own orders start prices (Ok c) each range single moved at = λ budget few. cleared_is_own orders start prices budget c each range few (subst (λ s. ArePricesOf s orders start budget prices) (sym single) moved) at
+single_is_own orders start prices (Err e) each range single moved at = tt
+
+-- a skip with the walk of the whole budget is the own outcome
+pub skipped_is_own : (orders : List Order) (start end : List ℤ) (budget : ℕ) (walk trace : List ℕ) (a b : ℤ) → All IsOrder orders → are_single orders ≡ false
+    → IsOwnTrace (length start) (is_unsettled orders) (step_of orders) start budget walk → trace ≡ walk → end ≡ end_of orders start walk
+    → a ≡ pos (dual_of orders start) → b ≡ pos (dual_of orders end) → a ≤ℤ pos (2 ^ 117) → b ≤ℤ pos (2 ^ 117)
+    → IsSkippedFrom orders start budget (record { trace = trace; start_dual = to_z w128 (of_z w128 a); end_dual = to_z w128 (of_z w128 b) })
+skipped_is_own orders start end budget walk trace a b each wide own trace_is ends a_is b_is a_most b_most =
+    let start_is : to_z w128 (of_z w128 a) ≡ pos (dual_of orders start) = to_z-of_z w128 a (fits_signed_from_abs w128 a (omega (arith, ints, a_is, a_most))) ∙ a_is in
+    let end_is : to_z w128 (of_z w128 b) ≡ pos (dual_of orders (end_of orders start trace)) =
+    to_z-of_z w128 b (fits_signed_from_abs w128 b (omega (arith, ints, b_is, b_most))) ∙ b_is ∙ ap (λ p. pos (dual_of orders p)) (ends ∙ ap (end_of orders start) (sym trace_is)) in
+    record {
+      each = each;
+      own = (
+        wide,
+        subst (IsOwnTrace (length start) (is_unsettled orders) (step_of orders) start budget) (sym trace_is) own,
+        ap (λ d. record { trace = trace; start_dual = d; end_dual = to_z w128 (of_z w128 b) }) start_is
+            ∙ ap (λ d. record { trace = trace; start_dual = pos (dual_of orders start); end_dual = d }) end_is,
+      );
+    }
+
+-- the residuals of a right clearing are within their bounds
+residuals_bounded : (orders : List Order) (start : List ℤ) (c : Cleared) → IsRightClearing orders start (clearing_of orders c) → AreBounded orders c.residuals
+residuals_bounded orders start c right asset inside =
+    let ts = trades_of orders (clearing_of orders c).fills in
+    let count : length c.residuals ≡ length start = ap length right.residual_each ∙ length-map (range_with_len 0 (length start)) (residual ts) ∙ length-range_with_len 0 (length start) in
+    let there : asset < length start = omega (arith, inside, count) in
+    let at : residual_in c.residuals asset ≡ residual ts asset =
+    ap (λ l. residual_in l asset) right.residual_each ∙ get_or-map-range_with_len (residual ts) 0 (length start) asset asset (pos 0) there (omega arith) in
+    subst (λ z. unsigned_abs z ≤ residual_bound orders asset) (sym at) (right.bounded asset there)
 
 module _ (orders : List Order) (start : List ℤ) (budget : ℕ) (range : All (IsWithin (2 ^ 60)) start) (few : budget ≤ most_budget) where
   -- an own outcome is a right one
@@ -64,5 +123,5 @@ module _ (orders : List Order) (start : List ℤ) (budget : ℕ) (range : All (I
   pub outcome_is_certified : (o : Outcome) → IsOutcomeFrom orders start budget o → IsCertified orders o
   outcome_is_certified (parts.Cleared c) from =
       let right = outcome_is_right (parts.Cleared c) from in
-      record { optimal = from.at.optimal; bounded = from.at.bounded ? }
+      record { optimal = from.at.optimal; bounded = from.at.bounded (residuals_bounded orders start c right) }
   outcome_is_certified (parts.Skipped s) from = tt

@@ -81,7 +81,7 @@ pub fn clear(alloc: Global, orders: &[Order], start: &[i64], budget: u32) -> Res
 
 // Whether each order names one asset alone.
 fn are_single(orders: &[Order]) -> bool
-    ensures { IsTrue result ↔ (are_single orders.now ≡ true) }
+    ensures { IsTrue result ↔ All (λ o. length o.row ≡ 1) orders.now }
 {
     orders.iter().all(|order| order.row().is_single())
 }
