@@ -1,24 +1,24 @@
--- What a batch of one-asset orders comes to can be written.
+-- What a batch comes to can be written.
 use Rattle.std.proofs.Common.{ℕ, ◌≤◌, ℤ, List, length, ap, sym, ◌∙◌, arith}
 use Rattle.std.specs.List.{range_with_len}
 use Rattle.std.proofs.lemmas.List.{length-map}
 use Rattle.std.proofs.lemmas.List.FromFn.{length-range_with_len}
 use Rattle.flow_orders.specs.Orders.{Order}
-use Rattle.flow_orders.specs.Outcomes.{IsRightOutcome}
-use Rattle.flow_orders.specs.Own.{ClearsNear}
+use Rattle.flow_orders.specs.Outcomes.{most_budget, IsRightOutcome}
 use Rattle.batch_certificate.specs.declared.outcome.Outcome.{Outcome}
 use Rattle.batch_certificate.specs.declared.outcome.Outcome.TheVariants as parts
 use Rattle.batch_certificate.specs.Published.{outcome_of, HasOneRateEach}
 use Rattle.market_core.specs.Market.{Market, IsSound, start_prices, cut_price}
-use Rattle.exchange_session.specs.Serving.{IsWritable}
+use Rattle.exchange_session.specs.Private.{IsWritable}
 
 -- a market has at most 64 start prices
 pub few_start_prices : (m : Market) → IsSound m → length (start_prices m) ≤ 64
 few_start_prices m sound = omega (arith, length-map m.last_prices cut_price, sound.one_each.prices, sound.one_each.tickers, sound.tickers.few)
 
-pub writable_is : (orders : List Order) (start : List ℤ) (budget : ℕ) (o : Outcome) → length start ≤ 64 → HasOneRateEach orders o
-    → ClearsNear orders start (outcome_of orders o) → IsRightOutcome orders start budget (outcome_of orders o) → IsWritable orders o
-writable_is orders start budget (parts.Cleared c) few one near right =
+-- and what its batch comes to can be written
+pub writable_is : (orders : List Order) (start : List ℤ) (budget : ℕ) (o : Outcome) → length start ≤ 64 → budget ≤ most_budget → HasOneRateEach orders o
+    → IsRightOutcome orders start budget (outcome_of orders o) → IsWritable orders o
+writable_is orders start budget (parts.Cleared c) few moves one right =
     let residuals = ap length right.residual_each ∙ length-map (range_with_len 0 (length start)) _ ∙ length-range_with_len 0 (length start) in
     (one, residuals ∙ sym right.one_price_each, omega (arith, right.one_price_each, few))
-writable_is orders start budget (parts.Skipped s) few one near right = near
+writable_is orders start budget (parts.Skipped s) few moves one right = omega (arith, right.whole, moves)

@@ -1,2 +1,2 @@
 pub mod Serving
-pub mod Asking
+pub mod Private

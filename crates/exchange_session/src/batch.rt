@@ -3,18 +3,19 @@ ghost use Rattle.std.specs.Prelude.{◌≡◌, ◌++◌, ◌+◌, ◌<◌, ◌�
 ghost use Rattle.wire_records.specs.Commands.{RunBatch, Batch};
 ghost use Rattle.wire_records.specs.CommandRecords.{IsReadAs};
 ghost use Rattle.flow_orders.specs.Orders.{most_orders};
-ghost use Rattle.flow_orders.specs.Own.{are_single, IsOwnOutcome, ClearsNear};
+ghost use Rattle.flow_orders.specs.Own.{IsOwnOutcome};
 ghost use Rattle.batch_certificate.specs.Published.{outcome_of};
 ghost use Rattle.journal_records.specs.Pairs.{pair_spelling};
 ghost use Rattle.market_core.specs.Market.{most_batches, start_prices};
 ghost use Rattle.market_core.specs.Step.{FirstRefusal, after_batch};
 ghost use Rattle.market_core.specs.Settling.{MaySettle};
-ghost use Rattle.exchange_session.specs.Serving.{AnswersOne, IsWritable};
+ghost use Rattle.exchange_session.specs.Serving.{AnswersOne};
+ghost use Rattle.exchange_session.specs.Private.{IsWritable};
 
 use batch_certificate::Outcome;
 use batch_engine::clear;
 use flow_orders::Order;
-use journal_records::write_cleared;
+use journal_records::{write_cleared, write_skipped};
 use market_core::Market;
 use std::alloc::Global;
 use wire_records::{Memory, RecordView};
@@ -22,7 +23,6 @@ use wire_records::{Memory, RecordView};
 // The outcome of a batch that is allowed.
 fn outcome_for(alloc: Global, market: &Market, budget: u32) -> Result<Outcome, Memory>
     requires first { FirstRefusal market.now (RunBatch budget) None }
-    requires single { are_single market.now.orders ≡ true }
     ensures own { IfOk result (λ outcome. IsOwnOutcome market.now.orders (start_prices market.now) budget
         (outcome_of market.now.orders outcome)) }
     ensures settles { IfOk result (MaySettle market.now) }
@@ -35,7 +35,7 @@ fn outcome_for(alloc: Global, market: &Market, budget: u32) -> Result<Outcome, M
     }
 }
 
-// Appends the pair of a batch. Each batch clears, as long as each live order names one asset.
+// Appends the pair of a batch.
 fn write_outcome(
     asked: &RecordView<'_>,
     batch: u32,
@@ -54,7 +54,7 @@ fn write_outcome(
 {
     match outcome {
         Outcome::Cleared(cleared) => write_cleared(asked, batch, orders, cleared, out),
-        Outcome::Skipped(_) => unreachable!(),
+        Outcome::Skipped(skipped) => write_skipped(asked, batch, skipped, out),
     }
 }
 
@@ -67,7 +67,6 @@ pub(crate) fn hold_batch(
     out: &mut Vec<u8>,
 ) -> Result<(), Memory>
     requires first { FirstRefusal market.old (RunBatch budget) None }
-    requires single { are_single market.old.orders ≡ true }
     requires more { market.old.batches < most_batches }
     requires read { IsReadAs asked.now (Ok (RunBatch budget)) }
     ensures served { OnOk result ((text : List ℕ) × AnswersOne market.old asked.now market.new text

@@ -7,7 +7,7 @@ ghost use Rattle.flow_orders.specs.Own.{IsOwnOutcome};
 ghost use Rattle.market_core.specs.Step.{refusal_of};
 ghost use Rattle.market_core.specs.Journal.{Step};
 ghost use Rattle.market_core.specs.Wanting.{RecordMayWant};
-ghost use Rattle.exchange_session.specs.Asking.{IsAsked};
+ghost use Rattle.exchange_session.specs.Private.{IsAsked};
 
 use crate::batch::hold_batch;
 use journal_records::{reserve_plain, write_plain};

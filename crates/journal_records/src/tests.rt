@@ -55,8 +55,8 @@ const PAIRS: [(&[u8], Reply, &[u8]); 11] = [
     ),
     (
         b"\x09\0\0\0\x04\0\0\0\x01",
-        Reply::Refused(Refusal::NotSingle),
-        b"\x09\0\0\0\x04\0\0\0\x01\x84\0\0\0\x01\x15",
+        Reply::Refused(Refusal::BatchLimit),
+        b"\x09\0\0\0\x04\0\0\0\x01\x84\0\0\0\x01\x13",
     ),
     (
         b"\x07\0\0\0\0",

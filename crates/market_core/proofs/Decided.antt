@@ -15,7 +15,6 @@ use Rattle.ticker_table.proofs.Names.{IsTicker-from_parts}
 use Rattle.demand_curve.specs.Demand.{IsWithin}
 use Rattle.flow_accounts.specs.Balances.{Balances, IsAccount, IsAsset, asset_count, account_count}
 use Rattle.flow_orders.specs.Orders.{Order, money_need, unit_need, AreLimits, IsFrom1To}
-use Rattle.flow_orders.specs.Outcomes.{IsWide}
 use Rattle.market_core.specs.Market.{free_money, free_units, Market}
 use Rattle.market_core.specs.Step.{IsAffordable}
 use Rattle.order_book.specs.Book.{HasOrder}
@@ -154,9 +153,6 @@ either_order m account number =
     (λ p. record { order = p.0; live = p.1; account_is = p.2.0; number_is = p.2.1 })
     (λ has. (has.order, has.live, (has.account_is, has.number_is)))
     (either_contains (λ (o : Order). (o.account ≡ account) × (o.number ≡ number)) m.orders (λ o. either_both (either_eq o.account account) (either_eq o.number number)))
-
-pub either_wide : (orders : List Order) → Either (IsWide orders)
-either_wide orders = either_contains (λ (o : Order). 2 ≤ length o.row) orders (λ o. either_le 2 (length o.row))
 
 pub either_taken : (tickers : List (List ℕ)) (ticker : List ℕ) → Either (Contains tickers ticker)
 either_taken tickers ticker =

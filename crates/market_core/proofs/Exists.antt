@@ -12,7 +12,7 @@ use Rattle.market_core.specs.Step.{◌when◌else◌, ◌unless◌else◌, accep
 use Rattle.demand_curve.specs.Demand.{most_rate}
 use Rattle.wire_records.specs.declared.command.BodyFault.{BodyFault}
 use Rattle.market_core.specs.Journal.{Step, Follows, IsJournal}
-use Rattle.market_core.proofs.Decided.{Either, either_le, either_eq, either_lt_z, either_account, either_from_1, either_limits, either_row, either_assets, either_affordable, either_order, either_wide, either_taken, either_ticker}
+use Rattle.market_core.proofs.Decided.{Either, either_le, either_eq, either_lt_z, either_account, either_from_1, either_limits, either_row, either_assets, either_affordable, either_order, either_taken, either_ticker}
 use Rattle.flow_orders.proofs.OneOwn.{own_is_there}
 
 -- ---- the first refusal
@@ -44,7 +44,7 @@ first_is_there m (PlaceOrder r) =
     (has_unless _ _ _ (either_from_1 most_cap r.cap) (has_unless _ _ _ (either_row r.row) (has_unless _ _ _ (either_assets m.balances r.row)
     (has_when _ _ _ (either_le _ _) (has_unless _ _ _ (either_affordable m (placed m r)) has_accept)))))))
 first_is_there m (CancelOrder account number) = has_unless _ _ _ (either_account m.balances account) (has_unless _ _ _ (either_order m account number) has_accept)
-first_is_there m (RunBatch budget) = has_unless _ _ _ (either_from_1 most_budget budget) (has_when _ _ _ (either_le _ _) (has_when _ _ _ (either_wide m.orders) has_accept))
+first_is_there m (RunBatch budget) = has_unless _ _ _ (either_from_1 most_budget budget) (has_when _ _ _ (either_le _ _) has_accept)
 
 -- ---- steps
 

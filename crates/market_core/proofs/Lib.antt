@@ -17,7 +17,6 @@ pub mod OwnNeeds
 pub mod Placing
 pub mod Promised
 pub mod Reserving
-pub mod SingleBooks
 pub mod SoundBalances
 pub mod SoundBatch
 pub mod SoundOrders

@@ -39,7 +39,7 @@ one_first m (WithdrawMoney account ticks) = one_unless _ _ _ (one_when _ _ _ (on
 one_first m (WithdrawAsset account asset units) = one_unless _ _ _ (one_unless _ _ _ (one_when _ _ _ (one_when _ _ _ one_accept)))
 one_first m (PlaceOrder r) = one_unless _ _ _ (one_unless _ _ _ (one_unless _ _ _ (one_unless _ _ _ (one_unless _ _ _ (one_unless _ _ _ (one_when _ _ _ (one_unless _ _ _ one_accept)))))))
 one_first m (CancelOrder account number) = one_unless _ _ _ (one_unless _ _ _ one_accept)
-one_first m (RunBatch budget) = one_unless _ _ _ (one_when _ _ _ (one_when _ _ _ one_accept))
+one_first m (RunBatch budget) = one_unless _ _ _ (one_when _ _ _ one_accept)
 
 -- how a batch may end
 module _ (Rule : List Order → List ℤ → ℕ → Outcome → Type 0) where

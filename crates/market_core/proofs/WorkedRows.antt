@@ -18,7 +18,6 @@ use Rattle.flow_orders.specs.Trades.{trades}
 use Rattle.flow_orders.specs.Own.{IsOwnOutcome}
 use Rattle.flow_orders.proofs.WorkedRows as batches
 use Rattle.market_core.specs.Market.{Market, empty_market, start_prices, held_money, held_units, free_money, free_units}
-use Rattle.market_core.proofs.SingleBooks.{single_is_not_wide}
 use Rattle.fill_caps.specs.Settlement.{settled_account, settled_balances, settled_exchange}
 use Rattle.market_core.specs.Step.{FirstRefusal, Accepts, Answers, Serves, IsAffordable, placed}
 use Rattle.order_book.specs.Book.{HasOrder}
@@ -269,7 +268,7 @@ serves_batch : Serves IsOwnOutcome with_seller (RunBatch 10) (Batch 1 (Cleared b
 unfolding settled_account weight_in portfolio_price
 serves_batch = record {
   first = None;
-  refused = inr ((omega arith, omega arith), inr ((λ full. omega (arith, full)), inr (single_is_not_wide with_seller.orders refl, refl)));
+  refused = inr ((omega arith, omega arith), inr ((λ full. omega (arith, full)), refl));
   answered = (Cleared batches.floors_published, batches.own, (refl, refl));
 }
 
@@ -505,7 +504,7 @@ budget_65537 : FirstRefusal enough (RunBatch 65537) (Some BadBudget)
 budget_65537 = inl ((λ budget. omega (arith, budget.1)), refl)
 
 last_batch : FirstRefusal (record empty_market { batches = 2 ^ 24 - 1 }) (RunBatch 1) None
-last_batch = inr ((omega arith, omega arith), inr ((λ held. omega (arith, held)), inr ((λ wide. omega (arith, wide.1.1)), refl)))
+last_batch = inr ((omega arith, omega arith), inr ((λ held. omega (arith, held)), refl))
 
 no_batch_more : FirstRefusal (record empty_market { batches = 2 ^ 24 }) (RunBatch 1) (Some BatchLimit)
 no_batch_more = inr ((omega arith, omega arith), inl (omega arith, refl))

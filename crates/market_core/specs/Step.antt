@@ -5,7 +5,7 @@ use Rattle.weight_rows.specs.Rows.{IsLawfulRow}
 use Rattle.wire_records.specs.Commands.{Request, Command, AddAsset, OpenAccount, DepositMoney, DepositAsset, WithdrawMoney, WithdrawAsset, PlaceOrder, CancelOrder, RunBatch, Answer, Plain, Batch}
 use Rattle.wire_records.specs.declared.reply.Reply.TheVariants as reply
 use Rattle.wire_records.specs.declared.reply.Refusal.{Refusal}
-use Rattle.wire_records.specs.declared.reply.Refusal.TheVariants.{AssetLimit, TickerTaken, BadTicker, AccountLimit, NoAccount, NoAsset, ZeroAmount, TotalLimit, NotFree, BadLimits, BadRate, BadCap, BadRow, OrderLimit, NoOrder, BadBudget, BatchLimit, NotSingle}
+use Rattle.wire_records.specs.declared.reply.Refusal.TheVariants.{AssetLimit, TickerTaken, BadTicker, AccountLimit, NoAccount, NoAsset, ZeroAmount, TotalLimit, NotFree, BadLimits, BadRate, BadCap, BadRow, OrderLimit, NoOrder, BadBudget, BatchLimit}
 use Rattle.wire_records.specs.declared.reply.Refusal.TheVariants as refusals
 use Rattle.wire_records.specs.declared.command.BodyFault.{BodyFault}
 use Rattle.wire_records.specs.declared.command.BodyFault.TheVariants as fault
@@ -14,7 +14,7 @@ use Rattle.demand_curve.specs.Demand.{most_rate}
 use Rattle.flow_accounts.specs.Balances.{IsAccount, IsAsset, account_count, total_units_of, grains, with_asset, add_asset, open_account, change_money, change_units}
 use Rattle.flow_accounts.specs.Lawful.{most_accounts, money_limit, unit_limit}
 use Rattle.flow_orders.specs.Orders.{Order, most_orders, most_cap, AreLimits, IsFrom1To, price_of_ticks, money_need, unit_need}
-use Rattle.flow_orders.specs.Outcomes.{Outcome, BatchRule, Cleared, Skipped, trades_of, most_budget, IsWide}
+use Rattle.flow_orders.specs.Outcomes.{Outcome, BatchRule, Cleared, Skipped, trades_of, most_budget}
 use Rattle.flow_orders.specs.Trades.{staying}
 use Rattle.order_book.specs.Book.{HasOrder, without}
 use Rattle.market_core.specs.Market.{Market, most_batches, start_prices, free_money, free_units}
@@ -93,8 +93,7 @@ FirstRefusal m (CancelOrder account number) =
     NoOrder unless HasOrder m.orders account number else accept
 FirstRefusal m (RunBatch budget) =
     BadBudget unless IsFrom1To most_budget budget else
-    BatchLimit when most_batches ≤ m.batches else
-    NotSingle when IsWide m.orders else accept
+    BatchLimit when most_batches ≤ m.batches else accept
 
 -- ---- accepted commands
 

@@ -1,8 +1,7 @@
 //! Batches: whether one may be held, where its prices start, and what settling it makes of the market.
-ghost use Rattle.std.specs.Prelude.{◌≡◌, ◌<◌, ◌≤◌, ◌^◌, ◌↔◌, true, length, All, IsTrue, IfOk, OnOk, MatchResult, Some, None};
+ghost use Rattle.std.specs.Prelude.{◌≡◌, ◌<◌, ◌≤◌, ◌^◌, length, All, IfOk, OnOk, MatchResult, Some, None};
 ghost use Rattle.demand_curve.specs.Demand.{IsWithin};
 ghost use Rattle.wire_records.specs.Commands.{RunBatch};
-ghost use Rattle.flow_orders.specs.Own.{are_single};
 ghost use Rattle.batch_certificate.specs.Published.{clearing_of, outcome_of};
 ghost use Rattle.flow_orders.specs.Outcomes.{Cleared as ClearedBatch};
 ghost use Rattle.market_core.specs.Market.{IsSound, most_batches, start_prices, cut_price};
@@ -12,7 +11,6 @@ ghost use Rattle.market_core.specs.Settling.{MaySettle, MaySettleAt};
 use crate::Market;
 use batch_certificate::{Cleared, Outcome, PriceList};
 use fill_caps::settle;
-use flow_orders::Order;
 use residual_account::ResidualAccount;
 use std::alloc::Global;
 use wire_records::{Memory, Refusal};
@@ -26,13 +24,6 @@ const MOST_BATCHES: u32 = 1 << 24;
 // A batch starts with prices within so many grains of 0.
 const FARTHEST_START: i64 = 1 << 60;
 
-// Whether each order names one asset alone.
-fn are_single(orders: &[Order]) -> bool
-    ensures { IsTrue result ↔ All (λ o. length o.row ≡ 1) orders.now }
-{
-    orders.iter().all(|order| order.row().is_single())
-}
-
 // A price, cut to the range in which a search starts.
 fn cut_price(price: i64) -> i64
     ensures value { result ≡ cut_price price }
@@ -43,15 +34,11 @@ fn cut_price(price: i64) -> i64
 
 impl Market {
     /// Whether a batch with this budget of moves may be held now, or else the first refusal: `BadBudget` exactly where
-    /// the budget isn't from 1 to 65,536, then `BatchLimit` exactly where 2^24 batches were held, then `NotSingle` exactly
-    /// where some live order names two or more assets.
-    ///
-    /// It costs a pass over the live orders.
+    /// the budget isn't from 1 to 65,536, then `BatchLimit` exactly where 2^24 batches were held.
     pub fn batch_allowed(&self, budget: u32) -> Result<(), Refusal>
         ensures first { MatchResult result
             (λ _. FirstRefusal self.now (RunBatch budget) None)
             (λ refusal. FirstRefusal self.now (RunBatch budget) (Some refusal)) }
-        ensures single { OnOk result (are_single self.now.orders ≡ true) }
         ensures more { OnOk result (self.now.batches < most_batches) }
     {
         if budget == 0 || budget > MOST_BUDGET {
@@ -59,9 +46,6 @@ impl Market {
         }
         if self.batches >= MOST_BATCHES {
             return Err(Refusal::BatchLimit);
-        }
-        if !are_single(self.book.orders()) {
-            return Err(Refusal::NotSingle);
         }
         Ok(())
     }

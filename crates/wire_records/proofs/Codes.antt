@@ -2,14 +2,14 @@
 use Rattle.std.proofs.Common.{◌≡◌, ◌-◌, ◌<◌, ℕ, List, [], ◌∷◌, refl, sym, ap, ◌∙◌, lit<}
 use Rattle.std.specs.Prelude.{slice_index_or}
 use Rattle.wire_records.specs.declared.reply.Refusal.{Refusal}
-use Rattle.wire_records.specs.declared.reply.Refusal.TheVariants.{UnknownTag, BadBody, AssetLimit, TickerTaken, BadTicker, AccountLimit, NoAccount, NoAsset, ZeroAmount, TotalLimit, NotFree, BadLimits, BadRate, BadCap, BadRow, OrderLimit, NoOrder, BadBudget, BatchLimit, NotSingle}
+use Rattle.wire_records.specs.declared.reply.Refusal.TheVariants.{UnknownTag, BadBody, AssetLimit, TickerTaken, BadTicker, AccountLimit, NoAccount, NoAsset, ZeroAmount, TotalLimit, NotFree, BadLimits, BadRate, BadCap, BadRow, OrderLimit, NoOrder, BadBudget, BatchLimit}
 use Rattle.wire_records.specs.Refusals.{code_of}
 
--- the refusals in the order of their codes, with another one in the place of 20, which is none's
+-- the refusals in the order of their codes
 abbrev refusals : List Refusal
 refusals =
     UnknownTag ∷ BadBody ∷ AssetLimit ∷ TickerTaken ∷ BadTicker ∷ AccountLimit ∷ NoAccount ∷ NoAsset ∷ ZeroAmount ∷ TotalLimit
-    ∷ NotFree ∷ BadLimits ∷ BadRate ∷ BadCap ∷ BadRow ∷ OrderLimit ∷ NoOrder ∷ BadBudget ∷ BatchLimit ∷ UnknownTag ∷ NotSingle ∷ []
+    ∷ NotFree ∷ BadLimits ∷ BadRate ∷ BadCap ∷ BadRow ∷ OrderLimit ∷ NoOrder ∷ BadBudget ∷ BatchLimit ∷ []
 
 -- the refusal of a code
 abbrev refusal_at : ℕ → Refusal
@@ -36,7 +36,6 @@ refusal_at-code_of OrderLimit = refl
 refusal_at-code_of NoOrder = refl
 refusal_at-code_of BadBudget = refl
 refusal_at-code_of BatchLimit = refl
-refusal_at-code_of NotSingle = refl
 
 -- two refusals of one code are one
 pub code_of-unique : (a b : Refusal) → code_of a ≡ code_of b → a ≡ b
@@ -63,4 +62,3 @@ code_of-byte OrderLimit = lit< tt
 code_of-byte NoOrder = lit< tt
 code_of-byte BadBudget = lit< tt
 code_of-byte BatchLimit = lit< tt
-code_of-byte NotSingle = lit< tt

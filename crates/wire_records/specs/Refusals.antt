@@ -1,7 +1,7 @@
 -- The number of each refusal, as a reply spells it.
 use Rattle.std.specs.Prelude.{ℕ}
 use Rattle.wire_records.specs.declared.reply.Refusal.{Refusal}
-use Rattle.wire_records.specs.declared.reply.Refusal.TheVariants.{UnknownTag, BadBody, AssetLimit, TickerTaken, BadTicker, AccountLimit, NoAccount, NoAsset, ZeroAmount, TotalLimit, NotFree, BadLimits, BadRate, BadCap, BadRow, OrderLimit, NoOrder, BadBudget, BatchLimit, NotSingle}
+use Rattle.wire_records.specs.declared.reply.Refusal.TheVariants.{UnknownTag, BadBody, AssetLimit, TickerTaken, BadTicker, AccountLimit, NoAccount, NoAsset, ZeroAmount, TotalLimit, NotFree, BadLimits, BadRate, BadCap, BadRow, OrderLimit, NoOrder, BadBudget, BatchLimit}
 
 -- the code of a refusal
 abbrev pub code_of : Refusal → ℕ
@@ -24,4 +24,3 @@ code_of OrderLimit = 16
 code_of NoOrder = 17
 code_of BadBudget = 18
 code_of BatchLimit = 19
-code_of NotSingle = 21

@@ -59,8 +59,6 @@ pub enum Refusal {
     BadBudget,
     /// 2^24 batches were held.
     BatchLimit,
-    /// Some live order names two or more assets. For the time being a batch clears orders of one asset each.
-    NotSingle,
 }
 
 impl Refusal {
@@ -90,7 +88,6 @@ impl Refusal {
             Refusal::NoOrder => 17,
             Refusal::BadBudget => 18,
             Refusal::BatchLimit => 19,
-            Refusal::NotSingle => 21,
         }
     }
 }

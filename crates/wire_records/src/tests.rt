@@ -604,7 +604,6 @@ fn codes_of_refusals(rt: HostRuntime) {
         (Refusal::NoOrder, 17),
         (Refusal::BadBudget, 18),
         (Refusal::BatchLimit, 19),
-        (Refusal::NotSingle, 21),
     ];
     for (refusal, code) in rows {
         assert_eq!(rt; refusal.code(), code, "{refusal:?}");

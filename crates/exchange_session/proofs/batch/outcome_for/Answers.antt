@@ -1,3 +1,4 @@
+use Rattle.market_core.proofs.Accepted.{past_unless}
 use Rattle.exchange_session.proofs.Writable.{few_start_prices, writable_is}
 use Rattle.exchange_session.proofs.batch.outcome_for.Goals as goal
 
@@ -6,4 +7,4 @@ returns-in-Ok-clause-writable c =
     let is = c.in-Ok.ensures in
     rw (← c.orders.ensures.value)
     (writable_is c.orders.result.now c.as_slice.result.now c.args.budget c.in-Ok.outcome
-    (rw (c.as_slice.ensures, c.in_ok-start.ensures.value) (few_start_prices c.args.market.now c.orders.ensures.sound)) is.one_rate_each is.near is.right)
+    (rw (c.as_slice.ensures, c.in_ok-start.ensures.value) (few_start_prices c.args.market.now c.orders.ensures.sound)) (past_unless c.requires.first).0.1 is.one_rate_each is.right)

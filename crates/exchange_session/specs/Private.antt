@@ -1,9 +1,13 @@
--- What a record asks a session for.
-use Rattle.std.specs.Prelude.{◌≡◌, ◌<◌, ℕ, true, None, Ok}
+-- Words that only private functions of a session use: what a record asks for, and what of a batch can be written.
+use Rattle.std.specs.Prelude.{◌≡◌, ◌<◌, ◌≤◌, ℕ, List, length, None, Ok}
 use Rattle.wire_records.specs.Records.{Record}
 use Rattle.wire_records.specs.Commands.{RunBatch, Plain}
 use Rattle.wire_records.specs.CommandRecords.{IsReadAs}
-use Rattle.flow_orders.specs.Own.{are_single, IsOwnOutcome}
+use Rattle.flow_orders.specs.Orders.{Order}
+use Rattle.flow_orders.specs.Outcomes.{most_budget}
+use Rattle.batch_certificate.specs.declared.outcome.Outcome.{Outcome}
+use Rattle.batch_certificate.specs.declared.outcome.Outcome.TheVariants as parts
+use Rattle.flow_orders.specs.Own.{IsOwnOutcome}
 use Rattle.market_core.specs.Market.{Market, most_batches}
 use Rattle.market_core.specs.Step.{FirstRefusal}
 use Rattle.market_core.specs.Journal.{Step}
@@ -14,10 +18,15 @@ use Rattle.exchange_session.specs.declared.session.Asked.TheVariants as asks
 pub record AsksBatch (old : Market) (asked : Record) (budget : ℕ) : Type 0 where
   pub read : IsReadAs asked (Ok (RunBatch budget))
   pub first : FirstRefusal old (RunBatch budget) None
-  pub single : are_single old.orders ≡ true
   pub more : old.batches < most_batches
 
 -- it got a plain reply, or it asks for a batch
 abbrev pub IsAsked : Market → Record → Market → Asked → Type 0
 IsAsked old asked new (asks.Plain reply) = Step IsReadAs IsOwnOutcome old asked (Plain reply) new
 IsAsked old asked new (asks.Batch budget) = AsksBatch old asked budget × (new ≡ old)
+
+-- an outcome of a batch of these orders that the program writes: a clearing with one rate for each order and one residual
+-- for each of at most 64 prices, or a skip of at most as many moves as a budget may have
+abbrev pub IsWritable : List Order → Outcome → Type 0
+IsWritable orders (parts.Cleared c) = (length c.rates ≡ length orders) × (length c.residuals ≡ length c.prices) × (length c.prices ≤ 64)
+IsWritable orders (parts.Skipped s) = length s.trace ≤ most_budget
