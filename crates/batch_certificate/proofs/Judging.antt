@@ -1,5 +1,5 @@
 -- Each clearing of lawful orders has a verdict: every part is right or wrong.
-use Rattle.std.proofs.Common.{◌≡◌, ℕ, zero, suc, ◌+◌, ◌*◌, ◌^◌, ◌<◌, ◌≤◌, ℤ, pos, ◌-ℤ◌, List, [], ◌∷◌, Option, Some, None, map, length, get_or, slice_get, drop, ◌⊎◌, inl, inr, refl, ap, ⊎_elim, arith}
+use Rattle.std.proofs.Common.{◌≡◌, ℕ, zero, suc, ◌+◌, ◌*◌, ◌^◌, ◌<◌, ◌≤◌, ℤ, ◌-ℤ◌, List, [], ◌∷◌, Option, Some, None, map, length, get_or, slice_get, drop, ◌⊎◌, inl, inr, refl, ap, ⊎_elim, arith}
 use Rattle.std.specs.Prelude.{unsigned_abs, All, IfSome}
 use Rattle.std.proofs.lemmas.Int.{ints}
 use Rattle.std.proofs.lemmas.Bool.{cases_lt}
@@ -12,7 +12,7 @@ use Rattle.flow_orders.specs.Outcomes.{Clearing, IsUnnamed, trades_of, gap_of}
 use Rattle.batch_certificate.specs.Residuals.{residual_in}
 use Rattle.batch_certificate.specs.declared.verdict.Verdict.{Verdict}
 use Rattle.batch_certificate.specs.declared.verdict.Verdict.TheVariants.{Right, Count, Price, Rate, Residual, Gap}
-use Rattle.batch_certificate.specs.Verdicts.{HoldsBelow, IsFirstWrong, AreCounted, IsPriceRight, IsRateRight, IsResidualRight, IsGapRight, HasRightPrices, HasRightRates, HasRightResiduals, IsVerdict, numbers_in}
+use Rattle.batch_certificate.specs.Verdicts.{HoldsBelow, IsFirstWrong, AreCounted, IsPriceRight, IsRateRight, IsResidualRight, HasRightPrices, HasRightRates, HasRightResiduals, IsVerdict, numbers_in}
 use Rattle.batch_certificate.specs.Weighing.{weighed}
 use Rattle.batch_certificate.specs.Laws.{EachHasAVerdict}
 use Rattle.batch_certificate.proofs.Places.{none_yet, one_more}

@@ -1,5 +1,5 @@
 -- Worked numbers of welfare, by computation.
-use Rattle.std.proofs.Common.{◌≡◌, ◌*◌, ◌≤ℤ◌, ℕ, ℤ, pos, ◌+ℤ◌, ◌*ℤ◌, List, [], ◌∷◌, refl, arith}
+use Rattle.std.proofs.Common.{◌≡◌, ◌≤ℤ◌, ℕ, pos, ◌+ℤ◌, ◌*ℤ◌, List, [], ◌∷◌, refl, arith}
 use Rattle.std.specs.Prelude.{neg_ℤ}
 use Rattle.std.proofs.lemmas.Int.{ints}
 use Rattle.weight_rows.specs.Rows.{weight_in, portfolio_price}
