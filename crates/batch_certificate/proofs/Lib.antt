@@ -5,3 +5,5 @@ pub mod Places
 pub mod Weighing
 pub mod Verdicts
 pub mod OneVerdict
+pub mod Judging
+pub mod WelfareRows

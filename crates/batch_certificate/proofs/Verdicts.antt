@@ -72,7 +72,7 @@ places_from_all P ts n count all k inside =
 
 -- ---- prices
 -- an asset's spread is 0 exactly where no order names it
-no_spread : (orders : List Order) (asset : ℕ) → All IsOrder orders → IsUnnamed orders asset → weighed unsigned_abs orders asset ≡ 0
+pub no_spread : (orders : List Order) (asset : ℕ) → All IsOrder orders → IsUnnamed orders asset → weighed unsigned_abs orders asset ≡ 0
 no_spread orders asset each none =
     let zeros : All (λ (o : Order). unsigned_abs (weight_in o.row asset) ≤ 0) orders = λ k d inside.
     ⊎_elim
@@ -83,7 +83,7 @@ no_spread orders asset each none =
     (cases_lt 0 (unsigned_abs (weight_in (get_or orders k d).row asset))) in
     omega (arith, sum_by-le (λ (o : Order). unsigned_abs (weight_in o.row asset)) 0 orders zeros)
 
-is_unnamed : (orders : List Order) (asset : ℕ) → All IsOrder orders → weighed unsigned_abs orders asset ≡ 0 → IsUnnamed orders asset
+pub is_unnamed : (orders : List Order) (asset : ℕ) → All IsOrder orders → weighed unsigned_abs orders asset ≡ 0 → IsUnnamed orders asset
 is_unnamed orders asset each none k d inside named =
     let weight = get_or-le-sum_by (λ (o : Order). unsigned_abs (weight_in o.row asset)) orders k d inside in
     (named_assets_weigh (get_or orders k d).row asset (each k d inside).row).1 named (omega (arith, ints, weight, none))

@@ -39,10 +39,14 @@ gap_bound orders prices =
     sum_by (λ o. rounded_up (span (terms_of o)) (2 * o.rate)) orders
     + sum_by (λ asset. unsigned_abs (price_of prices asset) * residual_bound orders asset) (range_with_len 0 (length prices))
 
--- a clearing has at most one verdict
+-- a clearing of lawful orders has a verdict
+abbrev pub EachHasAVerdict : Type 0
+EachHasAVerdict = (orders : List Order) (start : List ℤ) (c : Clearing) → All IsOrder orders → (v : Verdict) × IsVerdict orders start c v
+
+-- and at most one
 abbrev pub OneVerdict : Type 0
 OneVerdict = (orders : List Order) (start : List ℤ) (c : Clearing) (v w : Verdict) → IsVerdict orders start c v → IsVerdict orders start c w → v ≡ w
 
--- and that it is right is the verdict on a right clearing, and on no other
+-- that all is right is the verdict on a right clearing, and on no other
 abbrev pub RightIsForRightClearings : Type 0
 RightIsForRightClearings = (orders : List Order) (start : List ℤ) (c : Clearing) → IsVerdict orders start c Right ↔ IsRightClearing orders start c

@@ -27,7 +27,21 @@ const PLACES: usize = 64;
 // The highest price, and minus the lowest, in grains.
 const MOST_PRICE: u64 = 1 << 62;
 
-/// Checks a published clearing of these orders.
+/// The verdict on a published clearing of these orders: it is right, or this is the first part of it that isn't.
+///
+/// Parts are looked at in this order. There is one price for each start price, and one rate for each order, under its
+/// number. Each price is within 2^62 grains of 0, and is the start price where no order names the asset. Each rate is its
+/// order's demand at the prices, rounded up or down. Each residual is what the rates leave over of its asset, bought less
+/// sold, and at most the asset's spread and steepness together. The gap is what rounding loses on all orders, less what
+/// the residuals cost at the prices. Where all is right, no rates at which nothing is left over beat these rates by more
+/// than the gap. Orders and their welfare are those of Flow Trading (Budish, Cramton, Kyle, Lee and Malec, 2023); whole
+/// rates, and so the other parts, are this project's own.
+///
+/// There are at most 16,384 orders, and at most 64 start prices, in grains, one for each asset that an order names.
+///
+/// It takes no memory, and keeps four numbers for each of 64 assets. It goes three times over the entries of all orders,
+/// for all assets together: for what their weights come to, and to price and to add each rate. It divides once an order,
+/// asks for each number of the clearing once, and stops at the first part that isn't right.
 pub fn check_cleared<P: ClearedParts>(orders: &[Order], start: &[i64], parts: &P) -> Verdict
     requires few { length orders.now ≤ most_orders }
     requires assets { length start.now ≤ most_prices }

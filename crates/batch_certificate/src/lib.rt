@@ -1,13 +1,18 @@
-//! What is published of a batch, and the certificate of one that cleared.
+//! What is published of a batch, the certificate of one that cleared, and the check of a published clearing.
 //!
 //! The types of an outcome are values without conditions. [`certify`] makes a [`Cleared`] of prices and rates: it adds what
 //! the rates leave over of each asset, and the gap. The definitions of both stand in `flow_orders`; [`laws`] bounds what is
 //! left over of settled assets.
 //!
+//! [`check_cleared`] judges a clearing that someone published, wherever its numbers lie: it reads them through
+//! [`ClearedParts`], and its [`Verdict`] names the first part that isn't right. Every clearing has exactly one verdict, and
+//! it is `Right` exactly where the clearing is right, as [`laws`] says.
+//!
 //! # Costs
 //!
 //! [`certify`] goes once over the entries of all orders and divides once an order; it takes memory once, 8 bytes for each
-//! asset. No other call takes memory or more than constant time.
+//! asset. [`check_cleared`] goes a few times over the entries of all orders, for all assets together, and takes no memory.
+//! No other call takes memory or more than constant time.
 #![tactic(auto)]
 
 mod certificate;

@@ -5,6 +5,8 @@ ghost use Rattle.flow_orders.specs.Orders.{terms_of};
 ghost use Rattle.flow_orders.specs.Excess.{price_for};
 ghost use Rattle.flow_orders.specs.Trades.{trades};
 
+mod checked;
+
 use super::*;
 use flow_orders::{Order, order_fault};
 use std::alloc::{AllocError, Global};
@@ -17,8 +19,8 @@ type Placed<'a> = ((i64, i64), (u32, u64, u32), &'a [(u16, i32)]);
 // Prices, rates, residuals and gap.
 type Certified<'a> = (&'a [i64], &'a [u32], &'a [i64], i128);
 
-// The order, or None where its numbers or its row have a fault, or it can't be filled so far.
-fn order_of(alloc: Global, placed: Placed<'_>) -> Result<Option<Order>, AllocError> {
+// The order of this number, or None where its numbers or its row have a fault, or it can't be filled so far.
+fn order_of(alloc: Global, number: u64, placed: Placed<'_>) -> Result<Option<Order>, AllocError> {
     let ((low, high), (rate, cap, filled), row) = placed;
     let entries = row
         .iter()
@@ -31,7 +33,7 @@ fn order_of(alloc: Global, placed: Placed<'_>) -> Result<Option<Order>, AllocErr
     if row_fault(entries.as_slice()).is_some() || order_fault(low, high, rate, cap).is_some() {
         return Ok(None);
     }
-    let mut order = Order::new(1, 1, low, high, rate, cap, WeightRow::new(entries));
+    let mut order = Order::new(number, 1, low, high, rate, cap, WeightRow::new(entries));
     if filled > order.curve().room || order.add_fill(filled) {
         return Ok(None);
     }
@@ -91,11 +93,11 @@ fn certified(alloc: Global, orders: &[Order], prices: &[i64], rates: &[u32]) -> 
     certify(alloc, orders, prices, rates).ok()
 }
 
-// The orders, without those that can't be.
+// The orders, under the numbers from 1 on, without those that can't be.
 fn orders_of(alloc: Global, placed: &[Placed<'_>]) -> Result<Vec<Order>, AllocError> {
     let mut orders = Vec::new(alloc);
-    for one in placed {
-        if let Some(order) = order_of(alloc, *one)? {
+    for (place, one) in placed.iter().enumerate() {
+        if let Some(order) = order_of(alloc, place as u64 + 1, *one)? {
             orders.push(order)?;
         }
     }
