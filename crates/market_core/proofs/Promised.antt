@@ -1,14 +1,15 @@
 -- The program's own journals keep the promises of the exchange.
-use Rattle.std.proofs.Common.{◌≡◌, ℕ, ◌≤◌, List, ◌∷◌, Result, Ok, Err, sym, subst}
+use Rattle.std.proofs.Common.{refl, ◌≡◌, ℕ, ◌≤◌, List, ◌∷◌, Result, Ok, Err, sym, subst}
 use Rattle.wire_records.specs.Records.{Record}
 use Rattle.wire_records.specs.Commands.{Command, Plain, Batch, Pair}
 use Rattle.wire_records.specs.CommandRecords.{IsReadAs}
 use Rattle.wire_records.specs.declared.command.BodyFault.{BodyFault}
 use Rattle.wire_records.specs.declared.reply.Reply.{Reply}
 use Rattle.wire_records.proofs.Readings.{reading_unique}
-use Rattle.flow_orders.specs.Outcomes.{Outcome, Cleared, BatchRule, IsRightOutcome}
+use Rattle.flow_orders.specs.Outcomes.{Outcome, Cleared, Skipped, BatchRule, IsRightOutcome}
 use Rattle.flow_orders.specs.Own.{IsOwnOutcome}
 use Rattle.flow_orders.proofs.OwnLaws.{one_asset_books_clear}
+use Rattle.flow_orders.proofs.WalkLaws.{walks_lower_the_dual}
 use Rattle.market_core.specs.Market.{Market, IsSound, empty_market, start_prices}
 use Rattle.market_core.specs.Step.{Serves, ServesRead}
 use Rattle.market_core.specs.Journal.{Step, Follows, IsJournal, fills_of}
@@ -17,7 +18,7 @@ use Rattle.market_core.proofs.OneJournal.{follows-parts, journal_market}
 use Rattle.market_core.proofs.OwnIsLegal.{own_journal_is_legal, own_follows_are_right, start_within}
 use Rattle.market_core.proofs.Soundness.{sound_follows, sound-empty}
 use Rattle.market_core.proofs.Fills.{fills_within_cap}
-use Rattle.market_core.proofs.LawProofs.{batch_of, batches_keep_totals, cleared_batches_are_optimal}
+use Rattle.market_core.proofs.LawProofs.{batch_of, batches_keep_totals, cleared_batches_are_optimal, skips_lower_the_dual}
 
 no_plain : (n : ℕ) (o : Outcome) (r : Reply) → Batch n o ≡ Plain r → ⊥
 no_plain n o r e = cc
@@ -59,6 +60,19 @@ module _ (records : List Record) (pairs : List (Pair Record Outcome)) (market : 
     optimal = λ old new c batch.
         let served = right_step old (Cleared c) new batch in
         cleared_batches_are_optimal old served.0 batch.number c new (sound_before old (Cleared c) new batch) served.1;
+    skipped = λ old new s batch.
+        let served = right_step old (Skipped s) new batch in
+        let right = (batch_of IsRightOutcome old served.0 batch.number (Skipped s) new served.1).ruled in
+        record { wide = right.wide; legal = right.legal; whole = refl; unsettled = right.unsettled; duals = right.duals };
+    progress = λ old new s batch.
+        let served = right_step old (Skipped s) new batch in
+        let sound = sound_before old (Skipped s) new batch in
+        let right = (batch_of IsRightOutcome old served.0 batch.number (Skipped s) new served.1).ruled in
+        record {
+          exact = λ N common. walks_lower_the_dual.exact N old.orders (start_prices old) s.trace (λ k d inside. (sound.live k d inside).order) common right.legal;
+          moves = walks_lower_the_dual.moves old.orders (start_prices old) s.trace right.legal;
+          floors = skips_lower_the_dual.movement old served.0 batch.number s new sound served.1;
+        };
     near = λ old new outcome batch single.
         let own = own_step old outcome new batch in
         one_asset_books_clear old.orders (start_prices old) own.0 outcome (λ k d inside. ((sound_before old outcome new batch).live k d inside).order) single (start_within old) own.1;
