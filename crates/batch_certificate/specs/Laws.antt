@@ -1,4 +1,4 @@
--- What holds of residuals and gaps.
+-- What holds of residuals, gaps and verdicts.
 use Rattle.std.specs.Prelude.{◌≡◌, ◌+◌, ◌*◌, ◌<◌, ◌≤◌, ◌↔◌, ℕ, ℤ, false, unsigned_abs, List, length, All}
 use Rattle.std.specs.List.{range_with_len, sum_by}
 use Rattle.weight_rows.specs.Rows.{price_of}
