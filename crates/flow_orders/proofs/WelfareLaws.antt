@@ -1,5 +1,5 @@
--- Welfare is what traders would say of it.
-use Rattle.std.proofs.Common.{◌≡◌, ℕ, zero, suc, ◌*◌, ◌/◌, ◌≤◌, ℤ, pos, ◌+ℤ◌, ◌-ℤ◌, ◌*ℤ◌, List, [], ◌∷◌, map, length, refl, ap, sym, ◌∙◌, arith}
+-- Welfare is what a trader would say: of whole rates, of trading nothing, and of equal fractions.
+use Rattle.std.proofs.Common.{◌≡◌, ℕ, ◌*◌, ◌/◌, ◌≤◌, ℤ, pos, ◌-ℤ◌, ◌*ℤ◌, List, [], ◌∷◌, map, refl, ap, sym, ◌∙◌, arith}
 use Rattle.std.specs.Prelude.{All}
 use Rattle.std.proofs.Math.IntN.{*ℤ-zero, zero-*ℤ, pos-*ℤ-pos, *ℤ_comm}
 use Rattle.std.proofs.Math.Nat.{mul-le-mul, mul-le-mul_left}
@@ -13,7 +13,7 @@ use Rattle.demand_curve.specs.Demand.{Terms, span}
 use Rattle.demand_curve.specs.Welfare.{scaled_welfare}
 use Rattle.flow_orders.specs.Orders.{Order, terms_of}
 use Rattle.flow_orders.specs.Trades.{Trade, trades, residual}
-use Rattle.flow_orders.specs.Welfare.{IsCommon, welfare, IsBalanced}
+use Rattle.flow_orders.specs.Welfare.{welfare}
 use Rattle.flow_orders.specs.Laws.{WelfareIsAsSaid}
 
 -- a factor over a difference

@@ -1,5 +1,5 @@
 -- What holds of books of orders, walks and outcomes.
-use Rattle.std.specs.Prelude.{◌≡◌, ℕ, ℤ, pos, ◌+◌, ◌*◌, ◌/◌, ◌^◌, ◌≤◌, ◌+ℤ◌, ◌-ℤ◌, ◌*ℤ◌, ◌<ℤ◌, ◌≤ℤ◌, unsigned_abs, false, true, List, length, map, All}
+use Rattle.std.specs.Prelude.{◌≡◌, ℕ, ℤ, pos, ◌+◌, ◌*◌, ◌/◌, ◌^◌, ◌≤◌, ◌+ℤ◌, ◌-ℤ◌, ◌*ℤ◌, ◌<ℤ◌, ◌≤ℤ◌, unsigned_abs, true, List, length, map, All}
 use Rattle.std.specs.List.{range_with_len, sum_by}
 use Rattle.list_sums.specs.Sums.{int_sum_by}
 use Rattle.weight_rows.specs.Rows.{price_of, IsPricedBy}
@@ -10,7 +10,7 @@ use Rattle.flow_orders.specs.Excess.{is_unsettled, residual_bound}
 use Rattle.flow_orders.specs.Turns.{IsInTurn}
 use Rattle.flow_orders.specs.Choice.{absolute_sum}
 use Rattle.flow_orders.specs.Trades.{trades, residual}
-use Rattle.flow_orders.specs.Outcomes.{Outcome, Fill, Clearing, Skipping, Cleared, dual_of, step_of, IsLegalFrom, end_of, IsRightOutcome, IsRightClearing, IsRightSkip, most_budget}
+use Rattle.flow_orders.specs.Outcomes.{Outcome, Fill, Clearing, Skipping, dual_of, step_of, IsLegalFrom, end_of, IsRightOutcome, IsRightClearing, IsRightSkip, most_budget}
 use Rattle.flow_orders.specs.Welfare.{IsCommon, welfare, IsBalanced, IsOptimalWithin}
 use Rattle.flow_orders.specs.Duals.{IsCommonPart, exact_dual, movement_of}
 use Rattle.flow_orders.specs.Own.{are_single, floor_rates, rates_by_choice, IsOwnOutcome, ClearsNear}
@@ -76,8 +76,7 @@ GapsAreBounded = (orders : List Order) (start : List ℤ) (c : Clearing) → All
 abbrev pub CommonsExist : Type 0
 CommonsExist = (orders : List Order) → All IsOrder orders → (M : ℕ) × IsCommon M orders
 
--- welfare is what traders would say: whole rates are worth the high limit for each unit, less span / (2 * rate) times the square of the rate,
---     here in parts of 1/M of a grain; trading nothing is balanced and worth nothing; and fractions that are equal are balanced and worth the same
+-- whole rates are worth the high limit for each unit, less span / (2 * rate) times the square of the rate; trading nothing is balanced and worth nothing; equal fractions are balanced alike and worth the same
 pub record WelfareIsAsSaid : Type 0 where
   pub whole : (M : ℕ) (orders : List Order) (rates : List ℕ) → IsCommon M orders → welfare M 1 (trades orders rates)
       ≡ int_sum_by (λ t. pos M *ℤ (pos t.traded *ℤ t.order.high) -ℤ pos (M / (2 * t.order.rate) * (span (terms_of t.order) * t.traded * t.traded))) (trades orders rates)

@@ -58,9 +58,9 @@ pub fn commons_exist()
     ensures { CommonsExist }
 {}
 
-/// Welfare is what traders would say. Whole rates are worth the high limit for each unit, less `span / (2 * rate)` times
-/// the square of the rate. Trading nothing is balanced and worth nothing. Fractions that are equal are balanced and
-/// worth the same, counted in parts of `1 / (M * K * K)` of a grain.
+/// Welfare is what a trader would say. Whole rates are worth the high limit for each unit, less `span / (2 * rate)`
+/// times the square of the rate. Trading nothing is balanced and worth nothing. With `k` above 0, the fractions
+/// `k * n / (k * K)` are balanced where `n / K` are, and worth the same.
 pub fn welfare_is_as_said()
     ensures { WelfareIsAsSaid }
 {}
