@@ -31,4 +31,5 @@ pub mod TradeFacts
 pub mod WalkFacts
 pub mod WalkLaws
 pub mod Walks
+pub mod WelfareLaws
 pub mod WorkedRows

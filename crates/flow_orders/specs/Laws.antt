@@ -1,6 +1,7 @@
 -- What holds of books of orders, walks and outcomes.
-use Rattle.std.specs.Prelude.{◌≡◌, ℕ, ℤ, pos, ◌+◌, ◌*◌, ◌^◌, ◌≤◌, ◌+ℤ◌, ◌<ℤ◌, ◌≤ℤ◌, unsigned_abs, false, true, List, length, map, All}
+use Rattle.std.specs.Prelude.{◌≡◌, ℕ, ℤ, pos, ◌+◌, ◌*◌, ◌/◌, ◌^◌, ◌≤◌, ◌+ℤ◌, ◌-ℤ◌, ◌*ℤ◌, ◌<ℤ◌, ◌≤ℤ◌, unsigned_abs, true, List, length, map, All}
 use Rattle.std.specs.List.{range_with_len, sum_by}
+use Rattle.list_sums.specs.Sums.{int_sum_by}
 use Rattle.weight_rows.specs.Rows.{price_of, IsPricedBy}
 use Rattle.demand_curve.specs.Demand.{IsWithin, span}
 use Rattle.demand_curve.specs.Numbers.{rounded_up}
@@ -9,8 +10,8 @@ use Rattle.flow_orders.specs.Excess.{is_unsettled, residual_bound}
 use Rattle.flow_orders.specs.Turns.{IsInTurn}
 use Rattle.flow_orders.specs.Choice.{absolute_sum}
 use Rattle.flow_orders.specs.Trades.{trades, residual}
-use Rattle.flow_orders.specs.Outcomes.{Outcome, Fill, Clearing, Skipping, Cleared, dual_of, step_of, IsLegalFrom, end_of, IsRightOutcome, IsRightClearing, IsRightSkip, most_budget}
-use Rattle.flow_orders.specs.Welfare.{IsCommon, IsOptimalWithin}
+use Rattle.flow_orders.specs.Outcomes.{Outcome, Fill, Clearing, Skipping, dual_of, step_of, IsLegalFrom, end_of, IsRightOutcome, IsRightClearing, IsRightSkip, most_budget}
+use Rattle.flow_orders.specs.Welfare.{IsCommon, welfare, IsBalanced, IsOptimalWithin}
 use Rattle.flow_orders.specs.Duals.{IsCommonPart, exact_dual, movement_of}
 use Rattle.flow_orders.specs.Own.{are_single, floor_rates, rates_by_choice, IsOwnOutcome, ClearsNear}
 
@@ -74,3 +75,12 @@ GapsAreBounded = (orders : List Order) (start : List ℤ) (c : Clearing) → All
 -- there is a number that twice the rate of every order divides
 abbrev pub CommonsExist : Type 0
 CommonsExist = (orders : List Order) → All IsOrder orders → (M : ℕ) × IsCommon M orders
+
+-- whole rates are worth the high limit for each unit, less span / (2 * rate) times the square of the rate; trading nothing is balanced and worth nothing; equal fractions are balanced alike and worth the same
+pub record WelfareIsAsSaid : Type 0 where
+  pub whole : (M : ℕ) (orders : List Order) (rates : List ℕ) → IsCommon M orders → welfare M 1 (trades orders rates)
+      ≡ int_sum_by (λ t. pos M *ℤ (pos t.traded *ℤ t.order.high) -ℤ pos (M / (2 * t.order.rate) * (span (terms_of t.order) * t.traded * t.traded))) (trades orders rates)
+  pub none_balanced : (K : ℕ) (orders : List Order) → 1 ≤ K → IsBalanced K orders (map (λ o. 0) orders)
+  pub none_worth : (M K : ℕ) (orders : List Order) → welfare M K (trades orders (map (λ o. 0) orders)) ≡ pos 0
+  pub scaled_balanced : (k K : ℕ) (orders : List Order) (ns : List ℕ) → 1 ≤ k → IsBalanced K orders ns → IsBalanced (k * K) orders (map (λ n. k * n) ns)
+  pub scaled_worth : (k M K : ℕ) (orders : List Order) (ns : List ℕ) → welfare M (k * K) (trades orders (map (λ n. k * n) ns)) ≡ pos (k * k) *ℤ welfare M K (trades orders ns)

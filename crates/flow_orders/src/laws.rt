@@ -1,5 +1,5 @@
 //! What holds of books of orders, whatever code there is. Each law is the contract of a function that does nothing.
-ghost use Rattle.flow_orders.specs.Laws.{OneOwnOutcome, EveryBatchHasAnOwnOutcome, OwnOutcomesAreRight, OneAssetBooksClear, ChosenRatesAreNoWorse, OneWalkOfEachLength, WalksLowerTheDual, RightSkipsLowerTheDual, RightClearingsAreOptimal, GapsAreBounded, CommonsExist};
+ghost use Rattle.flow_orders.specs.Laws.{OneOwnOutcome, EveryBatchHasAnOwnOutcome, OwnOutcomesAreRight, OneAssetBooksClear, ChosenRatesAreNoWorse, OneWalkOfEachLength, WalksLowerTheDual, RightSkipsLowerTheDual, RightClearingsAreOptimal, GapsAreBounded, CommonsExist, WelfareIsAsSaid};
 
 /// A batch has at most one own outcome.
 pub fn one_own_outcome()
@@ -56,4 +56,11 @@ pub fn gaps_are_bounded()
 /// There is a number that twice the rate of every order divides, in parts of which welfare is whole.
 pub fn commons_exist()
     ensures { CommonsExist }
+{}
+
+/// Welfare is what a trader would say. Whole rates are worth the high limit for each unit, less `span / (2 * rate)`
+/// times the square of the rate. Trading nothing is balanced and worth nothing. With `k` above 0, the fractions
+/// `k * n / (k * K)` are balanced where `n / K` are, and worth the same.
+pub fn welfare_is_as_said()
+    ensures { WelfareIsAsSaid }
 {}
