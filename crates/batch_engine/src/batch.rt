@@ -101,7 +101,12 @@ fn clear_single(alloc: Global, orders: &[Order], start: &[i64]) -> Result<Cleare
 }
 
 // The outcome of a book in which some order names two assets or more.
-fn clear_wide(alloc: Global, orders: &[Order], start: &[i64], budget: u32) -> Result<Outcome, Memory>
+fn clear_wide(
+    alloc: Global,
+    orders: &[Order],
+    start: &[i64],
+    budget: u32,
+) -> Result<Outcome, Memory>
     requires few { length orders.now ≤ most_orders }
     requires assets { length start.now ≤ most_prices }
     requires range { All (IsWithin (2 ^ 60)) start.now }

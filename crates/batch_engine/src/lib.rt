@@ -6,9 +6,10 @@
 //!
 //! # Costs
 //!
-//! One pass over the orders; for each asset two passes over the entries of all orders, and at most 65 more for one that
-//! isn't settled; then two passes more in all, one division for each order in each. Memory is taken for three lists of one
-//! number for each asset and one list of one number for each order, and nothing in between.
+//! Where each order names one asset: for each asset two passes over the entries of all orders, and at most 65 more for one
+//! that isn't settled. Other books: before each move, and at the end, at most two passes for each asset, and at most 65 for the
+//! move. Then two passes more in all, one division for each order in each. Memory is taken for three lists of one number for
+//! each asset, one list of one number for each order, and a byte for each move of the budget, and nothing in between.
 #![tactic(auto)]
 
 mod batch;

@@ -1,7 +1,6 @@
-ghost use Rattle.std.specs.Prelude.{◌≡◌, ◌^◌, ◌≤◌, true, length, IsTrue, All};
+ghost use Rattle.std.specs.Prelude.{◌^◌, ◌≤◌, length, IsTrue, All};
 ghost use Rattle.weight_rows.specs.Rows.{IsPricedBy};
 ghost use Rattle.demand_curve.specs.Demand.{IsWithin};
-ghost use Rattle.flow_orders.specs.Own.{are_single};
 
 use super::*;
 use batch_certificate::Outcome;
@@ -10,22 +9,29 @@ use std::alloc::{AllocError, Global};
 use std::test::Fail;
 use weight_rows::{Entry, EntryList, WeightRow, row_fault};
 
-// Limits in ticks, rate and cap, how much is filled, and the asset with its weight.
-type Placed = ((i64, i64), (u32, u64), u32, (u16, i32));
+// Limits in ticks, rate and cap, how much is filled, and the assets with their weights.
+type Placed<'a> = ((i64, i64), (u32, u64), u32, &'a [(u16, i32)]);
 
 // Prices, rates, residuals and gap.
 type Cleared<'a> = (&'a [i64], &'a [u32], &'a [i64], i128);
 
-const BUYER: Placed = ((90, 110), (1000, 10_000), 0, (0, 1));
+const BUYER: Placed<'_> = ((90, 110), (1000, 10_000), 0, &[(0, 1)]);
 
-const SELLER: Placed = ((-110, -90), (1000, 10_000), 0, (0, -1));
+const SELLER: Placed<'_> = ((-110, -90), (1000, 10_000), 0, &[(0, -1)]);
 
 const TOP: i64 = 1 << 60;
 
 // The order, or None where its numbers or its row have a fault.
-fn order_of(alloc: Global, placed: Placed) -> Result<Option<Order>, AllocError> {
-    let ((low, high), (rate, cap), filled, (asset, weight)) = placed;
-    let entries = EntryList::new(Vec::from_array(alloc, [Entry { asset, weight }])?);
+fn order_of(alloc: Global, placed: Placed<'_>) -> Result<Option<Order>, AllocError> {
+    let ((low, high), (rate, cap), filled, row) = placed;
+    let entries = row
+        .iter()
+        .map(|pair| Entry {
+            asset: pair.0,
+            weight: pair.1,
+        })
+        .collect(alloc)?;
+    let entries = EntryList::new(entries);
     if row_fault(entries.as_slice()).is_some() || order_fault(low, high, rate, cap).is_some() {
         return Ok(None);
     }
@@ -37,7 +43,7 @@ fn order_of(alloc: Global, placed: Placed) -> Result<Option<Order>, AllocError> 
 }
 
 // The orders, without those that can't be.
-fn orders_of(alloc: Global, placed: &[Placed]) -> Result<Vec<Order>, AllocError> {
+fn orders_of(alloc: Global, placed: &[Placed<'_>]) -> Result<Vec<Order>, AllocError> {
     let mut orders = Vec::new(alloc);
     for one in placed {
         if let Some(order) = order_of(alloc, *one)? {
@@ -58,37 +64,31 @@ fn is_priced(order: &Order, prices: &[i64]) -> bool
         .all(|entry| usize::from(entry.asset) < prices.len())
 }
 
-// Whether each order names one asset.
-#[tactic(auto, using(coordinate_search::proofs::Settling::single_all))]
-fn are_all_single(orders: &[Order]) -> bool
-    ensures { IsTrue result → are_single orders.now ≡ true }
-{
-    orders.iter().all(|order| order.row().entries().len() == 1)
-}
-
 // The outcome, or None where a batch can't be of these orders and prices, or there is no memory.
-fn outcome(alloc: Global, orders: &[Order], start: &[i64]) -> Option<Outcome> {
+fn outcome(alloc: Global, orders: &[Order], start: &[i64], budget: u32) -> Option<Outcome> {
     if orders.len() > 16_384
         || start.len() > 64
         || !start.iter().all(|price| -TOP <= *price && *price <= TOP)
         || !orders.iter().all(|order| is_priced(order, start))
-        || !are_all_single(orders)
+        || budget == 0
+        || budget > 65_536
     {
         return None;
     }
-    clear(alloc, orders, start, 1).ok()
+    clear(alloc, orders, start, budget).ok()
 }
 
 // Whether the orders that are placed are all there, and clear so from these start prices.
 fn get(
     alloc: Global,
-    placed: &[Placed],
+    placed: &[Placed<'_>],
     start: &[i64],
+    budget: u32,
     expected: Cleared<'_>,
 ) -> Result<bool, AllocError> {
     let orders = orders_of(alloc, placed)?;
     let (prices, rates, residuals, gap) = expected;
-    let Some(Outcome::Cleared(cleared)) = outcome(alloc, orders.as_slice(), start) else {
+    let Some(Outcome::Cleared(cleared)) = outcome(alloc, orders.as_slice(), start, budget) else {
         return Ok(false);
     };
     Ok(
@@ -102,22 +102,22 @@ fn get(
 
 #[test]
 fn books_of_one_asset_clear(rt: HostRuntime) -> Result<(), Fail> {
-    let pair = [BUYER, SELLER];
-    let steep = [
-        ((0, 1), (16_777_216, 16_777_216), 0, (0, 4096)),
-        ((-1, 0), (16_777_216, 16_777_216), 0, (0, -4096)),
+    let pair: [Placed<'_>; 2] = [BUYER, SELLER];
+    let steep: [Placed<'_>; 2] = [
+        ((0, 1), (16_777_216, 16_777_216), 0, &[(0, 4096)]),
+        ((-1, 0), (16_777_216, 16_777_216), 0, &[(0, -4096)]),
     ];
-    let filled = [
-        ((90, 110), (1000, 501), 500, (0, 1)),
-        ((-110, -90), (1000, 10_000), 499, (0, -1)),
+    let filled: [Placed<'_>; 2] = [
+        ((90, 110), (1000, 501), 500, &[(0, 1)]),
+        ((-110, -90), (1000, 10_000), 499, &[(0, -1)]),
     ];
-    let idle = [
+    let idle: [Placed<'_>; 4] = [
         BUYER,
         SELLER,
-        ((99, 101), (1, 5), 0, (0, 1)),
-        ((-130, -120), (10, 10), 0, (0, -1)),
+        ((99, 101), (1, 5), 0, &[(0, 1)]),
+        ((-130, -120), (10, 10), 0, &[(0, -1)]),
     ];
-    let cases: [(&[Placed], &[i64], Cleared<'_>); 7] = [
+    let cases: [(&[Placed<'_>], &[i64], Cleared<'_>); 7] = [
         (
             &pair,
             &[0],
@@ -162,18 +162,18 @@ fn books_of_one_asset_clear(rt: HostRuntime) -> Result<(), Fail> {
         (&[], &[], (&[], &[], &[], 0)),
     ];
     for (placed, start, expected) in cases {
-        assert!(rt; get(rt.alloc(), placed, start, expected)?);
+        assert!(rt; get(rt.alloc(), placed, start, 1, expected)?);
     }
     Ok(())
 }
 
 #[test]
 fn books_of_two_assets_clear(rt: HostRuntime) -> Result<(), Fail> {
-    let two = [
+    let two: [Placed<'_>; 4] = [
         BUYER,
-        ((-8, -3), (77, 5000), 0, (1, -3)),
+        ((-8, -3), (77, 5000), 0, &[(1, -3)]),
         SELLER,
-        ((2, 9), (120, 100), 90, (1, 2)),
+        ((2, 9), (120, 100), 90, &[(1, 2)]),
     ];
     let cases: [(&[i64], Cleared<'_>); 3] = [
         (
@@ -205,7 +205,39 @@ fn books_of_two_assets_clear(rt: HostRuntime) -> Result<(), Fail> {
         ),
     ];
     for (start, expected) in cases {
-        assert!(rt; get(rt.alloc(), &two, start, expected)?);
+        assert!(rt; get(rt.alloc(), &two, start, 1, expected)?);
+    }
+    Ok(())
+}
+
+// A basket of two assets, a seller of each, and an order that asks for nothing at these prices.
+const BASKETS: [Placed<'_>; 4] = [
+    ((100, 500), (100, 1000), 0, &[(0, 1), (1, 1)]),
+    ((-110, -90), (1000, 10_000), 0, &[(0, -1)]),
+    ((-110, -90), (1000, 10_000), 0, &[(1, -1)]),
+    ((1, 2), (1, 1), 0, &[(0, 1)]),
+];
+
+#[test]
+fn baskets_are_searched(rt: HostRuntime) -> Result<(), Fail> {
+    let prices: [i64; 2] = [393_590_803_005, 393_161_306_276];
+    let idle: Cleared<'_> = (&prices, &[79, 81, 77, 0], &[-2, 2], 1_262_935_134);
+    let busy: Cleared<'_> = (&prices, &[79, 81, 77], &[-2, 2], 1_262_935_134);
+    for budget in [3, 65_536] {
+        assert!(rt; get(rt.alloc(), &BASKETS, &[0, 0], budget, idle)?);
+        assert!(rt; get(rt.alloc(), &BASKETS[..3], &[0, 0], budget, busy)?);
+    }
+    let orders = orders_of(rt.alloc(), &BASKETS[..3])?;
+    let traces: [(u32, &[u8]); 2] = [(1, &[0]), (2, &[0, 1])];
+    for (budget, trace) in traces {
+        match outcome(rt.alloc(), orders.as_slice(), &[0, 0], budget) {
+            Some(Outcome::Skipped(skipped)) => {
+                assert_eq!(rt; skipped.trace.as_slice(), trace);
+                assert_eq!(rt; skipped.start_dual, 128_849_018_880_000);
+                assert!(rt; budget == 2 || skipped.end_dual == 89_764_988_285_090);
+            }
+            _ => assert!(rt; false),
+        }
     }
     Ok(())
 }
