@@ -366,6 +366,48 @@ fn holds_batches(rt: HostRuntime) -> Result<(), Fail> {
     expect_pairs(&rt, rt.alloc(), &pairs)
 }
 
+// Account 1 buys one unit each of the assets 0 and 1 together, 100 a batch, between 100 and 500 ticks.
+const BASKET: &[u8] =
+    b"\x07\0\0\0\x2D\0\0\0\x01\0\0\0\0\0\0\0\x64\0\0\0\0\0\0\x01\xF4\0\0\0\x64\0\0\0\0\0\0\x03\xE8\x02\0\0\0\0\0\x01\0\x01\0\0\0\x01";
+
+// As SELLS, but of asset 1.
+const SELLS_OTHER: &[u8] =
+    b"\x07\0\0\0\x27\0\0\0\x02\xFF\xFF\xFF\xFF\xFF\xFF\xFF\x92\xFF\xFF\xFF\xFF\xFF\xFF\xFF\xA6\0\0\x03\xE8\0\0\0\0\0\0\x27\x10\x01\0\x01\xFF\xFF\xFF\xFF";
+
+// A budget of 1 allows the move of asset 0 alone. The dual floor is 128,849,018,880,000 grains at the start and
+// 89,764,988,285,090 after it.
+const SKIPPED: &[u8] =
+    b"\x86\0\0\0\x29\0\0\0\x01\0\0\0\0\0\0\0\0\0\0\x75\x30\0\0\0\0\0\0\0\0\0\0\0\0\0\0\x51\xA4\x0A\x3D\x70\xA2\0\0\0\x01\0";
+
+// The prices are 393,590,803,005 and 393,161,306,276 grains, the rates are 79, 81 and 77, the residuals -2 and 2, and
+// the gap is 1,262,935,134.
+const FOUND: &[u8] =
+    b"\x85\0\0\0\x5E\0\0\0\x02\0\x02\0\0\0\x5B\xA3\xD7\x0A\x3D\0\0\0\x5B\x8A\x3D\x70\xA4\0\0\0\x03\0\0\0\0\0\0\0\x01\0\0\0\x4F\0\0\0\0\0\0\0\x02\0\0\0\x51\0\0\0\0\0\0\0\x03\0\0\0\x4D\xFF\xFF\xFF\xFF\xFF\xFF\xFF\xFE\0\0\0\0\0\0\0\x02\0\0\0\0\0\0\0\0\0\0\0\0\x4B\x46\xDC\x5E";
+
+#[test]
+fn searches_and_skips(rt: HostRuntime) -> Result<(), Fail> {
+    let other = b"\x01\0\0\0\x08MSFT    ".as_slice();
+    let money = b"\x03\0\0\0\x0C\0\0\0\x01\0\0\0\0\0\x07\xA1\x20".as_slice();
+    let units = b"\x04\0\0\0\x0E\0\0\0\x02\0\0\0\0\0\0\0\0\x27\x10".as_slice();
+    let others = b"\x04\0\0\0\x0E\0\0\0\x02\0\x01\0\0\0\0\0\0\x27\x10".as_slice();
+    let three_moves = b"\x09\0\0\0\x04\0\0\0\x03".as_slice();
+    let pairs: [(&[u8], &[u8]); 12] = [
+        (ASSET, b"\x81\0\0\0\x02\0\0"),
+        (other, b"\x81\0\0\0\x02\0\x01"),
+        (ACCOUNT, b"\x82\0\0\0\x04\0\0\0\x01"),
+        (ACCOUNT, b"\x82\0\0\0\x04\0\0\0\x02"),
+        (money, DONE),
+        (units, DONE),
+        (others, DONE),
+        (BASKET, b"\x83\0\0\0\x08\0\0\0\0\0\0\0\x01"),
+        (SELLS, b"\x83\0\0\0\x08\0\0\0\0\0\0\0\x02"),
+        (SELLS_OTHER, b"\x83\0\0\0\x08\0\0\0\0\0\0\0\x03"),
+        (BATCH, SKIPPED),
+        (three_moves, FOUND),
+    ];
+    expect_pairs(&rt, rt.alloc(), &pairs)
+}
+
 // A file of one record.
 const ONE: &[u8] = b"FLOWCMD1\x02\0\0\0\0";
 
