@@ -218,26 +218,43 @@ const BASKETS: [Placed<'_>; 4] = [
     ((1, 2), (1, 1), 0, &[(0, 1)]),
 ];
 
+// Whether the orders are all there, and are skipped from prices of 0 with this trace and these duals.
+fn skips(
+    alloc: Global,
+    placed: &[Placed<'_>],
+    budget: u32,
+    trace: &[u8],
+    duals: (i128, i128),
+) -> Result<bool, AllocError> {
+    let orders = orders_of(alloc, placed)?;
+    let Some(Outcome::Skipped(skipped)) = outcome(alloc, orders.as_slice(), &[0, 0], budget) else {
+        return Ok(false);
+    };
+    Ok(
+        orders.len() == placed.len()
+            && skipped.trace.as_slice() == trace
+            && skipped.start_dual == duals.0
+            && skipped.end_dual == duals.1,
+    )
+}
+
 #[test]
 fn baskets_are_searched(rt: HostRuntime) -> Result<(), Fail> {
-    let prices: [i64; 2] = [393_590_803_005, 393_161_306_276];
-    let idle: Cleared<'_> = (&prices, &[79, 81, 77, 0], &[-2, 2], 1_262_935_134);
-    let busy: Cleared<'_> = (&prices, &[79, 81, 77], &[-2, 2], 1_262_935_134);
+    let cleared: Cleared<'_> = (
+        &[393_590_803_005, 393_161_306_276],
+        &[79, 81, 77, 0],
+        &[-2, 2],
+        1_262_935_134,
+    );
     for budget in [3, 65_536] {
-        assert!(rt; get(rt.alloc(), &BASKETS, &[0, 0], budget, idle)?);
-        assert!(rt; get(rt.alloc(), &BASKETS[..3], &[0, 0], budget, busy)?);
+        assert!(rt; get(rt.alloc(), &BASKETS, &[0, 0], budget, cleared)?);
     }
-    let orders = orders_of(rt.alloc(), &BASKETS[..3])?;
-    let traces: [(u32, &[u8]); 2] = [(1, &[0]), (2, &[0, 1])];
-    for (budget, trace) in traces {
-        match outcome(rt.alloc(), orders.as_slice(), &[0, 0], budget) {
-            Some(Outcome::Skipped(skipped)) => {
-                assert_eq!(rt; skipped.trace.as_slice(), trace);
-                assert_eq!(rt; skipped.start_dual, 128_849_018_880_000);
-                assert!(rt; budget == 2 || skipped.end_dual == 89_764_988_285_090);
-            }
-            _ => assert!(rt; false),
-        }
+    let traces: [(u32, &[u8], (i128, i128)); 2] = [
+        (1, &[0], (128_855_461_330_944, 89_764_988_285_090)),
+        (2, &[0, 1], (128_855_461_330_944, 54_446_704_484_694)),
+    ];
+    for (budget, trace, duals) in traces {
+        assert!(rt; skips(rt.alloc(), &BASKETS, budget, trace, duals)?);
     }
     Ok(())
 }

@@ -1,4 +1,4 @@
-use Rattle.std.proofs.Common.{◌+◌, ◌<◌, ◌++◌, length, FitsSigned, refl, ap, ◌∙◌, rules, arith, subst}
+use Rattle.std.proofs.Common.{◌+◌, ◌<◌, ◌++◌, length, FitsSigned, refl, rules, arith, subst}
 use Rattle.std.specs.Int.{w128}
 use Rattle.std.proofs.lemmas.Int.{to_z-of_z}
 use Rattle.std.proofs.lemmas.List.Elements.{All-drop}
