@@ -1,4 +1,5 @@
 pub mod Ends
-pub mod Settling
 pub mod InTurn
+pub mod Lowering
 pub mod MadeAgain
+pub mod Settling

@@ -1,9 +1,10 @@
 -- What a search for prices leaves, and a walk that is made again.
-use Rattle.std.specs.Prelude.{◌≡◌, ℕ, ◌+◌, ◌<◌, true, ℤ, List, length, take}
+use Rattle.std.specs.Prelude.{◌≡◌, ℕ, ◌+◌, ◌*◌, ◌<◌, ◌≤◌, true, ℤ, List, length, take}
 use Rattle.flow_orders.specs.Orders.{Order}
 use Rattle.flow_orders.specs.Excess.{is_unsettled}
 use Rattle.flow_orders.specs.Turns.{IsOwnWalk, IsOwnTrace}
 use Rattle.flow_orders.specs.Outcomes.{step_of, IsLegalFrom, EndsSettled, end_of}
+use Rattle.flow_orders.specs.Duals.{IsCommonPart, exact_dual}
 use Rattle.coordinate_search.specs.declared.searching.Found.{Found}
 use Rattle.coordinate_search.specs.declared.searching.Found.TheVariants.{Settled, Spent}
 use Rattle.coordinate_search.specs.declared.retracing.Retraced.{Retraced}
@@ -28,3 +29,12 @@ IsRetraced (Illegal place) orders start walk end = IsFirstIllegal orders start w
 -- a move of this asset at these prices is legal
 abbrev pub IsMovable : List Order → List ℤ → ℕ → Type 0
 IsMovable orders prices asset = (asset < length prices) × (is_unsettled orders prices asset ≡ true)
+
+-- prices that moves led to from a start, by this movement in all: the exact dual is lower by the movement at least
+abbrev pub IsLowered : List Order → List ℤ → ℕ → List ℤ → Type 0
+IsLowered orders start movement end = (N : ℕ) → IsCommonPart N orders → exact_dual N orders end + N * movement ≤ exact_dual N orders start
+
+-- the moves that were made again
+abbrev pub made_of : Retraced → List ℕ → List ℕ
+made_of Legal walk = walk
+made_of (Illegal place) walk = take place walk

@@ -5,6 +5,7 @@ ghost use Rattle.flow_orders.specs.Orders.{IsOrder};
 ghost use Rattle.flow_orders.specs.Excess.{is_above, is_below, is_unsettled, steepness};
 ghost use Rattle.flow_orders.specs.Moves.{moved};
 ghost use Rattle.excess_bounds.specs.Workspace.{ArePriced};
+ghost use Rattle.coordinate_search.specs.Search.{IsLowered};
 
 use crate::probes::{Fall, Rise};
 use excess_bounds::Workspace;
@@ -27,6 +28,10 @@ pub fn step(work: &mut Workspace<'_>, asset: u16, reach: i64)
     requires room_above { (price_of work.old.prices asset +ℤ reach) ≤ℤ pos (2 ^ 62) }
     ensures orders { work.new.orders ≡ work.old.orders }
     ensures moved { work.new.prices ≡ moved work.old.orders (unsigned_abs reach) work.old.prices asset }
+
+    // Each grain of the move lowers the exact dual by a grain at least.
+    ensures lowers { IsLowered work.old.orders work.old.prices
+        (unsigned_abs (price_of work.new.prices asset -ℤ price_of work.old.prices asset)) work.new.prices }
 {
     let end = end_of_move(work, asset, reach);
     work.set_price(asset, end);
@@ -42,6 +47,7 @@ fn end_of_move(work: &Workspace<'_>, asset: u16, reach: i64) -> i64
     requires room_above { (price_of work.now.prices asset +ℤ reach) ≤ℤ pos (2 ^ 62) }
     ensures moved { slice_set work.now.prices asset result ≡ moved work.now.orders (unsigned_abs reach) work.now.prices asset }
     ensures range { IsPrice result }
+    ensures priced { ArePriced work.now.orders work.now.prices }
 {
     let price = price_in(work, asset);
     let steepness = work.steepness(asset);

@@ -2,7 +2,8 @@
 ghost use Rattle.std.specs.Prelude.{◌≡◌, ℕ, ◌+◌, ◌^◌, ◌≤◌, true, false, length, unsigned_abs, All};
 ghost use Rattle.demand_curve.specs.Demand.{IsWithin};
 ghost use Rattle.flow_orders.specs.Outcomes.{most_budget, step_of};
-ghost use Rattle.coordinate_search.specs.Search.{IsRetraced, IsMovable};
+ghost use Rattle.flow_orders.specs.Duals.{movement_of};
+ghost use Rattle.coordinate_search.specs.Search.{IsRetraced, IsMovable, IsLowered, made_of};
 
 use crate::searching::make_move;
 use excess_bounds::Workspace;
@@ -29,7 +30,13 @@ pub fn retrace(work: &mut Workspace<'_>, trace: &[u8]) -> Retraced
     requires start { All (IsWithin (2 ^ 60)) work.old.prices }
     ensures orders { work.new.orders ≡ work.old.orders }
     ensures retraced { IsRetraced result work.old.orders work.old.prices trace.now work.new.prices }
+
+    // Each grain of the moves that were made lowers the exact dual by a grain at least.
+    ensures lowers { IsLowered work.old.orders work.old.prices
+        (movement_of work.old.orders work.old.prices (made_of result trace.now)) work.new.prices }
 {
+    // Its contract tells that each order is within the limits.
+    let _prices = work.prices();
     for (place, asset) in trace.iter().enumerate() {
         if !move_again(work, *asset) {
             return Retraced::Illegal(place as u32);

@@ -3,12 +3,14 @@ ghost use Rattle.std.specs.Prelude.{◌≡◌, ℕ, [], ◌+◌, ◌-◌, ◌^�
 ghost use Rattle.std.specs.List.{range_with_len};
 ghost use Rattle.weight_rows.specs.Rows.{price_of};
 ghost use Rattle.demand_curve.specs.Demand.{IsWithin};
+ghost use Rattle.flow_orders.specs.Orders.{IsOrder};
 ghost use Rattle.flow_orders.specs.Excess.{is_unsettled};
+ghost use Rattle.flow_orders.specs.Duals.{movement_of};
 ghost use Rattle.flow_orders.specs.Walks.{first_that};
 ghost use Rattle.flow_orders.specs.Turns.{visits, IsInTurn};
 ghost use Rattle.flow_orders.specs.Outcomes.{most_budget, step_of, end_of, IsLegalFrom};
 ghost use Rattle.excess_bounds.specs.Workspace.{most_prices};
-ghost use Rattle.coordinate_search.specs.Search.{IsFound};
+ghost use Rattle.coordinate_search.specs.Search.{IsFound, IsLowered};
 
 use crate::moves::step;
 use excess_bounds::Workspace;
@@ -46,6 +48,10 @@ pub fn search(work: &mut Workspace<'_>, budget: u32, trace: &mut Vec<u8>) -> Fou
     ensures legal { IsLegalFrom work.old.orders work.old.prices trace.new.items }
     ensures found { IsFound result work.old.orders work.old.prices budget trace.new.items }
     ensures capacity { vec_capacity trace.new ≡ vec_capacity trace.old }
+
+    // Each grain of the walk lowers the exact dual by a grain at least.
+    ensures lowers { IsLowered work.old.orders work.old.prices
+        (movement_of work.old.orders work.old.prices trace.new.items) work.new.prices }
 {
     let mut next = 0;
     for _made in 0..budget {
@@ -71,6 +77,7 @@ fn next_unsettled(work: &Workspace<'_>, next: u16) -> Option<u16>
         ≡ first_that (is_unsettled work.now.orders work.now.prices) (visits (length work.now.prices) next) }
     ensures there { IfSome result (λ asset. asset < length work.now.prices) }
     ensures few { length work.now.prices ≤ most_prices }
+    ensures each { All IsOrder work.now.orders }
 {
     let count = work.prices().len() as u16;
     match unsettled_between(work, next, count) {

@@ -2,7 +2,7 @@
 //!
 //! An order's dual value at a price of its portfolio is the most that it can gain there, by trading exactly its demand.
 //! Each legal move of an asset that isn't settled lowers the sum over a book, without rounding: `flow_orders` has that as
-//! a law. So the sum at two places of a walk says how far the walk has come.
+//! a law. So the sum at two places of a walk says how far the walk has come; [`laws`] has how near the rounded sum is.
 //!
 //! Prices are in grains, and 2^32 grains are a tick; there is one for each asset, by its number. Values are in grains.
 //!
@@ -18,6 +18,7 @@ ghost use Rattle.flow_orders.specs.Orders.{most_orders, terms_of};
 ghost use Rattle.flow_orders.specs.Excess.{price_for};
 ghost use Rattle.flow_orders.specs.Outcomes.{dual_of};
 
+pub mod laws;
 #[cfg(test)]
 mod tests;
 

@@ -1,9 +1,9 @@
 -- The true excess lies between the rounded ones, and moves by at most the steepness for each grain.
-use Rattle.std.proofs.Common.{ℕ, suc, ◌*◌, ◌<◌, ℤ, pos, negsuc, ◌+ℤ◌, ◌*ℤ◌, ◌≤ℤ◌, List, length, set, arith}
-use Rattle.std.specs.Prelude.{All, slice_index_or}
+use Rattle.std.proofs.Common.{◌≡◌, ◌⊎◌, inl, inr, ⊎_elim, ℕ, suc, ◌*◌, ◌<◌, ◌≤◌, ℤ, pos, negsuc, ◌+ℤ◌, ◌-ℤ◌, ◌*ℤ◌, ◌≤ℤ◌, ◌<ℤ◌, List, length, set, ap, sym, subst, ◌∙◌, arith}
+use Rattle.std.specs.Prelude.{All, neg_ℤ, slice_index_or}
 use Rattle.std.proofs.Math.Nat.{mul-le-mul_left}
 use Rattle.std.proofs.lemmas.Int.{ints}
-use Rattle.weight_rows.specs.Rows.{weight_in, portfolio_price}
+use Rattle.weight_rows.specs.Rows.{weight_in, price_of, portfolio_price}
 use Rattle.demand_curve.specs.Demand.{Terms, IsWithinLimits, scaled_demand}
 use Rattle.demand_curve.proofs.RoundingLaws.{demand_never_rises}
 use Rattle.list_sums.proofs.SumLemmas.{int_sum_by-le}
@@ -11,8 +11,11 @@ use Rattle.flow_orders.specs.Orders.{Order, IsOrder, terms_of}
 use Rattle.flow_orders.specs.Duals.{share}
 use Rattle.flow_orders.proofs.Book.{IsSound}
 use Rattle.flow_orders.proofs.BookSums.{price_one_more}
-use Rattle.flow_orders.proofs.Progress.{low_excess-below, high_excess-above, true_excess_step}
-use Rattle.excess_bounds.specs.Laws.{true_excess, ExcessIsEnclosed, GrainsMoveExcessLittle}
+use Rattle.flow_orders.proofs.Progress.{low_excess-below, high_excess-above, true_excess_step, excess_after_rise, excess_after_fall}
+use Rattle.flow_orders.proofs.SingleMoves.{price_of-risen, price_of-fallen}
+use Rattle.flow_orders.proofs.Moving.{moved_is}
+use Rattle.flow_orders.specs.Moves.{moved}
+use Rattle.excess_bounds.specs.Laws.{true_excess, ExcessIsEnclosed, GrainsMoveExcessLittle, MovesLeaveExcess}
 
 all_sound : (orders : List Order) → All IsOrder orders → All IsSound orders
 all_sound orders each k d inside = let o = each k d inside in record { limits = o.terms; lawful = o.row }
@@ -49,3 +52,19 @@ grains_move_excess_little N orders prices asset x each common within =
       no_rise = no_rise N orders prices asset x sound within;
       little = true_excess_step N orders common.1 sound prices asset x within;
     }
+
+pub moves_leave_excess : MovesLeaveExcess
+moves_leave_excess N orders prices asset reach each common within some unsettled =
+    let sound = all_sound orders each in
+    let move = moved_is orders reach prices asset some unsettled in
+    let next = moved orders reach prices asset in
+    ⊎_elim
+    (λ rise.
+    let higher : price_of next asset ≡ price_of prices asset +ℤ pos move.0 = ap (λ p. price_of p asset) rise.1 ∙ price_of-risen prices asset move.0 within in
+    let least = rise.0.least in
+    inl (omega (arith, ints, higher, least), subst (λ p. pos N ≤ℤ true_excess N orders p asset) (sym rise.1) (excess_after_rise N orders common.1 sound prices asset reach move.0 within rise.0)))
+    (λ fall.
+    let lower : price_of next asset ≡ price_of prices asset -ℤ pos move.0 = ap (λ p. price_of p asset) fall.1 ∙ price_of-fallen prices asset move.0 within in
+    let least = fall.0.least in
+    inr (omega (arith, ints, lower, least), subst (λ p. true_excess N orders p asset ≤ℤ neg_ℤ (pos N)) (sym fall.1) (excess_after_fall N orders common.1 sound prices asset reach move.0 within fall.0)))
+    move.1

@@ -1,10 +1,11 @@
 -- What holds of the excess of an asset as its price moves.
-use Rattle.std.specs.Prelude.{ℕ, ◌*◌, ◌<◌, ℤ, pos, ◌+ℤ◌, ◌*ℤ◌, ◌≤ℤ◌, List, length, All, slice_set}
+use Rattle.std.specs.Prelude.{◌≡◌, ◌⊎◌, ℕ, ◌*◌, ◌<◌, ◌≤◌, ℤ, pos, neg_ℤ, ◌+ℤ◌, ◌*ℤ◌, ◌≤ℤ◌, ◌<ℤ◌, true, List, length, All, slice_set}
 use Rattle.list_sums.specs.Sums.{int_sum_by}
-use Rattle.weight_rows.specs.Rows.{weight_in}
+use Rattle.weight_rows.specs.Rows.{weight_in, price_of}
 use Rattle.demand_curve.specs.Demand.{scaled_demand}
 use Rattle.flow_orders.specs.Orders.{Order, IsOrder, terms_of}
-use Rattle.flow_orders.specs.Excess.{price_for, low_excess, high_excess, steepness}
+use Rattle.flow_orders.specs.Excess.{price_for, low_excess, high_excess, steepness, is_unsettled}
+use Rattle.flow_orders.specs.Moves.{moved}
 use Rattle.flow_orders.specs.Duals.{share, IsCommonPart}
 
 -- the true excess of an asset, in parts of 1/N of a unit: each weight times the demand, not rounded
@@ -28,3 +29,15 @@ pub record MovesLittle (N : ℕ) (orders : List Order) (prices : List ℤ) (asse
 abbrev pub GrainsMoveExcessLittle : Type 0
 GrainsMoveExcessLittle = (N : ℕ) (orders : List Order) (prices : List ℤ) (asset : ℕ) (x : ℤ)
     → All IsOrder orders → IsCommonPart N orders → asset < length prices → MovesLittle N orders prices asset x
+
+-- the price of an asset rose, and the true excess is still a unit or more; or it fell, and the true excess is still minus a unit or less
+abbrev pub LeavesExcess : ℕ → List Order → List ℤ → ℕ → List ℤ → Type 0
+LeavesExcess N orders prices asset next =
+    ((price_of prices asset <ℤ price_of next asset) × (pos N ≤ℤ true_excess N orders next asset))
+    ⊎ ((price_of next asset <ℤ price_of prices asset) × (true_excess N orders next asset ≤ℤ neg_ℤ (pos N)))
+
+-- a move of an asset that isn't settled leaves a unit of true excess at least in the direction moved
+abbrev pub MovesLeaveExcess : Type 0
+MovesLeaveExcess = (N : ℕ) (orders : List Order) (prices : List ℤ) (asset reach : ℕ)
+    → All IsOrder orders → IsCommonPart N orders → asset < length prices → 1 ≤ reach → is_unsettled orders prices asset ≡ true
+    → LeavesExcess N orders prices asset (moved orders reach prices asset)

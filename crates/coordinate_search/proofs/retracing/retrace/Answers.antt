@@ -1,4 +1,6 @@
 use Rattle.std.proofs.Common.{◌∙◌}
+use Rattle.coordinate_search.specs.declared.retracing.Retraced.TheVariants.{Legal, Illegal}
+use Rattle.coordinate_search.proofs.Lowering.{retrace_lowers}
 use Rattle.coordinate_search.proofs.MadeAgain.{none_retraced, near_so_far, one_more_retraced, stops, all_retraced}
 use Rattle.coordinate_search.proofs.retracing.retrace.Goals as goal
 
@@ -28,3 +30,14 @@ returns-clause-orders c = c.loop-place.invariant.same
 
 pub returns-clause-retraced : goal.returns-clause-retraced
 returns-clause-retraced c = all_retraced _ _ _ _ _ _ c.loop-place.invariant c.loop-place-test.false
+
+pub returns-then-not-move_again-clause-lowers : goal.returns-then-not-move_again-clause-lowers
+returns-then-not-move_again-clause-lowers c =
+    retrace_lowers (Illegal c.loop-place.place) c.args.work.now.orders c.args.work.now.prices c.args.trace.now c.move_again.new.work.prices c.prices-prices.ensures.priced.each (
+      stops _ _ _ _ _ _ c.loop-place.invariant c.loop-place-test.true (c.move_again.ensures.illegal c.if-not-move_again.true),
+      c.move_again.ensures.stays c.if-not-move_again.true ∙ c.loop-place.invariant.end,
+    )
+
+pub returns-clause-lowers : goal.returns-clause-lowers
+returns-clause-lowers c =
+    retrace_lowers Legal c.args.work.now.orders c.args.work.now.prices c.args.trace.now c.loop-place.work.prices c.prices-prices.ensures.priced.each (all_retraced _ _ _ _ _ _ c.loop-place.invariant c.loop-place-test.false)

@@ -1,5 +1,6 @@
 use Rattle.std.proofs.Common.{[], ◌∷◌, arith}
 use Rattle.std.proofs.lemmas.List.{length-append}
+use Rattle.coordinate_search.proofs.Lowering.{search_lowers}
 use Rattle.coordinate_search.proofs.InTurn.{next_so_far, legal_so_far, found_unsettled, near_so_far, one_more_moved, ends_settled, ends_spent}
 use Rattle.coordinate_search.proofs.searching.search.Goals as goal
 
@@ -45,3 +46,12 @@ pub returns-in-Some-next_unsettled-clause-found : goal.returns-in-Some-next_unse
 returns-in-Some-next_unsettled-clause-found c =
     ends_spent _ _ _ _ _ _ c.loop-made.invariant.0 _ c.next_unsettled-2.ensures.first _ _ c.in-Some-next_unsettled.is
     (omega (arith, c.loop-made.invariant.1, c.loop-made.auto._made-end, c.loop-made-test.false))
+
+pub returns-in-None-clause-lowers : goal.returns-in-None-clause-lowers
+returns-in-None-clause-lowers c = search_lowers _ _ _ _ _ _ c.loop-made.invariant.0 c.next_unsettled.ensures.each
+
+pub returns-in-None-next_unsettled-clause-lowers : goal.returns-in-None-next_unsettled-clause-lowers
+returns-in-None-next_unsettled-clause-lowers c = search_lowers _ _ _ _ _ _ c.loop-made.invariant.0 c.next_unsettled-2.ensures.each
+
+pub returns-in-Some-next_unsettled-clause-lowers : goal.returns-in-Some-next_unsettled-clause-lowers
+returns-in-Some-next_unsettled-clause-lowers c = search_lowers _ _ _ _ _ _ c.loop-made.invariant.0 c.next_unsettled-2.ensures.each
