@@ -17,12 +17,13 @@ use Rattle.flow_orders.specs.Outcomes as outcomes
 use Rattle.flow_orders.specs.Own.{are_single, moved_once, ArePricesOf, floor_rates, clearing_at, IsOwnOutcome, ClearsNear}
 use Rattle.flow_orders.proofs.OwnIsRight.{own_prices_count, own_is_right, single_each}
 use Rattle.flow_orders.proofs.OwnLaws.{one_asset_books_clear}
+use Rattle.flow_orders.proofs.WalkLaws.{walks_lower_the_dual, right_skips_lower_the_dual}
 use Rattle.coordinate_search.proofs.Settling.{single_all}
 use Rattle.rate_rounding.proofs.Roundings.{floors_are_roundings}
 use Rattle.batch_certificate.specs.declared.outcome.Cleared.{Cleared}
 use Rattle.batch_certificate.specs.declared.outcome.Outcome.{Outcome}
 use Rattle.batch_certificate.specs.declared.outcome.Outcome.TheVariants as parts
-use Rattle.batch_certificate.specs.Published.{clearing_of, outcome_of, HasOneRateEach}
+use Rattle.batch_certificate.specs.Published.{clearing_of, skipping_of, outcome_of, HasOneRateEach}
 use Rattle.batch_engine.specs.Certified.{IsCertifiedClearing, IsCertified}
 use Rattle.batch_engine.specs.Private.{IsClearedAt, IsClearedFrom, IsSkippedFrom, IsOutcomeFrom}
 use Rattle.batch_certificate.specs.Laws.{AreBounded}
@@ -120,8 +121,14 @@ module _ (orders : List Order) (start : List ℤ) (budget : ℕ) (range : All (I
   outcome_has_rates (parts.Cleared c) from = from.at.one_rate_each
   outcome_has_rates (parts.Skipped s) from = tt
 
-  pub outcome_is_certified : (o : Outcome) → IsOutcomeFrom orders start budget o → IsCertified orders o
+  pub outcome_is_certified : (o : Outcome) → IsOutcomeFrom orders start budget o → IsCertified orders start o
   outcome_is_certified (parts.Cleared c) from =
       let right = outcome_is_right (parts.Cleared c) from in
       record { optimal = from.at.optimal; bounded = from.at.bounded (residuals_bounded orders start c right) }
-  outcome_is_certified (parts.Skipped s) from = tt
+  outcome_is_certified (parts.Skipped s) from =
+      let right = outcome_is_right (parts.Skipped s) from in
+      record {
+        exact = λ N common. walks_lower_the_dual.exact N orders start s.trace from.each common right.legal;
+        moves = walks_lower_the_dual.moves orders start s.trace right.legal;
+        floors = (right_skips_lower_the_dual orders start budget (skipping_of s) from.each right).0;
+      }

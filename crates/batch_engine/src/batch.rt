@@ -69,8 +69,9 @@ pub fn clear(alloc: Global, orders: &[Order], start: &[i64], budget: u32) -> Res
     ensures near { are_single orders.now ≡ true
         → IfOk result (λ outcome. ClearsNear orders.now start.now (outcome_of orders.now outcome)) }
 
-    // No balanced rates beat those of a clearing by more than its gap, which is bounded.
-    ensures certified { IfOk result (IsCertified orders.now) }
+    // No balanced rates beat those of a clearing by more than its gap, which is bounded; and the walk of a skip lowers the dual
+    // by its movement.
+    ensures certified { IfOk result (IsCertified orders.now start.now) }
     ensures one_rate_each { IfOk result (HasOneRateEach orders.now) }
 {
     if are_single(orders) {

@@ -18,7 +18,7 @@ use Rattle.market_core.proofs.OneJournal.{follows-parts, journal_market}
 use Rattle.market_core.proofs.OwnIsLegal.{own_journal_is_legal, own_follows_are_right, start_within}
 use Rattle.market_core.proofs.Soundness.{sound_follows, sound-empty}
 use Rattle.market_core.proofs.Fills.{fills_within_cap}
-use Rattle.market_core.proofs.LawProofs.{batch_of, batches_keep_totals, cleared_batches_are_optimal, skips_lower_the_dual}
+use Rattle.market_core.proofs.LawProofs.{batch_of, batches_keep_totals, cleared_batches_are_optimal, skips_change_nothing, skips_lower_the_dual}
 
 no_plain : (n : ℕ) (o : Outcome) (r : Reply) → Batch n o ≡ Plain r → ⊥
 no_plain n o r e = cc
@@ -73,6 +73,9 @@ module _ (records : List Record) (pairs : List (Pair Record Outcome)) (market : 
           moves = walks_lower_the_dual.moves old.orders (start_prices old) s.trace right.legal;
           floors = skips_lower_the_dual.movement old served.0 batch.number s new sound served.1;
         };
+    stays = λ old new s batch.
+        let served = right_step old (Skipped s) new batch in
+        skips_change_nothing old served.0 batch.number s new served.1;
     near = λ old new outcome batch single.
         let own = own_step old outcome new batch in
         one_asset_books_clear old.orders (start_prices old) own.0 outcome (λ k d inside. ((sound_before old outcome new batch).live k d inside).order) single (start_within old) own.1;

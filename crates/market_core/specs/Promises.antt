@@ -1,22 +1,14 @@
 -- What a journal promises of its batches, and of the fills of its orders.
-use Rattle.std.specs.Prelude.{◌≡◌, ℕ, ◌+◌, ◌*◌, ◌≤◌, ℤ, pos, ◌+ℤ◌, ◌<ℤ◌, true, List, ◌∷◌, ◌++◌, map, length, Result}
+use Rattle.std.specs.Prelude.{◌≡◌, ℕ, ◌+◌, ◌≤◌, true, List, ◌∷◌, ◌++◌, map, length, Result}
 use Rattle.wire_records.specs.Commands.{Command, Batch, Pair}
 use Rattle.wire_records.specs.declared.command.BodyFault.{BodyFault}
 use Rattle.flow_accounts.specs.Balances.{IsAsset}
-use Rattle.flow_orders.specs.Orders.{Order}
-use Rattle.flow_orders.specs.Outcomes.{Fill, Clearing, Skipping, Outcome, Cleared, Skipped, end_of, IsRightOutcome, IsRightClearing, IsRightSkip}
-use Rattle.flow_orders.specs.Duals.{IsCommonPart, exact_dual, movement_of}
+use Rattle.flow_orders.specs.Outcomes.{Fill, Clearing, Skipping, Outcome, Cleared, Skipped, IsRightOutcome, IsRightClearing, IsRightSkip}
 use Rattle.flow_orders.specs.Own.{are_single, ClearsNear}
 use Rattle.flow_orders.specs.Welfare.{IsOptimalWithin}
+use Rattle.dual_value.specs.Progress.{LowersTheDual}
 use Rattle.market_core.specs.Market.{Market, empty_market, start_prices, held_money, held_units}
 use Rattle.market_core.specs.Journal.{Step, Follows, Places, fills_of}
-
--- how far a skipped batch came
-pub record LowersTheDual (orders : List Order) (start : List ℤ) (s : Skipping) : Type 0 where
-  pub exact : (N : ℕ) → IsCommonPart N orders
-      → exact_dual N orders (end_of orders start s.trace) + N * movement_of orders start s.trace ≤ exact_dual N orders start
-  pub moves : length s.trace ≤ movement_of orders start s.trace
-  pub floors : (s.end_dual +ℤ pos (movement_of orders start s.trace)) <ℤ (s.start_dual +ℤ pos (length orders))
 
 -- what accounts and exchange hold together is the same, of money and of each asset
 pub record HoldTheSame (old new : Market) : Type 0 where
@@ -48,6 +40,8 @@ module _ {R : Type 0} (Reads : R → Result Command BodyFault → Type 0) where
     -- Its walk lowers the exact dual by at least its movement, a grain at least for each move, and so its dual floors differ by
     -- more than its movement less the number of orders.
     pub progress : (old new : Market) (s : Skipping) → HoldsBatch pairs old (Skipped s) new → LowersTheDual old.orders (start_prices old) s
+    -- It is counted, and changes nothing else.
+    pub stays : (old new : Market) (s : Skipping) → HoldsBatch pairs old (Skipped s) new → new ≡ record old { batches = old.batches + 1 }
     -- Where each live order names one asset, the batch cleared, at prices within 2^60, and an asset that was settled kept its price.
     pub near : (old new : Market) (outcome : Outcome) → HoldsBatch pairs old outcome new → are_single old.orders ≡ true → ClearsNear old.orders (start_prices old) outcome
     -- No batch changes what is held in total.
