@@ -86,9 +86,13 @@ fn a_pair_and_two_sellers(rt: HostRuntime) -> Result<(), Fail> {
     assert_eq!(rt; dual_floor(&[], &[]), 0);
 
     // The first move is one of 394,965,192,541 grains, and there are 3 orders.
-    let fallen = dual_floor(orders.as_slice(), &[0, 0]) - dual_floor(orders.as_slice(), &[394_965_192_541, 0]);
-    assert_eq!(rt; fallen, 39_084_030_594_910);
-    assert!(rt; fallen > 394_965_192_541 - 3);
+    let start = [0, 0];
+    let moved = [394_965_192_541, 0];
+    may_price(&rt, orders.as_slice(), &start);
+    let before = dual_floor(orders.as_slice(), &start);
+    may_price(&rt, orders.as_slice(), &moved);
+    let after = dual_floor(orders.as_slice(), &moved);
+    assert!(rt; before > after + 394_965_192_541 - 3);
     Ok(())
 }
 
