@@ -1,6 +1,6 @@
 -- What is certified at the program's own prices is its own outcome.
-use Rattle.std.proofs.Common.{◌≡◌, ◌↔◌, ℕ, ◌<◌, ◌≤◌, ◌^◌, ℤ, pos, ◌≤ℤ◌, Bool, true, false, IsTrue, Result, Ok, Err, List, length, to_z, of_z, ap, refl, sym, subst, ◌∙◌, ⊎_elim, arith}
-use Rattle.std.specs.Prelude.{All, IfOk, map, unsigned_abs}
+use Rattle.std.proofs.Common.{◌≡◌, ◌↔◌, ℕ, ◌<◌, ◌≤◌, ◌^◌, ℤ, pos, ◌≤ℤ◌, Bool, true, false, IsTrue, Result, Ok, Err, List, length, to_z, of_z, ap, sym, subst, ◌∙◌, ⊎_elim, arith}
+use Rattle.std.specs.Prelude.{All, IfOk, unsigned_abs}
 use Rattle.std.specs.Int.{w128}
 use Rattle.std.proofs.lemmas.Int.{ints, to_z-of_z, fits_signed_from_abs}
 use Rattle.std.proofs.lemmas.Bool.{cases_Bool, false≢true}
@@ -13,7 +13,6 @@ use Rattle.flow_orders.specs.Excess.{price_for, is_unsettled, residual_bound}
 use Rattle.flow_orders.specs.Turns.{visits, IsOwnTrace}
 use Rattle.flow_orders.specs.Trades.{trades, residual}
 use Rattle.flow_orders.specs.Outcomes.{most_budget, dual_of, step_of, end_of, trades_of, IsRightClearing, IsRightOutcome}
-use Rattle.flow_orders.specs.Outcomes as outcomes
 use Rattle.flow_orders.specs.Own.{are_single, moved_once, ArePricesOf, floor_rates, clearing_at, IsOwnOutcome, ClearsNear}
 use Rattle.flow_orders.proofs.OwnIsRight.{own_prices_count, own_is_right, single_each}
 use Rattle.flow_orders.proofs.OwnLaws.{one_asset_books_clear}
@@ -24,7 +23,7 @@ use Rattle.batch_certificate.specs.declared.outcome.Cleared.{Cleared}
 use Rattle.batch_certificate.specs.declared.outcome.Outcome.{Outcome}
 use Rattle.batch_certificate.specs.declared.outcome.Outcome.TheVariants as parts
 use Rattle.batch_certificate.specs.Published.{clearing_of, skipping_of, outcome_of, HasOneRateEach}
-use Rattle.batch_engine.specs.Certified.{IsCertifiedClearing, IsCertified}
+use Rattle.batch_engine.specs.Certified.{IsCertified}
 use Rattle.batch_engine.specs.Private.{IsClearedAt, IsClearedFrom, IsSkippedFrom, IsOutcomeFrom}
 use Rattle.batch_certificate.specs.Laws.{AreBounded}
 use Rattle.batch_certificate.specs.Residuals.{residual_in}

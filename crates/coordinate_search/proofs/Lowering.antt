@@ -1,5 +1,5 @@
 -- Moves lower the exact dual.
-use Rattle.std.proofs.Common.{◌≡◌, ⊎_elim, ℕ, ◌+◌, ◌*◌, ◌≤◌, ◌<◌, true, ℤ, pos, ◌+ℤ◌, ◌-ℤ◌, List, length, take, ap, sym, subst, ◌∙◌, arith}
+use Rattle.std.proofs.Common.{◌≡◌, ⊎_elim, ℕ, ◌+◌, ◌*◌, ◌≤◌, ◌<◌, true, ℤ, ◌-ℤ◌, List, length, take, ap, sym, subst, ◌∙◌, arith}
 use Rattle.std.specs.Prelude.{All, unsigned_abs}
 use Rattle.std.proofs.lemmas.Int.{ints}
 use Rattle.weight_rows.specs.Rows.{price_of}
@@ -7,7 +7,7 @@ use Rattle.flow_orders.specs.Orders.{Order, IsOrder}
 use Rattle.flow_orders.specs.Excess.{is_unsettled}
 use Rattle.flow_orders.specs.Moves.{moved}
 use Rattle.flow_orders.specs.Outcomes.{IsLegalFrom, end_of}
-use Rattle.flow_orders.specs.Duals.{IsCommonPart, exact_dual, movement_of}
+use Rattle.flow_orders.specs.Duals.{exact_dual, movement_of}
 use Rattle.flow_orders.proofs.SingleMoves.{price_of-risen, price_of-fallen}
 use Rattle.flow_orders.proofs.DualWalks.{move_lowers_dual}
 use Rattle.flow_orders.proofs.Moving.{moved_is}
