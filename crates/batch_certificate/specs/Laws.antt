@@ -1,9 +1,6 @@
 -- What holds of residuals, gaps and verdicts.
-use Rattle.std.specs.Prelude.{◌≡◌, ◌+◌, ◌*◌, ◌<◌, ◌≤◌, ◌↔◌, ℕ, ℤ, false, unsigned_abs, List, length, All}
-use Rattle.std.specs.List.{range_with_len, sum_by}
-use Rattle.weight_rows.specs.Rows.{price_of}
-use Rattle.demand_curve.specs.Numbers.{rounded_up}
-use Rattle.demand_curve.specs.Demand.{IsRounding, span}
+use Rattle.std.specs.Prelude.{◌≡◌, ◌<◌, ◌≤◌, ◌↔◌, ℕ, ℤ, false, unsigned_abs, List, length, All}
+use Rattle.demand_curve.specs.Demand.{IsRounding}
 use Rattle.flow_orders.specs.Orders.{Order, IsOrder, terms_of}
 use Rattle.flow_orders.specs.Excess.{price_for, residual_bound, is_unsettled}
 use Rattle.flow_orders.specs.Trades.{trades, residual}
@@ -32,12 +29,6 @@ AreBounded orders residuals = (asset : ℕ) → asset < length residuals → uns
 abbrev pub AreBoundedWhereSettled : List Order → List ℤ → List ℤ → Type 0
 AreBoundedWhereSettled orders prices residuals =
     (asset : ℕ) → asset < length residuals → is_unsettled orders prices asset ≡ false → unsigned_abs (residual_in residuals asset) ≤ residual_bound orders asset
-
--- what all roundings can lose, and what residuals within their bounds can cost
-abbrev pub gap_bound : List Order → List ℤ → ℕ
-gap_bound orders prices =
-    sum_by (λ o. rounded_up (span (terms_of o)) (2 * o.rate)) orders
-    + sum_by (λ asset. unsigned_abs (price_of prices asset) * residual_bound orders asset) (range_with_len 0 (length prices))
 
 -- a clearing of lawful orders has a verdict
 abbrev pub EachHasAVerdict : Type 0

@@ -1,5 +1,6 @@
 pub mod Published
 pub mod Residuals
+pub mod GapBound
 pub mod Laws
 pub mod Verdicts
 pub mod Weighing

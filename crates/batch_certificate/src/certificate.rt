@@ -10,7 +10,8 @@ ghost use Rattle.flow_orders.specs.Trades.{trades};
 ghost use Rattle.flow_orders.specs.Outcomes.{residuals_of, gap_of};
 ghost use Rattle.flow_orders.specs.Own.{clearing_at};
 ghost use Rattle.flow_orders.specs.Welfare.{IsOptimalWithin};
-ghost use Rattle.batch_certificate.specs.Laws.{AreBounded, AreBoundedWhereSettled, gap_bound};
+ghost use Rattle.batch_certificate.specs.GapBound.{gap_bound};
+ghost use Rattle.batch_certificate.specs.Laws.{AreBounded, AreBoundedWhereSettled};
 ghost use Rattle.batch_certificate.specs.Published.{clearing_of};
 ghost use Rattle.batch_certificate.specs.Residuals.{most_prices, AreZeros, AreNear, cost_at};
 

@@ -1,5 +1,5 @@
 //! The check of a published clearing.
-ghost use Rattle.std.specs.Prelude.{List, ℤ, ◌-ℤ◌, ◌≡◌, ◌^◌, ◌+◌, ◌<◌, ◌≤◌, ◌↔◌, pos, map, unsigned_abs, length, All, IsTrue, IfSome, IfNone, IfOk, IfErr};
+ghost use Rattle.std.specs.Prelude.{List, ℤ, ◌-ℤ◌, ◌≤ℤ◌, ◌≡◌, ◌^◌, ◌+◌, ◌<◌, ◌≤◌, ◌↔◌, pos, map, unsigned_abs, length, All, IsTrue, IfSome, IfNone, IfOk, IfErr};
 ghost use Rattle.std.specs.List.{sum_by};
 ghost use Rattle.std.specs.Int.{div_ceil};
 ghost use Rattle.weight_rows.specs.Rows.{IsPrice, IsPricedBy, price_of};
@@ -10,6 +10,7 @@ ghost use Rattle.flow_orders.specs.Trades.{trades};
 ghost use Rattle.flow_orders.specs.Outcomes.{Clearing, residuals_of, gap_of, trades_of, IsRightClearing};
 ghost use Rattle.flow_orders.specs.Welfare.{IsOptimalWithin};
 ghost use Rattle.batch_certificate.specs.Residuals.{most_prices, residual_in, AreNear, AreZeros, IsTradeAdded};
+ghost use Rattle.batch_certificate.specs.GapBound.{gap_bound};
 ghost use Rattle.batch_certificate.specs.Verdicts.{HoldsBelow, IsFirstWrong, AreCounted, IsPriceRight, IsRateRight, IsResidualRight, IsGapRight, HasRightPrices, HasRightRates, HasRightResiduals, IsVerdict, numbers_in, rates_in};
 ghost use Rattle.batch_certificate.specs.Weighing.{count_in, AreSmall, HasCounts, IsKept, IsPriceKept, IsWithinBound, IsResidualWithin, square, weighed};
 ghost use Rattle.batch_certificate.specs.declared.verdict.Verdict.TheVariants.{Right};
@@ -34,7 +35,7 @@ const MOST_PRICE: u64 = 1 << 62;
 /// order's demand at the prices, rounded up or down. Each residual is what the rates leave over of its asset, bought less
 /// sold, and at most the asset's spread and steepness together. The gap is what rounding loses on all orders, less what
 /// the residuals cost at the prices. Where all is right, no rates at which nothing is left over beat these rates by more
-/// than the gap. Orders and their welfare are those of Flow Trading (Budish, Cramton, Kyle, Lee and Malec, 2023); whole
+/// than the gap, and the gap is at most what all roundings can lose and what residuals within their bounds can cost. Orders and their welfare are those of Flow Trading (Budish, Cramton, Kyle, Lee and Malec, 2023); whole
 /// rates, and so the other parts, are this project's own.
 ///
 /// There are at most 16,384 orders, and at most 64 start prices, in grains, one for each asset that an order names.
@@ -49,6 +50,7 @@ pub fn check_cleared<P: ClearedParts>(orders: &[Order], start: &[i64], parts: &P
     ensures verdict { IsVerdict orders.now start.now (P.clearing parts.now) result }
     ensures right { (result ≡ Right) ↔ IsRightClearing orders.now start.now (P.clearing parts.now) }
     ensures optimal { result ≡ Right → IsOptimalWithin (P.clearing parts.now).gap orders.now (rates_in (P.clearing parts.now)) }
+    ensures bounded { result ≡ Right → (P.clearing parts.now).gap ≤ℤ pos (gap_bound orders.now (P.clearing parts.now).prices) }
 {
     if !are_counted(orders, start, parts) {
         return Verdict::Count;

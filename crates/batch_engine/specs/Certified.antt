@@ -6,7 +6,7 @@ use Rattle.batch_certificate.specs.declared.outcome.Cleared.{Cleared}
 use Rattle.batch_certificate.specs.declared.outcome.Outcome.{Outcome}
 use Rattle.batch_certificate.specs.declared.outcome.Outcome.TheVariants as parts
 use Rattle.batch_certificate.specs.Published.{skipping_of}
-use Rattle.batch_certificate.specs.Laws.{gap_bound}
+use Rattle.batch_certificate.specs.GapBound.{gap_bound}
 use Rattle.dual_value.specs.Progress.{LowersTheDual}
 
 -- no balanced rates beat those of a clearing by more than its gap, and the gap is at most what roundings can lose and residuals within their bounds can cost

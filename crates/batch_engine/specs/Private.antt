@@ -9,7 +9,8 @@ use Rattle.batch_certificate.specs.declared.outcome.Cleared.{Cleared}
 use Rattle.batch_certificate.specs.declared.outcome.Outcome.{Outcome}
 use Rattle.batch_certificate.specs.declared.outcome.Outcome.TheVariants as parts
 use Rattle.batch_certificate.specs.Published.{clearing_of, skipping_of}
-use Rattle.batch_certificate.specs.Laws.{AreBounded, gap_bound}
+use Rattle.batch_certificate.specs.GapBound.{gap_bound}
+use Rattle.batch_certificate.specs.Laws.{AreBounded}
 
 -- what is certified of all demands rounded down, at these prices
 pub record IsClearedAt (orders : List Order) (prices : List ℤ) (c : Cleared) : Type 0 where

@@ -8,6 +8,7 @@ use Rattle.wire_records.specs.declared.reply.Reply.{Reply}
 use Rattle.wire_records.proofs.Readings.{reading_unique}
 use Rattle.flow_orders.specs.Outcomes.{Outcome, Cleared, Skipped, BatchRule, IsRightOutcome}
 use Rattle.flow_orders.specs.Own.{IsOwnOutcome}
+use Rattle.flow_orders.proofs.GapBound.{gaps_are_bounded}
 use Rattle.flow_orders.proofs.OwnLaws.{one_asset_books_clear}
 use Rattle.flow_orders.proofs.WalkLaws.{walks_lower_the_dual}
 use Rattle.market_core.specs.Market.{Market, IsSound, empty_market, start_prices}
@@ -60,6 +61,9 @@ module _ (records : List Record) (pairs : List (Pair Record Outcome)) (market : 
     optimal = λ old new c batch.
         let served = right_step old (Cleared c) new batch in
         cleared_batches_are_optimal old served.0 batch.number c new (sound_before old (Cleared c) new batch) served.1;
+    bounded = λ old new c batch.
+        let served = right_step old (Cleared c) new batch in
+        gaps_are_bounded old.orders (start_prices old) c (λ k d inside. ((sound_before old (Cleared c) new batch).live k d inside).order) (batch_of IsRightOutcome old served.0 batch.number (Cleared c) new served.1).ruled;
     skipped = λ old new s batch.
         let served = right_step old (Skipped s) new batch in
         let right = (batch_of IsRightOutcome old served.0 batch.number (Skipped s) new served.1).ruled in

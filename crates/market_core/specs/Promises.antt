@@ -1,11 +1,12 @@
 -- What a journal promises of its batches, and of the fills of its orders.
-use Rattle.std.specs.Prelude.{◌≡◌, ℕ, ◌+◌, ◌≤◌, true, List, ◌∷◌, ◌++◌, map, length, Result}
+use Rattle.std.specs.Prelude.{◌≡◌, ℕ, ◌+◌, ◌≤◌, pos, ◌≤ℤ◌, true, List, ◌∷◌, ◌++◌, map, length, Result}
 use Rattle.wire_records.specs.Commands.{Command, Batch, Pair}
 use Rattle.wire_records.specs.declared.command.BodyFault.{BodyFault}
 use Rattle.flow_accounts.specs.Balances.{IsAsset}
 use Rattle.flow_orders.specs.Outcomes.{Fill, Clearing, Skipping, Outcome, Cleared, Skipped, IsRightOutcome, IsRightClearing, IsRightSkip}
 use Rattle.flow_orders.specs.Own.{are_single, ClearsNear}
 use Rattle.flow_orders.specs.Welfare.{IsOptimalWithin}
+use Rattle.batch_certificate.specs.GapBound.{gap_bound}
 use Rattle.dual_value.specs.Progress.{LowersTheDual}
 use Rattle.market_core.specs.Market.{Market, empty_market, start_prices, held_money, held_units}
 use Rattle.market_core.specs.Journal.{Step, Follows, Places, fills_of}
@@ -34,6 +35,8 @@ module _ {R : Type 0} (Reads : R → Result Command BodyFault → Type 0) where
     pub cleared : (old new : Market) (c : Clearing) → HoldsBatch pairs old (Cleared c) new → IsRightClearing old.orders (start_prices old) c
     -- No balanced rates have a welfare above that of the published rates and the published gap.
     pub optimal : (old new : Market) (c : Clearing) → HoldsBatch pairs old (Cleared c) new → IsOptimalWithin c.gap old.orders (map (λ (f : Fill). f.rate) c.fills)
+    -- The gap is at most what all roundings can lose, and what residuals within their bounds can cost.
+    pub bounded : (old new : Market) (c : Clearing) → HoldsBatch pairs old (Cleared c) new → c.gap ≤ℤ pos (gap_bound old.orders c.prices)
     -- Of each batch that was skipped: some live order names two assets or more, its walk is legal, some asset is unsettled at the
     -- end, and the two numbers are the dual floors at the walk's ends.
     pub skipped : (old new : Market) (s : Skipping) → HoldsBatch pairs old (Skipped s) new → IsRightSkip old.orders (start_prices old) (length s.trace) s

@@ -1,4 +1,5 @@
 use Rattle.std.proofs.lemmas.Bool.{false≢true}
+use Rattle.flow_orders.proofs.GapBound.{gaps_are_bounded}
 use Rattle.flow_orders.proofs.Optimal.{right_is_optimal}
 use Rattle.batch_certificate.specs.declared.verdict.Verdict.TheVariants.{Count}
 use Rattle.batch_certificate.proofs.OneVerdict.{right_where}
@@ -13,3 +14,7 @@ returns-clause-right g c = right_where _ _ _ _ c.check_counted.ensures.verdict
 pub returns-clause-optimal : goal.returns-clause-optimal
 returns-clause-optimal g c is =
     right_is_optimal c.args.orders.now c.args.start.now (g.P.ClearedParts.clearing c.args.parts.now) c.check_counted.ensures.orders c.requires.priced ((right_where _ _ _ _ c.check_counted.ensures.verdict).0 is)
+
+pub returns-clause-bounded : goal.returns-clause-bounded
+returns-clause-bounded g c is =
+    gaps_are_bounded c.args.orders.now c.args.start.now (g.P.ClearedParts.clearing c.args.parts.now) c.check_counted.ensures.orders ((right_where _ _ _ _ c.check_counted.ensures.verdict).0 is)
