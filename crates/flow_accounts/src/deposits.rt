@@ -55,8 +55,8 @@ impl Accounts {
         Ok(())
     }
 
-    // The grains of a deposit that is accepted, or why it isn't.
-    fn money_deposit(&self, account: u32, ticks: u64) -> Result<i128, AccountFault>
+    /// The grains that [`Accounts::deposit_money`] would add, or the fault that it would answer. Nothing changes.
+    pub fn money_deposit(&self, account: u32, ticks: u64) -> Result<i128, AccountFault>
         ensures accepted { IsOk result ↔ AcceptsMoneyDeposit self.now account ticks }
         ensures refused { IfErr result (RefusesMoneyDeposit self.now account ticks) }
         ensures amount { IfOk result (λ amount. amount ≡ grains ticks) }
@@ -75,8 +75,8 @@ impl Accounts {
         Ok(amount)
     }
 
-    // The units of a deposit that is accepted, or why it isn't.
-    fn unit_deposit(&self, account: u32, asset: u16, units: u64) -> Result<i64, AccountFault>
+    /// The units that [`Accounts::deposit_units`] would add, or the fault that it would answer. Nothing changes.
+    pub fn unit_deposit(&self, account: u32, asset: u16, units: u64) -> Result<i64, AccountFault>
         ensures accepted { IsOk result ↔ AcceptsUnitDeposit self.now account asset units }
         ensures refused { IfErr result (RefusesUnitDeposit self.now account asset units) }
         ensures amount { IfOk result (λ amount. amount ≡ pos units) }

@@ -1,4 +1,4 @@
-ghost use Rattle.std.specs.Prelude.{◌≡◌, ◌+◌, ◌<◌, IfOk, IfErr, OnOk, OnErr};
+ghost use Rattle.std.specs.Prelude.{◌≡◌, ◌+◌, ◌<◌, ◌↔◌, IsTrue, IfOk, IfErr, OnOk, OnErr};
 
 use crate::places::no_units;
 use crate::{AccountFault, Accounts, Holding, MOST_ACCOUNTS};
@@ -32,7 +32,7 @@ impl Accounts {
         ensures lawful { AreLawful self.new }
     {
         let count = self.count();
-        if count == MOST_ACCOUNTS {
+        if self.is_full() {
             return Err(AccountFault::Full);
         }
         self.accounts.push(Holding {
@@ -40,5 +40,13 @@ impl Accounts {
             units: no_units(),
         })?;
         Ok(count + 1)
+    }
+
+    /// Whether 65,536 accounts are there, so that no more are opened.
+    pub fn is_full(&self) -> bool
+        ensures full { IsTrue result ↔ (account_count self.now ≡ most_accounts) }
+        ensures lawful { AreLawful self.now }
+    {
+        self.count() == MOST_ACCOUNTS
     }
 }

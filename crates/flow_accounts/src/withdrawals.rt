@@ -70,8 +70,9 @@ impl Accounts {
         Ok(())
     }
 
-    // The grains that a withdrawal that is accepted adds, which are negative, or why it isn't.
-    fn money_withdrawal(
+    /// The grains that [`Accounts::withdraw_money`] would add, which are negative, or the fault that it would
+    /// answer. `reserved` is as there, in grains: from 0 to the balance. Nothing changes.
+    pub fn money_withdrawal(
         &self,
         account: u32,
         ticks: u64,
@@ -98,8 +99,9 @@ impl Accounts {
         Ok(-amount)
     }
 
-    // The units that a withdrawal that is accepted adds, which are negative, or why it isn't.
-    fn unit_withdrawal(
+    /// The units that [`Accounts::withdraw_units`] would add, which are negative, or the fault that it would
+    /// answer. `reserved` is as there, in units: from 0 to the balance. Nothing changes.
+    pub fn unit_withdrawal(
         &self,
         account: u32,
         asset: u16,

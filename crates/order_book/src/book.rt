@@ -1,7 +1,8 @@
 //! The live orders, and the sums of what they need.
-ghost use Rattle.std.specs.Prelude.{◌≡◌, ◌≢◌, ◌+◌, ◌^◌, ◌<◌, ◌≤◌, ◌≤ℤ◌, ◌↔◌, [], ◌∷◌, ◌++◌, pos, length, All, Contains, OnOk, IsOk, IsNone, IfNone, IfSome, MatchOption};
+ghost use Rattle.std.specs.Prelude.{◌≡◌, ◌≢◌, ◌+◌, ◌^◌, ◌<◌, ◌≤◌, ◌≤ℤ◌, ◌↔◌, [], ◌∷◌, ◌++◌, pos, length, All, Contains, OnOk, IsOk, IsTrue, IsNone, IfNone, IfSome, MatchOption};
 ghost use Rattle.flow_orders.specs.Orders.{most_orders, needed_money, needed_units};
-ghost use Rattle.order_book.specs.Book.{AreLive, IsPlaceOf};
+ghost use Rattle.std.specs.List.{HoldsAt};
+ghost use Rattle.order_book.specs.Book.{AreLive, IsPlaceOf, HasOrder};
 
 use crate::fill::{fill_orders, lower_traded};
 use crate::sums::{Need, NeedSums};
@@ -50,7 +51,7 @@ impl Book {
     ghost use Rattle.flow_orders.specs.Orders.{terms_of};
     ghost use Rattle.flow_orders.specs.Trades.{trades, staying};
     ghost use Rattle.order_book.specs.Needs.{needed, most_needed};
-    ghost use Rattle.order_book.specs.Book.{HasOrder, without};
+    ghost use Rattle.order_book.specs.Book.{without};
 
     /// A book without orders. It takes no memory.
     pub fn new(alloc: Global) -> Book
@@ -125,6 +126,14 @@ impl Book {
         self.orders.push_reserved(order);
     }
 
+    /// Whether there is a live order of this account and number. It is found by its number, in as many steps as the
+    /// count of orders has bits.
+    pub fn has_order(&self, account: u32, number: u64) -> bool
+        ensures { IsTrue result ↔ HasOrder self.now.orders account number }
+    {
+        place_in(&self.orders, account, number).is_some()
+    }
+
     /// Takes out the live order of this account and number, which needs nothing from now on, or answers `None`
     /// exactly where there is none: no live order has the number, or the one that has it is another account's.
     pub fn cancel(&mut self, account: u32, number: u64) -> Option<Order>
@@ -139,11 +148,8 @@ impl Book {
         ensures room { self.old.room ≤ self.new.room }
         ensures live { AreLive self.new.orders }
     {
-        let place = place_of(&self.orders, number)?;
+        let place = place_in(&self.orders, account, number)?;
         let order = &self.orders[place];
-        if order.account() != account {
-            return None;
-        }
         self.sums.lower_for(order, order.cap() - order.filled());
         Some(self.orders.remove(place))
     }
@@ -161,6 +167,21 @@ impl Book {
         lower_traded(&mut self.sums, &self.orders, rates);
         fill_orders(&mut self.orders, rates);
     }
+}
+
+// The place of the order of this account and number, if there is one.
+fn place_in(orders: &[Order], account: u32, number: u64) -> Option<usize>
+    requires { AreLive orders.now }
+    ensures there { MatchOption result (¬ HasOrder orders.now account number) (λ _. HasOrder orders.now account number) }
+    ensures place { IfSome result (IsPlaceOf orders.now number) }
+    ensures account { IfSome result (HoldsAt (λ o. o.account ≡ account) orders.now) }
+{
+    let place = place_of(orders, number)?;
+    let order = &orders[place];
+    if order.account() != account {
+        return None;
+    }
+    Some(place)
 }
 
 // The place of the order of this number, if there is one.

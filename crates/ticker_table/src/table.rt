@@ -94,19 +94,36 @@ impl TickerTable {
         ensures stays { OnErr result (self.new ≡ self.old) }
         ensures tickers { AreTickers self.new }
     {
+        if let Some(fault) = self.fault(&ticker) {
+            return Err(fault);
+        }
         let number = self.len();
-        if !is_ticker(&ticker) {
-            return Err(TickerFault::BadTicker);
-        }
-        if let Some(taken) = self.find(&ticker) {
-            return Err(TickerFault::Taken(taken));
-        }
-        if number == MOST_TICKERS {
-            return Err(TickerFault::Full);
-        }
         match self.tickers.insert(ticker) {
             Ok(_) => Ok(number),
             Err(_) => Err(TickerFault::Memory),
         }
+    }
+
+    /// Why [`TickerTable::add`] would refuse this ticker, or `None` exactly where it can be added. It is never
+    /// `Memory`, and takes none.
+    pub fn fault(&self, ticker: &[u8; 8]) -> Option<TickerFault>
+        ensures bad_ticker { (result ≡ Some TickerFault.BadTicker) ↔ (¬ IsTicker ticker.now) }
+        ensures taken { (number : ℕ) → (result ≡ Some (TickerFault.Taken number))
+            ↔ (IsTicker ticker.now × HasNumber self.now number ticker.now) }
+        ensures full { (result ≡ Some TickerFault.Full)
+            ↔ (IsTicker ticker.now × (¬ Contains self.now ticker.now) × (length self.now ≡ ticker_limit)) }
+        ensures none { IsNone result ↔ IsAddable self.now ticker.now }
+        ensures no_memory { ¬ (result ≡ Some TickerFault.Memory) }
+    {
+        if !is_ticker(ticker) {
+            return Some(TickerFault::BadTicker);
+        }
+        if let Some(taken) = self.find(ticker) {
+            return Some(TickerFault::Taken(taken));
+        }
+        if self.len() == MOST_TICKERS {
+            return Some(TickerFault::Full);
+        }
+        None
     }
 }

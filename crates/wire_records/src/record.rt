@@ -16,7 +16,7 @@ pub(crate) fn as_bytes(bytes: &[u8]) -> &[u8]
 
 /// A whole record in borrowed bytes. Contracts see it as its tag and its body. Each of its calls is of
 /// constant cost and allocates nothing; what it hands out lives as long as the borrowed bytes.
-#[derive(Drop)]
+#[derive(Clone, Drop)]
 pub struct RecordView<'a> {
     tag: u8,
     body: &'a [u8],

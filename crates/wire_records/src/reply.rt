@@ -1,5 +1,5 @@
 //! What a command is answered.
-ghost use Rattle.std.specs.Prelude.{◌≡◌};
+ghost use Rattle.std.specs.Prelude.{◌≡◌, ◌≢◌, IfSome, IfNone};
 
 /// The reply to a command other than a batch.
 #[derive(Clone, Copy, Debug, PartialEq, Eq)]
@@ -62,9 +62,10 @@ pub enum Refusal {
 }
 
 impl Refusal {
+    ghost use Rattle.wire_records.specs.declared.reply.Refusal.{Refusal};
     ghost use Rattle.wire_records.specs.Refusals.{code_of};
 
-    /// The number of the refusal, as a reply spells it: 1 to 19, or 21. Each refusal has its own.
+    /// The number of the refusal, as a reply spells it: 1 to 19. Each refusal has its own.
     pub fn code(&self) -> u8
         ensures { result ≡ code_of self.now }
     {
@@ -89,5 +90,34 @@ impl Refusal {
             Refusal::BadBudget => 18,
             Refusal::BatchLimit => 19,
         }
+    }
+
+    /// The refusal of a number; `None` exactly where the number is outside 1 to 19, and so none's.
+    pub fn of_code(code: u8) -> Option<Refusal>
+        ensures found { IfSome result (λ refusal. code_of refusal ≡ code) }
+        ensures none { IfNone result ((refusal : Refusal) → code_of refusal ≢ code) }
+    {
+        Some(match code {
+            1 => Refusal::UnknownTag,
+            2 => Refusal::BadBody,
+            3 => Refusal::AssetLimit,
+            4 => Refusal::TickerTaken,
+            5 => Refusal::BadTicker,
+            6 => Refusal::AccountLimit,
+            7 => Refusal::NoAccount,
+            8 => Refusal::NoAsset,
+            9 => Refusal::ZeroAmount,
+            10 => Refusal::TotalLimit,
+            11 => Refusal::NotFree,
+            12 => Refusal::BadLimits,
+            13 => Refusal::BadRate,
+            14 => Refusal::BadCap,
+            15 => Refusal::BadRow,
+            16 => Refusal::OrderLimit,
+            17 => Refusal::NoOrder,
+            18 => Refusal::BadBudget,
+            19 => Refusal::BatchLimit,
+            _ => return None,
+        })
     }
 }

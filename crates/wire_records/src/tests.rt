@@ -607,6 +607,10 @@ fn codes_of_refusals(rt: HostRuntime) {
     ];
     for (refusal, code) in rows {
         assert_eq!(rt; refusal.code(), code, "{refusal:?}");
+        assert_eq!(rt; Refusal::of_code(code), Some(refusal));
+    }
+    for code in [0, 20, 255] {
+        assert_eq!(rt; Refusal::of_code(code), None);
     }
 }
 

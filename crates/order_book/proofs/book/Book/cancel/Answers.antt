@@ -1,21 +1,15 @@
-use Rattle.std.proofs.Common.{◌≡◌, ◌-◌, refl, ap, sym, subst, ◌∙◌, arith}
+use Rattle.std.proofs.Common.{◌≡◌, ◌-◌, ap, ◌∙◌, arith}
 use Rattle.flow_orders.specs.Orders.{left_of}
-use Rattle.order_book.specs.Book.{Book, AreLive, HasOrder, IsPlaceOf, without}
+use Rattle.order_book.specs.Book.{Book, AreLive, IsPlaceOf, without}
 use Rattle.order_book.proofs.Places.{AreLive-remove, remove_is}
-use Rattle.order_book.proofs.Standing.{SumsAre-remove, one_of_number}
+use Rattle.order_book.proofs.Standing.{SumsAre-remove}
 use Rattle.order_book.proofs.book.Book.cancel.Goals as goal
 
 place : (c : goal.After-remove) → IsPlaceOf c.self.inside.orders.items c.args.number c.in_ok-place.place
-place c = rw (← c.deref.ensures.value) c.in_ok-place.ensures
+place c = rw (← c.deref.ensures.value) c.in_ok-place.ensures.place
 
 live : (c : goal.After-remove) → AreLive c.remove.new.self.items
 live c = rw c.remove.ensures.items (AreLive-remove c.self.inside.orders.items c.in_ok-place.place (place c).within c.self.invariant.live)
-
-pub returns-then-account-clause-none : goal.returns-then-account-clause-none
-returns-then-account-clause-none c =
-    let found : IsPlaceOf c.self.inside.orders.items c.args.number c.in_ok-place.place = rw (← c.deref.ensures.value) c.in_ok-place.ensures in
-    let at_account = one_of_number c.self.inside.orders.items c.args.account c.args.number c.in_ok-place.place c.index-order.result.now c.self.invariant.live found c.index-order.ensures in
-    (λ none has. c.if-account.true (c.account.ensures.value ∙ at_account (subst (λ (b : Book). HasOrder b.orders c.args.account c.args.number) (sym c.self.view_is) has)), λ none. refl)
 
 pub invariant_of-self : goal.invariant_of-self
 invariant_of-self c =
