@@ -15,7 +15,7 @@ same_fill f g a b =
     ap (λ order. made order f.rate) a ∙ ap (λ rate. made g.order rate) b
 
 -- bytes that begin with two fills begin with one
-fill_unique : (f g : Fill) (x y : List ℕ) → IsFill f → IsFill g → fill_spelling f ++ x ≡ fill_spelling g ++ y → (f ≡ g) × (x ≡ y)
+pub fill_unique : (f g : Fill) (x y : List ℕ) → IsFill f → IsFill g → fill_spelling f ++ x ≡ fill_spelling g ++ y → (f ≡ g) × (x ≡ y)
 unfolding fill_spelling
 fill_unique f g x y h k same =
     let regrouped = sym (append_assoc (unsigned 8 f.order) (unsigned 4 f.rate) x) ∙ same ∙ append_assoc (unsigned 8 g.order) (unsigned 4 g.rate) y in
@@ -24,7 +24,7 @@ fill_unique f g x y h k same =
     (same_fill f g orders.0 rates.0, rates.1)
 
 -- twelve bytes a fill
-fill_size : (f : Fill) → length (fill_spelling f) ≡ 12
+pub fill_size : (f : Fill) → length (fill_spelling f) ≡ 12
 unfolding fill_spelling
 fill_size f = simp (length-append, length-unsigned)
 

@@ -35,7 +35,7 @@ pub journal_is_file : JournalIsFile
 journal_is_file pairs = ap (λ xs. journal_magic ++ xs) (spelled_alike pairs)
 
 -- a journal states no length above the limit where it has no bytes
-short_at_end : EitherStatesOver most_body most_reply_body [] → ⊥
+pub short_at_end : EitherStatesOver most_body most_reply_body [] → ⊥
 short_at_end (inl over) = states_none-from_few over.0 [] (omega arith) over.1
 short_at_end (inr later) = none_in_none (records most_body) (record_code most_body (omega arith)) later.0 later.1 later.2.0 later.2.1
 

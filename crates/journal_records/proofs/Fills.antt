@@ -59,3 +59,8 @@ pub all_written : (orders : List Order) (rates : List ℕ) (old new : List ℕ) 
 all_written orders rates old new i count all before =
     let same : take i (fills_of orders rates) ≡ fills_of orders rates = take_all i (fills_of orders rates) (omega (arith, all, length-fills orders rates count)) in
     (before.written ∙ ap (λ xs. old ++ flat_map fill_spelling xs) same, subst (All IsFill) same before.fit)
+
+-- the order stands before the rate
+pub apart : (f : Fill) (bytes rest : List ℕ) → bytes ≡ fill_spelling f ++ rest → bytes ≡ unsigned 8 f.order ++ (unsigned 4 f.rate ++ rest)
+unfolding fill_spelling
+apart f bytes rest same = same ∙ append_assoc (unsigned 8 f.order) (unsigned 4 f.rate) rest

@@ -31,7 +31,7 @@ same_reply (Refused r) (Refused s) h k tags bodies = ap Refused (code_of-unique 
 same_reply (Refused r) b h k tags bodies = absurd (omega (arith, tags))
 
 -- a plain reply has a tag of its own
-reply_tag-most : (a : Reply) → reply_tag a ≤ 132
+pub reply_tag-most : (a : Reply) → reply_tag a ≤ 132
 reply_tag-most Done = omega arith
 reply_tag-most (Asset n) = omega arith
 reply_tag-most (Account n) = omega arith

@@ -1,4 +1,7 @@
 pub mod Replies
+pub mod Numbered
+pub mod Private
 pub mod Pairs
 pub mod Formats
+pub mod Views
 pub mod Laws

@@ -93,6 +93,11 @@ IsAnswer (Plain reply) = IsReply reply
 IsAnswer (Batch number (Cleared clearing)) = IsUnsigned 4 number × IsClearing clearing
 IsAnswer (Batch number (Skipped skipping)) = IsUnsigned 4 number × IsSkipping skipping
 
+-- a record spells an answer
+pub record SpellsAnswer (r : Record) (answer : Answer Outcome) : Type 0 where
+  pub fits : IsAnswer answer
+  pub spelled : r ≡ answer_record answer
+
 -- the longest body of a reply's record, in bytes
 abbrev pub most_reply_body : ℕ
 most_reply_body = 262144

@@ -1,4 +1,18 @@
 //! Journals as files.
+ghost use Rattle.std.specs.Prelude.{ℕ, List, ◌↔◌, IsTrue};
+ghost use Rattle.wire_records.specs.Grammars.{BeginsWith};
+ghost use Rattle.wire_records.specs.Formats.{One};
+ghost use Rattle.journal_records.specs.Formats.{journals};
 
 /// The first 8 bytes of a journal.
 pub const JOURNAL_MAGIC: [u8; 8] = *b"FLOWJNL1";
+
+/// The longest body of a reply's record in a journal, in bytes.
+pub const MOST_REPLY_BODY: u32 = 262_144;
+
+/// Whether the bytes begin as a journal, so that pairs stand behind the first 8. Constant cost.
+pub fn is_journal(bytes: &[u8]) -> bool
+    ensures { IsTrue result ↔ ((body : List ℕ) × BeginsWith journals.magics bytes.now One body) }
+{
+    bytes.starts_with(&JOURNAL_MAGIC)
+}

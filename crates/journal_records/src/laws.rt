@@ -1,10 +1,11 @@
 //! What holds of the grammar, whatever reads or writes it. Each law is the contract of a function that
 //! does nothing.
 ghost use Rattle.std.specs.Prelude.{◌≡◌};
+ghost use Rattle.journal_records.specs.Replies.{most_reply_body};
 ghost use Rattle.journal_records.specs.Pairs.{journal_magic};
 ghost use Rattle.journal_records.specs.Laws.{OneAnswer, OnePair, PairFits, ClearedPairFits, SkippedPairFits, PlainRepliesFit, BatchRepliesFit, OneJournalFile, JournalIsFile, JournalIsRead};
 
-use crate::JOURNAL_MAGIC;
+use crate::{JOURNAL_MAGIC, MOST_REPLY_BODY};
 
 /// A record spells at most one answer.
 pub fn one_answer()
@@ -58,7 +59,8 @@ pub fn journal_is_read()
     ensures { JournalIsRead }
 {}
 
-/// The magic that the code names is that of the definitions.
+/// The magic and the limit that the code names are those of the definitions.
 pub fn constant_is_named()
-    ensures { JOURNAL_MAGIC ≡ journal_magic }
+    ensures magic { JOURNAL_MAGIC ≡ journal_magic }
+    ensures most_reply_body { MOST_REPLY_BODY ≡ most_reply_body }
 {}

@@ -3,13 +3,13 @@ ghost use Rattle.std.specs.Prelude.{◌≡◌, ◌≤◌, length};
 ghost use Rattle.flow_orders.specs.Orders.{most_orders};
 
 use crate::*;
-use batch_certificate::{Cleared, PriceList, RateList, ResidualList, Skipped, Trace};
+use batch_certificate::{Cleared, ClearedParts, PriceList, RateList, ResidualList, Skipped, Trace};
 use flow_orders::{Order, order_fault};
 use std::alloc::Global;
 use std::process::Abort;
 use std::test::Fail;
 use weight_rows::{Entry, EntryList, WeightRow, row_fault};
-use wire_records::{Framed, Refusal, Reply, next_record};
+use wire_records::{Framed, RecordView, Refusal, Reply, next_record};
 
 /// A command record, a reply, and then the pair of the two.
 const PAIRS: [(&[u8], Reply, &[u8]); 11] = [
@@ -95,7 +95,11 @@ type Batch<'a> = (u32, &'a [i64], &'a [(u64, u32)], &'a [i64], i128);
 const ASKED: &[u8] = b"\x09\0\0\0\x04\0\0\0\x0a";
 
 /// Batches, each with the record of its reply.
-const REPLIES: [(Batch<'_>, &[u8]); 3] = [
+const REPLIES: [(Batch<'_>, &[u8]); 4] = [
+    (
+        (1, &[429410830255], &[(1, 500), (2, 500)], &[0], 85899346),
+        b"\x85\0\0\0\x42\0\0\0\x01\0\x01\0\0\0\x63\xfa\xe1\x47\xaf\0\0\0\x02\0\0\0\0\0\0\0\x01\0\0\x01\xf4\0\0\0\0\0\0\0\x02\0\0\x01\xf4\0\0\0\0\0\0\0\0\0\0\0\0\0\0\0\0\0\0\0\0\x05\x1e\xb8\x52",
+    ),
     (
         (
             1,
@@ -221,4 +225,152 @@ fn batches_that_were_skipped(rt: HostRuntime) -> Result<(), Fail> {
         assert_eq!(rt; out.as_slice(), expected.as_slice());
     }
     Ok(())
+}
+
+// The record at the front of bytes.
+fn record_in<'a>(bytes: &'a [u8]) -> Option<RecordView<'a>> {
+    match next_record(bytes, MOST_REPLY_BODY) {
+        Framed::Whole(record, _) => Some(record),
+        _ => None,
+    }
+}
+
+#[test]
+fn plain_replies_read_back(rt: HostRuntime) -> Result<(), Fail> {
+    for (bytes, expected, pair) in PAIRS {
+        let PairFramed::Whole(view, taken) = next_pair(pair) else {
+            return Err("no pair".into());
+        };
+        assert_eq!(rt; taken, pair.len());
+        assert_eq!(rt; view.asked().bytes(), bytes);
+        let Some(ReplyView::Plain(found)) = reply(&view.answered()) else {
+            return Err("no plain reply".into());
+        };
+        assert_eq!(rt; found, expected);
+    }
+    Ok(())
+}
+
+// Sees to it that a view tells a batch, at each place and behind the last.
+fn tells(rt: &impl Abort, cleared: &ClearedView<'_>, batch: Batch<'_>) {
+    let (number, prices, fills, residuals, gap) = batch;
+    assert!(rt; cleared.batch() == number);
+    assert!(rt; usize::from(cleared.price_count()) == prices.len());
+    assert!(rt; cleared.rate_count() as usize == fills.len());
+    assert!(rt; cleared.gap() == gap);
+    for k in 0..=cleared.price_count() {
+        let place = usize::from(k);
+        assert!(rt; cleared.price(k) == prices.get(place).copied());
+        assert!(rt; cleared.residual(k) == residuals.get(place).copied());
+    }
+    for k in 0..=cleared.rate_count() {
+        let fill = fills.get(k as usize).copied();
+        assert!(rt; cleared.order(k) == fill.map(|fill| fill.0));
+        assert!(rt; cleared.rate(k) == fill.map(|fill| fill.1));
+    }
+}
+
+#[test]
+fn clearings_read_back(rt: HostRuntime) -> Result<(), Fail> {
+    for (batch, bytes) in REPLIES {
+        let record = record_in(bytes).ok_or("no record")?;
+        let Some(ReplyView::Cleared(cleared)) = reply(&record) else {
+            return Err("no clearing".into());
+        };
+        tells(&rt, &cleared, batch);
+        let owned = cleared.to_cleared(rt.alloc())?;
+        let expected = cleared_of(rt.alloc(), batch)?;
+        assert_eq!(rt; owned.prices.as_slice(), expected.prices.as_slice());
+        assert_eq!(rt; owned.rates.as_slice(), expected.rates.as_slice());
+        assert_eq!(rt; owned.residuals.as_slice(), expected.residuals.as_slice());
+        assert_eq!(rt; owned.gap, expected.gap);
+    }
+    Ok(())
+}
+
+#[test]
+fn skips_read_back(rt: HostRuntime) -> Result<(), Fail> {
+    for ((batch, start_dual, end_dual, trace), bytes) in SKIPS {
+        let record = record_in(bytes).ok_or("no record")?;
+        let Some(ReplyView::Skipped(skipped)) = reply(&record) else {
+            return Err("no skip".into());
+        };
+        assert_eq!(rt; skipped.batch(), batch);
+        assert_eq!(rt; skipped.start_dual(), start_dual);
+        assert_eq!(rt; skipped.end_dual(), end_dual);
+        assert_eq!(rt; skipped.trace(), trace);
+    }
+    Ok(())
+}
+
+/// Records that spell no answer.
+const NONE: [&[u8]; 26] = [
+    // Another tag.
+    b"\x7f\0\0\0\0",
+    b"\x87\0\0\0\0",
+    // A byte more or fewer.
+    b"\x80\0\0\0\x01\0",
+    b"\x81\0\0\0\x01\0",
+    b"\x81\0\0\0\x03\0\0\0",
+    b"\x82\0\0\0\x03\0\0\0",
+    b"\x82\0\0\0\x05\0\0\0\0\0",
+    b"\x83\0\0\0\x07\0\0\0\0\0\0\0",
+    b"\x83\0\0\0\x09\0\0\0\0\0\0\0\0\0",
+    b"\x84\0\0\0\0",
+    b"\x84\0\0\0\x02\x01\x01",
+    // A code that is none's.
+    b"\x84\0\0\0\x01\0",
+    b"\x84\0\0\0\x01\x14",
+    b"\x84\0\0\0\x01\xff",
+    // Of a batch that cleared, with one price: no bytes, one fewer and one more.
+    b"\x85\0\0\0\0",
+    b"\x85\0\0\0\x29\0\0\0\x01\0\x01\0\0\0\0\0\0\0\0\0\0\0\0\0\0\0\0\0\0\0\0\0\0\0\0\0\0\0\0\0\0\0\0\0\0\0",
+    b"\x85\0\0\0\x2b\0\0\0\x01\0\x01\0\0\0\0\0\0\0\0\0\0\0\0\0\0\0\0\0\0\0\0\0\0\0\0\0\0\0\0\0\0\0\0\0\0\0\0\0",
+    // A price more or fewer is counted, or an order more, or as many as there may be.
+    b"\x85\0\0\0\x2a\0\0\0\x01\0\x02\0\0\0\0\0\0\0\0\0\0\0\0\0\0\0\0\0\0\0\0\0\0\0\0\0\0\0\0\0\0\0\0\0\0\0\0",
+    b"\x85\0\0\0\x2a\0\0\0\x01\0\0\0\0\0\0\0\0\0\0\0\0\0\0\0\0\0\0\0\0\0\0\0\0\0\0\0\0\0\0\0\0\0\0\0\0\0\0",
+    b"\x85\0\0\0\x2a\0\0\0\x01\0\x01\0\0\0\0\0\0\0\0\0\0\0\x01\0\0\0\0\0\0\0\0\0\0\0\0\0\0\0\0\0\0\0\0\0\0\0\0",
+    b"\x85\0\0\0\x2a\0\0\0\x01\0\x01\0\0\0\0\0\0\0\0\xff\xff\xff\xff\0\0\0\0\0\0\0\0\0\0\0\0\0\0\0\0\0\0\0\0\0\0\0\0",
+    // Of a batch that was skipped after one move: no bytes, one fewer and one more, and another count of moves.
+    b"\x86\0\0\0\0",
+    b"\x86\0\0\0\x28\0\0\0\x01\0\0\0\0\0\0\0\0\0\0\0\0\0\0\0\0\0\0\0\0\0\0\0\0\0\0\0\0\0\0\0\0\0\0\0\x01",
+    b"\x86\0\0\0\x2a\0\0\0\x01\0\0\0\0\0\0\0\0\0\0\0\0\0\0\0\0\0\0\0\0\0\0\0\0\0\0\0\0\0\0\0\0\0\0\0\x01\0\0",
+    b"\x86\0\0\0\x29\0\0\0\x01\0\0\0\0\0\0\0\0\0\0\0\0\0\0\0\0\0\0\0\0\0\0\0\0\0\0\0\0\0\0\0\0\0\0\0\0\0",
+    b"\x86\0\0\0\x29\0\0\0\x01\0\0\0\0\0\0\0\0\0\0\0\0\0\0\0\0\0\0\0\0\0\0\0\0\0\0\0\0\0\0\0\0\xff\xff\xff\xff\0",
+];
+
+#[test]
+fn records_that_spell_none(rt: HostRuntime) -> Result<(), Fail> {
+    for bytes in NONE {
+        let record = record_in(bytes).ok_or("no record")?;
+        assert_eq!(rt; record.bytes().len(), bytes.len());
+        assert!(rt; reply(&record).is_none(), "{bytes:?}");
+    }
+    Ok(())
+}
+
+/// Bytes, how many a whole pair at their front takes, or 0 at their end, and whether a body above its limit is stated.
+const FRONTS: [(&[u8], Option<usize>, bool); 9] = [
+    (b"", Some(0), false),
+    (b"\x02\0\0\0\0\x80\0\0\0\0", Some(10), false),
+    (b"\x02\0\0\0\x01\0\x80\0\0\0\x02\0\0\xff", Some(13), false),
+    (b"\x02\0\0\0", None, false),
+    (b"\x02\0\0\0\0", None, false),
+    (b"\x02\0\0\x04\0", None, false),
+    (b"\x02\0\0\x04\x01", None, true),
+    (b"\x02\0\0\0\0\x80\0\x04\0\0", None, false),
+    (b"\x02\0\0\0\0\x80\0\x04\0\x01", None, true),
+];
+
+#[test]
+fn fronts_of_pairs(rt: HostRuntime) {
+    for (bytes, expected, overlong) in FRONTS {
+        let taken = match next_pair(bytes) {
+            PairFramed::Whole(_, taken) => Some(taken),
+            PairFramed::End => Some(0),
+            PairFramed::Broken => None,
+        };
+        assert_eq!(rt; taken, expected, "{bytes:?}");
+        assert_eq!(rt; is_overlong(bytes), overlong, "{bytes:?}");
+    }
 }

@@ -1,0 +1,60 @@
+-- Pairs of records at the front of bytes.
+use Rattle.std.proofs.Common.{◌≡◌, ◌≢◌, ◌<◌, ◌≤◌, ◌^◌, ℕ, List, [], ◌++◌, inl, inr, length, append_assoc, sym, ap, ◌∙◌, subst, arith}
+use Rattle.wire_records.specs.Records.{Record, IsRecord, spelling, StatesLength, HasNoFront}
+use Rattle.wire_records.specs.Grammars.{BeginsWithNone, both}
+use Rattle.wire_records.specs.Formats.{records, StatesOver, EitherStatesOver}
+use Rattle.wire_records.proofs.Fronts.{no_front-from_few, no_front-from_overlong, states_none-from_few}
+use Rattle.wire_records.proofs.Spelled.{spelling_unique}
+
+-- no record at the front, and so no pair
+pub no_pair-from_first : (limit next : ℕ) (bytes : List ℕ) → HasNoFront limit bytes → BeginsWithNone (both (records limit) (records next)) bytes
+no_pair-from_first limit next bytes none pair rest lawful e =
+    none pair.0 (spelling pair.1 ++ rest) lawful.0 (e ∙ append_assoc (spelling pair.0) (spelling pair.1) rest)
+
+-- none behind the first record, and so no pair
+pub no_pair-from_second : (limit next : ℕ) (bytes left : List ℕ) (first : Record) → limit < 2 ^ 32 → IsRecord limit first → bytes ≡ spelling first ++ left → HasNoFront next left → BeginsWithNone (both (records limit) (records next)) bytes
+no_pair-from_second limit next bytes left first small lawful whole none pair rest both_lawful e =
+    let one = spelling_unique limit first pair.0 left (spelling pair.1 ++ rest) small lawful both_lawful.0 (sym whole ∙ e ∙ append_assoc (spelling pair.0) (spelling pair.1) rest) in
+    none pair.1 rest both_lawful.1 one.1
+
+-- no bytes hold no record
+pub no_front-from_none : (limit : ℕ) (bytes : List ℕ) → bytes ≡ [] → HasNoFront limit bytes
+no_front-from_none limit bytes none = no_front-from_few limit bytes (omega (arith, ap length none))
+
+-- bytes that state a length are some
+pub some-from_stated : (n : ℕ) (bytes : List ℕ) → StatesLength n bytes → bytes ≢ []
+some-from_stated n bytes states none = states_none-from_few n bytes (omega (arith, ap length none)) states
+
+-- bytes that begin with a record are some
+pub some-from_front : (limit : ℕ) (bytes left : List ℕ) (first : Record) → IsRecord limit first → bytes ≡ spelling first ++ left → bytes ≢ []
+some-from_front limit bytes left first lawful whole none = no_front-from_none limit bytes none first left lawful whole
+
+-- no bytes state no length above a limit
+pub none_over : (limit : ℕ) (bytes : List ℕ) → bytes ≡ [] → ¬ StatesOver limit bytes
+none_over limit bytes none over = some-from_stated over.0 bytes over.1 none
+
+-- nor does a whole record
+pub whole_not_over : (limit : ℕ) (bytes left : List ℕ) (first : Record) → limit < 2 ^ 32 → IsRecord limit first → bytes ≡ spelling first ++ left → ¬ StatesOver limit bytes
+whole_not_over limit bytes left first small lawful whole over =
+    no_front-from_overlong limit over.0 bytes small over.1 over.2 first left lawful whole
+
+-- nor do bytes that state no length above it
+pub short_not_over : (limit : ℕ) (bytes : List ℕ) → ((n : ℕ) → StatesLength n bytes → n ≤ limit) → ¬ StatesOver limit bytes
+short_not_over limit bytes within over = omega (arith, over.2, within over.0 over.1)
+
+-- no record at the front that is whole or too long
+pub neither_over : (limit next : ℕ) (bytes : List ℕ) → HasNoFront limit bytes → (¬ StatesOver limit bytes) → ¬ EitherStatesOver limit next bytes
+neither_over limit next bytes none short (inl over) = short over
+neither_over limit next bytes none short (inr later) = none later.0 later.1 later.2.0 later.2.1
+
+-- a whole record at the front, and so it is told behind it
+pub over_behind : (limit next : ℕ) (bytes left : List ℕ) (first : Record) → limit < 2 ^ 32 → IsRecord limit first → bytes ≡ spelling first ++ left → EitherStatesOver limit next bytes → StatesOver next left
+over_behind limit next bytes left first small lawful whole (inl over) = absurd (whole_not_over limit bytes left first small lawful whole over)
+over_behind limit next bytes left first small lawful whole (inr later) =
+    let one = spelling_unique limit first later.0 left later.1 small lawful later.2.0 (sym whole ∙ later.2.1) in
+    subst (StatesOver next) (sym one.1) later.3
+
+-- a whole record and none behind it are some bytes and no pair
+pub broken_behind : (limit next : ℕ) (bytes left : List ℕ) (first : Record) → limit < 2 ^ 32 → IsRecord limit first → bytes ≡ spelling first ++ left → HasNoFront next left → (bytes ≢ []) × BeginsWithNone (both (records limit) (records next)) bytes
+broken_behind limit next bytes left first small lawful whole none =
+    (some-from_front limit bytes left first lawful whole, no_pair-from_second limit next bytes left first small lawful whole none)

@@ -1,0 +1,11 @@
+use Rattle.std.proofs.Common.{length, ap, arith}
+use Rattle.journal_records.specs.Replies.{fill_spelling, IsFill}
+use Rattle.journal_records.specs.Private.{fill_in, fills_in}
+use Rattle.journal_records.proofs.Values.{length-spelled}
+use Rattle.journal_records.proofs.Digits.{fixed_fills}
+use Rattle.journal_records.proofs.fills_view.FillsView.len.Goals as goal
+
+pub returns : goal.returns
+returns c =
+    let bytes = c.self.inside.bytes.now in
+    omega (arith, length-spelled IsFill fill_spelling fill_in 12 fixed_fills bytes (fills_in bytes) c.self.invariant, ap length c.self.view_is)

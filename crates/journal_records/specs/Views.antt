@@ -1,0 +1,30 @@
+-- What contracts see of the views of a journal: the pair at the front of bytes, and the answer that a record spells.
+use Rattle.std.specs.Prelude.{◌≡◌, ◌≢◌, ℕ, List, [], ◌++◌, Option, Some, None, length, drop}
+use Rattle.wire_records.specs.Records.{Record}
+use Rattle.wire_records.specs.Commands.{Answer, Plain, Batch}
+use Rattle.wire_records.specs.Grammars.{BeginsWithNone}
+use Rattle.flow_orders.specs.Outcomes.{Outcome, Cleared, Skipped}
+use Rattle.journal_records.specs.Replies.{SpellsAnswer}
+use Rattle.journal_records.specs.Formats.{journals}
+use Rattle.journal_records.specs.declared.pair.PairFramed.{PairFramed}
+use Rattle.journal_records.specs.declared.pair.PairFramed.TheVariants.{Whole, End, Broken}
+use Rattle.journal_records.specs.declared.reply_view.ReplyView.{ReplyView}
+use Rattle.journal_records.specs.declared.reply_view.ReplyView.TheVariants as view
+
+-- what stands at the front of bytes: a whole pair, nothing, or a rest that begins with no whole pair within the limits
+abbrev pub IsPairFront : PairFramed → List ℕ → Type 0
+IsPairFront (Whole pair taken) bytes =
+    journals.units.IsLawful pair × (taken ≡ length (journals.units.spell pair)) × (bytes ≡ journals.units.spell pair ++ drop taken bytes)
+IsPairFront End bytes = bytes ≡ []
+IsPairFront Broken bytes = (bytes ≢ []) × BeginsWithNone journals.units bytes
+
+-- the answer that a view shows
+abbrev pub answer_of : ReplyView → Answer Outcome
+answer_of (view.Plain reply) = Plain reply
+answer_of (view.Cleared cleared) = Batch cleared.batch (Cleared cleared.clearing)
+answer_of (view.Skipped skipped) = Batch skipped.batch (Skipped skipped.skipping)
+
+-- what a record is read as: the answer that it spells, or none
+abbrev pub IsReplyRead : Record → Option ReplyView → Type 0
+IsReplyRead r (Some seen) = SpellsAnswer r (answer_of seen)
+IsReplyRead r None = (answer : Answer Outcome) → ¬ SpellsAnswer r answer

@@ -1,0 +1,125 @@
+//! A batch that cleared, where its reply lies.
+ghost use Rattle.std.specs.Prelude.{◌≡◌, IfOk, IfSome, IfNone};
+ghost use Rattle.journal_records.specs.Private.{SpellsCleared, SpellsNoCleared};
+
+use crate::fills_view::{FillsView, take_fills};
+use crate::numbers_view::{NumbersView, take_numbers};
+use batch_certificate::{Cleared, ClearedParts, PriceList, RateList, ResidualList};
+use std::alloc::Global;
+use std::marker::Model;
+use wire_fields::Cursor;
+use wire_records::Memory;
+
+/// What a reply tells of a batch that cleared, with its lists in the borrowed bytes: the batch's number, a price in grains
+/// and a residual in units for each asset, the number of each order with its rate in units of its portfolio, and the gap
+/// in grains. There are at most 65,535 prices, and as many residuals. Contracts see it as these numbers. Each call but
+/// [`to_cleared`](ClearedView::to_cleared) is of constant cost and allocates nothing.
+#[derive(Drop)]
+pub struct ClearedView<'a> {
+    batch: u32,
+    prices: NumbersView<'a>,
+    fills: FillsView<'a>,
+    residuals: NumbersView<'a>,
+    gap: i128,
+}
+
+impl<'a> Model for ClearedView<'a> {
+    ghost use Rattle.std.specs.Prelude.{◌≡◌, ◌<◌, ◌^◌, length};
+    ghost use Rattle.journal_records.specs.Numbered.{ClearedBatch};
+
+    ghost Value = { ClearedBatch };
+
+    ghost view = { λ v. record {
+      batch = v.batch;
+      clearing = record { prices = v.prices; fills = v.fills; residuals = v.residuals; gap = v.gap };
+    } };
+
+    ghost invariant = { λ v. (length v.prices < 2 ^ 16) × (length v.fills < 2 ^ 32) × (length v.residuals ≡ length v.prices) };
+}
+
+impl<'a> ClearedView<'a> {
+    ghost use Rattle.batch_certificate.specs.Verdicts.{rates_in};
+
+    /// The number of the batch.
+    pub fn batch(&self) -> u32
+        ensures { result ≡ self.now.batch }
+    {
+        self.batch
+    }
+
+    /// The outcome in memory of its own, without the numbers of the orders; `Memory` where there is none for it. It costs
+    /// one pass over the lists.
+    pub fn to_cleared(&self, alloc: Global) -> Result<Cleared, Memory>
+        ensures prices { IfOk result (λ cleared. cleared.prices ≡ self.now.clearing.prices) }
+        ensures rates { IfOk result (λ cleared. cleared.rates ≡ rates_in self.now.clearing) }
+        ensures residuals { IfOk result (λ cleared. cleared.residuals ≡ self.now.clearing.residuals) }
+        ensures gap { IfOk result (λ cleared. cleared.gap ≡ self.now.clearing.gap) }
+    {
+        let prices = PriceList::new(self.prices.to_vec(alloc)?);
+        let rates = RateList::new(self.fills.to_rates(alloc)?);
+        let residuals = ResidualList::new(self.residuals.to_vec(alloc)?);
+        Ok(Cleared {
+            prices,
+            rates,
+            residuals,
+            gap: self.gap,
+        })
+    }
+}
+
+impl<'a> ClearedParts for ClearedView<'a> {
+    ghost clearing = { λ v. v.clearing };
+
+    fn price_count(&self) -> u16 {
+        self.prices.len() as u16
+    }
+
+    fn price(&self, k: u16) -> Option<i64> {
+        self.prices.number(usize::from(k))
+    }
+
+    fn rate_count(&self) -> u32 {
+        self.fills.len() as u32
+    }
+
+    fn order(&self, k: u32) -> Option<u64> {
+        self.fills.order(k as usize)
+    }
+
+    fn rate(&self, k: u32) -> Option<u32> {
+        self.fills.rate(k as usize)
+    }
+
+    fn residual(&self, k: u16) -> Option<i64> {
+        self.residuals.number(usize::from(k))
+    }
+
+    fn gap(&self) -> i128 {
+        self.gap
+    }
+}
+
+// The batch that a body spells, or `None` where it spells none. Nothing is looked at beyond the counts and the gap.
+pub(crate) fn cleared_in(body: &[u8]) -> Option<ClearedView<'_>>
+    ensures found { IfSome result (λ cleared. SpellsCleared body.now cleared) }
+    ensures none { IfNone result (SpellsNoCleared body.now) }
+{
+    let mut cursor = Cursor::new(body);
+    let batch = cursor.take_u32()?;
+    let assets = usize::from(cursor.take_u16()?);
+    let prices = take_numbers(&mut cursor, assets)?;
+    let orders = cursor.take_u32()? as usize;
+    let fills = take_fills(&mut cursor, orders)?;
+    let residuals = take_numbers(&mut cursor, assets)?;
+    let gap = cursor.take_i128()?;
+    if !cursor.is_empty() {
+        return None;
+    }
+    Some(ClearedView {
+        batch,
+        prices,
+        fills,
+        residuals,
+        gap,
+    })
+}

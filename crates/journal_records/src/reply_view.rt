@@ -1,0 +1,107 @@
+//! Which answer a record spells.
+ghost use Rattle.std.specs.Prelude.{◌≡◌, ◌≢◌, ◌<◌, ◌^◌, length, IfSome, IfNone};
+ghost use Rattle.wire_fields.specs.Numbers.{unsigned};
+ghost use Rattle.journal_records.specs.Private.{SpellsReply, SpellsNoReply};
+ghost use Rattle.journal_records.specs.Views.{IsReplyRead};
+
+use crate::cleared_view::{ClearedView, cleared_in};
+use crate::skipped_view::{SkippedView, skipped_in};
+use wire_fields::Cursor;
+use wire_records::{RecordView, Refusal, Reply};
+
+/// The answer that a record spells, with the numbers of a batch in the borrowed bytes.
+#[derive(Drop)]
+pub enum ReplyView<'a> {
+    /// The reply to a command other than a batch, or a refusal.
+    Plain(Reply),
+    /// A batch that cleared.
+    Cleared(ClearedView<'a>),
+    /// A batch that was skipped.
+    Skipped(SkippedView<'a>),
+}
+
+// A number that takes all of a body of 1 byte.
+fn u8_in(body: &[u8]) -> Option<u8>
+    ensures spelled { IfSome result (λ n. body.now ≡ unsigned 1 n) }
+    ensures fits { IfSome result (λ n. n < 2 ^ 8) }
+    ensures other { IfNone result (length body.now ≢ 1) }
+{
+    let mut cursor = Cursor::new(body);
+    let number = cursor.take_u8()?;
+    if cursor.left() != 0 {
+        return None;
+    }
+    Some(number)
+}
+
+// A number that takes all of a body of 2 bytes.
+fn u16_in(body: &[u8]) -> Option<u16>
+    ensures spelled { IfSome result (λ n. body.now ≡ unsigned 2 n) }
+    ensures fits { IfSome result (λ n. n < 2 ^ 16) }
+    ensures other { IfNone result (length body.now ≢ 2) }
+{
+    let mut cursor = Cursor::new(body);
+    let number = cursor.take_u16()?;
+    if cursor.left() != 0 {
+        return None;
+    }
+    Some(number)
+}
+
+// A number that takes all of a body of 4 bytes.
+fn u32_in(body: &[u8]) -> Option<u32>
+    ensures spelled { IfSome result (λ n. body.now ≡ unsigned 4 n) }
+    ensures fits { IfSome result (λ n. n < 2 ^ 32) }
+    ensures other { IfNone result (length body.now ≢ 4) }
+{
+    let mut cursor = Cursor::new(body);
+    let number = cursor.take_u32()?;
+    if cursor.left() != 0 {
+        return None;
+    }
+    Some(number)
+}
+
+// A number that takes all of a body of 8 bytes.
+fn u64_in(body: &[u8]) -> Option<u64>
+    ensures spelled { IfSome result (λ n. body.now ≡ unsigned 8 n) }
+    ensures fits { IfSome result (λ n. n < 2 ^ 64) }
+    ensures other { IfNone result (length body.now ≢ 8) }
+{
+    let mut cursor = Cursor::new(body);
+    let number = cursor.take_u64()?;
+    if cursor.left() != 0 {
+        return None;
+    }
+    Some(number)
+}
+
+// The plain reply that a tag and a body spell, or `None` where they spell none.
+fn plain_in(tag: u8, body: &[u8]) -> Option<Reply>
+    ensures found { IfSome result (λ reply. SpellsReply tag body.now reply) }
+    ensures none { IfNone result (SpellsNoReply tag body.now) }
+{
+    match tag {
+        128 if body.is_empty() => Some(Reply::Done),
+        128 => None,
+        129 => Some(Reply::Asset(u16_in(body)?)),
+        130 => Some(Reply::Account(u32_in(body)?)),
+        131 => Some(Reply::Order(u64_in(body)?)),
+        132 => Some(Reply::Refused(Refusal::of_code(u8_in(body)?)?)),
+        _ => None,
+    }
+}
+
+/// The answer that a record spells, where it lies; `None` exactly where it spells none: its tag is outside 128 to 134, or
+/// its body isn't of the length that its fields state, or the code of a refusal is outside 1 to 19. Constant cost, and
+/// nothing is allocated.
+pub fn reply<'a>(answered: &RecordView<'a>) -> Option<ReplyView<'a>>
+    ensures { IsReplyRead answered.now result }
+{
+    let body = answered.body();
+    match answered.tag() {
+        133 => Some(ReplyView::Cleared(cleared_in(body)?)),
+        134 => Some(ReplyView::Skipped(skipped_in(body)?)),
+        tag => Some(ReplyView::Plain(plain_in(tag, body)?)),
+    }
+}
