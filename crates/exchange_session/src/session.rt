@@ -4,7 +4,6 @@ ghost use Rattle.wire_records.specs.Commands.{Plain};
 ghost use Rattle.wire_records.specs.CommandRecords.{IsReadAs};
 ghost use Rattle.journal_records.specs.Pairs.{plain_room};
 ghost use Rattle.flow_orders.specs.Own.{IsOwnOutcome};
-ghost use Rattle.market_core.specs.Step.{refusal_of};
 ghost use Rattle.market_core.specs.Journal.{Step};
 ghost use Rattle.market_core.specs.Wanting.{RecordMayWant};
 ghost use Rattle.exchange_session.specs.Private.{IsAsked};
@@ -14,7 +13,7 @@ use journal_records::{reserve_plain, write_plain};
 use market_core::Market;
 use std::alloc::Global;
 use std::marker::Model;
-use wire_records::{BodyFault, CommandView, Memory, RecordView, Refusal, Reply};
+use wire_records::{CommandView, Memory, RecordView, Reply};
 
 /// The market of a run, from record to record. Contracts see it as that market.
 #[derive(Drop)]
@@ -31,16 +30,6 @@ impl Model for Session {
     ghost view = { λ session. session.market };
 }
 
-// The refusal of a record that can't be served.
-fn refusal_for(fault: BodyFault) -> Refusal
-    ensures { result ≡ refusal_of fault }
-{
-    match fault {
-        BodyFault::UnknownTag => Refusal::UnknownTag,
-        BodyFault::BadBody => Refusal::BadBody,
-    }
-}
-
 // What a record asks for: a plain reply, which is given, or a batch with this budget, which is allowed.
 enum Asked {
     Plain(Reply),
@@ -54,13 +43,13 @@ fn reply_to(market: &mut Market, asked: &RecordView<'_>) -> Result<Asked, Memory
     ensures stays { OnErr result (market.new ≡ market.old) }
     ensures wanted { OnErr result (RecordMayWant market.old asked.now) }
 {
-    match asked.command() {
+    match market.read(asked) {
         Ok(CommandView::RunBatch { budget }) => match market.batch_allowed(budget) {
             Ok(()) => Ok(Asked::Batch(budget)),
             Err(refusal) => Ok(Asked::Plain(Reply::Refused(refusal))),
         },
         Ok(command) => Ok(Asked::Plain(market.apply(&command)?)),
-        Err(fault) => Ok(Asked::Plain(Reply::Refused(refusal_for(fault)))),
+        Err(unread) => Ok(Asked::Plain(Reply::Refused(unread))),
     }
 }
 

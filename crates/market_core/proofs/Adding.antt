@@ -4,6 +4,8 @@ use Rattle.std.specs.Prelude.{Contains, pos, ℤ}
 use Rattle.std.proofs.lemmas.Option.{slice_get_within, get_or_from_slice_get}
 use Rattle.ticker_table.specs.Tickers.{IsTicker, HasNumber, ticker_limit}
 use Rattle.ticker_table.specs.Adding.{IsAddable}
+use Rattle.ticker_table.specs.declared.table.TickerFault.{TickerFault}
+use Rattle.ticker_table.specs.declared.table.TickerFault.TheVariants as tickers
 use Rattle.wire_records.specs.Commands.{AddAsset, OpenAccount, Plain}
 use Rattle.wire_records.specs.declared.reply.Reply.TheVariants.{Asset, Account, Refused}
 use Rattle.wire_records.specs.declared.reply.Refusal.TheVariants.{BadTicker, TickerTaken, AssetLimit, AccountLimit}
@@ -16,7 +18,7 @@ use Rattle.flow_orders.specs.Outcomes.{BatchRule}
 use Rattle.flow_orders.specs.Own.{IsOwnOutcome}
 use Rattle.market_core.specs.Market.{Market, IsSound}
 use Rattle.market_core.specs.Step.{FirstRefusal, Serves}
-use Rattle.market_core.specs.Private.{IsAnswered, refusal_for}
+use Rattle.market_core.specs.Private.{IsAnswered, refusal_for, ticker_refusal}
 use Rattle.market_core.proofs.Fitting.{sound-served}
 
 -- a ticker that can be added is refused by nothing
@@ -55,6 +57,21 @@ module _ (Rule : BatchRule) where
     -- there are too many
     pub refuses-full : IsTicker ticker → (Contains old.tickers ticker → ⊥) → ticker_limit ≤ length old.tickers → Serves Rule old (AddAsset ticker) (Plain (Refused AssetLimit)) new
     refuses-full valid absent many = record { first = Some AssetLimit; refused = inr (valid, inr (absent, inl (many, refl))); answered = (refl, same) }
+
+  -- it isn't added, for another cause than want of memory
+  pub refuses-ticker_fault : (old new : Market) (ticker : List ℕ) (why : TickerFault) → new ≡ old
+      → (why ≡ tickers.BadTicker → IsTicker ticker → ⊥)
+      → ((number : ℕ) → why ≡ tickers.Taken number → IsTicker ticker × HasNumber old.tickers number ticker)
+      → (why ≡ tickers.Full → IsTicker ticker × (Contains old.tickers ticker → ⊥) × (length old.tickers ≡ ticker_limit))
+      → (why ≡ tickers.Memory → ⊥) → Serves Rule old (AddAsset ticker) (Plain (Refused (ticker_refusal why))) new
+  refuses-ticker_fault old new ticker tickers.BadTicker same bad taken full answered = refuses-bad_ticker old new ticker same (bad refl)
+  refuses-ticker_fault old new ticker (tickers.Taken number) same bad taken full answered =
+      let there = taken number refl in
+      refuses-taken old new ticker same number there.0 there.1
+  refuses-ticker_fault old new ticker tickers.Full same bad taken full answered =
+      let there = full refl in
+      refuses-full old new ticker same there.0 there.1 (omega (arith, there.2))
+  refuses-ticker_fault old new ticker tickers.Memory same bad taken full answered = absurd (answered refl)
 
   -- an account is opened
   pub serves-open_account : (m : Market) (now : Balances) → account_count m.balances < most_accounts → now ≡ open_account m.balances

@@ -18,7 +18,7 @@ use Rattle.market_core.specs.Step.{Serves}
 use Rattle.market_core.specs.Private.{refusal_for}
 
 -- the reply that an outcome gives
-abbrev Replies : {T : Type 0} → Result T AccountFault → Reply → Type 0
+abbrev pub Replies : {T : Type 0} → Result T AccountFault → Reply → Type 0
 Replies outcome reply = MatchResult outcome (λ _. reply ≡ Done) (λ why. reply ≡ Refused (refusal_for why))
 
 module _ (Rule : BatchRule) (m : Market) (now : Balances) where

@@ -12,7 +12,7 @@ use Rattle.market_core.specs.Market.{Market, IsSound, empty_market, start_prices
 use Rattle.wire_records.specs.declared.command.BodyFault.{BodyFault}
 use Rattle.flow_orders.specs.Own.{IsOwnOutcome}
 use Rattle.market_core.specs.Step.{FirstRefusal, Accepts, Answers, Serves, ServesRead, after_batch}
-use Rattle.market_core.specs.Laws.{MarketIsDetermined, JournalsDetermineTheMarket, OneRefusal, PlainCommandsHaveOneAnswer, OneOwnJournal, OwnJournalsAreLegal, StepsKeepSoundness, HeldIsDeposited, BatchesKeepTotals, SkipsChangeNothing, SkipsLowerTheDual, LargeBudgetsClear, ClearedBatchesAreOptimal, FillsKeepCaps, SequencesCompose, EveryCommandIsServed, LimitsAgree, JournalsHoldDeposits, StepsNumberOne}
+use Rattle.market_core.specs.Laws.{MarketIsDetermined, JournalsDetermineTheMarket, OneRefusal, PlainCommandsHaveOneAnswer, PlainCommandsNeedNoRule, OneOwnJournal, OwnJournalsAreLegal, StepsKeepSoundness, HeldIsDeposited, BatchesKeepTotals, SkipsChangeNothing, SkipsLowerTheDual, LargeBudgetsClear, ClearedBatchesAreOptimal, FillsKeepCaps, SequencesCompose, EveryCommandIsServed, LimitsAgree, JournalsHoldDeposits, StepsNumberOne, LegalStepsNumberOne}
 use Rattle.std.proofs.lemmas.Int.{ints}
 use Rattle.std.proofs.lemmas.List.{length-map}
 use Rattle.flow_orders.proofs.WalkLaws.{walks_lower_the_dual, right_skips_lower_the_dual, right_clearings_are_optimal}
@@ -131,6 +131,29 @@ one_refusal old c r a m n first other = refused_once IsRightOutcome old c r a m 
 pub plain_commands_have_one_answer : PlainCommandsHaveOneAnswer
 plain_commands_have_one_answer old c a b m n none first other = one_service IsRightOutcome old c a b m n (no_batch IsRightOutcome old c none) first other
 
+-- an accepted command that is no batch is accepted by any rule
+accepted_by_any : (Rule Other : BatchRule) (m : Market) (c : Command) (a : Answer Outcome) (n : Market) → ((budget : ℕ) → ¬ (c ≡ RunBatch budget)) → Accepts Rule m c a n → Accepts Other m c a n
+accepted_by_any Rule Other m (AddAsset ticker) a n none accepts = accepts
+accepted_by_any Rule Other m OpenAccount a n none accepts = accepts
+accepted_by_any Rule Other m (DepositMoney account ticks) a n none accepts = accepts
+accepted_by_any Rule Other m (DepositAsset account asset units) a n none accepts = accepts
+accepted_by_any Rule Other m (WithdrawMoney account ticks) a n none accepts = accepts
+accepted_by_any Rule Other m (WithdrawAsset account asset units) a n none accepts = accepts
+accepted_by_any Rule Other m (PlaceOrder r) a n none accepts = accepts
+accepted_by_any Rule Other m (CancelOrder account number) a n none accepts = accepts
+accepted_by_any Rule Other m (RunBatch budget) a n none accepts = absurd (none budget refl)
+
+-- and it is served so
+pub served_by_any : (Rule Other : BatchRule) (m : Market) (c : Command) (a : Answer Outcome) (n : Market) → ((budget : ℕ) → ¬ (c ≡ RunBatch budget)) → Serves Rule m c a n → Serves Other m c a n
+served_by_any Rule Other m c a n none serves = record { first = serves.first; refused = serves.refused; answered = by_first serves.first serves.answered }
+  where
+    by_first : (first : Option Refusal) → Answers Rule m c first a n → Answers Other m c first a n
+    by_first (Some r) answered = answered
+    by_first None answered = accepted_by_any Rule Other m c a n none answered
+
+pub plain_commands_need_no_rule : PlainCommandsNeedNoRule
+plain_commands_need_no_rule old c a n none = (served_by_any IsOwnOutcome IsRightOutcome old c a n none, served_by_any IsRightOutcome IsOwnOutcome old c a n none)
+
 same_assets : (m : Market) (o : Outcome) (asset : ℕ) → IsAsset m.balances asset → IsAsset (after_batch m o).balances asset
 same_assets m (Cleared c) asset is = is
 same_assets m (Skipped s) asset is = is
@@ -232,28 +255,32 @@ every_command_is_served = served_is_there
 pub limits_agree : LimitsAgree
 limits_agree = record { assets = refl; ticks = refl }
 
-accepted_numbers_one : (m : Market) (c : Command) (a : Answer Outcome) (n : Market) → Accepts IsOwnOutcome m c a n → n.next_order ≤ m.next_order + 1
-accepted_numbers_one m (AddAsset ticker) a n accepts = rw accepts.1 (omega arith)
-accepted_numbers_one m OpenAccount a n accepts = rw accepts.1 (omega arith)
-accepted_numbers_one m (DepositMoney account ticks) a n accepts = rw accepts.1 (omega arith)
-accepted_numbers_one m (DepositAsset account asset units) a n accepts = rw accepts.1 (omega arith)
-accepted_numbers_one m (WithdrawMoney account ticks) a n accepts = rw accepts.1 (omega arith)
-accepted_numbers_one m (WithdrawAsset account asset units) a n accepts = rw accepts.1 (omega arith)
-accepted_numbers_one m (PlaceOrder request) a n accepts = rw accepts.1 (omega arith)
-accepted_numbers_one m (CancelOrder account number) a n accepts = rw accepts.1 (omega arith)
-accepted_numbers_one m (RunBatch budget) a n accepts = rw accepts.2.1 (by_outcome accepts.0)
-  where
-    by_outcome : (o : Outcome) → (after_batch m o).next_order ≤ m.next_order + 1
-    by_outcome (Cleared c) = omega arith
-    by_outcome (Skipped s) = omega arith
+module _ (Rule : BatchRule) where
+  accepted_numbers_one : (m : Market) (c : Command) (a : Answer Outcome) (n : Market) → Accepts Rule m c a n → n.next_order ≤ m.next_order + 1
+  accepted_numbers_one m (AddAsset ticker) a n accepts = rw accepts.1 (omega arith)
+  accepted_numbers_one m OpenAccount a n accepts = rw accepts.1 (omega arith)
+  accepted_numbers_one m (DepositMoney account ticks) a n accepts = rw accepts.1 (omega arith)
+  accepted_numbers_one m (DepositAsset account asset units) a n accepts = rw accepts.1 (omega arith)
+  accepted_numbers_one m (WithdrawMoney account ticks) a n accepts = rw accepts.1 (omega arith)
+  accepted_numbers_one m (WithdrawAsset account asset units) a n accepts = rw accepts.1 (omega arith)
+  accepted_numbers_one m (PlaceOrder request) a n accepts = rw accepts.1 (omega arith)
+  accepted_numbers_one m (CancelOrder account number) a n accepts = rw accepts.1 (omega arith)
+  accepted_numbers_one m (RunBatch budget) a n accepts = rw accepts.2.1 (by_outcome accepts.0)
+    where
+      by_outcome : (o : Outcome) → (after_batch m o).next_order ≤ m.next_order + 1
+      by_outcome (Cleared c) = omega arith
+      by_outcome (Skipped s) = omega arith
 
-answered_numbers_one : (m : Market) (c : Command) (first : Option Refusal) (a : Answer Outcome) (n : Market) → Answers IsOwnOutcome m c first a n → n.next_order ≤ m.next_order + 1
-answered_numbers_one m c (Some refusal) a n answers = rw answers.1 (omega arith)
-answered_numbers_one m c None a n answers = accepted_numbers_one m c a n answers
+  answered_numbers_one : (m : Market) (c : Command) (first : Option Refusal) (a : Answer Outcome) (n : Market) → Answers Rule m c first a n → n.next_order ≤ m.next_order + 1
+  answered_numbers_one m c (Some refusal) a n answers = rw answers.1 (omega arith)
+  answered_numbers_one m c None a n answers = accepted_numbers_one m c a n answers
+
+  read_numbers_one : (m : Market) (read : Result Command BodyFault) (a : Answer Outcome) (n : Market) → ServesRead Rule m read a n → n.next_order ≤ m.next_order + 1
+  read_numbers_one m (Ok c) a n served = answered_numbers_one m c served.first a n served.answered
+  read_numbers_one m (Err why) a n served = rw served.1 (omega arith)
 
 pub steps_number_one : StepsNumberOne
-steps_number_one old asked a new step = by_read step.read step.served
-  where
-    by_read : (read : Result Command BodyFault) → ServesRead IsOwnOutcome old read a new → new.next_order ≤ old.next_order + 1
-    by_read (Ok c) served = answered_numbers_one old c served.first a new served.answered
-    by_read (Err why) served = rw served.1 (omega arith)
+steps_number_one old asked a new step = read_numbers_one IsOwnOutcome old step.read a new step.served
+
+pub legal_steps_number_one : LegalStepsNumberOne
+legal_steps_number_one old asked a new step = read_numbers_one IsRightOutcome old step.read a new step.served

@@ -3,6 +3,7 @@ pub mod Adding
 pub mod Answering
 pub mod Decided
 pub mod Exists
+pub mod Expecting
 pub mod Fills
 pub mod Fitting
 pub mod HeldTotals

@@ -1,5 +1,5 @@
 -- What an order that is asked for needs of its account, entry by entry; and a cancelled one.
-use Rattle.std.proofs.Common.{◌≡◌, ℕ, ◌+◌, ◌-◌, ◌*◌, ◌<◌, ◌↔◌, inl, inr, Bool, List, [], ◌∷◌, ◌++◌, ℤ, pos, negsuc, ◌≤ℤ◌, Option, Some, None, IsTrue, length, ⊎_elim, refl, sym, ap, ◌∙◌, subst, arith}
+use Rattle.std.proofs.Common.{◌≡◌, ℕ, ◌+◌, ◌-◌, ◌*◌, ◌<◌, ◌↔◌, inl, inr, Bool, List, [], ◌∷◌, ◌++◌, ℤ, pos, negsuc, ◌≤ℤ◌, Option, Some, None, is_some, IsTrue, length, ⊎_elim, refl, sym, ap, ◌∙◌, subst, arith}
 use Rattle.std.specs.Prelude.{slice_get, slice_index_or, All, Contains, IsNone, IfNone, IfSome}
 use Rattle.std.proofs.lemmas.Int.{ints}
 use Rattle.std.proofs.lemmas.Bool.{cases_lt}
@@ -131,7 +131,7 @@ module _ (Rule : BatchRule) (m : Market) (account number : ℕ) where
       → (IsNone cancelled ↔ (HasOrder old.orders account number → ⊥)) → IfNone cancelled (new ≡ old)
       → IfSome cancelled (Contains old.orders) → IfSome cancelled (λ o. o.account ≡ account) → IfSome cancelled (λ o. o.number ≡ number)
       → IfSome cancelled (λ _. new.orders ≡ without old.orders number)
-      → Serves Rule (record m { orders = old.orders }) (CancelOrder account number) (Plain (cancel_reply cancelled)) (record m { orders = new.orders })
+      → Serves Rule (record m { orders = old.orders }) (CancelOrder account number) (Plain (cancel_reply (is_some cancelled))) (record m { orders = new.orders })
   serves-cancel (Some o) old new there none stays live owner named made =
       let own : HasOrder old.orders account number = record { order = o; live = live; account_is = owner; number_is = named } in
       record { first = None; refused = inr (there, inr (own, refl)); answered = (refl, ap (λ os. record m { orders = os }) made) }

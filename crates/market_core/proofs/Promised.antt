@@ -1,4 +1,4 @@
--- The program's own journals keep the promises of the exchange.
+-- Legal journals keep the promises of the exchange, and the program's own ones what its rule promises besides.
 use Rattle.std.proofs.Common.{refl, ◌≡◌, ℕ, ◌≤◌, List, ◌∷◌, Result, Ok, Err, sym, subst}
 use Rattle.wire_records.specs.Records.{Record}
 use Rattle.wire_records.specs.Commands.{Command, Plain, Batch, Pair}
@@ -14,9 +14,9 @@ use Rattle.flow_orders.proofs.WalkLaws.{walks_lower_the_dual}
 use Rattle.market_core.specs.Market.{Market, IsSound, empty_market, start_prices}
 use Rattle.market_core.specs.Step.{Serves, ServesRead}
 use Rattle.market_core.specs.Journal.{Step, Follows, IsJournal, fills_of}
-use Rattle.market_core.specs.Promises.{HoldsBatch, KeepsPromises}
+use Rattle.market_core.specs.Promises.{HoldsBatch, KeepsPromises, ClearNear}
 use Rattle.market_core.proofs.OneJournal.{follows-parts, journal_market}
-use Rattle.market_core.proofs.OwnIsLegal.{own_journal_is_legal, own_follows_are_right, start_within}
+use Rattle.market_core.proofs.OwnIsLegal.{own_follows_are_right, start_within}
 use Rattle.market_core.proofs.Soundness.{sound_follows, sound-empty}
 use Rattle.market_core.proofs.Fills.{fills_within_cap}
 use Rattle.market_core.proofs.LawProofs.{batch_of, batches_keep_totals, cleared_batches_are_optimal, skips_change_nothing, skips_lower_the_dual}
@@ -30,31 +30,16 @@ batch_served : (Rule : BatchRule) (old : Market) (read : Result Command BodyFaul
 batch_served Rule old (Ok command) n o new served = (command, served)
 batch_served Rule old (Err why) n o new served = absurd (no_plain n o _ served.0)
 
-module _ (records : List Record) (pairs : List (Pair Record Outcome)) (market : Market) (journal : IsJournal IsReadAs IsOwnOutcome records pairs market) where
-  legal : Follows IsReadAs IsRightOutcome empty_market pairs market
-  legal = (own_journal_is_legal IsReadAs records pairs market journal).steps
-
+module _ {pairs : List (Pair Record Outcome)} where
   sound_before : (old : Market) (outcome : Outcome) (new : Market) → HoldsBatch IsReadAs pairs old outcome new → IsSound old
   sound_before old outcome new batch = sound_follows IsReadAs empty_market batch.before old sound-empty batch.led
 
   right_step : (old : Market) (outcome : Outcome) (new : Market) (batch : HoldsBatch IsReadAs pairs old outcome new) → (command : Command) × Serves IsRightOutcome old command (Batch batch.number outcome) new
   right_step old outcome new batch = batch_served IsRightOutcome old batch.made.read batch.number outcome new batch.made.served
 
-  -- the batch is one by the program's own rule
-  own_step : (old : Market) (outcome : Outcome) (new : Market) → HoldsBatch IsReadAs pairs old outcome new → (budget : ℕ) × IsOwnOutcome old.orders (start_prices old) budget outcome
-  own_step old outcome new batch =
-      let pair : Pair Record Outcome = record { asked = batch.asked; answer = Batch batch.number outcome } in
-      let parts = follows-parts IsReadAs reading_unique IsOwnOutcome empty_market market batch.before (pair ∷ batch.after) (subst (λ ps. Follows IsReadAs IsOwnOutcome empty_market ps market) batch.stands journal.steps) in
-      let same : parts.0 ≡ old =
-      journal_market IsReadAs reading_unique IsRightOutcome empty_market batch.before parts.0 old (own_follows_are_right IsReadAs empty_market batch.before parts.0 sound-empty parts.1) batch.led in
-      let next = parts.2.0 in
-      let step : Step IsReadAs IsOwnOutcome old batch.asked (Batch batch.number outcome) next = subst (λ m. Step IsReadAs IsOwnOutcome m batch.asked (Batch batch.number outcome) next) same parts.2.1 in
-      let served = batch_served IsOwnOutcome old step.read batch.number outcome next step.served in
-      let held = batch_of IsOwnOutcome old served.0 batch.number outcome next served.1 in
-      (held.budget, held.ruled)
-
-  pub own_journal_keeps_promises : KeepsPromises IsReadAs pairs
-  own_journal_keeps_promises = record {
+module _ (pairs : List (Pair Record Outcome)) (market : Market) (legal : Follows IsReadAs IsRightOutcome empty_market pairs market) where
+  pub legal_journal_keeps_promises : KeepsPromises IsReadAs pairs
+  legal_journal_keeps_promises = record {
     cleared = λ old new c batch.
         let served = right_step old (Cleared c) new batch in
         (batch_of IsRightOutcome old served.0 batch.number (Cleared c) new served.1).ruled;
@@ -80,9 +65,6 @@ module _ (records : List Record) (pairs : List (Pair Record Outcome)) (market : 
     stays = λ old new s batch.
         let served = right_step old (Skipped s) new batch in
         skips_change_nothing old served.0 batch.number s new served.1;
-    near = λ old new outcome batch single.
-        let own = own_step old outcome new batch in
-        one_asset_books_clear old.orders (start_prices old) own.0 outcome (λ k d inside. ((sound_before old outcome new batch).live k d inside).order) single (start_within old) own.1;
     totals = λ old new outcome batch.
         let served = right_step old outcome new batch in
         let same = batches_keep_totals old served.0 batch.number outcome new (sound_before old outcome new batch) served.1 in
@@ -91,3 +73,23 @@ module _ (records : List Record) (pairs : List (Pair Record Outcome)) (market : 
         subst (λ ps. fills_of number ps ≤ cap) (sym stands)
         (fills_within_cap IsReadAs reading_unique empty_market before after pair market number cap sound-empty (subst (λ ps. Follows IsReadAs IsRightOutcome empty_market ps market) stands legal) places);
   }
+
+module _ (records : List Record) (pairs : List (Pair Record Outcome)) (market : Market) (journal : IsJournal IsReadAs IsOwnOutcome records pairs market) where
+  -- the batch is one by the program's own rule
+  own_step : (old : Market) (outcome : Outcome) (new : Market) → HoldsBatch IsReadAs pairs old outcome new → (budget : ℕ) × IsOwnOutcome old.orders (start_prices old) budget outcome
+  own_step old outcome new batch =
+      let pair : Pair Record Outcome = record { asked = batch.asked; answer = Batch batch.number outcome } in
+      let parts = follows-parts IsReadAs reading_unique IsOwnOutcome empty_market market batch.before (pair ∷ batch.after) (subst (λ ps. Follows IsReadAs IsOwnOutcome empty_market ps market) batch.stands journal.steps) in
+      let same : parts.0 ≡ old =
+      journal_market IsReadAs reading_unique IsRightOutcome empty_market batch.before parts.0 old (own_follows_are_right IsReadAs empty_market batch.before parts.0 sound-empty parts.1) batch.led in
+      let next = parts.2.0 in
+      let step : Step IsReadAs IsOwnOutcome old batch.asked (Batch batch.number outcome) next = subst (λ m. Step IsReadAs IsOwnOutcome m batch.asked (Batch batch.number outcome) next) same parts.2.1 in
+      let served = batch_served IsOwnOutcome old step.read batch.number outcome next step.served in
+      let held = batch_of IsOwnOutcome old served.0 batch.number outcome next served.1 in
+      (held.budget, held.ruled)
+
+  pub own_journal_clears_near : ClearNear IsReadAs pairs
+  own_journal_clears_near old new outcome batch single =
+      let own = own_step old outcome new batch in
+      let sound = sound_before old outcome new batch in
+      one_asset_books_clear old.orders (start_prices old) own.0 outcome (λ k d inside. (sound.live k d inside).order) single (start_within old) own.1

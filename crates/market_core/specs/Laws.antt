@@ -1,5 +1,5 @@
 -- What holds of steps, journals and markets.
-use Rattle.std.specs.Prelude.{◌≡◌, ℕ, ◌+◌, ◌*◌, ◌^◌, ◌<◌, ◌≤◌, ℤ, pos, ◌+ℤ◌, ◌<ℤ◌, List, ◌∷◌, ◌++◌, length, map, All, Contains}
+use Rattle.std.specs.Prelude.{◌≡◌, ℕ, ◌+◌, ◌*◌, ◌^◌, ◌<◌, ◌≤◌, ℤ, pos, ◌+ℤ◌, ◌<ℤ◌, ◌↔◌, List, ◌∷◌, ◌++◌, length, map, All, Contains}
 use Rattle.ticker_table.specs.Tickers.{ticker_limit}
 use Rattle.flow_accounts.specs.Balances.{IsAsset}
 use Rattle.flow_accounts.specs.Lawful.{most_assets}
@@ -16,7 +16,7 @@ use Rattle.flow_orders.specs.Welfare.{IsOptimalWithin}
 use Rattle.market_core.specs.Market.{Market, empty_market, IsSound, start_prices, held_money, held_units}
 use Rattle.market_core.specs.Step.{Serves}
 use Rattle.market_core.specs.Journal.{Step, Follows, IsJournal, money_added, units_added, AddTogether, Places, HoldsDeposits, fills_of}
-use Rattle.market_core.specs.Promises.{KeepsPromises}
+use Rattle.market_core.specs.Promises.{KeepsPromises, ClearNear}
 
 -- the pairs lead from a market to another one by steps
 abbrev pub Leads : Market → List (Pair Record Outcome) → Market → Type 0
@@ -43,6 +43,12 @@ abbrev pub PlainCommandsHaveOneAnswer : Type 0
 PlainCommandsHaveOneAnswer = (old : Market) (command : Command) (a b : Answer Outcome) (m n : Market)
     → ((budget : ℕ) → ¬ (command ≡ RunBatch budget))
     → Serves IsRightOutcome old command a m → Serves IsRightOutcome old command b n → (a ≡ b) × (m ≡ n)
+
+-- so such a command needs no rule: by the own rule it is served as where any right outcome of a batch is accepted
+abbrev pub PlainCommandsNeedNoRule : Type 0
+PlainCommandsNeedNoRule = (old : Market) (command : Command) (answer : Answer Outcome) (new : Market)
+    → ((budget : ℕ) → ¬ (command ≡ RunBatch budget))
+    → Serves IsOwnOutcome old command answer new ↔ Serves IsRightOutcome old command answer new
 
 -- records of bytes have exactly one own journal, which leads to one market
 abbrev pub OneOwnJournal : Type 0
@@ -134,7 +140,16 @@ abbrev pub StepsNumberOne : Type 0
 StepsNumberOne = (old : Market) (asked : Record) (answer : Answer Outcome) (new : Market)
     → Step IsReadAs IsOwnOutcome old asked answer new → new.next_order ≤ old.next_order + 1
 
--- the journal that the program's own rule makes of records keeps the promises of the exchange
-abbrev pub OwnJournalsKeepPromises : Type 0
-OwnJournalsKeepPromises = (records : List Record) (pairs : List (Pair Record Outcome)) (m : Market)
-    → IsJournal IsReadAs IsOwnOutcome records pairs m → KeepsPromises IsReadAs pairs
+-- also where any right outcome of a batch is accepted
+abbrev pub LegalStepsNumberOne : Type 0
+LegalStepsNumberOne = (old : Market) (asked : Record) (answer : Answer Outcome) (new : Market)
+    → Step IsReadAs IsRightOutcome old asked answer new → new.next_order ≤ old.next_order + 1
+
+-- every legal journal keeps the promises of the exchange
+abbrev pub LegalJournalsKeepPromises : Type 0
+LegalJournalsKeepPromises = (pairs : List (Pair Record Outcome)) (m : Market) → Leads empty_market pairs m → KeepsPromises IsReadAs pairs
+
+-- the journal that the program's own rule makes of records keeps what the rule promises of books of one-asset orders
+abbrev pub OwnJournalsClearNear : Type 0
+OwnJournalsClearNear = (records : List Record) (pairs : List (Pair Record Outcome)) (m : Market)
+    → IsJournal IsReadAs IsOwnOutcome records pairs m → ClearNear IsReadAs pairs

@@ -4,6 +4,7 @@ pub mod Step
 pub mod Journal
 pub mod Promises
 pub mod Wanting
+pub mod Expected
 pub mod Laws
 pub mod Private
 pub mod Prices

@@ -1,12 +1,13 @@
 -- Words that only private functions of the market use.
-use Rattle.std.specs.Prelude.{Option, Some, None}
+use Rattle.std.specs.Prelude.{Bool, true, false}
+use Rattle.ticker_table.specs.declared.table.TickerFault.{TickerFault}
+use Rattle.ticker_table.specs.declared.table.TickerFault.TheVariants as ticker
 use Rattle.flow_accounts.specs.declared.fault.AccountFault.{AccountFault}
 use Rattle.flow_accounts.specs.declared.fault.AccountFault.TheVariants as fault
 use Rattle.wire_records.specs.declared.reply.Refusal.{Refusal}
-use Rattle.wire_records.specs.declared.reply.Refusal.TheVariants.{AccountLimit, NoAccount, NoAsset, ZeroAmount, TotalLimit, NotFree, NoOrder}
+use Rattle.wire_records.specs.declared.reply.Refusal.TheVariants.{AssetLimit, TickerTaken, BadTicker, AccountLimit, NoAccount, NoAsset, ZeroAmount, TotalLimit, NotFree, NoOrder}
 use Rattle.wire_records.specs.declared.reply.Reply.{Reply}
 use Rattle.wire_records.specs.declared.reply.Reply.TheVariants.{Done, Refused}
-use Rattle.flow_orders.specs.Orders.{Order}
 
 -- every fault but want of memory is answered by a refusal
 abbrev pub IsAnswered : AccountFault → Type 0
@@ -28,7 +29,14 @@ refusal_for fault.Full = AccountLimit
 refusal_for (fault.NotFree free) = NotFree
 refusal_for fault.Memory = NoAccount
 
--- the reply to a cancel, by the order that was taken out
-abbrev pub cancel_reply : Option Order → Reply
-cancel_reply (Some order) = Done
-cancel_reply None = Refused NoOrder
+-- the refusal for a fault of a ticker; want of memory has none, and any stands here
+abbrev pub ticker_refusal : TickerFault → Refusal
+ticker_refusal ticker.BadTicker = BadTicker
+ticker_refusal (ticker.Taken number) = TickerTaken
+ticker_refusal ticker.Full = AssetLimit
+ticker_refusal ticker.Memory = BadTicker
+
+-- the reply to a cancel, by whether the order is there
+abbrev pub cancel_reply : Bool → Reply
+cancel_reply true = Done
+cancel_reply false = Refused NoOrder

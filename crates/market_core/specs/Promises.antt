@@ -27,7 +27,7 @@ module _ {R : Type 0} (Reads : R → Result Command BodyFault → Type 0) where
     pub led : Follows Reads IsRightOutcome empty_market before old
     pub made : Step Reads IsRightOutcome old asked (Batch number outcome) new
 
-  -- The pairs keep the promises of the exchange.
+  -- The pairs keep the promises of the exchange, whoever wrote them.
   pub record KeepsPromises (pairs : List (Pair R Outcome)) : Type 0 where
     -- Of each batch that cleared: there is one price for each asset and one rate for each live order, each rate is a rounding of
     -- its order's demand at the prices, the residuals are what the rates leave over, each within its bound, and the gap is
@@ -45,10 +45,13 @@ module _ {R : Type 0} (Reads : R → Result Command BodyFault → Type 0) where
     pub progress : (old new : Market) (s : Skipping) → HoldsBatch pairs old (Skipped s) new → LowersTheDual old.orders (start_prices old) s
     -- It is counted, and changes nothing else.
     pub stays : (old new : Market) (s : Skipping) → HoldsBatch pairs old (Skipped s) new → new ≡ record old { batches = old.batches + 1 }
-    -- Where each live order names one asset, the batch cleared, at prices within 2^60, and an asset that was settled kept its price.
-    pub near : (old new : Market) (outcome : Outcome) → HoldsBatch pairs old outcome new → are_single old.orders ≡ true → ClearsNear old.orders (start_prices old) outcome
     -- No batch changes what is held in total.
     pub totals : (old new : Market) (outcome : Outcome) → HoldsBatch pairs old outcome new → HoldTheSame old new
     -- No order's fills pass the cap that it was placed with.
     pub fills : (before after : List (Pair R Outcome)) (pair : Pair R Outcome) (number cap : ℕ)
         → pairs ≡ before ++ pair ∷ after → Places Reads number cap pair → fills_of number pairs ≤ cap
+
+  -- What batches of the program's own rule promise besides: where each live order names one asset, the batch cleared, at prices
+  -- within 2^60, and an asset that was settled kept its price.
+  abbrev pub ClearNear : List (Pair R Outcome) → Type 0
+  ClearNear pairs = (old new : Market) (outcome : Outcome) → HoldsBatch pairs old outcome new → are_single old.orders ≡ true → ClearsNear old.orders (start_prices old) outcome

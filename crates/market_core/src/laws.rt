@@ -1,8 +1,8 @@
 //! What holds of steps, journals and markets, whatever code there is. Each law is the contract of a function that
 //! does nothing.
-ghost use Rattle.market_core.specs.Laws.{MarketIsDetermined, JournalsDetermineTheMarket, OneRefusal, PlainCommandsHaveOneAnswer, EveryCommandIsServed, OneOwnJournal};
+ghost use Rattle.market_core.specs.Laws.{MarketIsDetermined, JournalsDetermineTheMarket, OneRefusal, PlainCommandsHaveOneAnswer, PlainCommandsNeedNoRule, EveryCommandIsServed, OneOwnJournal};
 ghost use Rattle.market_core.specs.Laws.{OwnJournalsAreLegal, StepsKeepSoundness, HeldIsDeposited, BatchesKeepTotals, SkipsChangeNothing, FillsKeepCaps};
-ghost use Rattle.market_core.specs.Laws.{ClearedBatchesAreOptimal, SkipsLowerTheDual, LargeBudgetsClear, SequencesCompose, LimitsAgree, JournalsHoldDeposits, StepsNumberOne, OwnJournalsKeepPromises};
+ghost use Rattle.market_core.specs.Laws.{ClearedBatchesAreOptimal, SkipsLowerTheDual, LargeBudgetsClear, SequencesCompose, LimitsAgree, JournalsHoldDeposits, StepsNumberOne, LegalStepsNumberOne, LegalJournalsKeepPromises, OwnJournalsClearNear};
 
 /// Old market, record and answer determine the new market.
 pub fn market_is_determined()
@@ -22,6 +22,12 @@ pub fn one_refusal()
 /// A command that is no batch gets one answer, also where any right outcome of a batch is accepted.
 pub fn plain_commands_have_one_answer()
     ensures { PlainCommandsHaveOneAnswer }
+{}
+
+/// A command that is no batch is served by the program's own rule exactly as where any right outcome of a batch is
+/// accepted.
+pub fn plain_commands_need_no_rule()
+    ensures { PlainCommandsNeedNoRule }
 {}
 
 /// Every command has a step under the program's own rule, from any market.
@@ -99,7 +105,18 @@ pub fn steps_number_one()
     ensures { StepsNumberOne }
 {}
 
-/// The journal that the program makes of command records keeps the promises of the exchange.
-pub fn own_journals_keep_promises()
-    ensures { OwnJournalsKeepPromises }
+/// Nor does a step that ends a batch by any right outcome give out more.
+pub fn legal_steps_number_one()
+    ensures { LegalStepsNumberOne }
+{}
+
+/// Every legal journal keeps the promises of the exchange, whoever wrote it and whatever right outcomes its batches have.
+pub fn legal_journals_keep_promises()
+    ensures { LegalJournalsKeepPromises }
+{}
+
+/// In the journal that the program makes of command records each batch of one-asset orders clears, at prices within 2^60
+/// grains, and an asset that was settled keeps its price.
+pub fn own_journals_clear_near()
+    ensures { OwnJournalsClearNear }
 {}

@@ -4,7 +4,7 @@ ghost use Rattle.std.specs.Result.{ForErr};
 ghost use Rattle.wire_records.specs.Commands.{AddAsset, OpenAccount, DepositMoney, DepositAsset, WithdrawMoney, WithdrawAsset, PlaceOrder, CancelOrder, RunBatch, Plain};
 ghost use Rattle.wire_records.specs.CommandRecords.{IsCommand};
 ghost use Rattle.wire_records.specs.Views.{command_of};
-ghost use Rattle.market_core.specs.Private.{refusal_for, IsAnswered};
+ghost use Rattle.market_core.specs.Private.{refusal_for, ticker_refusal, IsAnswered};
 
 use crate::prices::LastPrices;
 use flow_accounts::{AccountFault, Accounts};
@@ -42,7 +42,7 @@ impl Model for Market {
 }
 
 // The refusal for a fault of the accounts.
-fn refusal_of(fault: AccountFault) -> Refusal
+pub(crate) fn refusal_of(fault: AccountFault) -> Refusal
     requires { IsAnswered fault }
     ensures value { result ≡ refusal_for fault }
     ensures answered { IsAnswered fault }
@@ -58,13 +58,27 @@ fn refusal_of(fault: AccountFault) -> Refusal
     }
 }
 
+// The refusal for a fault of a ticker.
+pub(crate) fn ticker_refusal(fault: TickerFault) -> Refusal
+    requires { ¬ (fault ≡ TickerFault.Memory) }
+    ensures value { result ≡ ticker_refusal fault }
+    ensures answered { ¬ (fault ≡ TickerFault.Memory) }
+{
+    match fault {
+        TickerFault::BadTicker => Refusal::BadTicker,
+        TickerFault::Taken(_) => Refusal::TickerTaken,
+        TickerFault::Full => Refusal::AssetLimit,
+        TickerFault::Memory => unreachable!(),
+    }
+}
+
 // The reply to a deposit or a withdrawal.
-fn reply_to(outcome: Result<(), AccountFault>) -> Reply
+pub(crate) fn reply_to<T: Copy>(outcome: Result<T, AccountFault>) -> Reply
     requires { ForErr outcome IsAnswered }
     ensures { MatchResult outcome (λ _. result ≡ Reply.Done) (λ fault. result ≡ Reply.Refused (refusal_for fault)) }
 {
     match outcome {
-        Ok(()) => Reply::Done,
+        Ok(_) => Reply::Done,
         Err(fault) => Reply::Refused(refusal_of(fault)),
     }
 }
@@ -175,10 +189,8 @@ impl Market {
                 self.last_prices.add_asset();
                 Ok(Reply::Asset(number))
             }
-            Err(TickerFault::BadTicker) => Ok(Reply::Refused(Refusal::BadTicker)),
-            Err(TickerFault::Taken(_)) => Ok(Reply::Refused(Refusal::TickerTaken)),
-            Err(TickerFault::Full) => Ok(Reply::Refused(Refusal::AssetLimit)),
             Err(TickerFault::Memory) => Err(Memory),
+            Err(fault) => Ok(Reply::Refused(ticker_refusal(fault))),
         }
     }
 

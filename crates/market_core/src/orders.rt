@@ -20,13 +20,14 @@ use wire_records::{Memory, PlaceView, Refusal, Reply, RowView};
 // No more orders are live.
 const MOST_ORDERS: usize = 16_384;
 
-// The reply to a cancel, by the order that was taken out.
-fn cancel_reply(cancelled: Option<Order>) -> Reply
-    ensures { result ≡ cancel_reply cancelled }
+// The reply to a cancel, by whether the order is there.
+pub(crate) fn cancel_reply(there: bool) -> Reply
+    ensures { result ≡ cancel_reply there }
 {
-    match cancelled {
-        Some(_) => Reply::Done,
-        None => Reply::Refused(Refusal::NoOrder),
+    if there {
+        Reply::Done
+    } else {
+        Reply::Refused(Refusal::NoOrder)
     }
 }
 
@@ -66,11 +67,12 @@ impl Market {
         if self.accounts.money(account).is_none() {
             return Reply::Refused(Refusal::NoAccount);
         }
-        cancel_reply(self.book.cancel(account, number))
+        let there = self.book.cancel(account, number).is_some();
+        cancel_reply(there)
     }
 
     // The first refusal of an order that is asked for, if any holds.
-    fn place_refusal(&self, place: &PlaceView<'_>) -> Option<Refusal>
+    pub(crate) fn place_refusal(&self, place: &PlaceView<'_>) -> Option<Refusal>
         ensures { FirstRefusal self.now (PlaceOrder place.now) result }
     {
         if self.accounts.money(place.account()).is_none() {

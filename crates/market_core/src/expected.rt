@@ -1,0 +1,144 @@
+//! What would be answered: the command that a record spells, and the reply that a command gets. Nothing is changed.
+ghost use Rattle.std.specs.Prelude.{◌≡◌, ℕ, ◌+◌, ◌<◌, ◌^◌, Ok, Err, IfOk, IfErr, length};
+ghost use Rattle.wire_records.specs.Commands.{AddAsset, OpenAccount, DepositMoney, DepositAsset, WithdrawMoney, WithdrawAsset, PlaceOrder, CancelOrder, RunBatch};
+ghost use Rattle.wire_records.specs.CommandRecords.{IsCommand, IsReadAs};
+ghost use Rattle.wire_records.specs.Views.{command_of};
+ghost use Rattle.wire_records.specs.declared.command.BodyFault.{BodyFault as body_fault};
+ghost use Rattle.market_core.specs.Step.{refusal_of};
+ghost use Rattle.market_core.specs.Expected.{IsExpected};
+
+use crate::Market;
+use crate::market::{refusal_of, reply_to, ticker_refusal};
+use crate::orders::cancel_reply;
+use flow_accounts::AccountFault;
+use wire_records::{BodyFault, CommandView, PlaceView, RecordView, Refusal, Reply};
+
+// The refusal of a record that can't be served.
+fn body_refusal(fault: BodyFault) -> Refusal
+    ensures { result ≡ refusal_of fault }
+{
+    match fault {
+        BodyFault::UnknownTag => Refusal::UnknownTag,
+        BodyFault::BadBody => Refusal::BadBody,
+    }
+}
+
+impl Market {
+    /// The command that a record spells, with its fields in the borrowed bytes, or the refusal that the record gets:
+    /// `UnknownTag` exactly where no command has the tag, `BadBody` exactly where one has it, but not this body.
+    /// Constant cost.
+    pub fn read<'a>(&self, asked: &RecordView<'a>) -> Result<CommandView<'a>, Refusal>
+        ensures command { IfOk result (λ command. IsReadAs asked.now (Ok (command_of command))) }
+        ensures fault { IfErr result (λ refusal. (why : body_fault) × IsReadAs asked.now (Err why) × (refusal ≡ refusal_of why)) }
+    {
+        match asked.command() {
+            Ok(command) => Ok(command),
+            Err(fault) => Err(body_refusal(fault)),
+        }
+    }
+
+    /// The reply that a command gets now: the one that [`Market::apply`] answers where memory isn't wanted. The command
+    /// holds no batch, and the number that the next order gets is below 2^64 - 1.
+    ///
+    /// It takes no memory. The cost is constant, however many accounts and orders there are, but that an order is looked
+    /// at entry by entry, and that one to be cancelled is found by its number, in as many steps as the count of live
+    /// orders has bits.
+    pub fn expected(&self, command: &CommandView<'_>) -> Reply
+        requires command { IsCommand (command_of command.now) }
+        requires no_batch { (budget : ℕ) → ¬ (command_of command.now ≡ RunBatch budget) }
+        requires next { self.now.next_order + 1 < 2 ^ 64 }
+        ensures { IsExpected self.now (command_of command.now) result }
+    {
+        match *command {
+            CommandView::AddAsset(ticker) => self.expected_asset(ticker),
+            CommandView::OpenAccount => self.expected_account(),
+            CommandView::DepositMoney { account, ticks } => {
+                self.expected_money_deposit(account, ticks)
+            }
+            CommandView::DepositAsset {
+                account,
+                asset,
+                units,
+            } => self.expected_unit_deposit(account, asset, units),
+            CommandView::WithdrawMoney { account, ticks } => {
+                self.expected_money_withdrawal(account, ticks)
+            }
+            CommandView::WithdrawAsset {
+                account,
+                asset,
+                units,
+            } => self.expected_unit_withdrawal(account, asset, units),
+            CommandView::PlaceOrder(ref place) => self.expected_order(place),
+            CommandView::CancelOrder { account, order } => self.expected_cancel(account, order),
+            CommandView::RunBatch { .. } => unreachable!(),
+        }
+    }
+
+    fn expected_asset(&self, ticker: &[u8]) -> Reply
+        requires { length ticker.now ≡ 8 }
+        ensures { IsExpected self.now (AddAsset ticker.now) result }
+    {
+        let mut bytes = [0u8; 8];
+        bytes.copy_from_slice(ticker);
+        match self.tickers.fault(&bytes) {
+            Some(fault) => Reply::Refused(ticker_refusal(fault)),
+            None => Reply::Asset(self.tickers.len()),
+        }
+    }
+
+    fn expected_account(&self) -> Reply
+        ensures { IsExpected self.now OpenAccount result }
+    {
+        if self.accounts.is_full() {
+            return Reply::Refused(refusal_of(AccountFault::Full));
+        }
+        Reply::Account(self.accounts.count() + 1)
+    }
+
+    fn expected_money_deposit(&self, account: u32, ticks: u64) -> Reply
+        ensures { IsExpected self.now (DepositMoney account ticks) result }
+    {
+        reply_to(self.accounts.money_deposit(account, ticks))
+    }
+
+    fn expected_unit_deposit(&self, account: u32, asset: u16, units: u64) -> Reply
+        ensures { IsExpected self.now (DepositAsset account asset units) result }
+    {
+        reply_to(self.accounts.unit_deposit(account, asset, units))
+    }
+
+    fn expected_money_withdrawal(&self, account: u32, ticks: u64) -> Reply
+        ensures { IsExpected self.now (WithdrawMoney account ticks) result }
+    {
+        let reserved = self.book.money_needed(account);
+        reply_to(self.accounts.money_withdrawal(account, ticks, reserved))
+    }
+
+    fn expected_unit_withdrawal(&self, account: u32, asset: u16, units: u64) -> Reply
+        ensures { IsExpected self.now (WithdrawAsset account asset units) result }
+    {
+        let reserved = self.book.units_needed(account, asset);
+        reply_to(
+            self.accounts
+                .unit_withdrawal(account, asset, units, reserved),
+        )
+    }
+
+    fn expected_order(&self, place: &PlaceView<'_>) -> Reply
+        ensures { IsExpected self.now (PlaceOrder place.now) result }
+    {
+        match self.place_refusal(place) {
+            Some(refusal) => Reply::Refused(refusal),
+            None => Reply::Order(self.next_order),
+        }
+    }
+
+    fn expected_cancel(&self, account: u32, number: u64) -> Reply
+        ensures { IsExpected self.now (CancelOrder account number) result }
+    {
+        if self.accounts.money(account).is_none() {
+            return Reply::Refused(Refusal::NoAccount);
+        }
+        cancel_reply(self.book.has_order(account, number))
+    }
+}
