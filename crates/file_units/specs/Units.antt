@@ -1,0 +1,78 @@
+-- Going through the units of a file: what is done with each, and how that ends.
+use Rattle.std.specs.Prelude.{◌≡◌, ◌≢◌, ◌-◌, ◌<◌, ℕ, List, [], ◌∷◌, ◌++◌, length, drop, All}
+use Rattle.wire_records.specs.Grammars.{BeginsWithNone, spell_all}
+use Rattle.wire_records.specs.Reading.{Format, ReadsOn}
+use Rattle.wire_records.specs.Reading as reading
+use Rattle.file_units.specs.declared.walk.Front.{Front}
+use Rattle.file_units.specs.declared.walk.Front.TheVariants.{Taken, NoBytes, Overlong, Short}
+use Rattle.file_units.specs.declared.walk.Ending.{Ending}
+use Rattle.file_units.specs.declared.walk.Ending.TheVariants.{End, Torn, TooLong}
+
+-- the ending of a reading that an answer stands for
+abbrev pub ending_of : Ending → reading.Ending
+ending_of End = reading.End
+ending_of (Torn place) = reading.Torn place
+ending_of TooLong = reading.TooLong
+
+-- a format; what taking a unit makes of a state, and of an output besides
+module _ {V U S O : Type 0} (format : Format V U) (Steps : S → U → S → O → O → Type 0) where
+  -- A whole unit stands at the front of the bytes, and was taken.
+  pub record TakesOne (taken : ℕ) (bytes : List ℕ) (old new : S) (before after : O) : Type 0 where
+    pub unit : U
+    pub lawful : format.units.IsLawful unit
+    pub size : taken ≡ length (format.units.spell unit)
+    pub some : 0 < taken
+    pub front : bytes ≡ format.units.spell unit ++ drop taken bytes
+    pub step : Steps old unit new before after
+
+  -- No whole unit stands there, and nothing was done.
+  pub record TakesNone (bytes : List ℕ) (old new : S) (before after : O) : Type 0 where
+    pub none : BeginsWithNone format.units bytes
+    pub state : new ≡ old
+    pub output : after ≡ before
+
+  -- by what stands there
+  abbrev pub IsTaken : Front → List ℕ → S → S → O → O → Type 0
+  IsTaken (Taken n) bytes old new before after = TakesOne n bytes old new before after
+  IsTaken NoBytes bytes old new before after = TakesNone bytes old new before after × (bytes ≡ []) × (¬ format.IsOverlong bytes)
+  IsTaken Overlong bytes old new before after = TakesNone bytes old new before after × format.IsOverlong bytes
+  IsTaken Short bytes old new before after = TakesNone bytes old new before after × (bytes ≢ []) × (¬ format.IsOverlong bytes)
+
+  -- units lead, one after the other, from a state and an output to others
+  abbrev pub Leads : S → O → List U → S → O → Type 0
+  Leads old before [] new after = (new ≡ old) × (after ≡ before)
+  Leads old before (unit ∷ units) new after = (next : S) × (between : O) × Steps old unit next before between × Leads next between units new after
+
+  -- All whole units were taken, and so the reading ends.
+  pub record GoesToEnd (place : ℕ) (More : Type 0) (bytes : List ℕ) (ending : reading.Ending) (old new : S) (before after : O) : Type 0 where
+    pub units : List U
+    pub reads : ReadsOn format place More bytes units ending
+    pub leads : Leads old before units new after
+
+module _ {V U S O F : Type 0} (format : Format V U) (Breaks : S → U → F → O → O → Type 0) where
+  -- Taking the unit at the front breaks off with a fault.
+  pub record BreaksOff (bytes : List ℕ) (old : S) (fault : F) (before after : O) : Type 0 where
+    pub unit : U
+    pub rest : List ℕ
+    pub lawful : format.units.IsLawful unit
+    pub front : bytes ≡ format.units.spell unit ++ rest
+    pub broken : Breaks old unit fault before after
+
+module _ {V U S O F : Type 0} (format : Format V U) (Steps : S → U → S → O → O → Type 0) (Breaks : S → U → F → O → O → Type 0) where
+  -- Some units were taken, and taking the next one broke off.
+  pub record GoesToBreak (bytes : List ℕ) (fault : F) (old : S) (before after : O) : Type 0 where
+    pub units : List U
+    pub left : List ℕ
+    pub middle : S
+    pub between : O
+    pub begins : bytes ≡ spell_all format.units units ++ left
+    pub each : All format.units.IsLawful units
+    pub leads : Leads format Steps old before units middle between
+    pub breaks : BreaksOff format Breaks left middle fault between after
+
+-- what can take units while so many bytes are left still can, behind the unit that was taken
+abbrev pub StaysReady : (ℕ → Type 0) → Front → ℕ → Type 0
+StaysReady IsReady (Taken n) left = IsReady (left - n)
+StaysReady IsReady NoBytes left = Unit {0}
+StaysReady IsReady Overlong left = Unit {0}
+StaysReady IsReady Short left = Unit {0}

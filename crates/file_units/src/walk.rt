@@ -1,0 +1,86 @@
+//! The loop over the units, and what is handed in to it.
+ghost use Rattle.std.specs.Prelude.{◌≡◌, ◌-◌, ◌≤◌, IfOk, IfErr, IsTrue, drop, length};
+ghost use Rattle.wire_records.specs.Reading.{Format};
+ghost use Rattle.wire_records.specs.Formats.{Version};
+ghost use Rattle.file_units.specs.Units.{ending_of, IsTaken, StaysReady, BreaksOff, GoesToEnd, GoesToBreak};
+
+/// What stands at the front of the rest of a file, once a whole unit there has been taken.
+#[derive(Clone, Copy, Debug, PartialEq, Eq)]
+pub enum Front {
+    /// A whole unit of so many bytes, at least one, which was taken.
+    Taken(usize),
+    /// No bytes.
+    NoBytes,
+    /// The first unit states a body above its limit.
+    Overlong,
+    /// The first unit isn't all there.
+    Short,
+}
+
+/// How a reading ends.
+#[derive(Clone, Copy, Debug, PartialEq, Eq)]
+pub enum Ending {
+    /// With the input.
+    End,
+    /// Before a unit that isn't whole and begins at this byte of the file, from 0.
+    Torn(u64),
+    /// At the limit: the input has more.
+    TooLong,
+}
+
+/// What is done with the units of one kind of file. Its state goes on from unit to unit, and each may change an output.
+pub trait TakesUnits<O> {
+    ghost use Rattle.std.specs.Prelude.{ℕ};
+
+    /// Why it breaks off at a unit.
+    type Fault;
+
+    ghost Unit: { Type 0 };
+
+    ghost State: { Type 0 };
+    // The kind of file.
+    ghost format: { Format Version Unit };
+
+    ghost state: { Self → State };
+    // Taking a unit leads from a state to another, and from an output to another.
+    ghost steps: { State → Unit → State → O → O → Type 0 };
+    // Taking a unit breaks off at a state, and leads from an output to another.
+    ghost breaks: { State → Unit → Self.Fault → O → O → Type 0 };
+    // It can take units while so many bytes are left.
+    ghost is_ready: { Self → ℕ → Type 0 };
+
+    /// Takes the unit at the front of the bytes, if a whole one stands there.
+    fn take(&mut self, bytes: &[u8], out: &mut O) -> Result<Front, Self::Fault>
+        requires ready { is_ready self.old (length bytes.now) }
+        ensures taken { IfOk result (λ front. IsTaken format steps front bytes.now (state self.old) (state self.new) out.old out.new) }
+        ensures stays { IfOk result (λ front. StaysReady (is_ready self.new) front (length bytes.now)) }
+        ensures broken { IfErr result (λ fault. BreaksOff format breaks bytes.now (state self.old) fault out.old out.new) };
+}
+
+/// Takes the units that stand in the bytes of a file from a place on, one after the other, and answers how the reading ends,
+/// or why it broke off. `more` says whether the input has bytes behind these.
+pub fn take_units<O, T: TakesUnits<O>>(
+    bytes: &[u8],
+    start: usize,
+    more: bool,
+    taker: &mut T,
+    out: &mut O,
+) -> Result<Ending, T::Fault>
+    requires inside { start ≤ length bytes.now }
+    requires ready { T.is_ready taker.old (length bytes.now - start) }
+    ensures ended { IfOk result (λ ending. GoesToEnd T.format T.steps start (IsTrue more) (drop start bytes.now) (ending_of ending)
+        (T.state taker.old) (T.state taker.new) out.old out.new) }
+    ensures broken { IfErr result (λ fault. GoesToBreak T.format T.steps T.breaks (drop start bytes.now) fault
+        (T.state taker.old) out.old out.new) }
+{
+    let mut place = start;
+    'units: loop {
+        match taker.take(&bytes[place..], out)? {
+            Front::Taken(taken) => place += taken,
+            Front::Overlong => return Ok(Ending::Torn(place as u64)),
+            Front::Short if !more => return Ok(Ending::Torn(place as u64)),
+            Front::NoBytes if !more => return Ok(Ending::End),
+            Front::Short | Front::NoBytes => return Ok(Ending::TooLong),
+        }
+    }
+}
