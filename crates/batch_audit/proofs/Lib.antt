@@ -1,0 +1,4 @@
+pub mod Walked
+pub mod Told
+pub mod Served
+pub mod LawProofs

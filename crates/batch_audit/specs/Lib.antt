@@ -1,0 +1,4 @@
+pub mod Legal
+pub mod Judging
+pub mod Laws
+pub mod Private

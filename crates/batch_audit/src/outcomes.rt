@@ -1,0 +1,161 @@
+//! Which replies to a batch tell a right outcome.
+ghost use Rattle.std.specs.Prelude.{◌≡◌, pos, ◌^◌, ◌<◌, ◌≤◌, ◌↔◌, ℕ, None, length, All, IsTrue, IfOk};
+ghost use Rattle.weight_rows.specs.Rows.{IsPrice, IsPricedBy};
+ghost use Rattle.demand_curve.specs.Demand.{IsWithin};
+ghost use Rattle.wire_records.specs.Commands.{RunBatch, Batch};
+ghost use Rattle.flow_orders.specs.Orders.{most_orders};
+ghost use Rattle.flow_orders.specs.Excess.{is_unsettled};
+ghost use Rattle.flow_orders.specs.Outcomes.{IsWide, IsRightClearing, IsRightSkip, most_budget, dual_of};
+ghost use Rattle.flow_orders.specs.Outcomes as outcomes;
+ghost use Rattle.flow_orders.specs.Walks.{AreSettled};
+ghost use Rattle.journal_records.specs.Views.{answer_of};
+ghost use Rattle.market_core.specs.Market.{most_batches, start_prices};
+ghost use Rattle.market_core.specs.Step.{FirstRefusal};
+ghost use Rattle.batch_audit.specs.Private.{IsOutcomeFor, IsWalkTold};
+
+use batch_certificate::{Outcome, Skipped, Trace, Verdict, check_cleared};
+use coordinate_search::{Retraced, retrace};
+use dual_value::dual_floor;
+use excess_bounds::Workspace;
+use flow_orders::Order;
+use journal_records::{ClearedView, ReplyView, SkippedView};
+use market_core::Market;
+use std::alloc::Global;
+use wire_records::Memory;
+
+// What the market settles where the reply tells a right outcome of a batch that is allowed, under the next number.
+pub(crate) fn outcome_for(
+    alloc: Global,
+    market: &Market,
+    budget: u32,
+    seen: &ReplyView<'_>,
+) -> Result<Option<Outcome>, Memory>
+    requires first { FirstRefusal market.now (RunBatch budget) None }
+    requires more { market.now.batches < most_batches }
+    ensures { IfOk result (IsOutcomeFor market.now budget (answer_of seen.now)) }
+{
+    match seen {
+        ReplyView::Plain(_) => Ok(None),
+        ReplyView::Cleared(view) => cleared_for(alloc, market, view),
+        ReplyView::Skipped(view) => skipped_for(alloc, market, budget, view),
+    }
+}
+
+// A copy of a clearing that is right, under the next number.
+fn cleared_for(
+    alloc: Global,
+    market: &Market,
+    view: &ClearedView<'_>,
+) -> Result<Option<Outcome>, Memory>
+    requires more { market.now.batches < most_batches }
+    ensures { IfOk result (λ found. (budget : ℕ) → IsOutcomeFor market.now budget
+        (Batch view.now.batch (outcomes.Cleared view.now.clearing)) found) }
+{
+    if view.batch() != market.batches() + 1 || !is_clearing_right(alloc, market, view)? {
+        return Ok(None);
+    }
+    Ok(Some(Outcome::Cleared(view.to_cleared(alloc)?)))
+}
+
+// Whether a clearing is right for the live orders and the start prices.
+fn is_clearing_right(alloc: Global, market: &Market, view: &ClearedView<'_>) -> Result<bool, Memory>
+    ensures { IfOk result (λ right. IsTrue right
+        ↔ IsRightClearing market.now.orders (start_prices market.now) view.now.clearing) }
+{
+    let start = market.start_prices(alloc)?;
+    Ok(check_cleared(market.orders(), start.as_slice(), view) == Verdict::Right)
+}
+
+// A skip that is right, under the next number. The market only counts it, so its walk isn't copied.
+fn skipped_for(
+    alloc: Global,
+    market: &Market,
+    budget: u32,
+    view: &SkippedView<'_>,
+) -> Result<Option<Outcome>, Memory>
+    requires first { FirstRefusal market.now (RunBatch budget) None }
+    requires more { market.now.batches < most_batches }
+    ensures { IfOk result (IsOutcomeFor market.now budget
+        (Batch view.now.batch (outcomes.Skipped view.now.skipping))) }
+{
+    if view.batch() != market.batches() + 1 || !is_skip_right(alloc, market, budget, view)? {
+        return Ok(None);
+    }
+    Ok(Some(Outcome::Skipped(Skipped {
+        trace: Trace::new(Vec::new(alloc)),
+        start_dual: view.start_dual(),
+        end_dual: view.end_dual(),
+    })))
+}
+
+// Whether a skip is right for the live orders, the start prices and the budget.
+fn is_skip_right(
+    alloc: Global,
+    market: &Market,
+    budget: u32,
+    view: &SkippedView<'_>,
+) -> Result<bool, Memory>
+    requires { budget ≤ most_budget }
+    ensures { IfOk result (λ right. IsTrue right
+        ↔ IsRightSkip market.now.orders (start_prices market.now) budget view.now.skipping) }
+{
+    let orders = market.orders();
+    if !is_wide(orders) || view.trace().len() != budget as usize {
+        return Ok(false);
+    }
+    let start = market.start_prices(alloc)?;
+    match Workspace::new(alloc, orders, start.as_slice()) {
+        Ok(mut work) => Ok(is_walk_told(orders, &mut work, view)),
+        Err(_) => Err(Memory),
+    }
+}
+
+// Whether some order names two assets or more.
+fn is_wide(orders: &[Order]) -> bool
+    ensures { IsTrue result ↔ IsWide orders.now }
+{
+    for order in orders {
+        if !order.row().is_single() {
+            return true;
+        }
+    }
+    false
+}
+
+// Whether a skip tells a legal walk that leaves some asset unsettled, and the dual floors where it starts and ends.
+fn is_walk_told(orders: &[Order], work: &mut Workspace<'_>, view: &SkippedView<'_>) -> bool
+    requires orders { work.old.orders ≡ orders.now }
+    requires start { All (IsWithin (2 ^ 60)) work.old.prices }
+    requires most { length view.now.skipping.trace ≤ most_budget }
+    ensures { IsTrue result ↔ IsWalkTold orders.now work.old.prices view.now.skipping }
+{
+    if !is_floor(orders, work.prices(), view.start_dual()) {
+        return false;
+    }
+    if let Retraced::Illegal(_) = retrace(work, view.trace()) {
+        return false;
+    }
+    !are_settled(work) && is_floor(orders, work.prices(), view.end_dual())
+}
+
+// Whether the dual floor of a book at these prices is this one.
+fn is_floor(orders: &[Order], prices: &[i64], told: i128) -> bool
+    requires few { length orders.now ≤ most_orders }
+    requires range { All IsPrice prices.now }
+    requires priced { All (λ o. IsPricedBy o.row prices.now) orders.now }
+    ensures { IsTrue result ↔ (told ≡ pos (dual_of orders.now prices.now)) }
+{
+    dual_floor(orders, prices) == told
+}
+
+// Whether all assets are settled.
+fn are_settled(work: &Workspace<'_>) -> bool
+    ensures { IsTrue result ↔ AreSettled (length work.now.prices) (is_unsettled work.now.orders) work.now.prices }
+{
+    for asset in 0..work.prices().len() as u16 {
+        if !work.is_settled(asset) {
+            return false;
+        }
+    }
+    true
+}
