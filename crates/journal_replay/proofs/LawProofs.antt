@@ -1,0 +1,117 @@
+-- Audits are those of legal journals, and there is one; so with replays.
+use Rattle.std.proofs.Common.{◌≡◌, ◌≢◌, ◌+◌, ◌<◌, ◌≤◌, ◌⊎◌, ℕ, List, [], ◌∷◌, ◌++◌, map, length, inl, inr, Result, Ok, Err, refl, sym, ap, subst, ◌∙◌, arith}
+use Rattle.std.proofs.lemmas.Bool.{cases_lt}
+use Rattle.std.proofs.lemmas.List.{take_all, append-nil}
+use Rattle.wire_records.specs.Records.{Record}
+use Rattle.wire_records.specs.Commands.{Pair}
+use Rattle.wire_records.specs.Grammars.{spell_all}
+use Rattle.wire_records.specs.Reading.{Ending, End, Torn, TooLong, NotFlow, File, Reads}
+use Rattle.wire_records.specs.Formats.{Version, One}
+use Rattle.wire_records.proofs.ReadingLaws.{reads_one}
+use Rattle.flow_orders.specs.Outcomes.{Outcome}
+use Rattle.journal_records.specs.Pairs.{journal_magic, journal}
+use Rattle.journal_records.specs.Formats.{journal_magic_of, journals, records_of}
+use Rattle.journal_records.proofs.Files.{journals_readable, journal_is_file, journal_is_read}
+use Rattle.market_core.specs.Market.{Market}
+use Rattle.batch_audit.specs.Legal.{IsLegalJournal, AreJudged}
+use Rattle.batch_audit.proofs.LawProofs.{one_judgement}
+use Rattle.journal_replay.specs.declared.replaying.ReplayFault.{ReplayFault}
+use Rattle.journal_replay.specs.declared.replaying.ReplayFault.TheVariants.{NotJournal, Illegal, Memory}
+use Rattle.journal_replay.specs.declared.replaying.ReplayFault.TheVariants as fault
+use Rattle.journal_replay.specs.Audits.{Audits}
+use Rattle.journal_replay.specs.Replays.{IsReplayed}
+use Rattle.journal_replay.specs.Laws.{AuditsToEndAreOfLegalJournals, OneAudit, MarketsAreOfLegalJournals, OneReplay}
+
+-- there is one magic
+one_magic : (version : Version) → journal_magic_of version ≡ journal_magic
+one_magic One = refl
+
+-- all bytes are within the limit where there is no more
+within : (limit : ℕ) (bytes : List ℕ) → (limit < length bytes → ⊥) → length bytes ≤ limit
+within limit bytes none = elim (cases_lt limit (length bytes)) [ inl more ↦ absurd (none more) | inr not ↦ not ]
+
+to_legal : (limit : ℕ) (bytes : List ℕ) (pairs : List (Pair Record Outcome)) (market : Market) → Audits limit bytes pairs [] End market → IsLegalJournal pairs market × (bytes ≡ journal pairs) × (length bytes ≤ limit)
+to_legal limit bytes pairs market audits =
+    let on = audits.reads.2 in
+    let short = within limit bytes on.ends.1 in
+    let same : audits.units ≡ map records_of pairs = audits.judged.parts ∙ append-nil (map records_of pairs) in
+    let whole : bytes ≡ journal_magic ++ spell_all journals.units (map records_of pairs) =
+    sym (take_all limit bytes short) ∙ audits.reads.1.1 ∙ ap (λ xs. xs ++ audits.reads.0) (one_magic audits.version)
+    ∙ ap (λ xs. journal_magic ++ xs) (on.whole ∙ ap (λ xs. spell_all journals.units audits.units ++ xs) on.ends.2 ∙ append-nil (spell_all journals.units audits.units) ∙ ap (spell_all journals.units) same)
+    in
+    (audits.judged.journal, whole ∙ sym (journal_is_file pairs), short)
+
+of_legal : (limit : ℕ) (bytes : List ℕ) (pairs : List (Pair Record Outcome)) (market : Market) → IsLegalJournal pairs market × (bytes ≡ journal pairs) × (length bytes ≤ limit) → Audits limit bytes pairs [] End market
+of_legal limit bytes pairs market (legal, whole, short) = record {
+  version = One;
+  units = map records_of pairs;
+  reads = subst (λ (b : List ℕ). Reads journals limit b (File One (map records_of pairs) End)) (sym whole) (journal_is_read limit pairs legal.each (rw whole at short));
+  judged = record { parts = sym (append-nil (map records_of pairs)); journal = legal; stops = tt };
+}
+
+pub audits_to_end : AuditsToEndAreOfLegalJournals
+audits_to_end limit bytes pairs market = (to_legal limit bytes pairs market, of_legal limit bytes pairs market)
+
+-- two files that are one have the same parts
+same_file : (v w : Version) (p q : List (Record × Record)) (e f : Ending) → File v p e ≡ File w q f → (p ≡ q) × (e ≡ f)
+same_file v w p q e f same = (cc, cc)
+
+pub one_audit : OneAudit
+one_audit limit bytes p q x y e f m n a b =
+    let one = same_file a.version b.version a.units b.units e f (reads_one journals journals_readable limit bytes (File a.version a.units e) (File b.version b.units f) a.reads b.reads) in
+    let judged = one_judgement b.units p q x y m n (subst (λ (all : List (Record × Record)). AreJudged all p x m) one.0 a.judged) b.judged in
+    (judged.0, judged.1, one.1, judged.2)
+
+pub markets_are : MarketsAreOfLegalJournals
+markets_are bytes market = (
+  λ replayed. let all = to_legal (length bytes) bytes replayed.0 market replayed.1 in (replayed.0, all.0, all.1),
+  λ legal. (legal.0, of_legal (length bytes) bytes legal.0 market (legal.1, legal.2, omega arith)),
+)
+
+-- the answer to an audit of all bytes; none comes at a limit, and any stands here
+abbrev answer_for : ℕ → List (Record × Record) → Ending → Market → Result Market ReplayFault
+answer_for n (bad ∷ more) ending market = Err (Illegal (n + 1))
+answer_for n [] End market = Ok market
+answer_for n [] (Torn place) market = Err (fault.Torn place)
+answer_for n [] TooLong market = Err Memory
+
+-- the answer where the pair of a number is illegal
+abbrev illegal : ℕ → Result Market ReplayFault
+illegal n = Err (Illegal n)
+
+-- an answer is that the bytes are no journal, or that to an audit
+abbrev Answered : List ℕ → Result Market ReplayFault → Type 0
+Answered bytes answer =
+    (Reads journals (length bytes) bytes NotFlow × (answer ≡ Err NotJournal))
+    ⊎ ((legal : List (Pair Record Outcome)) × (behind : List (Record × Record)) × (ending : Ending) × (market : Market) × Audits (length bytes) bytes legal behind ending market
+    × (answer ≡ answer_for (length legal) behind ending market))
+
+answered : (bytes : List ℕ) (answer : Result Market ReplayFault) → answer ≢ Err Memory → IsReplayed bytes answer → Answered bytes answer
+answered bytes (Ok market) some replayed = inr (replayed.0, [], End, market, replayed.1, refl)
+answered bytes (Err NotJournal) some replayed = inl (replayed, refl)
+answered bytes (Err (fault.Torn place)) some replayed = inr (replayed.0, [], Torn place, replayed.1, replayed.2, refl)
+answered bytes (Err (Illegal number)) some replayed =
+    inr (replayed.legal, replayed.bad ∷ replayed.more, replayed.ending, replayed.market, replayed.audits, ap illegal replayed.counted)
+answered bytes (Err Memory) some replayed = absurd (some refl)
+
+-- a file is no other
+no_file : (v : Version) (p : List (Record × Record)) (e : Ending) → NotFlow ≡ File v p e → ⊥
+no_file v p e same = absurd cc
+
+pub one_replay : OneReplay
+one_replay bytes a b some other first second =
+    elim (answered bytes a some first) [
+      | inl x ↦
+          elim (answered bytes b other second) [
+            | inl y ↦ x.1 ∙ sym y.1
+            | inr y ↦ absurd (no_file _ _ _ (reads_one journals journals_readable (length bytes) bytes NotFlow (File y.4.version y.4.units y.2) x.0 y.4.reads))
+          ]
+      | inr x ↦
+          elim (answered bytes b other second) [
+            | inl y ↦ absurd (no_file _ _ _ (reads_one journals journals_readable (length bytes) bytes NotFlow (File x.4.version x.4.units x.2) y.0 x.4.reads))
+            | inr y ↦
+                let one = one_audit (length bytes) bytes x.0 y.0 x.1 y.1 x.2 y.2 x.3 y.3 x.4 y.4 in
+                x.5 ∙ ap (λ (p : List (Pair Record Outcome)). answer_for (length p) x.1 x.2 x.3) one.0 ∙ ap (λ (u : List (Record × Record)). answer_for (length y.0) u x.2 x.3) one.1
+                ∙ ap (λ (e : Ending). answer_for (length y.0) y.1 e x.3) one.2 ∙ ap (answer_for (length y.0) y.1 y.2) one.3 ∙ sym y.5
+          ]
+    ]

@@ -1,0 +1,4 @@
+pub mod Counting
+pub mod Judged
+pub mod Replayed
+pub mod LawProofs

@@ -1,0 +1,32 @@
+-- What holds of audits and replays, whatever code there is.
+use Rattle.std.specs.Prelude.{◌≡◌, ◌≢◌, ◌≤◌, ◌↔◌, ℕ, List, [], length, Result, Ok, Err}
+use Rattle.wire_records.specs.Records.{Record}
+use Rattle.wire_records.specs.Commands.{Pair}
+use Rattle.wire_records.specs.Reading.{Ending, End}
+use Rattle.flow_orders.specs.Outcomes.{Outcome}
+use Rattle.journal_records.specs.Pairs.{journal}
+use Rattle.market_core.specs.Market.{Market}
+use Rattle.batch_audit.specs.Legal.{IsLegalJournal}
+use Rattle.journal_replay.specs.declared.replaying.ReplayFault.{ReplayFault}
+use Rattle.journal_replay.specs.declared.replaying.ReplayFault.TheVariants.{Memory}
+use Rattle.journal_replay.specs.Audits.{Audits}
+use Rattle.journal_replay.specs.Replays.{IsReplayed}
+
+-- an audit in which no pair is left and that comes to the end is that of the spelling of a legal journal, with nothing past the limit
+abbrev pub AuditsToEndAreOfLegalJournals : Type 0
+AuditsToEndAreOfLegalJournals = (limit : ℕ) (bytes : List ℕ) (pairs : List (Pair Record Outcome)) (market : Market)
+    → Audits limit bytes pairs [] End market ↔ (IsLegalJournal pairs market × (bytes ≡ journal pairs) × (length bytes ≤ limit))
+
+-- bytes are audited in one way
+abbrev pub OneAudit : Type 0
+OneAudit = (limit : ℕ) (bytes : List ℕ) (p q : List (Pair Record Outcome)) (x y : List (Record × Record)) (e f : Ending) (m n : Market)
+    → Audits limit bytes p x e m → Audits limit bytes q y f n → (p ≡ q) × (x ≡ y) × (e ≡ f) × (m ≡ n)
+
+-- a replay answers a market exactly for the spellings of legal journals, and it is theirs
+abbrev pub MarketsAreOfLegalJournals : Type 0
+MarketsAreOfLegalJournals = (bytes : List ℕ) (market : Market)
+    → IsReplayed bytes (Ok market) ↔ ((pairs : List (Pair Record Outcome)) × IsLegalJournal pairs market × (bytes ≡ journal pairs))
+
+-- but for want of memory, bytes are replayed to one answer
+abbrev pub OneReplay : Type 0
+OneReplay = (bytes : List ℕ) (a b : Result Market ReplayFault) → a ≢ Err Memory → b ≢ Err Memory → IsReplayed bytes a → IsReplayed bytes b → a ≡ b

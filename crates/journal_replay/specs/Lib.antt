@@ -1,0 +1,4 @@
+pub mod Audits
+pub mod Replays
+pub mod Private
+pub mod Laws

@@ -1,0 +1,145 @@
+//! Going through the pairs of a journal.
+ghost use Rattle.std.specs.Prelude.{◌≡◌, ◌≢◌, ℕ, ◌≤◌, IfOk, IfErr, IsTrue, drop, length};
+ghost use Rattle.wire_records.specs.Records.{Record};
+ghost use Rattle.journal_records.specs.Formats.{journals};
+ghost use Rattle.journal_replay.specs.Private.{State, CountsOne, BreaksOffWith, HasRoom};
+ghost use Rattle.journal_replay.specs.Replays.{FindsLegal, FindsFault};
+
+use batch_audit::{Audit, Legality};
+use file_units::{Ending, Front, TakesUnits, take_units};
+use journal_records::{PairFramed, PairView, is_overlong, next_pair};
+use market_core::Market;
+use std::alloc::Global;
+
+// The tags of the replies that tell of a batch.
+const CLEARED: u8 = 133;
+
+const SKIPPED: u8 = 134;
+
+/// What an audit of pairs has found where all whole ones are legal.
+#[derive(Drop)]
+pub struct Audited {
+    /// How the reading ends.
+    pub ending: Ending,
+    /// The market that the pairs make.
+    pub market: Market,
+    /// How many pairs there are.
+    pub pairs: u64,
+    /// How many of them tell of a batch that cleared.
+    pub cleared: u64,
+    /// How many of them tell of a batch that was skipped.
+    pub skipped: u64,
+}
+
+/// Why an audit of pairs breaks off.
+#[derive(Clone, Copy, Debug, PartialEq, Eq)]
+pub enum PairFault {
+    /// The pair of this number, counted from 1, isn't legal, and all before it are.
+    Illegal(u64),
+    /// There is no memory to audit the next pair.
+    Memory,
+}
+
+// 1 for a tag that is counted, and 0 for any other.
+fn count_of(tag: u8, counted: u8) -> u64
+    ensures one { tag ≡ counted → result ≡ 1 }
+    ensures none { tag ≢ counted → result ≡ 0 }
+{
+    if tag == counted { 1 } else { 0 }
+}
+
+// The audit of a journal, and what it has counted.
+#[derive(Drop)]
+struct Auditing {
+    audit: Audit,
+    pairs: u64,
+    cleared: u64,
+    skipped: u64,
+}
+
+impl Auditing {
+    ghost use Rattle.std.specs.Prelude.{OnOk};
+    ghost use Rattle.journal_replay.specs.Private.{state_of};
+
+    // Audits a pair, and counts it where it is legal.
+    fn take_pair(&mut self, pair: &PairView<'_>) -> Result<(), PairFault>
+        requires room { (left : ℕ) × (5 ≤ left) × HasRoom (state_of self.old) left }
+        ensures counted { OnOk result (CountsOne (state_of self.old) pair.now (state_of self.new)) }
+        ensures broken { IfErr result (BreaksOffWith (state_of self.old) pair.now) }
+    {
+        match self.audit.pair(pair) {
+            Ok(Legality::Legal) => {}
+            Ok(Legality::Illegal) => return Err(PairFault::Illegal(self.pairs + 1)),
+            Err(_) => return Err(PairFault::Memory),
+        }
+        self.pairs += 1;
+        let tag = pair.answered().tag();
+        self.cleared += count_of(tag, CLEARED);
+        self.skipped += count_of(tag, SKIPPED);
+        Ok(())
+    }
+}
+
+impl TakesUnits<()> for Auditing {
+    ghost use Rattle.journal_replay.specs.Private.{state_of};
+
+    type Fault = PairFault;
+
+    ghost Unit = { Record × Record };
+
+    ghost State = { State };
+
+    ghost format = { journals };
+
+    ghost state = { state_of };
+
+    ghost steps = { λ old pair new before after. CountsOne old pair new };
+
+    ghost breaks = { λ old pair fault before after. BreaksOffWith old pair fault };
+
+    ghost is_ready = { λ a left. HasRoom (state_of a) left };
+
+    fn take(&mut self, bytes: &[u8], _out: &mut ()) -> Result<Front, PairFault> {
+        match next_pair(bytes) {
+            PairFramed::Whole(pair, taken) => {
+                self.take_pair(&pair)?;
+                Ok(Front::Taken(taken))
+            }
+            PairFramed::End => Ok(Front::NoBytes),
+            PairFramed::Broken if is_overlong(bytes) => Ok(Front::Overlong),
+            PairFramed::Broken => Ok(Front::Short),
+        }
+    }
+}
+
+/// Goes through the pairs that stand in the bytes of a journal from a place on, one after the other from the empty market,
+/// and answers what it has found: how the reading ends, where all whole pairs are legal. `more` says whether the journal has
+/// bytes behind these.
+///
+/// `Illegal` exactly where some whole pair isn't legal, with the number of the first, counted from 1 behind the place;
+/// `Memory` where there is none to audit a pair.
+pub fn audit_pairs(
+    alloc: Global,
+    bytes: &[u8],
+    start: usize,
+    more: bool,
+) -> Result<Audited, PairFault>
+    requires inside { start ≤ length bytes.now }
+    ensures legal { IfOk result (FindsLegal start (IsTrue more) (drop start bytes.now)) }
+    ensures fault { IfErr result (FindsFault start (IsTrue more) (drop start bytes.now)) }
+{
+    let mut auditing = Auditing {
+        audit: Audit::new(alloc),
+        pairs: 0,
+        cleared: 0,
+        skipped: 0,
+    };
+    let ending = take_units(bytes, start, more, &mut auditing, &mut ())?;
+    Ok(Audited {
+        ending,
+        market: auditing.audit.into_market(),
+        pairs: auditing.pairs,
+        cleared: auditing.cleared,
+        skipped: auditing.skipped,
+    })
+}

@@ -1,0 +1,48 @@
+//! A whole journal in memory.
+ghost use Rattle.journal_replay.specs.Replays.{IsReplayed};
+
+use crate::auditing::{PairFault, audit_pairs};
+use file_units::Ending;
+use journal_records::{JOURNAL_MAGIC, is_journal};
+use market_core::Market;
+use std::alloc::Global;
+use thiserror::Error;
+
+/// Why bytes give no market.
+#[derive(Clone, Copy, Debug, PartialEq, Eq, Error)]
+pub enum ReplayFault {
+    /// They are no journal: they don't begin with the magic.
+    #[error("not a journal")]
+    NotJournal,
+    /// They break off or state too long a record; the broken pair begins at this byte, from 0.
+    #[error("torn at byte {0}")]
+    Torn(u64),
+    /// The pair of this number, counted from 1, isn't legal.
+    #[error("pair {0} is not legal")]
+    Illegal(u64),
+    /// There is no memory for the market, or for the audit of a batch.
+    #[error("no memory")]
+    Memory,
+}
+
+/// The market that a journal makes: `Ok` exactly for the bytes of a legal journal, want of memory aside, whoever wrote it.
+///
+/// `NotJournal` exactly where the first 8 bytes aren't the magic; `Torn` and `Illegal` where a pair isn't whole or isn't
+/// legal, whichever comes first in the bytes; `Memory` is free. Each pair is looked at where it lies, at the cost of its
+/// audit.
+pub fn replay(alloc: Global, bytes: &[u8]) -> Result<Market, ReplayFault>
+    ensures { IsReplayed bytes.now result }
+{
+    if !is_journal(bytes) {
+        return Err(ReplayFault::NotJournal);
+    }
+    match audit_pairs(alloc, bytes, JOURNAL_MAGIC.len(), false) {
+        Ok(found) => match found.ending {
+            Ending::End => Ok(found.market),
+            Ending::Torn(place) => Err(ReplayFault::Torn(place)),
+            Ending::TooLong => unreachable!(),
+        },
+        Err(PairFault::Illegal(number)) => Err(ReplayFault::Illegal(number)),
+        Err(PairFault::Memory) => Err(ReplayFault::Memory),
+    }
+}
