@@ -4,7 +4,6 @@ use Rattle.flow_io.specs.Faults.{Rose, Blames}
 use Rattle.flow_io.specs.Streams.{Grows, GrowsByFront}
 use Rattle.flow_io.specs.Changes.{Change}
 use Rattle.flow_exchange.specs.declared.form.Form.{Form}
-use Rattle.flow_exchange.specs.declared.form.Form.TheVariants.{Run}
 use Rattle.flow_exchange.specs.declared.status.Status.{Status}
 use Rattle.flow_exchange.specs.declared.status.Status.TheVariants as answer
 use Rattle.flow_exchange.specs.Forms.{Asks, AsksNothing}
@@ -12,16 +11,12 @@ use Rattle.flow_exchange.specs.Statuses.{line_of}
 use Rattle.flow_exchange.specs.Program.{Determines, Meets, Does, Serves}
 use Rattle.flow_exchange.proofs.Outcomes.{one_form, completes}
 
--- run is the only form
-pub does_run : (form : Form) (limit : ℕ) (status : Status) (source out : Change) → Does Run limit status source out → Does form limit status source out
-does_run Run limit status source out does = does
-
--- where no count rose and memory was there, a run came to what the bytes determine
-pub completes_run : (told : Option (List ℕ)) (limit : ℕ) (status : Status) (before after : Option (List ℕ)) (reads reads_now writes writes_now : ℕ)
-    → IfSome told (λ bytes. Meets Run limit bytes status before after) → Blames (status ≡ answer.ReadFault) reads reads_now → Blames (status ≡ answer.WriteFault) writes writes_now
-    → (¬ Rose reads reads_now) → (¬ Rose writes writes_now) → status ≢ answer.NoMemory → IfSome told (λ bytes. Determines Run limit bytes status before after)
-completes_run told limit status before after reads reads_now writes writes_now meets read written no_read no_write memory =
-    completes told Run limit status before after meets (λ e. no_read (read.rose e)) (λ e. no_write (written.rose e)) memory
+-- where no count rose and memory was there, a form came to what the bytes determine
+pub completes_form : (form : Form) (told : Option (List ℕ)) (limit : ℕ) (status : Status) (before after : Option (List ℕ)) (reads reads_now writes writes_now : ℕ)
+    → IfSome told (λ bytes. Meets form limit bytes status before after) → Blames (status ≡ answer.ReadFault) reads reads_now → Blames (status ≡ answer.WriteFault) writes writes_now
+    → (¬ Rose reads reads_now) → (¬ Rose writes writes_now) → status ≢ answer.NoMemory → IfSome told (λ bytes. Determines form limit bytes status before after)
+completes_form form told limit status before after reads reads_now writes writes_now meets read written no_read no_write memory =
+    completes told form limit status before after meets (λ e. no_read (read.rose e)) (λ e. no_write (written.rose e)) memory
 
 -- the words are a form, which was done
 pub serves_form : (limit : ℕ) (words : List (List ℕ)) (form : Form) (status : Status) (source out notes : Change) → Asks words form → status ≢ answer.Usage → Does form limit status source out → ((¬ Rose notes.faults notes.faults_after) → Grows notes.before notes.after (line_of status)) → GrowsByFront notes.before notes.after (line_of status) → Serves limit words status source out notes

@@ -1,26 +1,39 @@
 -- Bytes determine one status and one text, to which a call comes that no fault broke off.
-use Rattle.std.proofs.Common.{◌≡◌, ◌≢◌, ℕ, List, Option, Some, None, IfSome, refl, sym, ap, ◌∙◌}
+use Rattle.std.proofs.Common.{◌≡◌, ◌≢◌, ℕ, List, [], ◌∷◌, map, length, codes, inl, inr, Option, Some, None, IfSome, refl, sym, ap, ◌∙◌}
 use Rattle.wire_records.specs.Records.{Record}
 use Rattle.wire_records.specs.CommandRecords.{IsReadAs}
-use Rattle.wire_records.specs.Reading.{Reading, NotFlow, File}
+use Rattle.wire_records.specs.Commands.{Pair}
+use Rattle.wire_records.specs.Reading.{Reading, Ending, NotFlow, File}
 use Rattle.wire_records.specs.Formats.{Version, commands}
 use Rattle.wire_records.proofs.Readings.{reading_unique}
 use Rattle.wire_records.proofs.ReadingLaws.{reads_one}
 use Rattle.wire_records.proofs.RecordCode.{commands_readable}
+use Rattle.flow_orders.specs.Outcomes.{Outcome}
 use Rattle.journal_records.specs.Pairs.{journal}
+use Rattle.journal_records.specs.Formats.{journals}
+use Rattle.journal_records.proofs.Files.{journals_readable}
+use Rattle.journal_replay.proofs.LawProofs.{one_audit}
 use Rattle.market_core.specs.Market.{Market}
 use Rattle.market_core.proofs.OneJournal.{one_own_journal}
 use Rattle.flow_exchange.specs.declared.form.Form.{Form}
-use Rattle.flow_exchange.specs.declared.form.Form.TheVariants.{Run}
+use Rattle.flow_exchange.specs.declared.form.Form.TheVariants.{Run, Audit}
 use Rattle.flow_exchange.specs.declared.status.Status.{Status}
 use Rattle.flow_exchange.specs.declared.status.Status.TheVariants as answer
 use Rattle.flow_exchange.specs.Statuses.{reading_status}
+use Rattle.flow_exchange.specs.Auditing.{audit_status, audit_text, AuditsTo}
 use Rattle.flow_exchange.specs.Running.{Journals, WritesOf, RunsTo}
 use Rattle.flow_exchange.specs.Program.{Determines, Meets}
 use Rattle.flow_exchange.specs.Laws.{OneForm, OneOutcome}
 
+-- the words are others
+run_audit : codes "run" ∷ [] ≡ codes "audit" ∷ [] → ⊥
+run_audit e = absurd (let n = ap (λ (words : List (List ℕ)). map length words) e in cc)
+
 pub one_form : OneForm
 one_form words Run Run a b = refl
+one_form words Audit Audit a b = refl
+one_form words Run Audit a b = absurd (run_audit (sym a ∙ b))
+one_form words Audit Run a b = absurd (run_audit (sym b ∙ a))
 
 -- records have one journal, and so one text
 journals_one : (records : List Record) (m n : Market) (x y : List ℕ) → Journals records m x → Journals records n y → x ≡ y
@@ -39,8 +52,26 @@ runs_one limit bytes s t x y a b =
     let one = reads_one commands commands_readable limit bytes a.reading b.reading a.reads b.reads in
     (a.ends ∙ ap (reading_status limit) one ∙ sym b.ends, writes_one b.reading x y (rw (← one) a.writes) b.writes)
 
+-- bytes that are no journal are no file
+no_file : (v : Version) (p : List (Record × Record)) (e : Ending) → NotFlow ≡ File v p e → ⊥
+no_file v p e same = absurd cc
+
+-- an audit comes to one status and one text
+audits_one : (limit : ℕ) (bytes : List ℕ) (s t : Status) (x y : List ℕ) → AuditsTo limit bytes s x → AuditsTo limit bytes t y → (s ≡ t) × (x ≡ y)
+audits_one limit bytes s t x y (inl a) (inl b) = (a.1 ∙ sym b.1, a.2 ∙ sym b.2)
+audits_one limit bytes s t x y (inl a) (inr b) = absurd (no_file _ _ _ (reads_one journals journals_readable limit bytes NotFlow (File b.audits.version b.audits.units b.ending) a.0 b.audits.reads))
+audits_one limit bytes s t x y (inr a) (inl b) = absurd (no_file _ _ _ (reads_one journals journals_readable limit bytes NotFlow (File a.audits.version a.audits.units a.ending) b.0 a.audits.reads))
+audits_one limit bytes s t x y (inr a) (inr b) =
+    let one = one_audit limit bytes a.legal b.legal a.behind b.behind a.ending b.ending a.market b.market a.audits b.audits in
+    let same : s ≡ t =
+    a.ends ∙ ap (λ (p : List (Pair Record Outcome)). audit_status limit a.ending p a.behind) one.0 ∙ ap (λ (u : List (Record × Record)). audit_status limit a.ending b.legal u) one.1
+    ∙ ap (λ (e : Ending). audit_status limit e b.legal b.behind) one.2 ∙ sym b.ends
+    in
+    (same, a.writes ∙ ap (λ (u : Status). audit_text u a.legal) same ∙ ap (audit_text t) one.0 ∙ sym b.writes)
+
 pub one_outcome : OneOutcome
 one_outcome Run limit bytes s t x y a b = runs_one limit bytes s t x y a b
+one_outcome Audit limit bytes s t x y a b = audits_one limit bytes s t x y a b
 
 -- what a form comes to, where its status is none that a fault or want of memory has
 determined : (form : Form) (limit : ℕ) (bytes : List ℕ) (status : Status) (before after : Option (List ℕ)) → Meets form limit bytes status before after
@@ -52,6 +83,7 @@ determined form limit bytes answer.NoMemory before after meets r w m = absurd (m
 determined form limit bytes answer.Done before after meets r w m = meets
 determined form limit bytes answer.NotFlow before after meets r w m = meets
 determined form limit bytes (answer.Torn n) before after meets r w m = meets
+determined form limit bytes (answer.Rejected n) before after meets r w m = meets
 determined form limit bytes (answer.TooLong n) before after meets r w m = meets
 
 -- over what a source tells

@@ -13,7 +13,7 @@ use Rattle.wire_records.specs.Formats.{Version, One, command_magic_of, commands}
 use Rattle.journal_records.specs.Pairs.{journal_magic}
 use Rattle.market_core.specs.Market.{Market, empty_market}
 use Rattle.market_core.proofs.LawProofs.{own_journals_are_legal, journals_hold_deposits}
-use Rattle.market_core.proofs.Promised.{own_journal_keeps_promises}
+use Rattle.market_core.proofs.Promised.{legal_journal_keeps_promises, own_journal_clears_near}
 use Rattle.flow_exchange.specs.declared.form.Form.TheVariants.{Run}
 use Rattle.flow_exchange.specs.declared.status.Status.{Status}
 use Rattle.flow_exchange.specs.declared.status.Status.TheVariants as answer
@@ -65,7 +65,8 @@ journals records market text answers = record {
   pairs = answers.pairs;
   journal_of = answers.answered;
   deposits = journals_hold_deposits records answers.pairs market (own_journals_are_legal records answers.pairs market answers.answered);
-  keeps = own_journal_keeps_promises records answers.pairs market answers.answered;
+  keeps = legal_journal_keeps_promises answers.pairs market (own_journals_are_legal records answers.pairs market answers.answered).steps;
+  near = own_journal_clears_near records answers.pairs market answers.answered;
   spelled = ap (λ xs. journal_magic ++ xs) answers.spelled;
 }
 
@@ -166,6 +167,7 @@ meets limit left input answer.ReadFault before middle now whole begins magic ser
 meets limit left input answer.NotFlow before middle now whole begins magic served = absurd served
 meets limit left input answer.Done before middle now whole begins magic served = determines limit left input answer.Done before middle now whole begins magic served
 meets limit left input (answer.Torn n) before middle now whole begins magic served = determines limit left input (answer.Torn n) before middle now whole begins magic served
+meets limit left input (answer.Rejected n) before middle now whole begins magic served = absurd served
 meets limit left input (answer.TooLong n) before middle now whole begins magic served = determines limit left input (answer.TooLong n) before middle now whole begins magic served
 
 -- the same over what the source told

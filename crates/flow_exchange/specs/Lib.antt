@@ -1,6 +1,7 @@
 pub mod Statuses
 pub mod Forms
 pub mod Running
+pub mod Auditing
 pub mod Program
 pub mod Laws
 pub mod Private

@@ -1,12 +1,15 @@
--- Words that only the private functions of a run use: what serving records, one after the other, appends to a journal.
-use Rattle.std.specs.Prelude.{◌≡◌, ◌++◌, ℕ, List, Result, Ok, Err, Option, All}
+-- Words that only private functions use: what serving records, one after the other, appends to a journal, and what an audit of
+-- pairs comes to.
+use Rattle.std.specs.Prelude.{◌≡◌, ◌++◌, ℕ, List, [], Result, Ok, Err, Option, All, codes, decimal}
 use Rattle.std.specs.List.{flat_map}
+use Rattle.flow_io.specs.Faults.{Blames}
+use Rattle.flow_io.specs.Changes.{Change}
 use Rattle.flow_io.specs.Streams.{Grows, GrowsByFront}
 use Rattle.wire_records.specs.Records.{Record, IsRecord, spelling}
 use Rattle.wire_records.specs.Commands.{Pair}
 use Rattle.wire_records.specs.CommandRecords.{IsReadAs}
 use Rattle.wire_records.specs.Grammars.{spell_all}
-use Rattle.wire_records.specs.Reading.{Ending, ReadsOn}
+use Rattle.wire_records.specs.Reading.{Ending, End, ReadsOn}
 use Rattle.wire_records.specs.Formats.{commands}
 use Rattle.journal_records.specs.Pairs.{pair_spelling}
 use Rattle.flow_orders.specs.Outcomes.{Outcome}
@@ -14,10 +17,13 @@ use Rattle.flow_orders.specs.Own.{IsOwnOutcome}
 use Rattle.market_core.specs.Market.{Market}
 use Rattle.market_core.specs.Journal.{IsAnswered}
 use Rattle.market_core.specs.Wanting.{RecordMayWant}
+use Rattle.journal_replay.specs.Audits.{AuditsOn}
+use Rattle.journal_replay.specs.declared.auditing.Audited.{Audited}
 use Rattle.exchange_session.specs.Serving.{AnswersOne}
 use Rattle.flow_exchange.specs.declared.status.Status.{Status}
-use Rattle.flow_exchange.specs.declared.status.Status.TheVariants.{Done, Usage, NotFlow, Torn, ReadFault, WriteFault, NoMemory, TooLong}
+use Rattle.flow_exchange.specs.declared.status.Status.TheVariants.{Done, Usage, NotFlow, Torn, ReadFault, WriteFault, NoMemory, Rejected, TooLong}
 use Rattle.flow_exchange.specs.Statuses.{ending_status}
+use Rattle.flow_exchange.specs.Auditing.{legal_line, audit_status, audit_text}
 
 -- as many bytes has the longest pair with a plain reply: 5 and 1,024 of the record, and 13 of the reply's
 abbrev pub most_plain_pair : ℕ
@@ -39,7 +45,21 @@ ServesOne old asked new before after (Err Usage) = ⊥
 ServesOne old asked new before after (Err NotFlow) = ⊥
 ServesOne old asked new before after (Err (Torn place)) = ⊥
 ServesOne old asked new before after (Err ReadFault) = ⊥
+ServesOne old asked new before after (Err (Rejected number)) = ⊥
 ServesOne old asked new before after (Err (TooLong most)) = ⊥
+
+-- a record is served, and its pair written
+pub record WritesPair (old : Market) (asked : Record) (new : Market) (out : Change) : Type 0 where
+  pub text : List ℕ
+  pub answers : AnswersOne old asked new text
+  pub written : Grows out.before out.after text
+  pub quiet : out.faults_after ≡ out.faults
+
+-- the write of its pair failed, or memory was wanted
+pub record BreaksOffPair (old : Market) (asked : Record) (status : Status) (out : Change) : Type 0 where
+  pub new : Market
+  pub served : ServesOne {T = Unit {0}} old asked new out.before out.after (Err status)
+  pub cause : Blames (status ≡ WriteFault) out.faults out.faults_after
 
 -- The records behind a place are answered from a market on, to the end of their reading.
 pub record AnswersAll (limit : ℕ) (start : Market) (place : ℕ) (More : Type 0) (bytes : List ℕ) (status : Status) (text : List ℕ) : Type 0 where
@@ -81,4 +101,39 @@ ServesAll limit start place More bytes ReadFault before after = ⊥
 ServesAll limit start place More bytes Done before after = (text : List ℕ) × AnswersAll limit start place More bytes Done text × Grows before after text
 ServesAll limit start place More bytes NotFlow before after = ⊥
 ServesAll limit start place More bytes (Torn n) before after = (text : List ℕ) × AnswersAll limit start place More bytes (Torn n) text × Grows before after text
+ServesAll limit start place More bytes (Rejected n) before after = ⊥
 ServesAll limit start place More bytes (TooLong n) before after = (text : List ℕ) × AnswersAll limit start place More bytes (TooLong n) text × Grows before after text
+
+-- the line on a legal journal, by what was found
+abbrev pub found_line : Audited → List ℕ
+found_line found =
+    (codes "legal: " ++ decimal found.pairs ++ codes " pairs, ") ++ (decimal found.cleared ++ codes " cleared, ") ++ (decimal found.skipped ++ codes " skipped\n")
+
+-- All whole pairs were audited: so the status, and what out grew by.
+pub record AuditsThrough (limit : ℕ) (More : Type 0) (bytes : List ℕ) (status : Status) (before after : Option (List ℕ)) : Type 0 where
+  pub legal : List (Pair Record Outcome)
+  pub behind : List (Record × Record)
+  pub ending : Ending
+  pub market : Market
+  pub audits : AuditsOn 8 More bytes legal behind ending market
+  pub ends : status ≡ audit_status limit ending legal behind
+  pub written : Grows before after (audit_text status legal)
+
+-- the write of the line on a legal journal was cut
+pub record AuditsToCut (More : Type 0) (bytes : List ℕ) (before after : Option (List ℕ)) : Type 0 where
+  pub legal : List (Pair Record Outcome)
+  pub market : Market
+  pub audits : AuditsOn 8 More bytes legal [] End market
+  pub cut : GrowsByFront before after (legal_line legal)
+
+-- by the status
+abbrev pub AuditsAll : ℕ → Type 0 → List ℕ → Status → Option (List ℕ) → Option (List ℕ) → Type 0
+AuditsAll limit More bytes WriteFault before after = AuditsToCut More bytes before after
+AuditsAll limit More bytes NoMemory before after = after ≡ before
+AuditsAll limit More bytes Usage before after = ⊥
+AuditsAll limit More bytes ReadFault before after = ⊥
+AuditsAll limit More bytes NotFlow before after = ⊥
+AuditsAll limit More bytes Done before after = AuditsThrough limit More bytes Done before after
+AuditsAll limit More bytes (Torn n) before after = AuditsThrough limit More bytes (Torn n) before after
+AuditsAll limit More bytes (Rejected n) before after = AuditsThrough limit More bytes (Rejected n) before after
+AuditsAll limit More bytes (TooLong n) before after = AuditsThrough limit More bytes (TooLong n) before after

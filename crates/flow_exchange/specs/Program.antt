@@ -4,34 +4,40 @@ use Rattle.flow_io.specs.Faults.{Rose, Blames}
 use Rattle.flow_io.specs.Streams.{Grows, GrowsByFront, TakesAtMost}
 use Rattle.flow_io.specs.Changes.{Change}
 use Rattle.flow_exchange.specs.declared.form.Form.{Form}
-use Rattle.flow_exchange.specs.declared.form.Form.TheVariants.{Run}
+use Rattle.flow_exchange.specs.declared.form.Form.TheVariants.{Run, Audit}
 use Rattle.flow_exchange.specs.declared.status.Status.{Status}
-use Rattle.flow_exchange.specs.declared.status.Status.TheVariants.{Done, Usage, NotFlow, Torn, ReadFault, WriteFault, NoMemory, TooLong}
+use Rattle.flow_exchange.specs.declared.status.Status.TheVariants.{Done, Usage, NotFlow, Torn, ReadFault, WriteFault, NoMemory, Rejected, TooLong}
 use Rattle.flow_exchange.specs.Forms.{Asks, AsksNothing}
 use Rattle.flow_exchange.specs.Statuses.{line_of}
 use Rattle.flow_exchange.specs.Running.{RunsTo, RunsInto, RunsOut}
+use Rattle.flow_exchange.specs.Auditing.{AuditsTo}
 
 -- ---- a row for each form
 
 -- what a form comes to: the status and the text that the first limit bytes determine
 abbrev pub ComesTo : Form → ℕ → List ℕ → Status → List ℕ → Type 0
 ComesTo Run limit bytes status text = RunsTo limit bytes status text
+ComesTo Audit limit bytes status text = AuditsTo limit bytes status text
 
 -- what may stand in out, besides nothing, while a form is at work: the text of whole units
 abbrev pub GetsTo : Form → ℕ → List ℕ → List ℕ → Type 0
 GetsTo Run limit bytes text = RunsInto limit bytes text
+GetsTo Audit limit bytes text = ⊥
 
 -- what may stand in out where memory ran out
 abbrev pub LacksAt : Form → ℕ → List ℕ → List ℕ → Type 0
 LacksAt Run limit bytes text = RunsOut limit bytes text
+LacksAt Audit limit bytes text = text ≡ []
 
 -- how many bytes of the source are taken at most
 abbrev pub most_taken : Form → ℕ → ℕ
 most_taken Run limit = limit + 1
+most_taken Audit limit = limit + 1
 
 -- what is left of the source where all was done
 abbrev pub left_by : Form → List ℕ → List ℕ
 left_by Run bytes = []
+left_by Audit bytes = []
 
 -- ---- what holds of all forms
 
@@ -61,6 +67,7 @@ Meets form limit bytes NoMemory before after = (text : List ℕ) × LacksAt form
 Meets form limit bytes Done before after = Determines form limit bytes Done before after
 Meets form limit bytes NotFlow before after = Determines form limit bytes NotFlow before after
 Meets form limit bytes (Torn place) before after = Determines form limit bytes (Torn place) before after
+Meets form limit bytes (Rejected number) before after = Determines form limit bytes (Rejected number) before after
 Meets form limit bytes (TooLong most) before after = Determines form limit bytes (TooLong most) before after
 
 -- What a form does to source and out.

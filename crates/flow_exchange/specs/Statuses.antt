@@ -2,6 +2,8 @@
 use Rattle.std.specs.Prelude.{ℕ, List, [], ◌++◌, codes, decimal, Result, Ok, Err}
 use Rattle.flow_io.specs.declared.whole.ReadAllFault.{ReadAllFault}
 use Rattle.flow_io.specs.declared.whole.ReadAllFault.TheVariants as fault
+use Rattle.journal_replay.specs.declared.auditing.PairFault.{PairFault}
+use Rattle.journal_replay.specs.declared.auditing.PairFault.TheVariants as pair
 use Rattle.wire_records.specs.Reading.{Ending, End, Torn, TooLong, Reading, NotFlow, File}
 use Rattle.flow_exchange.specs.declared.status.Status.{Status}
 use Rattle.flow_exchange.specs.declared.status.Status.TheVariants as status
@@ -15,6 +17,7 @@ exit_of (status.Torn place) = 3
 exit_of status.ReadFault = 4
 exit_of status.WriteFault = 5
 exit_of status.NoMemory = 6
+exit_of (status.Rejected number) = 7
 exit_of (status.TooLong limit) = 8
 
 -- the line on notes, with its line feed
@@ -26,6 +29,7 @@ line_of (status.Torn place) = codes "flow: torn at byte " ++ decimal place ++ co
 line_of status.ReadFault = codes "flow: read failed\n"
 line_of status.WriteFault = codes "flow: write failed\n"
 line_of status.NoMemory = codes "flow: no memory\n"
+line_of (status.Rejected number) = codes "flow: pair " ++ decimal number ++ codes " is not legal\n"
 line_of (status.TooLong limit) = codes "flow: more than " ++ decimal limit ++ codes " bytes\n"
 
 -- the status of an ending
@@ -43,6 +47,11 @@ reading_status limit (File version units ending) = ending_status limit ending
 abbrev pub fault_status : ReadAllFault → Status
 fault_status fault.Read = status.ReadFault
 fault_status fault.Memory = status.NoMemory
+
+-- the status of a fault of auditing pairs
+abbrev pub pair_status : PairFault → Status
+pair_status (pair.Illegal number) = status.Rejected number
+pair_status pair.Memory = status.NoMemory
 
 -- the status of what went through, or broke off with one
 abbrev pub status_of : Result (Unit {0}) Status → Status

@@ -1,5 +1,5 @@
 //! What the words on the command line ask for.
-ghost use Rattle.std.specs.Prelude.{◌≡◌, ◌↔◌, IfSome, IfNone, IsTrue, map, string_bytes, codes, [], ◌∷◌};
+ghost use Rattle.std.specs.Prelude.{◌≡◌, ◌↔◌, IfSome, IfNone, IsTrue, map, string_bytes, [], ◌∷◌};
 ghost use Rattle.flow_exchange.specs.Forms.{Asks, AsksNothing};
 
 /// What the program is asked for.
@@ -7,13 +7,15 @@ ghost use Rattle.flow_exchange.specs.Forms.{Asks, AsksNothing};
 pub enum Form {
     /// `run`: a command file in, its journal out.
     Run,
+    /// `audit`: a journal in, and out a line where it is legal.
+    Audit,
 }
 
-// Whether the words are the run's.
-fn is_run(words: &[String]) -> bool
-    ensures { IsTrue result ↔ (map string_bytes words.now ≡ codes "run" ∷ []) }
+// Whether the words are this one alone.
+fn is_word(words: &[String], word: &str) -> bool
+    ensures { IsTrue result ↔ (map string_bytes words.now ≡ word.now ∷ []) }
 {
-    words.len() == 1 && words[0].as_str() == "run"
+    words.len() == 1 && words[0].as_str() == word
 }
 
 /// The form that the words ask for.
@@ -21,5 +23,11 @@ pub(crate) fn form_of(words: &[String]) -> Option<Form>
     ensures form { IfSome result (λ form. Asks (map string_bytes words.now) form) }
     ensures none { IfNone result (AsksNothing (map string_bytes words.now)) }
 {
-    if is_run(words) { Some(Form::Run) } else { None }
+    if is_word(words, "run") {
+        return Some(Form::Run);
+    }
+    if is_word(words, "audit") {
+        return Some(Form::Audit);
+    }
+    None
 }

@@ -1,7 +1,7 @@
 //! What holds of the program's words and outcomes, whatever code there is. Each law is the contract of a function that
 //! does nothing.
 ghost use Rattle.std.specs.Prelude.{◌≡◌, ◌↔◌, IsTrue};
-ghost use Rattle.flow_exchange.specs.Laws.{OneForm, OneOutcome};
+ghost use Rattle.flow_exchange.specs.Laws.{OneForm, OneOutcome, DoneIsForLegalJournals, RejectedIsFirstIllegal};
 
 use crate::Status;
 
@@ -13,6 +13,17 @@ pub fn one_form()
 /// For each form the bytes of the source determine one status, and one text for out.
 pub fn one_outcome()
     ensures { OneOutcome }
+{}
+
+/// `audit` is done exactly for the spelling of a legal journal with nothing past the limit, whoever wrote it, and the line that
+/// it writes counts the journal's pairs, and the batches that cleared and that were skipped.
+pub fn done_is_for_legal_journals()
+    ensures { DoneIsForLegalJournals }
+{}
+
+/// `audit` rejects a pair exactly where it is the first that isn't legal, by its number, counted from 1.
+pub fn rejected_is_first_illegal()
+    ensures { RejectedIsFirstIllegal }
 {}
 
 /// Two statuses are equal in a test exactly where they are the same.

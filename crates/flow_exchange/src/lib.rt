@@ -1,9 +1,11 @@
 //! The exchange program as one call: words, a source of bytes, two sinks, and a status.
 //!
-//! [`flow`] is what the program calls. Its contract is what the program promises: which journal stands
-//! in `out` for the bytes of the source, and when each status comes.
+//! [`flow`] is what the program calls. Its contract is what the program promises: which journal `run` writes to `out` for
+//! the bytes of the source, what `audit` says of the journal that it reads, and when each status comes.
 #![tactic(auto)]
 
+mod audit;
+mod ending;
 mod form;
 pub mod laws;
 mod line;

@@ -8,7 +8,7 @@ use flow_io::{Sink, WriteFailed};
 use itoa::Buffer;
 
 // A number between two texts.
-fn write_number<N: Sink>(
+pub(crate) fn write_number<N: Sink>(
     notes: &mut N,
     before: &[u8],
     number: u64,
@@ -42,6 +42,12 @@ impl Status {
             Status::ReadFault => notes.write(b"flow: read failed\n"),
             Status::WriteFault => notes.write(b"flow: write failed\n"),
             Status::NoMemory => notes.write(b"flow: no memory\n"),
+            Status::Rejected(number) => write_number(
+                notes,
+                b"flow: pair ",
+                number,
+                b" is not legal\n",
+            ),
             Status::TooLong(limit) => write_number(notes, b"flow: more than ", limit, b" bytes\n"),
         }
     }

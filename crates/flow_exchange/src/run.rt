@@ -11,7 +11,9 @@ ghost use Rattle.flow_exchange.specs.Program.{Meets};
 ghost use Rattle.flow_exchange.specs.declared.form.Form.TheVariants.{Run};
 
 use crate::Status;
+use crate::ending::{end_with, put};
 use exchange_session::Session;
+use file_units::{Front, TakesUnits, take_units};
 use flow_io::{Sink, Source, WholeInput, read_all};
 use journal_records::JOURNAL_MAGIC;
 use std::alloc::Global;
@@ -26,16 +28,6 @@ fn pair_buffer(alloc: Global) -> Result<Vec<u8>, Status>
     ensures status { IfErr result (λ status. status ≡ Status.NoMemory) }
 {
     Vec::with_capacity(alloc, MOST_PLAIN_PAIR).map_err(|_| Status::NoMemory)
-}
-
-// Writes the bytes by one call.
-fn put<K: Sink>(out: &mut K, bytes: &[u8]) -> Result<(), Status>
-    ensures written { OnOk result (Grows (K.held out.old) (K.held out.new) bytes.now) }
-    ensures cut { OnErr result (GrowsByFront (K.held out.old) (K.held out.new) bytes.now) }
-    ensures status { IfErr result (λ status. status ≡ Status.WriteFault) }
-    ensures cause { Blames (result ≡ Err Status.WriteFault) (K.faults out.old) (K.faults out.new) }
-{
-    out.write(bytes).map_err(|_| Status::WriteFault)
 }
 
 // Serves one record, and writes its pair by one call. The buffer has room for the pair.
@@ -56,53 +48,75 @@ fn serve_one<K: Sink>(
     put(out, pair)
 }
 
-// Serves the records behind the magic, one after the other: Ok where the reading ends with the input.
-fn serve_records<K: Sink>(
-    input: &WholeInput,
-    limit: u64,
-    session: &mut Session,
-    pair: &mut Vec<u8>,
-    out: &mut K,
-) -> Result<(), Status>
-    requires begins { take 8 input.now.bytes.items ≡ command_magic }
-    requires room { most_plain_pair ≤ vec_capacity pair.old }
-    requires next { session.old.next_order ≤ 8 }
-    ensures served { ServesAll limit session.old 8 (IsTrue input.now.more) (drop 8 input.now.bytes.items)
-        (status_of result) (K.held out.old) (K.held out.new) }
-    ensures cause { Blames (result ≡ Err Status.WriteFault) (K.faults out.old) (K.faults out.new) }
-{
-    let bytes = input.bytes.as_slice();
-    let mut place = COMMAND_MAGIC.len();
-    'records: loop {
-        match next_record(&bytes[place..], MOST_BODY) {
+// What serves the records of a command file, one after the other: a session, and the buffer of a pair.
+#[derive(Drop)]
+struct Serving {
+    session: Session,
+    pair: Vec<u8>,
+}
+
+impl<K: Sink> TakesUnits<K> for Serving {
+    ghost use Rattle.flow_io.specs.Changes.{change};
+    ghost use Rattle.wire_records.specs.Records.{Record};
+    ghost use Rattle.wire_records.specs.Formats.{commands};
+    ghost use Rattle.market_core.specs.Market.{Market};
+    ghost use Rattle.flow_exchange.specs.Private.{WritesPair, BreaksOffPair};
+
+    type Fault = Status;
+
+    ghost Unit = { Record };
+
+    ghost State = { Market };
+
+    ghost format = { commands };
+
+    ghost state = { λ s. s.session };
+
+    ghost steps = { λ old asked new before after. WritesPair old asked new (change K.held K.faults before after) };
+
+    ghost breaks = { λ old asked status before after. BreaksOffPair old asked status (change K.held K.faults before after) };
+
+    ghost is_ready = { λ s left. (most_plain_pair ≤ vec_capacity s.pair) × (s.session.next_order + left < 2 ^ 64) };
+
+    fn take(&mut self, bytes: &[u8], out: &mut K) -> Result<Front, Status> {
+        match next_record(bytes, MOST_BODY) {
             Framed::Whole(asked, taken) => {
-                serve_one(session, &asked, pair, out)?;
-                place += taken;
+                serve_one(&mut self.session, &asked, &mut self.pair, out)?;
+                Ok(Front::Taken(taken))
             }
-            Framed::TooLarge(_) => return Err(Status::Torn(place as u64)),
-            Framed::Short if !input.more => return Err(Status::Torn(place as u64)),
-            Framed::End if !input.more => return Ok(()),
-            Framed::Short | Framed::End => return Err(Status::TooLong(limit)),
+            Framed::End => Ok(Front::NoBytes),
+            Framed::TooLarge(_) => Ok(Front::Overlong),
+            Framed::Short => Ok(Front::Short),
         }
     }
 }
 
-// The same over a session of its own.
+// Serves the records behind the magic, one after the other, over a session of its own.
 fn serve_all<K: Sink>(
     alloc: Global,
     input: &WholeInput,
     limit: u64,
-    pair: &mut Vec<u8>,
+    pair: Vec<u8>,
     out: &mut K,
 ) -> Result<(), Status>
     requires begins { take 8 input.now.bytes.items ≡ command_magic }
-    requires room { most_plain_pair ≤ vec_capacity pair.old }
+    requires room { most_plain_pair ≤ vec_capacity pair }
     ensures served { ServesAll limit empty_market 8 (IsTrue input.now.more) (drop 8 input.now.bytes.items)
         (status_of result) (K.held out.old) (K.held out.new) }
     ensures cause { Blames (result ≡ Err Status.WriteFault) (K.faults out.old) (K.faults out.new) }
 {
-    let mut session = Session::new(alloc);
-    serve_records(input, limit, &mut session, pair, out)
+    let mut serving = Serving {
+        session: Session::new(alloc),
+        pair,
+    };
+    let ending = take_units(
+        &input.bytes,
+        COMMAND_MAGIC.len(),
+        input.more,
+        &mut serving,
+        out,
+    )?;
+    end_with(&ending, limit)
 }
 
 /// Reads the source to its end or the limit, and writes the journal of its records. One write for the
@@ -127,7 +141,7 @@ pub(crate) fn run<S: Source, K: Sink>(
     if !is_command_file(&input.bytes) {
         return Err(Status::NotFlow);
     }
-    let mut pair = pair_buffer(alloc)?;
+    let pair = pair_buffer(alloc)?;
     put(out, &JOURNAL_MAGIC)?;
-    serve_all(alloc, &input, limit, &mut pair, out)
+    serve_all(alloc, &input, limit, pair, out)
 }

@@ -2,6 +2,7 @@
 ghost use Rattle.std.specs.Prelude.{◌≡◌};
 
 use flow_io::ReadAllFault;
+use journal_replay::PairFault;
 
 /// How the program ends. Each status has one exit number and one line on standard error, but for
 /// `Done`, which has none.
@@ -11,9 +12,9 @@ pub enum Status {
     Done,
     /// The words are no form of the command line.
     Usage,
-    /// The input is no command file: it doesn't begin with the magic.
+    /// The input is no file of the kind that is asked for: it doesn't begin with the magic.
     NotFlow,
-    /// The input breaks off or states too long a record; the broken record begins at this byte, from 0.
+    /// The input breaks off or states too long a record; the broken record or pair begins at this byte, from 0.
     Torn(u64),
     /// A read of the input failed.
     ReadFault,
@@ -21,6 +22,8 @@ pub enum Status {
     WriteFault,
     /// There is no memory for what was asked.
     NoMemory,
+    /// The pair of this number, counted from 1, isn't legal.
+    Rejected(u64),
     /// The input has more than this many bytes.
     TooLong(u64),
 }
@@ -40,6 +43,7 @@ impl Status {
             Status::ReadFault => 4,
             Status::WriteFault => 5,
             Status::NoMemory => 6,
+            Status::Rejected(_) => 7,
             Status::TooLong(_) => 8,
         }
     }
@@ -54,6 +58,19 @@ impl From<ReadAllFault> for Status {
         match fault {
             ReadAllFault::Read => Status::ReadFault,
             ReadAllFault::Memory => Status::NoMemory,
+        }
+    }
+}
+
+impl From<PairFault> for Status {
+    ghost use Rattle.flow_exchange.specs.Statuses.{pair_status};
+
+    ghost from_gives = { λ fault status. status ≡ pair_status fault };
+
+    fn from(fault: PairFault) -> Status {
+        match fault {
+            PairFault::Illegal(number) => Status::Rejected(number),
+            PairFault::Memory => Status::NoMemory,
         }
     }
 }

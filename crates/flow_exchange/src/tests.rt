@@ -18,7 +18,28 @@ fn words(alloc: Global, texts: &[&str]) -> Result<Vec<String>, Fail> {
     Ok(words)
 }
 
-// Runs a file whole, and compares what it comes to.
+// Does one word on a whole input, and compares what it comes to.
+fn expect(
+    rt: &impl Abort,
+    alloc: Global,
+    word: &str,
+    input: &[u8],
+    output: &[u8],
+    status: Status,
+    line: &[u8],
+) -> Result<(), Fail> {
+    let mut source = SteadySource::new(Vec::from_slice(alloc, input)?);
+    let mut out = SteadySink::new(alloc, 4096)?;
+    let mut notes = SteadySink::new(alloc, 64)?;
+    let asked = words(alloc, &[word])?;
+    let found = flow(alloc, &asked, &mut source, &mut out, &mut notes);
+    assert_eq!(rt; found, status);
+    assert_eq!(rt; out.bytes(), output);
+    assert_eq!(rt; notes.bytes(), line);
+    Ok(())
+}
+
+// Runs a command file whole.
 fn expect_run(
     rt: &impl Abort,
     alloc: Global,
@@ -27,15 +48,7 @@ fn expect_run(
     status: Status,
     line: &[u8],
 ) -> Result<(), Fail> {
-    let mut source = SteadySource::new(Vec::from_slice(alloc, input)?);
-    let mut out = SteadySink::new(alloc, 4096)?;
-    let mut notes = SteadySink::new(alloc, 64)?;
-    let run = words(alloc, &["run"])?;
-    let found = flow(alloc, &run, &mut source, &mut out, &mut notes);
-    assert_eq!(rt; found, status);
-    assert_eq!(rt; out.bytes(), journal);
-    assert_eq!(rt; notes.bytes(), line);
-    Ok(())
+    expect(rt, alloc, "run", input, journal, status, line)
 }
 
 #[test]
@@ -482,7 +495,14 @@ fn passes_over_a_fault_of_notes(rt: HostRuntime) -> Result<(), Fail> {
 #[test]
 fn wants_its_words(rt: HostRuntime) -> Result<(), Fail> {
     let alloc = rt.alloc();
-    let lists: [&[&str]; 5] = [&[], &["run", "x"], &["Run"], &[""], &["runs"]];
+    let lists: [&[&str]; 6] = [
+        &[],
+        &["run", "x"],
+        &["run", "audit"],
+        &["Audit"],
+        &[""],
+        &["runs"],
+    ];
     for list in lists {
         let other = words(alloc, list)?;
         let mut source = SteadySource::new(Vec::from_slice(alloc, b"FLOWCMD1")?);
@@ -503,10 +523,121 @@ fn wants_its_words(rt: HostRuntime) -> Result<(), Fail> {
         (Status::ReadFault, 4),
         (Status::WriteFault, 5),
         (Status::NoMemory, 6),
+        (Status::Rejected(1), 7),
         (Status::TooLong(1), 8),
     ];
     for (status, exit) in statuses {
         assert_eq!(rt; status.exit(), exit);
     }
+    Ok(())
+}
+
+// A journal of one order that buys and one that sells, up to its batch.
+const BOOK: [(&[u8], &[u8]); 7] = [
+    (ASSET, b"\x81\0\0\0\x02\0\0"),
+    (ACCOUNT, b"\x82\0\0\0\x04\0\0\0\x01"),
+    (ACCOUNT, b"\x82\0\0\0\x04\0\0\0\x02"),
+    (b"\x03\0\0\0\x0C\0\0\0\x01\0\0\0\0\0\x10\xC8\xE0", DONE),
+    (b"\x04\0\0\0\x0E\0\0\0\x02\0\0\0\0\0\0\0\0\x27\x10", DONE),
+    (BUYS, b"\x83\0\0\0\x08\0\0\0\0\0\0\0\x01"),
+    (SELLS, b"\x83\0\0\0\x08\0\0\0\0\0\0\0\x02"),
+];
+
+// Right replies to a batch of it: rates of 500 at the price 429,410,830,255, and at 429,496,729,600, which isn't the program's.
+const RIGHT: &[u8] =
+    b"\x85\0\0\0\x42\0\0\0\x01\0\x01\0\0\0\x63\xFA\xE1\x47\xAF\0\0\0\x02\0\0\0\0\0\0\0\x01\0\0\x01\xF4\0\0\0\0\0\0\0\x02\0\0\x01\xF4\0\0\0\0\0\0\0\0\0\0\0\0\0\0\0\0\0\0\0\0\x05\x1E\xB8\x52";
+
+const ANOTHER_PRICE: &[u8] =
+    b"\x85\0\0\0\x42\0\0\0\x01\0\x01\0\0\0\x64\0\0\0\0\0\0\0\x02\0\0\0\0\0\0\0\x01\0\0\x01\xF4\0\0\0\0\0\0\0\x02\0\0\x01\xF4\0\0\0\0\0\0\0\0\0\0\0\0\0\0\0\0\0\0\0\0\0\0\0\0";
+
+// A rate that is no rounding, and a gap that isn't that of the prices and rates.
+const ANOTHER_RATE: &[u8] =
+    b"\x85\0\0\0\x42\0\0\0\x01\0\x01\0\0\0\x63\xFA\xE1\x47\xAF\0\0\0\x02\0\0\0\0\0\0\0\x01\0\0\x01\xF5\0\0\0\0\0\0\0\x02\0\0\x01\xF4\0\0\0\0\0\0\0\0\0\0\0\0\0\0\0\0\0\0\0\0\x05\x1E\xB8\x52";
+
+const ANOTHER_GAP: &[u8] =
+    b"\x85\0\0\0\x42\0\0\0\x01\0\x01\0\0\0\x63\xFA\xE1\x47\xAF\0\0\0\x02\0\0\0\0\0\0\0\x01\0\0\x01\xF4\0\0\0\0\0\0\0\x02\0\0\x01\xF4\0\0\0\0\0\0\0\0\0\0\0\0\0\0\0\0\0\0\0\0\x05\x1E\xB8\x53";
+
+// The journal of the book with this reply to its batch.
+fn book_with(alloc: Global, reply: &[u8]) -> Result<Vec<u8>, Fail> {
+    let mut journal = Vec::from_slice(alloc, b"FLOWJNL1")?;
+    for (asked, answered) in BOOK {
+        journal.extend_from_slice(asked)?;
+        journal.extend_from_slice(answered)?;
+    }
+    journal.extend_from_slice(BATCH)?;
+    journal.extend_from_slice(reply)?;
+    Ok(journal)
+}
+
+#[test]
+fn audits_batches(rt: HostRuntime) -> Result<(), Fail> {
+    let alloc = rt.alloc();
+    let legal = b"legal: 8 pairs, 1 cleared, 0 skipped\n".as_slice();
+    for reply in [RIGHT, ANOTHER_PRICE] {
+        let journal = book_with(alloc, reply)?;
+        expect(&rt, alloc, "audit", &journal, legal, Status::Done, b"")?;
+    }
+    let line = b"flow: pair 8 is not legal\n".as_slice();
+    for reply in [ANOTHER_RATE, ANOTHER_GAP, DONE] {
+        let journal = book_with(alloc, reply)?;
+        expect(
+            &rt,
+            alloc,
+            "audit",
+            &journal,
+            b"",
+            Status::Rejected(8),
+            line,
+        )?;
+    }
+    Ok(())
+}
+
+// One account, whose number is as it should be, and one whose number isn't.
+const OPENED: &[u8] = b"FLOWJNL1\x02\0\0\0\0\x82\0\0\0\x04\0\0\0\x01";
+
+const MISNUMBERED: &[u8] = b"FLOWJNL1\x02\0\0\0\0\x82\0\0\0\x04\0\0\0\x02\x02";
+
+#[test]
+fn audits_to_each_end(rt: HostRuntime) -> Result<(), Fail> {
+    let alloc = rt.alloc();
+    let none = b"legal: 0 pairs, 0 cleared, 0 skipped\n".as_slice();
+    expect(&rt, alloc, "audit", b"FLOWJNL1", none, Status::Done, b"")?;
+    let one = b"legal: 1 pairs, 0 cleared, 0 skipped\n".as_slice();
+    expect(&rt, alloc, "audit", OPENED, one, Status::Done, b"")?;
+    let other = b"flow: not a flow file\n".as_slice();
+    for input in [b"FLOWCMD1".as_slice(), b"FLOWJNL"] {
+        expect(&rt, alloc, "audit", input, b"", Status::NotFlow, other)?;
+    }
+    // The pair that isn't legal comes before the one that isn't whole.
+    let illegal = b"flow: pair 1 is not legal\n".as_slice();
+    expect(
+        &rt,
+        alloc,
+        "audit",
+        MISNUMBERED,
+        b"",
+        Status::Rejected(1),
+        illegal,
+    )?;
+    let torn = b"flow: torn at byte 8\n".as_slice();
+    let long = b"FLOWJNL1\x02\0\0\0\0\x82\0\x04\0\x01".as_slice();
+    for input in [b"FLOWJNL1\x02\0\0\0\0".as_slice(), long] {
+        expect(&rt, alloc, "audit", input, b"", Status::Torn(8), torn)?;
+    }
+    Ok(())
+}
+
+#[test]
+fn audits_to_the_limit(rt: HostRuntime) -> Result<(), Fail> {
+    let alloc = rt.alloc();
+    let audit = words(alloc, &["audit"])?;
+    let mut source = SteadySource::new(Vec::from_slice(alloc, OPENED)?);
+    let mut out = SteadySink::new(alloc, 64)?;
+    let mut notes = SteadySink::new(alloc, 64)?;
+    let status = flow_limited(alloc, &audit, 21, &mut source, &mut out, &mut notes);
+    assert_eq!(rt; status, Status::TooLong(21));
+    assert_eq!(rt; out.bytes(), b"".as_slice());
+    assert_eq!(rt; notes.bytes(), b"flow: more than 21 bytes\n".as_slice());
     Ok(())
 }

@@ -5,6 +5,7 @@ ghost use Rattle.flow_exchange.specs.Statuses.{status_of};
 ghost use Rattle.flow_exchange.specs.Program.{Does, Serves};
 
 use crate::Status;
+use crate::audit::audit;
 use crate::form::{Form, form_of};
 use crate::run::run;
 use flow_io::{Sink, Source};
@@ -37,6 +38,7 @@ fn do_form<S: Source, K: Sink>(
 {
     match form {
         Form::Run => status_after(run(alloc, limit, source, out)),
+        Form::Audit => status_after(audit(alloc, limit, source, out)),
     }
 }
 
@@ -65,10 +67,11 @@ pub fn flow_limited<S: Source, K: Sink, N: Sink>(
 /// The program: words, a source, two sinks and the status that they come to.
 ///
 /// With the word `run` it reads a command file from the source, at most 2^32 bytes, and writes its
-/// journal to out: one write for the magic, and one for each pair. On every status but `Done` it writes
-/// one line to notes; a fault of notes changes nothing.
+/// journal to out: one write for the magic, and one for each pair. With the word `audit` it reads a journal, whoever wrote
+/// it, and writes a line to out where each pair is legal and nothing stands behind them. On every status but `Done` it
+/// writes one line to notes; a fault of notes changes nothing.
 ///
-/// A command costs the same however many accounts and orders there are, but for the gap that a cancelled order leaves, which is
+/// A command of `run` costs the same however many accounts and orders there are, but for the gap that a cancelled order leaves, which is
 /// closed by a block move. Memory: the input, one buffer for a pair, 528 bytes for each account, 64 bytes for each live
 /// order beside its entries, and the table of what orders need. Input, accounts and orders each stand in one block, which
 /// doubles as it grows: it has up to twice these bytes, and while it is moved the smaller one is there too.

@@ -1,15 +1,29 @@
-use Rattle.flow_exchange.proofs.Dispatch.{does_run, completes_run}
+use Rattle.flow_exchange.specs.declared.form.Form.TheVariants as form
+use Rattle.flow_exchange.proofs.Dispatch.{completes_form}
 use Rattle.flow_exchange.proofs.top.do_form.Goals as goal
 
-pub returns-clause-does : goal.returns-clause-does
-returns-clause-does g c =
+pub returns-in-Run-clause-does : goal.returns-in-Run-clause-does
+returns-in-Run-clause-does g c =
     let run = c.run.ensures in
-    rw c.status_after.ensures
-    (does_run c.args.form _ _ _ _ (record {
+    rw (c.in-Run.is, c.status_after.ensures)
+    (record {
       meets = run.meets;
-      complete = completes_run _ c.args.limit _ _ _ _ _ _ _ run.meets run.reads run.writes;
+      complete = completes_form form.Run _ c.args.limit _ _ _ _ _ _ _ run.meets run.reads run.writes;
       left = run.left;
       taken = run.taken;
       reads = run.reads;
       writes = run.writes;
-    }))
+    })
+
+pub returns-in-Audit-clause-does : goal.returns-in-Audit-clause-does
+returns-in-Audit-clause-does g c =
+    let audit = c.audit.ensures in
+    rw (c.in-Audit.is, c.status_after-in-Audit.ensures)
+    (record {
+      meets = audit.meets;
+      complete = completes_form form.Audit _ c.args.limit _ _ _ _ _ _ _ audit.meets audit.reads audit.writes;
+      left = audit.left;
+      taken = audit.taken;
+      reads = audit.reads;
+      writes = audit.writes;
+    })

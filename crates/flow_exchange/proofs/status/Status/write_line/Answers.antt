@@ -20,3 +20,6 @@ returns-in-NoMemory-clause-written g c = rw c.in-NoMemory.is c.write-in-NoMemory
 
 pub returns-in-NoMemory-clause-cut : goal.returns-in-NoMemory-clause-cut
 returns-in-NoMemory-clause-cut g c = rw c.in-NoMemory.is c.write-in-NoMemory.ensures.cut
+
+pub returns-in-Rejected-clause-cut : goal.returns-in-Rejected-clause-cut
+returns-in-Rejected-clause-cut g c = rw c.in-Rejected.is c.write_number-in-Rejected.ensures.cut

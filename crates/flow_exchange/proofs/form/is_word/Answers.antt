@@ -1,8 +1,8 @@
-use Rattle.std.proofs.Common.{◌≡◌, ℕ, List, [], ◌∷◌, length, get_or, map, Global, codes, sym, ap, ◌∙◌, arith}
+use Rattle.std.proofs.Common.{◌≡◌, ℕ, List, [], ◌∷◌, length, get_or, map, Global, sym, ap, ◌∙◌, arith}
 use Rattle.std.specs.Prelude.{String, string_bytes}
 use Rattle.std.specs.Str.{bytes_eq}
 use Rattle.std.proofs.lemmas.Slice.Eq.{bytes_eq-Decides}
-use Rattle.flow_exchange.proofs.form.is_run.Goals as goal
+use Rattle.flow_exchange.proofs.form.is_word.Goals as goal
 
 -- a list of one word
 one_word : (words : List (String Global)) (word : String Global) → length words ≡ 1 → word ≡ get_or words 0 word → map string_bytes words ≡ string_bytes word ∷ []
@@ -18,8 +18,8 @@ pub returns-then-words-eq1 : goal.returns-then-words-eq1
 returns-then-words-eq1 c =
     let word = c.index-words-0.result in
     let one = one_word c.args.words.now word (omega arith) c.index-words-0.is in
-    let decides = bytes_eq-Decides (string_bytes word) (codes "run") in
-    let same : c.eq.result ≡ bytes_eq (string_bytes word) (codes "run") = c.eq.ensures ∙ ap (λ xs. bytes_eq xs (codes "run")) c.as_str.ensures.value in (
+    let decides = bytes_eq-Decides (string_bytes word) c.args.word.now in
+    let same : c.eq.result ≡ bytes_eq (string_bytes word) c.args.word.now = c.eq.ensures ∙ ap (λ xs. bytes_eq xs c.args.word.now) c.as_str.ensures.value in (
       λ t. one ∙ ap (λ xs. xs ∷ []) (decides.0 (sym same ∙ t)),
-      λ m. same ∙ decides.1 (first_word (string_bytes word) (codes "run") (sym one ∙ m)),
+      λ m. same ∙ decides.1 (first_word (string_bytes word) c.args.word.now (sym one ∙ m)),
     )

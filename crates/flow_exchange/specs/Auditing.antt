@@ -1,0 +1,56 @@
+-- What `flow audit` makes of the bytes of its source.
+use Rattle.std.specs.Prelude.{◌≡◌, ◌⊎◌, ◌+◌, ℕ, List, [], ◌∷◌, ◌++◌, length, codes, decimal}
+use Rattle.wire_records.specs.Records.{Record}
+use Rattle.wire_records.specs.Commands.{Pair}
+use Rattle.wire_records.specs.CommandRecords.{IsReadAs}
+use Rattle.wire_records.specs.Reading.{Ending, Reads}
+use Rattle.wire_records.specs.Reading as reading
+use Rattle.flow_orders.specs.Outcomes.{Outcome}
+use Rattle.journal_records.specs.Formats.{journals}
+use Rattle.market_core.specs.Market.{Market}
+use Rattle.market_core.specs.Journal.{HoldsDeposits}
+use Rattle.market_core.specs.Promises.{KeepsPromises}
+use Rattle.journal_replay.specs.Audits.{Audits, cleared_in, skipped_in}
+use Rattle.flow_exchange.specs.declared.status.Status.{Status}
+use Rattle.flow_exchange.specs.declared.status.Status.TheVariants.{Done, Usage, NotFlow, Torn, ReadFault, WriteFault, NoMemory, Rejected, TooLong}
+use Rattle.flow_exchange.specs.Statuses.{ending_status}
+
+-- the line on a legal journal: how many pairs it has, and how many of their batches cleared and were skipped
+abbrev pub legal_line : List (Pair Record Outcome) → List ℕ
+legal_line legal =
+    (codes "legal: " ++ decimal (length legal) ++ codes " pairs, ") ++ (decimal (cleared_in legal) ++ codes " cleared, ") ++ (decimal (skipped_in legal) ++ codes " skipped\n")
+
+-- the status: that of the ending where no pair stands behind the legal ones, and else the number of the first, counted from 1
+abbrev pub audit_status : ℕ → Ending → List (Pair Record Outcome) → List (Record × Record) → Status
+audit_status limit ending legal [] = ending_status limit ending
+audit_status limit ending legal (bad ∷ more) = Rejected (length legal + 1)
+
+-- what is written: the line where all was done, and else nothing
+abbrev pub audit_text : Status → List (Pair Record Outcome) → List ℕ
+audit_text Done legal = legal_line legal
+audit_text Usage legal = []
+audit_text NotFlow legal = []
+audit_text (Torn place) legal = []
+audit_text ReadFault legal = []
+audit_text WriteFault legal = []
+audit_text NoMemory legal = []
+audit_text (Rejected number) legal = []
+audit_text (TooLong most) legal = []
+
+-- The bytes are a journal, whose pairs are these legal ones and those behind them. The legal ones keep the promises of the
+-- exchange, and lead to this market, which holds the accepted deposits less the accepted withdrawals.
+pub record AuditsFile (limit : ℕ) (bytes : List ℕ) (status : Status) (text : List ℕ) : Type 0 where
+  pub legal : List (Pair Record Outcome)
+  pub behind : List (Record × Record)
+  pub ending : Ending
+  pub market : Market
+  pub audits : Audits limit bytes legal behind ending market
+  pub deposits : HoldsDeposits IsReadAs legal market
+  pub keeps : KeepsPromises IsReadAs legal
+  pub ends : status ≡ audit_status limit ending legal behind
+  pub writes : text ≡ audit_text status legal
+
+-- the status and the text that the first `limit` bytes come to
+abbrev pub AuditsTo : ℕ → List ℕ → Status → List ℕ → Type 0
+AuditsTo limit bytes status text =
+    (Reads journals limit bytes reading.NotFlow × (status ≡ NotFlow) × (text ≡ [])) ⊎ AuditsFile limit bytes status text
