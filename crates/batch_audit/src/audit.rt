@@ -165,9 +165,9 @@ impl Audit {
     /// `Illegal`, and the market is as before, as it is after `Memory`. The number that the next order gets is below
     /// 2^64 - 1.
     ///
-    /// The pair is checked where it lies, and only prices, rates and residuals of a clearing that is right are copied. Memory
-    /// is taken for these, for the start prices of a batch and for the prices of a walk, and where the command adds an
-    /// asset, an account or an order.
+    /// The pair is checked where it lies. Of a reply nothing is copied but prices, rates and residuals of a clearing that is
+    /// right, and of a command what the market keeps of it. Memory is taken for these, for the start prices of a batch and
+    /// for the prices of a walk.
     pub fn pair(&mut self, pair: &PairView<'_>) -> Result<Legality, Memory>
         requires next { self.old.next_order + 1 < 2 ^ 64 }
         ensures judged { IfOk result (λ legality. IsJudged legality self.old pair.now self.new) }

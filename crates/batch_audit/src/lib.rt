@@ -6,7 +6,7 @@
 //!
 //! # Costs
 //!
-//! A pair is checked where it lies, and nothing of it is copied before it is known to be legal. A pair without a batch costs
+//! A pair is checked where it lies, and nothing of a reply is copied before it is known to be legal. A pair without a batch costs
 //! at most twice what its command costs the exchange: once for the reply that it gets, and once for the step. A clearing
 //! costs three passes over the entries of all live orders for its check, and then what settling costs; a skip costs, for
 //! each move of its walk, what making the move costs, and two passes for its dual floors.

@@ -75,7 +75,7 @@ are_legal start new before after (unit ∷ units) each leads =
     }
 
 -- there is more, or not
-told : (more : Bool) → IsTrue more ⊎ (¬ IsTrue more)
+pub told : (more : Bool) → IsTrue more ⊎ (¬ IsTrue more)
 told true = inl refl
 told false = inr (λ e. absurd cc)
 
@@ -98,7 +98,7 @@ module _ {O : Type 0} (place : ℕ) (more : Bool) (bytes : List ℕ) (start new 
       )
 
 -- units, one more and then more are read on
-read_more : (place : ℕ) (More : Type 0) → More ⊎ (¬ More) → (bytes left rest : List ℕ) (units : List (Record × Record)) (bad : Record × Record) → bytes ≡ spell_all journals.units units ++ left
+pub read_more : (place : ℕ) (More : Type 0) → More ⊎ (¬ More) → (bytes left rest : List ℕ) (units : List (Record × Record)) (bad : Record × Record) → bytes ≡ spell_all journals.units units ++ left
     → All journals.units.IsLawful units → journals.units.IsLawful bad → left ≡ journals.units.spell bad ++ rest
     → (more : List (Record × Record)) × (ending : Ending) × ReadsOn journals place More bytes (units ++ bad ∷ more) ending
 read_more place More dec bytes left rest units bad begins each lawful front =

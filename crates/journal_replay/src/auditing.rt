@@ -116,7 +116,7 @@ impl TakesUnits<()> for Auditing {
 /// and answers what it has found: how the reading ends, where all whole pairs are legal. `more` says whether the journal has
 /// bytes behind these.
 ///
-/// `Illegal` exactly where some whole pair isn't legal, with the number of the first, counted from 1 behind the place;
+/// `Illegal` where some whole pair isn't legal, with the number of the first, counted from 1 behind the place;
 /// `Memory` where there is none to audit a pair.
 pub fn audit_pairs(
     alloc: Global,
