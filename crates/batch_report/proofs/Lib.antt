@@ -1,0 +1,4 @@
+pub mod Joining
+pub mod Names
+pub mod Answered
+pub mod OneReport

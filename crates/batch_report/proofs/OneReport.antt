@@ -1,0 +1,47 @@
+-- A pair has one text.
+use Rattle.std.proofs.Common.{◌≡◌, ℕ, List, ◌++◌, codes, decimal, Ok, sym, ap, subst, ◌∙◌}
+use Rattle.wire_records.specs.Records.{Record}
+use Rattle.wire_records.specs.Commands.{Request, Command, AddAsset, OpenAccount, DepositMoney, DepositAsset, WithdrawMoney, WithdrawAsset, PlaceOrder, CancelOrder, RunBatch, Answer, Plain, Batch}
+use Rattle.wire_records.specs.CommandRecords.{IsReadAs}
+use Rattle.wire_records.specs.declared.reply.Reply.TheVariants.{Done, Asset, Account, Order, Refused}
+use Rattle.wire_records.proofs.Readings.{reading_unique}
+use Rattle.flow_orders.specs.Outcomes.{Outcome, Cleared, Skipped}
+use Rattle.journal_records.proofs.Spelled.{answer_unique}
+use Rattle.batch_report.specs.Reports.{order_text, TellsDone, Tells}
+use Rattle.batch_report.specs.Laws.{OneReport}
+
+-- one line is told of a command that was done
+one_done : (tickers : List (List ℕ)) (command : Command) (x y : List ℕ) → TellsDone tickers command x → TellsDone tickers command y → x ≡ y
+one_done tickers (DepositMoney account ticks) x y a b = a ∙ sym b
+one_done tickers (DepositAsset account asset units) x y a b = a ∙ sym b
+one_done tickers (WithdrawMoney account ticks) x y a b = a ∙ sym b
+one_done tickers (WithdrawAsset account asset units) x y a b = a ∙ sym b
+one_done tickers (CancelOrder account number) x y a b = a ∙ sym b
+one_done tickers (AddAsset ticker) x y a b = absurd a
+one_done tickers OpenAccount x y a b = absurd a
+one_done tickers (PlaceOrder request) x y a b = absurd a
+one_done tickers (RunBatch budget) x y a b = absurd a
+
+-- a record asks for one command
+one_command : (asked : Record) (c d : Command) → IsReadAs asked (Ok c) → IsReadAs asked (Ok d) → c ≡ d
+one_command asked c d a b = let same = reading_unique asked (Ok c) (Ok d) a b in cc
+
+-- and for one order
+one_request : (asked : Record) (r s : Request) → IsReadAs asked (Ok (PlaceOrder r)) → IsReadAs asked (Ok (PlaceOrder s)) → r ≡ s
+one_request asked r s a b = let same = one_command asked (PlaceOrder r) (PlaceOrder s) a b in cc
+
+one_told : (tickers : List (List ℕ)) (asked : Record) (answer : Answer Outcome) (x y : List ℕ) → Tells tickers asked answer x → Tells tickers asked answer y → x ≡ y
+one_told tickers asked (Plain Done) x y a b =
+    let same = one_command asked a.0 b.0 a.2 b.2 in
+    a.4 ∙ ap (λ xs. xs ++ codes "\n") (one_done tickers b.0 a.1 b.1 (subst (λ (c : Command). TellsDone tickers c a.1) same a.3) b.3) ∙ sym b.4
+one_told tickers asked (Plain (Asset asset)) x y a b = a ∙ sym b
+one_told tickers asked (Plain (Account account)) x y a b = a ∙ sym b
+one_told tickers asked (Plain (Order order)) x y a b = a.2 ∙ ap (λ (r : Request). order_text tickers order r ++ codes "\n") (one_request asked a.0 b.0 a.1 b.1) ∙ sym b.2
+one_told tickers asked (Plain (Refused refusal)) x y a b = a ∙ sym b
+one_told tickers asked (Batch batch (Cleared c)) x y a b = a ∙ sym b
+one_told tickers asked (Batch batch (Skipped s)) x y a b = a ∙ sym b
+
+pub one_report : OneReport
+one_report tickers number pair x y a b =
+    let same = answer_unique a.answer b.answer a.spelled.fits b.spelled.fits (sym a.spelled.spelled ∙ b.spelled.spelled) in
+    a.numbered ∙ ap (λ xs. decimal number ++ (codes " " ++ xs)) (one_told tickers pair.0 b.answer a.told b.told (subst (λ (answer : Answer Outcome). Tells tickers pair.0 answer a.told) same a.tells) b.tells) ∙ sym b.numbered

@@ -1,0 +1,15 @@
+use Rattle.std.proofs.Common.{◌≡◌, ◌++◌, codes}
+use Rattle.std.specs.Fmt.{signed_decimal}
+use Rattle.std.specs.Int.{w64}
+use Rattle.std.proofs.lemmas.Int.{to_z-of_z}
+use Rattle.weight_rows.specs.Rows.{price_of}
+use Rattle.batch_certificate.specs.Residuals.{residual_in}
+use Rattle.batch_report.proofs.Joining.{joined, on_ok}
+use Rattle.batch_report.proofs.batches.put_price.Goals as goal
+
+pub returns : goal.returns
+returns c =
+    let price : c.put_number.new.out.items ≡ c.put_name.new.out.items ++ (codes " price " ++ signed_decimal (price_of c.args.view.now.clearing.prices c.args.asset)) = rw (to_z-of_z w64 _ (record { sfits = c.price_at.type_inv }), c.price_at.ensures) at c.in_ok-put_number.ensures in
+    let left : c.put_number-2.new.out.items ≡ c.put_number.new.out.items ++ (codes " residual " ++ signed_decimal (residual_in c.args.view.now.clearing.residuals c.args.asset)) = rw (to_z-of_z w64 _ (record { sfits = c.residual_at.type_inv }), c.residual_at.ensures) at c.in_ok-put_number-2.ensures in
+    on_ok c.put.result
+    (λ last. joined c.args.out.now.items _ _ _ _ c.in_ok-put_name.ensures (joined c.put_name.new.out.items _ _ _ _ price (joined c.put_number.new.out.items _ _ _ _ left last))) c.put.ensures

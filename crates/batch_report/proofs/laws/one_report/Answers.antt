@@ -1,0 +1,5 @@
+use Rattle.batch_report.proofs.OneReport.{one_report}
+use Rattle.batch_report.proofs.laws.one_report.Goals as goal
+
+pub returns : goal.returns
+returns c = one_report

@@ -1,0 +1,45 @@
+-- Words that only private functions of the report use.
+use Rattle.std.specs.Prelude.{ℕ, List, pos, slice_index_or, ⊤}
+use Rattle.weight_rows.specs.declared.entries.Entry.{Entry}
+use Rattle.wire_records.specs.Records.{Record}
+use Rattle.wire_records.specs.Commands.{Command, AddAsset, OpenAccount, DepositMoney, DepositAsset, WithdrawMoney, WithdrawAsset, PlaceOrder, CancelOrder, RunBatch, Answer}
+use Rattle.wire_records.specs.CommandRecords.{IsReadAs}
+use Rattle.flow_orders.specs.Outcomes.{Fill, Outcome, IsRightOutcome}
+use Rattle.market_core.specs.Market.{Market}
+use Rattle.market_core.specs.Journal.{Step}
+
+-- the fill at a place that has one
+abbrev pub fill_at : List Fill → ℕ → Fill
+fill_at fills place = slice_index_or fills place (record { order = 0; rate = 0 })
+
+-- what stands where a row has no entry
+abbrev pub no_entry : Entry
+no_entry = record { asset = 0; weight = pos 0 }
+
+-- some market answers a record so
+abbrev pub IsAnswered : Record → Answer Outcome → Type 0
+IsAnswered asked answer = (old : Market) × (new : Market) × Step IsReadAs IsRightOutcome old asked answer new
+
+-- a command that is answered by Done where it is accepted
+abbrev pub IsDone : Command → Type 0
+IsDone (AddAsset ticker) = ⊥
+IsDone OpenAccount = ⊥
+IsDone (DepositMoney account ticks) = ⊤
+IsDone (DepositAsset account asset units) = ⊤
+IsDone (WithdrawMoney account ticks) = ⊤
+IsDone (WithdrawAsset account asset units) = ⊤
+IsDone (PlaceOrder request) = ⊥
+IsDone (CancelOrder account number) = ⊤
+IsDone (RunBatch budget) = ⊥
+
+-- a command that places an order
+abbrev pub IsPlacing : Command → Type 0
+IsPlacing (AddAsset ticker) = ⊥
+IsPlacing OpenAccount = ⊥
+IsPlacing (DepositMoney account ticks) = ⊥
+IsPlacing (DepositAsset account asset units) = ⊥
+IsPlacing (WithdrawMoney account ticks) = ⊥
+IsPlacing (WithdrawAsset account asset units) = ⊥
+IsPlacing (PlaceOrder request) = ⊤
+IsPlacing (CancelOrder account number) = ⊥
+IsPlacing (RunBatch budget) = ⊥

@@ -1,0 +1,99 @@
+-- The text of a pair of a journal. Numbers are plain decimal; prices, gaps and duals are in grains, limits in ticks.
+use Rattle.std.specs.Prelude.{◌≡◌, ℕ, List, [], ◌∷◌, ◌++◌, length, codes, decimal, get_or, Ok, ◌==◌, if◌then◌else◌}
+use Rattle.std.specs.Fmt.{signed_decimal}
+use Rattle.std.specs.List.{flat_map, range_with_len}
+use Rattle.weight_rows.specs.declared.entries.Entry.{Entry}
+use Rattle.wire_records.specs.Records.{Record}
+use Rattle.wire_records.specs.Commands.{Request, Command, AddAsset, OpenAccount, DepositMoney, DepositAsset, WithdrawMoney, WithdrawAsset, PlaceOrder, CancelOrder, RunBatch, Answer, Plain, Batch}
+use Rattle.wire_records.specs.CommandRecords.{IsReadAs}
+use Rattle.wire_records.specs.Refusals.{code_of}
+use Rattle.wire_records.specs.declared.reply.Reply.TheVariants.{Done, Asset, Account, Order, Refused}
+use Rattle.flow_orders.specs.Outcomes.{Fill, Clearing, Skipping, Outcome, Cleared, Skipped}
+use Rattle.weight_rows.specs.Rows.{price_of}
+use Rattle.batch_certificate.specs.Residuals.{residual_in}
+use Rattle.journal_records.specs.Replies.{SpellsAnswer}
+
+-- the name of a ticker: its bytes before the first space
+unfoldable pub name_of : List ℕ → List ℕ
+name_of [] = []
+name_of (byte ∷ more) = if byte == 32 then [] else byte ∷ name_of more
+
+-- the name of an asset's ticker
+abbrev pub asset_name : List (List ℕ) → ℕ → List ℕ
+asset_name tickers asset = name_of (get_or tickers asset [])
+
+infixr 5 ◌then◌
+-- one text, and then another
+abbrev pub ◌then◌ : List ℕ → List ℕ → List ℕ
+◌then◌ one other = one ++ other
+
+-- a deposit or a withdrawal of money, and one of an asset's units
+abbrev pub money_text : List ℕ → ℕ → ℕ → List ℕ
+money_text word account ticks = word then codes " account " then decimal account then codes " ticks " then decimal ticks
+
+abbrev pub units_text : List ℕ → List (List ℕ) → ℕ → ℕ → ℕ → List ℕ
+units_text word tickers account asset units =
+    word then codes " account " then decimal account then codes " " then asset_name tickers asset then codes " units " then decimal units
+
+-- an entry of an order: its asset's ticker and its weight
+abbrev pub entry_text : List (List ℕ) → Entry → List ℕ
+entry_text tickers e = codes " " then asset_name tickers e.asset then codes ":" then signed_decimal e.weight
+
+-- an order under its number
+abbrev pub order_text : List (List ℕ) → ℕ → Request → List ℕ
+order_text tickers order r =
+    codes "order " then decimal order then codes " account " then decimal r.account then codes " low " then signed_decimal r.low
+    then codes " high " then signed_decimal r.high then codes " rate " then decimal r.rate then codes " cap " then decimal r.cap
+    then flat_map (entry_text tickers) r.row
+
+-- the line of an asset in a batch that cleared
+abbrev pub price_line : List (List ℕ) → Clearing → ℕ → List ℕ
+price_line tickers c asset =
+    codes "  " then asset_name tickers asset then codes " price " then signed_decimal (price_of c.prices asset)
+    then codes " residual " then signed_decimal (residual_in c.residuals asset) then codes "\n"
+
+-- the line of an order's rate
+abbrev pub rate_line : Fill → List ℕ
+rate_line f = codes "  order " then decimal f.order then codes " rate " then decimal f.rate then codes "\n"
+
+-- a batch that cleared: its line, one for each asset, and one for each order that was live
+abbrev pub cleared_lines : List (List ℕ) → ℕ → Clearing → List ℕ
+cleared_lines tickers batch c =
+    codes "batch " then decimal batch then codes " cleared gap " then signed_decimal c.gap then codes "\n"
+    then flat_map (price_line tickers c) (range_with_len 0 (length c.prices)) then flat_map rate_line c.fills
+
+-- a batch that was skipped
+abbrev pub skipped_line : ℕ → Skipping → List ℕ
+skipped_line batch s =
+    codes "batch " then decimal batch then codes " skipped moves " then decimal (length s.trace)
+    then codes " duals " then signed_decimal s.start_dual then codes " " then signed_decimal s.end_dual then codes "\n"
+
+-- what is told of a command that was done, in one line without its end
+abbrev pub TellsDone : List (List ℕ) → Command → List ℕ → Type 0
+TellsDone tickers (DepositMoney account ticks) text = text ≡ money_text (codes "deposit") account ticks
+TellsDone tickers (DepositAsset account asset units) text = text ≡ units_text (codes "deposit") tickers account asset units
+TellsDone tickers (WithdrawMoney account ticks) text = text ≡ money_text (codes "withdraw") account ticks
+TellsDone tickers (WithdrawAsset account asset units) text = text ≡ units_text (codes "withdraw") tickers account asset units
+TellsDone tickers (CancelOrder account number) text = text ≡ codes "cancel order " then decimal number
+TellsDone tickers (AddAsset ticker) text = ⊥
+TellsDone tickers OpenAccount text = ⊥
+TellsDone tickers (PlaceOrder request) text = ⊥
+TellsDone tickers (RunBatch budget) text = ⊥
+
+-- what is told of a record and its answer, behind the pair's number, under the tickers of the market after the pair
+abbrev pub Tells : List (List ℕ) → Record → Answer Outcome → List ℕ → Type 0
+Tells tickers asked (Plain Done) text = (command : Command) × (line : List ℕ) × IsReadAs asked (Ok command) × TellsDone tickers command line × (text ≡ line then codes "\n")
+Tells tickers asked (Plain (Asset asset)) text = text ≡ codes "asset " then decimal asset then codes " " then asset_name tickers asset then codes "\n"
+Tells tickers asked (Plain (Account account)) text = text ≡ codes "account " then decimal account then codes "\n"
+Tells tickers asked (Plain (Order order)) text = (request : Request) × IsReadAs asked (Ok (PlaceOrder request)) × (text ≡ order_text tickers order request then codes "\n")
+Tells tickers asked (Plain (Refused refusal)) text = text ≡ codes "refused " then decimal (code_of refusal) then codes "\n"
+Tells tickers asked (Batch batch (Cleared c)) text = text ≡ cleared_lines tickers batch c
+Tells tickers asked (Batch batch (Skipped s)) text = text ≡ skipped_line batch s
+
+-- The lines of a pair of this number, counted from 1, under the tickers of the market after it.
+pub record IsReport (tickers : List (List ℕ)) (number : ℕ) (pair : Record × Record) (text : List ℕ) : Type 0 where
+  pub answer : Answer Outcome
+  pub told : List ℕ
+  pub spelled : SpellsAnswer pair.1 answer
+  pub tells : Tells tickers pair.0 answer told
+  pub numbered : text ≡ decimal number then codes " " then told

@@ -1,0 +1,123 @@
+//! The lines of batches.
+ghost use Rattle.std.specs.Prelude.{◌≡◌, ◌<◌, ◌++◌, length, slice_index_or, pos, OnOk};
+ghost use Rattle.std.specs.List.{flat_map, range_with_len};
+ghost use Rattle.weight_rows.specs.Rows.{price_of};
+ghost use Rattle.batch_certificate.specs.Residuals.{residual_in};
+ghost use Rattle.batch_report.specs.Reports.{price_line, rate_line, cleared_lines, skipped_line};
+ghost use Rattle.batch_report.specs.Private.{fill_at};
+
+use crate::words::{put, put_name, put_number};
+use batch_certificate::ClearedParts;
+use journal_records::{ClearedView, SkippedView};
+use ticker_table::TickerTable;
+use wire_records::Memory;
+
+// The price of an asset that has one.
+fn price_at(view: &ClearedView<'_>, asset: u16) -> i64
+    requires { asset < length view.now.clearing.prices }
+    ensures { result ≡ price_of view.now.clearing.prices asset }
+{
+    view.price(asset).unwrap()
+}
+
+// The residual of an asset that has one.
+fn residual_at(view: &ClearedView<'_>, asset: u16) -> i64
+    requires { asset < length view.now.clearing.residuals }
+    ensures { result ≡ residual_in view.now.clearing.residuals asset }
+{
+    view.residual(asset).unwrap()
+}
+
+// The number of the order at a place that has a rate.
+fn number_at(view: &ClearedView<'_>, place: u32) -> u64
+    requires { place < length view.now.clearing.fills }
+    ensures { result ≡ (fill_at view.now.clearing.fills place).order }
+{
+    view.order(place).unwrap()
+}
+
+// The rate at a place that has one.
+fn rate_at(view: &ClearedView<'_>, place: u32) -> u32
+    requires { place < length view.now.clearing.fills }
+    ensures { result ≡ (fill_at view.now.clearing.fills place).rate }
+{
+    view.rate(place).unwrap()
+}
+
+// The line of an asset.
+fn put_price(
+    tickers: &TickerTable,
+    view: &ClearedView<'_>,
+    asset: u16,
+    out: &mut Vec<u8>,
+) -> Result<(), Memory>
+    requires priced { asset < length view.now.clearing.prices }
+    requires left { asset < length view.now.clearing.residuals }
+    ensures { OnOk result (out.new.items ≡ out.old.items ++ price_line tickers.now view.now.clearing asset) }
+{
+    put_name(out, b"  ", tickers, asset)?;
+    put_number(out, b" price ", price_at(view, asset))?;
+    put_number(out, b" residual ", residual_at(view, asset))?;
+    put(out, b"\n")
+}
+
+// The lines of all assets.
+fn put_prices(
+    tickers: &TickerTable,
+    view: &ClearedView<'_>,
+    out: &mut Vec<u8>,
+) -> Result<(), Memory>
+    ensures { OnOk result (out.new.items ≡ out.old.items
+        ++ flat_map (price_line tickers.now view.now.clearing) (range_with_len 0 (length view.now.clearing.prices))) }
+{
+    for asset in 0..view.price_count() {
+        put_price(tickers, view, asset, out)?;
+    }
+    Ok(())
+}
+
+// The line of an order.
+fn put_rate(view: &ClearedView<'_>, place: u32, out: &mut Vec<u8>) -> Result<(), Memory>
+    requires { place < length view.now.clearing.fills }
+    ensures { OnOk result (out.new.items ≡ out.old.items ++ rate_line (fill_at view.now.clearing.fills place)) }
+{
+    put_number(out, b"  order ", number_at(view, place))?;
+    put_number(out, b" rate ", rate_at(view, place))?;
+    put(out, b"\n")
+}
+
+// The lines of all orders that were live.
+fn put_rates(view: &ClearedView<'_>, out: &mut Vec<u8>) -> Result<(), Memory>
+    ensures { OnOk result (out.new.items ≡ out.old.items ++ flat_map rate_line view.now.clearing.fills) }
+{
+    for place in 0..view.rate_count() {
+        put_rate(view, place, out)?;
+    }
+    Ok(())
+}
+
+// A batch that cleared.
+pub(crate) fn put_cleared(
+    tickers: &TickerTable,
+    view: &ClearedView<'_>,
+    out: &mut Vec<u8>,
+) -> Result<(), Memory>
+    ensures { OnOk result (out.new.items ≡ out.old.items ++ cleared_lines tickers.now view.now.batch view.now.clearing) }
+{
+    put_number(out, b"batch ", view.batch())?;
+    put_number(out, b" cleared gap ", view.gap())?;
+    put(out, b"\n")?;
+    put_prices(tickers, view, out)?;
+    put_rates(view, out)
+}
+
+// A batch that was skipped.
+pub(crate) fn put_skipped(view: &SkippedView<'_>, out: &mut Vec<u8>) -> Result<(), Memory>
+    ensures { OnOk result (out.new.items ≡ out.old.items ++ skipped_line view.now.batch view.now.skipping) }
+{
+    put_number(out, b"batch ", view.batch())?;
+    put_number(out, b" skipped moves ", view.trace().len())?;
+    put_number(out, b" duals ", view.start_dual())?;
+    put_number(out, b" ", view.end_dual())?;
+    put(out, b"\n")
+}

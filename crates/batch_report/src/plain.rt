@@ -1,0 +1,238 @@
+//! The lines of commands that hold no batch.
+ghost use Rattle.std.specs.Prelude.{◌≡◌, ◌<◌, ◌++◌, ℕ, List, length, slice_index_or, Ok, OnOk, codes, decimal};
+ghost use Rattle.std.specs.List.{flat_map};
+ghost use Rattle.weight_rows.specs.declared.entries.Entry.{Entry};
+ghost use Rattle.wire_records.specs.Commands.{Request, PlaceOrder, Plain};
+ghost use Rattle.wire_records.specs.Refusals.{code_of};
+ghost use Rattle.wire_records.specs.declared.reply.Reply.TheVariants as reply;
+ghost use Rattle.wire_records.specs.CommandRecords.{IsReadAs};
+ghost use Rattle.wire_records.specs.Views.{command_of};
+ghost use Rattle.batch_report.specs.Reports.{◌then◌, money_text, units_text, entry_text, order_text, asset_name, TellsDone, Tells};
+ghost use Rattle.batch_report.specs.Private.{IsAnswered, IsDone, IsPlacing, no_entry};
+
+use crate::words::{put, put_name, put_number};
+use ticker_table::TickerTable;
+use weight_rows::Entry;
+use wire_records::{CommandView, Memory, PlaceView, RecordView, Refusal, Reply, RowView};
+
+// A deposit or a withdrawal of money.
+fn put_money(word: &[u8], account: u32, ticks: u64, out: &mut Vec<u8>) -> Result<(), Memory>
+    ensures { OnOk result (out.new.items ≡ out.old.items ++ money_text word.now account ticks) }
+{
+    put(out, word)?;
+    put_number(out, b" account ", account)?;
+    put_number(out, b" ticks ", ticks)
+}
+
+// A deposit or a withdrawal of an asset's units.
+fn put_units(
+    word: &[u8],
+    tickers: &TickerTable,
+    account: u32,
+    asset: u16,
+    units: u64,
+    out: &mut Vec<u8>,
+) -> Result<(), Memory>
+    ensures { OnOk result (out.new.items ≡ out.old.items ++ units_text word.now tickers.now account asset units) }
+{
+    put(out, word)?;
+    put_number(out, b" account ", account)?;
+    put_name(out, b" ", tickers, asset)?;
+    put_number(out, b" units ", units)
+}
+
+// A command that was done, without the end of its line.
+fn put_command(
+    tickers: &TickerTable,
+    command: &CommandView<'_>,
+    out: &mut Vec<u8>,
+) -> Result<(), Memory>
+    requires { IsDone (command_of command.now) }
+    ensures { OnOk result ((line : List ℕ) × TellsDone tickers.now (command_of command.now) line
+        × (out.new.items ≡ out.old.items ++ line)) }
+{
+    match *command {
+        CommandView::DepositMoney { account, ticks } => put_money(b"deposit", account, ticks, out),
+        CommandView::DepositAsset {
+            account,
+            asset,
+            units,
+        } => put_units(b"deposit", tickers, account, asset, units, out),
+        CommandView::WithdrawMoney { account, ticks } => {
+            put_money(b"withdraw", account, ticks, out)
+        }
+        CommandView::WithdrawAsset {
+            account,
+            asset,
+            units,
+        } => put_units(b"withdraw", tickers, account, asset, units, out),
+        CommandView::CancelOrder { order, .. } => put_number(out, b"cancel order ", order),
+        CommandView::AddAsset(_) => unreachable!(),
+        CommandView::OpenAccount => unreachable!(),
+        CommandView::PlaceOrder(_) => unreachable!(),
+        CommandView::RunBatch { .. } => unreachable!(),
+    }
+}
+
+// The command of a record that was answered by `Done`.
+fn done_command<'a>(asked: &RecordView<'a>) -> CommandView<'a>
+    requires { IsAnswered asked.now (Plain reply.Done) }
+    ensures read { IsReadAs asked.now (Ok (command_of result)) }
+    ensures done { IsDone (command_of result) }
+{
+    match asked.command() {
+        Ok(command) => command,
+        Err(_) => unreachable!(),
+    }
+}
+
+// The command of a record that was answered by an order's number.
+fn placing_command<'a>(asked: &RecordView<'a>) -> CommandView<'a>
+    requires { (number : ℕ) × IsAnswered asked.now (Plain (reply.Order number)) }
+    ensures read { IsReadAs asked.now (Ok (command_of result)) }
+    ensures placing { IsPlacing (command_of result) }
+{
+    match asked.command() {
+        Ok(command) => command,
+        Err(_) => unreachable!(),
+    }
+}
+
+// The line of a command that was done.
+fn put_done(tickers: &TickerTable, asked: &RecordView<'_>, out: &mut Vec<u8>) -> Result<(), Memory>
+    requires { IsAnswered asked.now (Plain reply.Done) }
+    ensures { OnOk result ((text : List ℕ) × Tells tickers.now asked.now (Plain reply.Done) text
+        × (out.new.items ≡ out.old.items ++ text)) }
+{
+    put_command(tickers, &done_command(asked), out)?;
+    put(out, b"\n")
+}
+
+// An entry of an order.
+fn put_entry(tickers: &TickerTable, entry: Entry, out: &mut Vec<u8>) -> Result<(), Memory>
+    ensures { OnOk result (out.new.items ≡ out.old.items ++ entry_text tickers.now entry) }
+{
+    put_name(out, b" ", tickers, entry.asset)?;
+    put_number(out, b":", entry.weight)
+}
+
+// The entry at a place that has one.
+fn entry_at(row: &RowView<'_>, place: usize) -> Entry
+    requires { place < length row.now }
+    ensures { result ≡ slice_index_or row.now place no_entry }
+{
+    row.entry(place).unwrap()
+}
+
+// The entries of an order.
+fn put_entries(tickers: &TickerTable, row: &RowView<'_>, out: &mut Vec<u8>) -> Result<(), Memory>
+    ensures { OnOk result (out.new.items ≡ out.old.items ++ flat_map (entry_text tickers.now) row.now) }
+{
+    for place in 0..row.len() {
+        put_entry(tickers, entry_at(row, place), out)?;
+    }
+    Ok(())
+}
+
+// An order under its number.
+fn put_order(
+    tickers: &TickerTable,
+    place: &PlaceView<'_>,
+    order: u64,
+    out: &mut Vec<u8>,
+) -> Result<(), Memory>
+    ensures { OnOk result (out.new.items ≡ out.old.items ++ order_text tickers.now order place.now) }
+{
+    put_number(out, b"order ", order)?;
+    put_number(out, b" account ", place.account())?;
+    put_number(out, b" low ", place.low())?;
+    put_number(out, b" high ", place.high())?;
+    put_number(out, b" rate ", place.rate())?;
+    put_number(out, b" cap ", place.cap())?;
+    put_entries(tickers, &place.row(), out)
+}
+
+// The order that a command places, under its number.
+fn put_placing(
+    tickers: &TickerTable,
+    command: &CommandView<'_>,
+    order: u64,
+    out: &mut Vec<u8>,
+) -> Result<(), Memory>
+    requires { IsPlacing (command_of command.now) }
+    ensures { OnOk result ((request : Request) × (command_of command.now ≡ PlaceOrder request)
+        × (out.new.items ≡ out.old.items ++ order_text tickers.now order request)) }
+{
+    match *command {
+        CommandView::PlaceOrder(ref place) => put_order(tickers, place, order, out),
+        CommandView::AddAsset(_) => unreachable!(),
+        CommandView::OpenAccount => unreachable!(),
+        CommandView::DepositMoney { .. } => unreachable!(),
+        CommandView::DepositAsset { .. } => unreachable!(),
+        CommandView::WithdrawMoney { .. } => unreachable!(),
+        CommandView::WithdrawAsset { .. } => unreachable!(),
+        CommandView::CancelOrder { .. } => unreachable!(),
+        CommandView::RunBatch { .. } => unreachable!(),
+    }
+}
+
+// The line of an order.
+fn put_placed(
+    tickers: &TickerTable,
+    asked: &RecordView<'_>,
+    order: u64,
+    out: &mut Vec<u8>,
+) -> Result<(), Memory>
+    requires { IsAnswered asked.now (Plain (reply.Order order)) }
+    ensures { OnOk result ((text : List ℕ) × Tells tickers.now asked.now (Plain (reply.Order order)) text
+        × (out.new.items ≡ out.old.items ++ text)) }
+{
+    put_placing(tickers, &placing_command(asked), order, out)?;
+    put(out, b"\n")
+}
+
+// The line of a new asset.
+fn put_asset(tickers: &TickerTable, asset: u16, out: &mut Vec<u8>) -> Result<(), Memory>
+    ensures { OnOk result (out.new.items ≡ out.old.items
+        ++ (codes "asset " then decimal asset then codes " " then asset_name tickers.now asset then codes "\n")) }
+{
+    put_number(out, b"asset ", asset)?;
+    put_name(out, b" ", tickers, asset)?;
+    put(out, b"\n")
+}
+
+// The line of a new account.
+fn put_account(account: u32, out: &mut Vec<u8>) -> Result<(), Memory>
+    ensures { OnOk result (out.new.items ≡ out.old.items ++ (codes "account " then decimal account then codes "\n")) }
+{
+    put_number(out, b"account ", account)?;
+    put(out, b"\n")
+}
+
+// The line of a refusal.
+fn put_refused(refusal: Refusal, out: &mut Vec<u8>) -> Result<(), Memory>
+    ensures { OnOk result (out.new.items ≡ out.old.items ++ (codes "refused " then decimal (code_of refusal) then codes "\n")) }
+{
+    put_number(out, b"refused ", refusal.code())?;
+    put(out, b"\n")
+}
+
+// The line of a plain reply.
+pub(crate) fn put_plain(
+    tickers: &TickerTable,
+    asked: &RecordView<'_>,
+    told: Reply,
+    out: &mut Vec<u8>,
+) -> Result<(), Memory>
+    requires { IsAnswered asked.now (Plain told) }
+    ensures { OnOk result ((text : List ℕ) × Tells tickers.now asked.now (Plain told) text
+        × (out.new.items ≡ out.old.items ++ text)) }
+{
+    match told {
+        Reply::Done => put_done(tickers, asked, out),
+        Reply::Asset(asset) => put_asset(tickers, asset, out),
+        Reply::Account(account) => put_account(account, out),
+        Reply::Order(order) => put_placed(tickers, asked, order, out),
+        Reply::Refused(refusal) => put_refused(refusal, out),
+    }
+}

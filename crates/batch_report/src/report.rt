@@ -1,0 +1,77 @@
+//! The lines of a pair.
+ghost use Rattle.std.specs.Prelude.{◌≡◌, ◌++◌, ℕ, List, OnOk, OnErr};
+ghost use Rattle.journal_records.specs.Views.{answer_of};
+ghost use Rattle.market_core.specs.Market.{Market};
+ghost use Rattle.batch_audit.specs.Legal.{IsLegalPair};
+ghost use Rattle.batch_report.specs.Reports.{Tells, IsReport};
+ghost use Rattle.batch_report.specs.Private.{IsAnswered};
+
+use crate::batches::{put_cleared, put_skipped};
+use crate::plain::put_plain;
+use crate::words::{put, put_number};
+use batch_audit::Audit;
+use journal_records::{PairView, ReplyView, reply};
+use ticker_table::TickerTable;
+use wire_records::{Memory, RecordView};
+
+// What is told of a record and its answer.
+fn put_told(
+    tickers: &TickerTable,
+    asked: &RecordView<'_>,
+    seen: &ReplyView<'_>,
+    out: &mut Vec<u8>,
+) -> Result<(), Memory>
+    requires { IsAnswered asked.now (answer_of seen.now) }
+    ensures { OnOk result ((told : List ℕ) × Tells tickers.now asked.now (answer_of seen.now) told
+        × (out.new.items ≡ out.old.items ++ told)) }
+{
+    match seen {
+        ReplyView::Plain(told) => put_plain(tickers, asked, *told, out),
+        ReplyView::Cleared(view) => put_cleared(tickers, view, out),
+        ReplyView::Skipped(view) => put_skipped(view, out),
+    }
+}
+
+// The lines of a pair.
+fn put_pair(
+    tickers: &TickerTable,
+    pair: &PairView<'_>,
+    number: u64,
+    out: &mut Vec<u8>,
+) -> Result<(), Memory>
+    requires { (old new : Market) × IsLegalPair old pair.now new }
+    ensures { OnOk result ((text : List ℕ) × IsReport tickers.now number pair.now text
+        × (out.new.items ≡ out.old.items ++ text)) }
+{
+    put_number(out, b"", number)?;
+    put(out, b" ")?;
+    match reply(&pair.answered()) {
+        Some(seen) => put_told(tickers, &pair.asked(), &seen, out),
+        None => unreachable!(),
+    }
+}
+
+/// Appends the lines of a pair that the audit has just found legal, under its number, counted from 1. They name assets by
+/// the tickers of the market after the pair, without spaces. Prices, gaps and duals are in grains, limits in ticks, all
+/// other amounts in whole units; numbers are plain decimal, with `-` before a negative one, and each line ends with a line
+/// feed.
+///
+/// One line tells a plain command with what it was given or did, or the code of a refusal. A batch that cleared has a line for
+/// each asset and for each order that was live behind its own, rates of 0 among them. `Memory` comes where there was none
+/// for the text, and then `out` is as before. It costs what the pair has of numbers, and a copy of the text.
+pub fn report_pair(
+    audit: &Audit,
+    pair: &PairView<'_>,
+    number: u64,
+    out: &mut Vec<u8>,
+) -> Result<(), Memory>
+    requires legal { (old : Market) × IsLegalPair old pair.now audit.now }
+    ensures reported { OnOk result ((text : List ℕ) × IsReport audit.now.tickers number pair.now text
+        × (out.new.items ≡ out.old.items ++ text)) }
+    ensures stays { OnErr result (out.new.items ≡ out.old.items) }
+{
+    let mut text = Vec::new(*out.allocator());
+    put_pair(audit.market().tickers(), pair, number, &mut text)?;
+    out.extend_from_slice(text.as_slice())?;
+    Ok(())
+}
