@@ -1,0 +1,212 @@
+//! What an object asks for.
+ghost use Rattle.std.specs.Prelude.{◌≡◌, ◌≤◌, ℕ, ℤ, length, List, codes, Some, None, IfSome, IfNone, IfOk, IsErrOf, option_and_then};
+ghost use Rattle.serde_json.specs.View.{view};
+ghost use Rattle.ticker_table.specs.Tickers.{ticker_limit};
+ghost use Rattle.order_text.specs.Lines.{HasKeys, small_at, number_at, signed_at, asset_at, row_at};
+ghost use Rattle.order_text.specs.Private.{IsFound, IsPlain, IsPlaced, IsAnswered, HasMoney, HasUnits, HasLimits};
+
+use crate::LineFault;
+use crate::fields::{asset_at, has_keys, is_asked, number_at, signed_at, small_at, ticker_at};
+use crate::row::row_of;
+use serde_json::Value;
+use std::alloc::Global;
+use ticker_table::TickerTable;
+use weight_rows::EntryList;
+use wire_records::Command;
+
+fn add_asset(value: &Value) -> Option<Command>
+    ensures { (tickers : List (List ℕ)) → IsFound (codes "asset") tickers (view value.now) result }
+{
+    let ticker = ticker_at(value, "ticker")?;
+    if !has_keys(value, 2) {
+        return None;
+    }
+    Some(Command::AddAsset { ticker })
+}
+
+fn open_account(value: &Value) -> Option<Command>
+    ensures { (tickers : List (List ℕ)) → IsFound (codes "account") tickers (view value.now) result }
+{
+    if !has_keys(value, 1) {
+        return None;
+    }
+    Some(Command::OpenAccount)
+}
+
+// An account and ticks, all that the object has beside `do`.
+fn money(value: &Value) -> Option<(u32, u64)>
+    ensures some { IfSome result (λ fields. HasMoney (view value.now) fields.0 fields.1) }
+    ensures none { IfNone result ((account ticks : ℕ) → ¬ HasMoney (view value.now) account ticks) }
+{
+    let account = small_at(value, "account")?;
+    let ticks = number_at(value, "ticks")?;
+    if !has_keys(value, 3) {
+        return None;
+    }
+    Some((account, ticks))
+}
+
+// An account, an asset and units, all that the object has beside `do`.
+fn units(tickers: &TickerTable, value: &Value) -> Option<(u32, u16, u64)>
+    ensures some { IfSome result (λ fields. HasUnits tickers.now (view value.now) fields.0 fields.1 fields.2) }
+    ensures none { IfNone result ((account asset units : ℕ) → ¬ HasUnits tickers.now (view value.now) account asset units) }
+{
+    let account = small_at(value, "account")?;
+    let asset = asset_at(tickers, value, "asset")?;
+    let units = number_at(value, "units")?;
+    if !has_keys(value, 4) {
+        return None;
+    }
+    Some((account, asset, units))
+}
+
+fn deposit(tickers: &TickerTable, value: &Value) -> Option<Command>
+    ensures { IsFound (codes "deposit") tickers.now (view value.now) result }
+{
+    if let Some((account, ticks)) = money(value) {
+        return Some(Command::DepositMoney { account, ticks });
+    }
+    let (account, asset, units) = units(tickers, value)?;
+    Some(Command::DepositAsset {
+        account,
+        asset,
+        units,
+    })
+}
+
+fn withdraw(tickers: &TickerTable, value: &Value) -> Option<Command>
+    ensures { IsFound (codes "withdraw") tickers.now (view value.now) result }
+{
+    if let Some((account, ticks)) = money(value) {
+        return Some(Command::WithdrawMoney { account, ticks });
+    }
+    let (account, asset, units) = units(tickers, value)?;
+    Some(Command::WithdrawAsset {
+        account,
+        asset,
+        units,
+    })
+}
+
+fn cancel(value: &Value) -> Option<Command>
+    ensures { (tickers : List (List ℕ)) → IsFound (codes "cancel") tickers (view value.now) result }
+{
+    let account = small_at(value, "account")?;
+    let order = number_at(value, "order")?;
+    if !has_keys(value, 3) {
+        return None;
+    }
+    Some(Command::CancelOrder { account, order })
+}
+
+fn run_batch(value: &Value) -> Option<Command>
+    ensures { (tickers : List (List ℕ)) → IsFound (codes "batch") tickers (view value.now) result }
+{
+    let budget = small_at(value, "budget")?;
+    if !has_keys(value, 2) {
+        return None;
+    }
+    Some(Command::RunBatch { budget })
+}
+
+// What stands at the keys of an order but its row.
+#[derive(Clone, Copy, Debug, PartialEq, Eq)]
+struct Limits {
+    account: u32,
+    low: i64,
+    high: i64,
+    rate: u32,
+    cap: u64,
+}
+
+fn limits_of(value: &Value) -> Option<Limits>
+    ensures some { IfSome result (λ l. HasLimits (view value.now) l.account l.low l.high l.rate l.cap) }
+    ensures none { IfNone result
+        ((account : ℕ) (low high : ℤ) (rate cap : ℕ) → ¬ HasLimits (view value.now) account low high rate cap) }
+{
+    let account = small_at(value, "account")?;
+    let low = signed_at(value, "low")?;
+    let high = signed_at(value, "high")?;
+    let rate = small_at(value, "rate")?;
+    let cap = number_at(value, "cap")?;
+    Some(Limits {
+        account,
+        low,
+        high,
+        rate,
+        cap,
+    })
+}
+
+fn row_at(alloc: Global, tickers: &TickerTable, value: &Value) -> Result<EntryList, LineFault>
+    ensures row { IfOk result (λ row. row_at tickers.now (codes "weights") (view value.now) ≡ Some row) }
+    ensures short { IfOk result (λ row. length row ≤ ticker_limit) }
+    ensures none { IsErrOf result LineFault.NoCommand → row_at tickers.now (codes "weights") (view value.now) ≡ None }
+{
+    match value.get("weights").and_then(Value::as_object) {
+        Some(members) => row_of(alloc, tickers, members),
+        None => Err(LineFault::NoCommand),
+    }
+}
+
+fn place(alloc: Global, tickers: &TickerTable, value: &Value) -> Result<Command, LineFault>
+    ensures { IsPlaced tickers.now (view value.now) result }
+{
+    let Some(limits) = limits_of(value) else {
+        return Err(LineFault::NoCommand);
+    };
+    if !has_keys(value, 7) {
+        return Err(LineFault::NoCommand);
+    }
+    let row = row_at(alloc, tickers, value)?;
+    Ok(Command::PlaceOrder {
+        account: limits.account,
+        low: limits.low,
+        high: limits.high,
+        rate: limits.rate,
+        cap: limits.cap,
+        row,
+    })
+}
+
+// The command of an object that asks for no order.
+fn plain(tickers: &TickerTable, value: &Value) -> Option<Command>
+    ensures { IsPlain tickers.now (view value.now) result }
+{
+    if is_asked(value, "asset") {
+        return add_asset(value);
+    }
+    if is_asked(value, "account") {
+        return open_account(value);
+    }
+    if is_asked(value, "deposit") {
+        return deposit(tickers, value);
+    }
+    if is_asked(value, "withdraw") {
+        return withdraw(tickers, value);
+    }
+    if is_asked(value, "cancel") {
+        return cancel(value);
+    }
+    if is_asked(value, "batch") {
+        return run_batch(value);
+    }
+    None
+}
+
+/// The command that a value asks for.
+pub(crate) fn command_of(
+    alloc: Global,
+    tickers: &TickerTable,
+    value: &Value,
+) -> Result<Command, LineFault>
+    ensures { IsAnswered tickers.now (view value.now) result }
+{
+    if is_asked(value, "place") {
+        return place(alloc, tickers, value);
+    }
+    match plain(tickers, value) {
+        Some(command) => Ok(command),
+        None => Err(LineFault::NoCommand),
+    }
+}

@@ -1,0 +1,93 @@
+//! What stands at the keys of an object.
+ghost use Rattle.std.specs.Prelude.{◌≡◌, ◌↔◌, codes, Some, IsTrue, IfSome, IfNone, option_map, ℕ, List};
+ghost use Rattle.serde_json.specs.View.{view};
+ghost use Rattle.order_text.specs.Lines.{HasKeys, text_at, number_at, small_at, signed_at, padded, asset_named, asset_at, HasTicker};
+
+use serde_json::Value;
+use ticker_table::TickerTable;
+
+// How long a ticker is.
+const TICKER: usize = 8;
+
+pub(crate) fn text_at<'a>(value: &'a Value, key: &str) -> Option<&'a str>
+    ensures { option_map (λ text. text.now) result ≡ text_at key.now (view value.now) }
+{
+    value.get(key)?.as_str()
+}
+
+// Whether this is the text at `do`.
+pub(crate) fn is_asked(value: &Value, word: &str) -> bool
+    ensures { IsTrue result ↔ (text_at (codes "do") (view value.now) ≡ Some word.now) }
+{
+    match text_at(value, "do") {
+        Some(text) => text == word,
+        None => false,
+    }
+}
+
+pub(crate) fn has_keys(value: &Value, count: usize) -> bool
+    ensures { IsTrue result ↔ HasKeys count (view value.now) }
+{
+    match value.as_object() {
+        Some(members) => members.len() == count,
+        None => false,
+    }
+}
+
+pub(crate) fn number_at(value: &Value, key: &str) -> Option<u64>
+    ensures { result ≡ number_at key.now (view value.now) }
+{
+    value.get(key)?.as_u64()
+}
+
+pub(crate) fn small_at(value: &Value, key: &str) -> Option<u32>
+    ensures { result ≡ small_at key.now (view value.now) }
+{
+    let number = number_at(value, key)?;
+    if number > u32::MAX as u64 {
+        return None;
+    }
+    Some(number as u32)
+}
+
+pub(crate) fn signed_at(value: &Value, key: &str) -> Option<i64>
+    ensures { result ≡ signed_at key.now (view value.now) }
+{
+    value.get(key)?.as_i64()
+}
+
+// The bytes of a text, padded with spaces.
+fn padded(text: &str) -> Option<[u8; 8]>
+    ensures { result ≡ padded text.now }
+{
+    let bytes = text.as_bytes();
+    if bytes.len() > TICKER {
+        return None;
+    }
+    let mut ticker = [b' '; TICKER];
+    ticker[..bytes.len()].copy_from_slice(bytes);
+    Some(ticker)
+}
+
+pub(crate) fn asset_named(tickers: &TickerTable, text: &str) -> Option<u16>
+    ensures { result ≡ asset_named tickers.now text.now }
+{
+    tickers.find(&padded(text)?)
+}
+
+pub(crate) fn asset_at(tickers: &TickerTable, value: &Value, key: &str) -> Option<u16>
+    ensures { result ≡ asset_at tickers.now key.now (view value.now) }
+{
+    asset_named(tickers, text_at(value, key)?)
+}
+
+pub(crate) fn ticker_at(value: &Value, key: &str) -> Option<[u8; 8]>
+    ensures some { IfSome result (λ ticker. HasTicker key.now (view value.now) ticker) }
+    ensures none { IfNone result ((ticker : List ℕ) → ¬ HasTicker key.now (view value.now) ticker) }
+{
+    let text = text_at(value, key)?;
+    if !text.is_ascii() {
+        return None;
+    }
+    padded(text)
+}

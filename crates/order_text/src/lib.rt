@@ -1,0 +1,15 @@
+//! The command that a line of JSON asks for.
+//!
+//! [`read_line`] reads one line with the tickers of the lines before it. An object says by the text at `do` what it
+//! asks for, and has exactly the keys of that command.
+#![tactic(auto)]
+
+mod asking;
+mod fields;
+pub mod laws;
+mod line;
+mod row;
+#[cfg(test)]
+mod tests;
+
+pub use line::{LineFault, LineRead, read_line};
