@@ -1,18 +1,26 @@
 -- When an audit is done, and when it rejects a pair.
-use Rattle.std.proofs.Common.{◌≡◌, ◌≤◌, ℕ, List, [], ◌∷◌, length, inl, inr, refl, ap}
+use Rattle.std.proofs.Common.{◌≡◌, ◌+◌, ◌<◌, ◌≤◌, ◌⊎◌, ℕ, List, [], ◌∷◌, ◌++◌, map, length, inl, inr, refl, sym, ap, ◌∙◌, append_assoc, arith}
+use Rattle.std.specs.Prelude.{All}
+use Rattle.std.proofs.lemmas.Bool.{cases_lt}
+use Rattle.std.proofs.lemmas.Grind.{flat_map-append}
+use Rattle.std.proofs.lemmas.List.Elements.{All-head, All-tail, All-map}
 use Rattle.wire_records.specs.Records.{Record}
 use Rattle.wire_records.specs.Commands.{Pair}
 use Rattle.wire_records.specs.Reading.{Ending, End, Torn, TooLong}
 use Rattle.flow_orders.specs.Outcomes.{Outcome}
-use Rattle.journal_records.specs.Pairs.{journal}
+use Rattle.wire_records.specs.Grammars.{spell_all}
+use Rattle.wire_records.specs.Formats.{Version, One}
+use Rattle.journal_records.specs.Pairs.{journal_magic, journal}
+use Rattle.journal_records.specs.Formats.{journal_magic_of, journals, records_of}
+use Rattle.journal_records.proofs.Files.{journal_is_file}
 use Rattle.market_core.specs.Market.{Market}
 use Rattle.batch_audit.specs.Legal.{IsLegalJournal}
 use Rattle.journal_replay.specs.Audits.{Audits}
-use Rattle.journal_replay.specs.Replays.{HasIllegal}
+use Rattle.journal_replay.proofs.Judged.{read_more}
 use Rattle.journal_replay.proofs.LawProofs.{audits_to_end}
 use Rattle.flow_exchange.specs.declared.status.Status.TheVariants as answer
 use Rattle.flow_exchange.specs.Auditing.{legal_line, audit_status, AuditsFile}
-use Rattle.flow_exchange.specs.Laws.{DoneIsForLegalJournals, RejectedIsFirstIllegal}
+use Rattle.flow_exchange.specs.Laws.{DoneIsForLegalJournals, HasFirstIllegal, RejectedIsFirstIllegal}
 use Rattle.flow_exchange.proofs.Auditing.{file_of}
 
 -- a status that is done leaves no pair, and comes of the end
@@ -40,21 +48,73 @@ done_is_for_legal limit bytes text = (
       inr (rw legal.5 (file_of limit bytes answer.Done legal.0 [] End legal.1 ((audits_to_end limit bytes legal.0 legal.1).1 (legal.2, legal.3, legal.4)) refl)),
 )
 
+-- one of a list's elements is lawful where all are
+lawful_at : (units : List (Record × Record)) (bad : Record × Record) (more : List (Record × Record)) → All journals.units.IsLawful (units ++ bad ∷ more) → journals.units.IsLawful bad
+lawful_at [] bad more each = All-head journals.units.IsLawful bad more each
+lawful_at (u ∷ units) bad more each = lawful_at units bad more (All-tail journals.units.IsLawful u (units ++ bad ∷ more) each)
+
+-- there is one magic
+one_magic : (version : Version) → journal_magic_of version ≡ journal_magic
+one_magic One = refl
+
+-- the pair behind the legal ones stands behind their journal
+first_illegal : (limit number : ℕ) (bytes : List ℕ) (legal : List (Pair Record Outcome)) (bad : Record × Record) (more : List (Record × Record)) (ending : Ending) (market : Market)
+    → Audits limit bytes legal (bad ∷ more) ending market → number ≡ length legal + 1 → HasFirstIllegal limit bytes number
+first_illegal limit number bytes legal bad more ending market audits counted =
+    let on = audits.reads.2 in
+    let first = map records_of legal in
+    let spell = journals.units.spell in
+    let parts = audits.judged.parts in
+    let opened : spell_all journals.units audits.units ≡ spell_all journals.units first ++ (spell bad ++ spell_all journals.units more) =
+    ap (spell_all journals.units) parts ∙ flat_map-append spell first (bad ∷ more)
+    in
+    record {
+      pairs = legal;
+      market = market;
+      bad = bad;
+      rest = spell_all journals.units more ++ on.rest;
+      legal = audits.judged.journal;
+      whole = audits.reads.1.1 ∙ ap (λ xs. xs ++ audits.reads.0) (one_magic audits.version)
+          ∙ ap (λ xs. journal_magic ++ xs) (on.whole ∙ ap (λ xs. xs ++ on.rest) opened
+          ∙ append_assoc (spell_all journals.units first) (spell bad ++ spell_all journals.units more) on.rest
+          ∙ ap (λ xs. spell_all journals.units first ++ xs) (append_assoc (spell bad) (spell_all journals.units more) on.rest))
+          ∙ sym (append_assoc journal_magic (spell_all journals.units first) (spell bad ++ (spell_all journals.units more ++ on.rest)))
+          ∙ ap (λ xs. xs ++ (spell bad ++ (spell_all journals.units more ++ on.rest))) (sym (journal_is_file legal));
+      lawful = lawful_at first bad more (rw parts at on.each);
+      illegal = audits.judged.stops;
+      counted = counted;
+    }
+
 -- a number is that of the first pair behind the legal ones
 rejected_file : (limit number : ℕ) (bytes : List ℕ) (legal : List (Pair Record Outcome)) (behind : List (Record × Record)) (ending : Ending) (market : Market) → Audits limit bytes legal behind ending market
-    → answer.Rejected number ≡ audit_status limit ending legal behind → HasIllegal limit bytes number
+    → answer.Rejected number ≡ audit_status limit ending legal behind → HasFirstIllegal limit bytes number
 rejected_file limit number bytes legal [] End market audits e = absurd cc
 rejected_file limit number bytes legal [] (Torn n) market audits e = absurd cc
 rejected_file limit number bytes legal [] TooLong market audits e = absurd cc
-rejected_file limit number bytes legal (bad ∷ more) ending market audits e = record {
-  legal = legal;
-  bad = bad;
-  more = more;
-  ending = ending;
-  market = market;
-  audits = audits;
-  counted = cc;
-}
+rejected_file limit number bytes legal (bad ∷ more) ending market audits e = first_illegal limit number bytes legal bad more ending market audits cc
+
+-- there is more than the limit, or not
+more_or_not : (limit n : ℕ) → (limit < n) ⊎ (¬ (limit < n))
+more_or_not limit n = elim (cases_lt limit n) [ inl more ↦ inl more | inr not ↦ inr (λ more. omega (arith, more, not)) ]
+
+-- a legal journal, and a pair behind it that isn't legal, are audited so
+audits_first : (limit number : ℕ) (bytes : List ℕ) (first : HasFirstIllegal limit bytes number)
+    → (more : List (Record × Record)) × (ending : Ending) × Audits limit bytes first.pairs (first.bad ∷ more) ending first.market
+audits_first limit number bytes first =
+    let units = map records_of first.pairs in
+    let left = journals.units.spell first.bad ++ first.rest in
+    let each = All-map journals.units.IsLawful records_of first.pairs (λ k d inside. ((first.legal.each k d inside).asked, (first.legal.each k d inside).answered)) in
+    let on = read_more 8 (limit < length bytes) (more_or_not limit (length bytes)) (spell_all journals.units units ++ left) left first.rest units first.bad refl each first.lawful refl in
+    let whole = first.whole ∙ ap (λ xs. xs ++ left) (journal_is_file first.pairs) ∙ append_assoc journal_magic (spell_all journals.units units) left in (
+      on.0,
+      on.1,
+      record {
+        version = One;
+        units = units ++ first.bad ∷ on.0;
+        reads = (spell_all journals.units units ++ left, (tt, whole), on.2);
+        judged = record { parts = refl; journal = first.legal; stops = first.illegal };
+      },
+    )
 
 pub rejected_is_first : RejectedIsFirstIllegal
 rejected_is_first limit number bytes text = (
@@ -65,5 +125,6 @@ rejected_is_first limit number bytes text = (
       ],
   λ illegal.
       let first = illegal.0 in
-      inr (rw illegal.1 (file_of limit bytes (answer.Rejected number) first.legal (first.bad ∷ first.more) first.ending first.market first.audits (ap (λ (n : ℕ). answer.Rejected n) first.counted))),
+      let all = audits_first limit number bytes first in
+      inr (rw illegal.1 (file_of limit bytes (answer.Rejected number) first.pairs (first.bad ∷ all.0) all.1 first.market all.2 (ap (λ (n : ℕ). answer.Rejected n) first.counted))),
 )

@@ -4,4 +4,6 @@ pub mod Outcomes
 pub mod Running
 pub mod Auditing
 pub mod AuditLaws
+pub mod Reports
+pub mod Reporting
 pub mod Dispatch

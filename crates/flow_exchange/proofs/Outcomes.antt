@@ -1,5 +1,5 @@
 -- Bytes determine one status and one text, to which a call comes that no fault broke off.
-use Rattle.std.proofs.Common.{◌≡◌, ◌≢◌, ℕ, List, [], ◌∷◌, map, length, codes, inl, inr, Option, Some, None, IfSome, refl, sym, ap, ◌∙◌}
+use Rattle.std.proofs.Common.{◌≡◌, ◌≢◌, ◌+◌, ℕ, List, [], ◌∷◌, ◌++◌, length, codes, inl, inr, Option, Some, None, IfSome, refl, sym, ap, subst, ◌∙◌, arith}
 use Rattle.wire_records.specs.Records.{Record}
 use Rattle.wire_records.specs.CommandRecords.{IsReadAs}
 use Rattle.wire_records.specs.Commands.{Pair}
@@ -10,30 +10,43 @@ use Rattle.wire_records.proofs.ReadingLaws.{reads_one}
 use Rattle.wire_records.proofs.RecordCode.{commands_readable}
 use Rattle.flow_orders.specs.Outcomes.{Outcome}
 use Rattle.journal_records.specs.Pairs.{journal}
-use Rattle.journal_records.specs.Formats.{journals}
+use Rattle.journal_records.specs.Formats.{journals, records_of}
 use Rattle.journal_records.proofs.Files.{journals_readable}
 use Rattle.journal_replay.proofs.LawProofs.{one_audit}
-use Rattle.market_core.specs.Market.{Market}
+use Rattle.market_core.specs.Market.{Market, empty_market}
+use Rattle.market_core.proofs.LawProofs.{market_is_determined}
+use Rattle.batch_report.specs.Reports.{IsReport}
+use Rattle.batch_report.proofs.OneReport.{one_report}
 use Rattle.market_core.proofs.OneJournal.{one_own_journal}
 use Rattle.flow_exchange.specs.declared.form.Form.{Form}
-use Rattle.flow_exchange.specs.declared.form.Form.TheVariants.{Run, Audit}
+use Rattle.flow_exchange.specs.declared.form.Form.TheVariants.{Run, Audit, Report}
 use Rattle.flow_exchange.specs.declared.status.Status.{Status}
 use Rattle.flow_exchange.specs.declared.status.Status.TheVariants as answer
 use Rattle.flow_exchange.specs.Statuses.{reading_status}
 use Rattle.flow_exchange.specs.Auditing.{audit_status, audit_text, AuditsTo}
+use Rattle.flow_exchange.specs.Reporting.{AreReported, ReportsTo}
 use Rattle.flow_exchange.specs.Running.{Journals, WritesOf, RunsTo}
 use Rattle.flow_exchange.specs.Program.{Determines, Meets}
 use Rattle.flow_exchange.specs.Laws.{OneForm, OneOutcome}
 
--- the words are others
-run_audit : codes "run" ∷ [] ≡ codes "audit" ∷ [] → ⊥
-run_audit e = absurd (let n = ap (λ (words : List (List ℕ)). map length words) e in cc)
+-- the first of one word
+heads : (x y : List ℕ) → x ∷ [] ≡ y ∷ [] → x ≡ y
+heads x y e = cc
+
+-- words of two lengths are two words
+two_words : (words : List (List ℕ)) (x y : List ℕ) → length x ≢ length y → words ≡ x ∷ [] → words ≡ y ∷ [] → ⊥
+two_words words x y other a b = other (ap length (heads x y (sym a ∙ b)))
 
 pub one_form : OneForm
 one_form words Run Run a b = refl
 one_form words Audit Audit a b = refl
-one_form words Run Audit a b = absurd (run_audit (sym a ∙ b))
-one_form words Audit Run a b = absurd (run_audit (sym b ∙ a))
+one_form words Report Report a b = refl
+one_form words Run Audit a b = absurd (two_words words (codes "run") (codes "audit") (λ e. omega (arith, e)) a b)
+one_form words Run Report a b = absurd (two_words words (codes "run") (codes "report") (λ e. omega (arith, e)) a b)
+one_form words Audit Run a b = absurd (two_words words (codes "audit") (codes "run") (λ e. omega (arith, e)) a b)
+one_form words Audit Report a b = absurd (two_words words (codes "audit") (codes "report") (λ e. omega (arith, e)) a b)
+one_form words Report Run a b = absurd (two_words words (codes "report") (codes "run") (λ e. omega (arith, e)) a b)
+one_form words Report Audit a b = absurd (two_words words (codes "report") (codes "audit") (λ e. omega (arith, e)) a b)
 
 -- records have one journal, and so one text
 journals_one : (records : List Record) (m n : Market) (x y : List ℕ) → Journals records m x → Journals records n y → x ≡ y
@@ -69,9 +82,33 @@ audits_one limit bytes s t x y (inr a) (inr b) =
     in
     (same, a.writes ∙ ap (λ (u : Status). audit_text u a.legal) same ∙ ap (audit_text t) one.0 ∙ sym b.writes)
 
+-- pairs have one text, and lead to one market
+one_text : (old : Market) (number : ℕ) (pairs : List (Pair Record Outcome)) (m n : Market) (x y : List ℕ) → AreReported old number pairs m x → AreReported old number pairs n y → x ≡ y
+one_text old number [] m n x y a b = a.1 ∙ sym b.1
+one_text old number (pair ∷ pairs) m n x y a b =
+    let same = market_is_determined old pair.asked pair.answer a.0 b.0 a.3 b.3 in
+    let here = subst (λ (next : Market). IsReport next.tickers number (records_of pair) a.1) same a.4 in
+    let first = one_report b.0.tickers number (records_of pair) a.1 b.1 here b.4 in
+    let rest = one_text b.0 (number + 1) pairs m n a.2 b.2 (subst (λ (next : Market). AreReported next (number + 1) pairs m a.2) same a.5) b.5 in
+    a.6 ∙ ap (λ xs. xs ++ a.2) first ∙ ap (λ xs. b.1 ++ xs) rest ∙ sym b.6
+
+-- a report comes to one status and one text
+reports_one : (limit : ℕ) (bytes : List ℕ) (s t : Status) (x y : List ℕ) → ReportsTo limit bytes s x → ReportsTo limit bytes t y → (s ≡ t) × (x ≡ y)
+reports_one limit bytes s t x y (inl a) (inl b) = (a.1 ∙ sym b.1, a.2 ∙ sym b.2)
+reports_one limit bytes s t x y (inl a) (inr b) = absurd (no_file _ _ _ (reads_one journals journals_readable limit bytes NotFlow (File b.audits.version b.audits.units b.ending) a.0 b.audits.reads))
+reports_one limit bytes s t x y (inr a) (inl b) = absurd (no_file _ _ _ (reads_one journals journals_readable limit bytes NotFlow (File a.audits.version a.audits.units a.ending) b.0 a.audits.reads))
+reports_one limit bytes s t x y (inr a) (inr b) =
+    let one = one_audit limit bytes a.legal b.legal a.behind b.behind a.ending b.ending a.market b.market a.audits b.audits in
+    let same : s ≡ t =
+    a.ends ∙ ap (λ (p : List (Pair Record Outcome)). audit_status limit a.ending p a.behind) one.0 ∙ ap (λ (u : List (Record × Record)). audit_status limit a.ending b.legal u) one.1
+    ∙ ap (λ (e : Ending). audit_status limit e b.legal b.behind) one.2 ∙ sym b.ends
+    in
+    (same, one_text empty_market 1 b.legal a.market b.market x y (subst (λ (p : List (Pair Record Outcome)). AreReported empty_market 1 p a.market x) one.0 a.writes) b.writes)
+
 pub one_outcome : OneOutcome
 one_outcome Run limit bytes s t x y a b = runs_one limit bytes s t x y a b
 one_outcome Audit limit bytes s t x y a b = audits_one limit bytes s t x y a b
+one_outcome Report limit bytes s t x y a b = reports_one limit bytes s t x y a b
 
 -- what a form comes to, where its status is none that a fault or want of memory has
 determined : (form : Form) (limit : ℕ) (bytes : List ℕ) (status : Status) (before after : Option (List ℕ)) → Meets form limit bytes status before after

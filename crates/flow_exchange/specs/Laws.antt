@@ -1,12 +1,12 @@
 -- What holds of the program's words and outcomes, whatever code there is.
-use Rattle.std.specs.Prelude.{◌≡◌, ◌≤◌, ◌↔◌, ℕ, List, [], length}
+use Rattle.std.specs.Prelude.{◌≡◌, ◌≤◌, ◌+◌, ◌↔◌, ℕ, List, [], ◌++◌, length, take}
 use Rattle.wire_records.specs.Records.{Record}
 use Rattle.wire_records.specs.Commands.{Pair}
 use Rattle.flow_orders.specs.Outcomes.{Outcome}
 use Rattle.journal_records.specs.Pairs.{journal}
+use Rattle.journal_records.specs.Formats.{journals}
 use Rattle.market_core.specs.Market.{Market}
-use Rattle.batch_audit.specs.Legal.{IsLegalJournal}
-use Rattle.journal_replay.specs.Replays.{HasIllegal}
+use Rattle.batch_audit.specs.Legal.{IsLegalJournal, IsIllegalPair}
 use Rattle.flow_exchange.specs.declared.form.Form.{Form}
 use Rattle.flow_exchange.specs.declared.form.Form.TheVariants.{Audit}
 use Rattle.flow_exchange.specs.declared.status.Status.{Status}
@@ -30,7 +30,20 @@ DoneIsForLegalJournals = (limit : ℕ) (bytes text : List ℕ)
     → ComesTo Audit limit bytes Done text
     ↔ ((pairs : List (Pair Record Outcome)) × (market : Market) × IsLegalJournal pairs market × (bytes ≡ journal pairs) × (length bytes ≤ limit) × (text ≡ legal_line pairs))
 
--- it rejects a pair exactly where that is the first that isn't legal
+-- The first `limit` bytes are the spelling of a legal journal, of a pair of records behind it that is no step of its market, and
+-- of some rest; the pair has this number, counted from 1.
+pub record HasFirstIllegal (limit : ℕ) (bytes : List ℕ) (number : ℕ) : Type 0 where
+  pub pairs : List (Pair Record Outcome)
+  pub market : Market
+  pub bad : Record × Record
+  pub rest : List ℕ
+  pub legal : IsLegalJournal pairs market
+  pub whole : take limit bytes ≡ journal pairs ++ (journals.units.spell bad ++ rest)
+  pub lawful : journals.units.IsLawful bad
+  pub illegal : IsIllegalPair market bad
+  pub counted : number ≡ length pairs + 1
+
+-- an audit rejects a pair exactly where it is the first that isn't legal
 abbrev pub RejectedIsFirstIllegal : Type 0
 RejectedIsFirstIllegal = (limit number : ℕ) (bytes text : List ℕ)
-    → ComesTo Audit limit bytes (Rejected number) text ↔ (HasIllegal limit bytes number × (text ≡ []))
+    → ComesTo Audit limit bytes (Rejected number) text ↔ (HasFirstIllegal limit bytes number × (text ≡ []))

@@ -2,6 +2,8 @@ pub mod Statuses
 pub mod Forms
 pub mod Running
 pub mod Auditing
+pub mod Reporting
+pub mod ReportSteps
 pub mod Program
 pub mod Laws
 pub mod Private

@@ -4,13 +4,14 @@ use Rattle.flow_io.specs.Faults.{Rose, Blames}
 use Rattle.flow_io.specs.Streams.{Grows, GrowsByFront, TakesAtMost}
 use Rattle.flow_io.specs.Changes.{Change}
 use Rattle.flow_exchange.specs.declared.form.Form.{Form}
-use Rattle.flow_exchange.specs.declared.form.Form.TheVariants.{Run, Audit}
+use Rattle.flow_exchange.specs.declared.form.Form.TheVariants.{Run, Audit, Report}
 use Rattle.flow_exchange.specs.declared.status.Status.{Status}
 use Rattle.flow_exchange.specs.declared.status.Status.TheVariants.{Done, Usage, NotFlow, Torn, ReadFault, WriteFault, NoMemory, Rejected, TooLong}
 use Rattle.flow_exchange.specs.Forms.{Asks, AsksNothing}
 use Rattle.flow_exchange.specs.Statuses.{line_of}
 use Rattle.flow_exchange.specs.Running.{RunsTo, RunsInto, RunsOut}
 use Rattle.flow_exchange.specs.Auditing.{AuditsTo}
+use Rattle.flow_exchange.specs.Reporting.{ReportsTo, ReportsInto}
 
 -- ---- a row for each form
 
@@ -18,26 +19,31 @@ use Rattle.flow_exchange.specs.Auditing.{AuditsTo}
 abbrev pub ComesTo : Form → ℕ → List ℕ → Status → List ℕ → Type 0
 ComesTo Run limit bytes status text = RunsTo limit bytes status text
 ComesTo Audit limit bytes status text = AuditsTo limit bytes status text
+ComesTo Report limit bytes status text = ReportsTo limit bytes status text
 
 -- what may stand in out, besides nothing, while a form is at work: the text of whole units
 abbrev pub GetsTo : Form → ℕ → List ℕ → List ℕ → Type 0
 GetsTo Run limit bytes text = RunsInto limit bytes text
 GetsTo Audit limit bytes text = ⊥
+GetsTo Report limit bytes text = ReportsInto limit bytes text
 
 -- what may stand in out where memory ran out
 abbrev pub LacksAt : Form → ℕ → List ℕ → List ℕ → Type 0
 LacksAt Run limit bytes text = RunsOut limit bytes text
 LacksAt Audit limit bytes text = text ≡ []
+LacksAt Report limit bytes text = (text ≡ []) ⊎ ReportsInto limit bytes text
 
 -- how many bytes of the source are taken at most
 abbrev pub most_taken : Form → ℕ → ℕ
 most_taken Run limit = limit + 1
 most_taken Audit limit = limit + 1
+most_taken Report limit = limit + 1
 
 -- what is left of the source where all was done
 abbrev pub left_by : Form → List ℕ → List ℕ
 left_by Run bytes = []
 left_by Audit bytes = []
+left_by Report bytes = []
 
 -- ---- what holds of all forms
 

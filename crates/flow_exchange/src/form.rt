@@ -9,6 +9,8 @@ pub enum Form {
     Run,
     /// `audit`: a journal in, and out a line where it is legal.
     Audit,
+    /// `report`: a journal in, and its text out.
+    Report,
 }
 
 // Whether the words are this one alone.
@@ -28,6 +30,9 @@ pub(crate) fn form_of(words: &[String]) -> Option<Form>
     }
     if is_word(words, "audit") {
         return Some(Form::Audit);
+    }
+    if is_word(words, "report") {
+        return Some(Form::Report);
     }
     None
 }

@@ -550,7 +550,7 @@ const RIGHT: &[u8] =
 const ANOTHER_PRICE: &[u8] =
     b"\x85\0\0\0\x42\0\0\0\x01\0\x01\0\0\0\x64\0\0\0\0\0\0\0\x02\0\0\0\0\0\0\0\x01\0\0\x01\xF4\0\0\0\0\0\0\0\x02\0\0\x01\xF4\0\0\0\0\0\0\0\0\0\0\0\0\0\0\0\0\0\0\0\0\0\0\0\0";
 
-// A rate that is no rounding, and a gap that isn't that of the prices and rates.
+// A rate with which another residual is left over, and a gap that isn't that of the prices and rates.
 const ANOTHER_RATE: &[u8] =
     b"\x85\0\0\0\x42\0\0\0\x01\0\x01\0\0\0\x63\xFA\xE1\x47\xAF\0\0\0\x02\0\0\0\0\0\0\0\x01\0\0\x01\xF5\0\0\0\0\0\0\0\x02\0\0\x01\xF4\0\0\0\0\0\0\0\0\0\0\0\0\0\0\0\0\0\0\0\0\x05\x1E\xB8\x52";
 
@@ -640,4 +640,42 @@ fn audits_to_the_limit(rt: HostRuntime) -> Result<(), Fail> {
     assert_eq!(rt; out.bytes(), b"".as_slice());
     assert_eq!(rt; notes.bytes(), b"flow: more than 21 bytes\n".as_slice());
     Ok(())
+}
+
+// The text of the book, up to its batch.
+const LINES: &[u8] =
+    b"1 asset 0 AAPL\n2 account 1\n3 account 2\n4 deposit account 1 ticks 1100000\n5 deposit account 2 AAPL units 10000\n6 order 1 account 1 low 90 high 110 rate 1000 cap 10000 AAPL:1\n7 order 2 account 2 low -110 high -90 rate 1000 cap 10000 AAPL:-1\n";
+
+const BATCH_LINES: &[u8] =
+    b"8 batch 1 cleared gap 85899346\n  AAPL price 429410830255 residual 0\n  order 1 rate 500\n  order 2 rate 500\n";
+
+#[test]
+fn reports_legal_pairs(rt: HostRuntime) -> Result<(), Fail> {
+    let alloc = rt.alloc();
+    let right = book_with(alloc, RIGHT)?;
+    let mut text = Vec::from_slice(alloc, LINES)?;
+    text.extend_from_slice(BATCH_LINES)?;
+    expect(&rt, alloc, "report", &right, &text, Status::Done, b"")?;
+    let illegal = book_with(alloc, ANOTHER_GAP)?;
+    let line = b"flow: pair 8 is not legal\n".as_slice();
+    expect(
+        &rt,
+        alloc,
+        "report",
+        &illegal,
+        LINES,
+        Status::Rejected(8),
+        line,
+    )?;
+    let short = b"FLOWJNL1\x02\0\0\0\0\x82\0\0\0\x04\0\0\0\x01\x02".as_slice();
+    let torn = b"flow: torn at byte 22\n".as_slice();
+    expect(
+        &rt,
+        alloc,
+        "report",
+        short,
+        b"1 account 1\n",
+        Status::Torn(22),
+        torn,
+    )
 }

@@ -27,3 +27,16 @@ returns-in-Audit-clause-does g c =
       reads = audit.reads;
       writes = audit.writes;
     })
+
+pub returns-in-Report-clause-does : goal.returns-in-Report-clause-does
+returns-in-Report-clause-does g c =
+    let report = c.report.ensures in
+    rw (c.in-Report.is, c.status_after-in-Report.ensures)
+    (record {
+      meets = report.meets;
+      complete = completes_form form.Report _ c.args.limit _ _ _ _ _ _ _ report.meets report.reads report.writes;
+      left = report.left;
+      taken = report.taken;
+      reads = report.reads;
+      writes = report.writes;
+    })
