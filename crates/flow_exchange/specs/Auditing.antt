@@ -12,7 +12,7 @@ use Rattle.market_core.specs.Journal.{HoldsDeposits}
 use Rattle.market_core.specs.Promises.{KeepsPromises}
 use Rattle.journal_replay.specs.Audits.{Audits, cleared_in, skipped_in}
 use Rattle.flow_exchange.specs.declared.status.Status.{Status}
-use Rattle.flow_exchange.specs.declared.status.Status.TheVariants.{Done, Usage, NotFlow, Torn, ReadFault, WriteFault, NoMemory, Rejected, TooLong}
+use Rattle.flow_exchange.specs.declared.status.Status.TheVariants.{Done, Usage, NotFlow, Torn, ReadFault, WriteFault, NoMemory, Rejected, TooLong, BadText}
 use Rattle.flow_exchange.specs.Statuses.{ending_status}
 
 -- the line on a legal journal: how many pairs it has, and how many of their batches cleared and were skipped
@@ -36,6 +36,7 @@ audit_text WriteFault legal = []
 audit_text NoMemory legal = []
 audit_text (Rejected number) legal = []
 audit_text (TooLong most) legal = []
+audit_text (BadText number) legal = []
 
 -- The bytes are a journal, whose pairs are these legal ones and those behind them. The legal ones keep the promises of the
 -- exchange, and lead to this market, which holds the accepted deposits less the accepted withdrawals.

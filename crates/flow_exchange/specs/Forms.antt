@@ -1,13 +1,14 @@
 -- The forms of the command line.
 use Rattle.std.specs.Prelude.{◌≡◌, ℕ, List, [], ◌∷◌, codes}
 use Rattle.flow_exchange.specs.declared.form.Form.{Form}
-use Rattle.flow_exchange.specs.declared.form.Form.TheVariants.{Run, Audit, Report}
+use Rattle.flow_exchange.specs.declared.form.Form.TheVariants.{Run, Audit, Report, Encode}
 
 -- the words, as the bytes of each, ask for this form
 abbrev pub Asks : List (List ℕ) → Form → Type 0
 Asks words Run = words ≡ codes "run" ∷ []
 Asks words Audit = words ≡ codes "audit" ∷ []
 Asks words Report = words ≡ codes "report" ∷ []
+Asks words Encode = words ≡ codes "encode" ∷ []
 
 -- the words are none of the forms
 abbrev pub AsksNothing : List (List ℕ) → Type 0

@@ -3,6 +3,7 @@ pub mod Forms
 pub mod Running
 pub mod Auditing
 pub mod Reporting
+pub mod Encoding
 pub mod ReportSteps
 pub mod Program
 pub mod Laws

@@ -1,12 +1,12 @@
--- Words that only private functions use: what serving records, one after the other, appends to a journal, and what an audit of
--- pairs comes to.
+-- Words that only private functions use: what serving records, one after the other, appends to a journal, what an audit of
+-- pairs comes to, and what encoding lines does.
 use Rattle.std.specs.Prelude.{◌≡◌, ◌++◌, ℕ, List, [], Result, Ok, Err, Option, All, codes, decimal}
 use Rattle.std.specs.List.{flat_map}
 use Rattle.flow_io.specs.Faults.{Blames}
 use Rattle.flow_io.specs.Changes.{Change}
 use Rattle.flow_io.specs.Streams.{Grows, GrowsByFront}
 use Rattle.wire_records.specs.Records.{Record, IsRecord, spelling}
-use Rattle.wire_records.specs.Commands.{Pair}
+use Rattle.wire_records.specs.Commands.{Pair, Command}
 use Rattle.wire_records.specs.CommandRecords.{IsReadAs}
 use Rattle.wire_records.specs.Grammars.{spell_all}
 use Rattle.wire_records.specs.Reading.{Ending, End, ReadsOn}
@@ -19,11 +19,14 @@ use Rattle.market_core.specs.Journal.{IsAnswered}
 use Rattle.market_core.specs.Wanting.{RecordMayWant}
 use Rattle.journal_replay.specs.Audits.{AuditsOn}
 use Rattle.journal_replay.specs.declared.auditing.Audited.{Audited}
+use Rattle.line_records.specs.Lines.{AreFirst, records_of}
+use Rattle.line_records.specs.Encoded.{HasEncoded}
 use Rattle.exchange_session.specs.Serving.{AnswersOne}
 use Rattle.flow_exchange.specs.declared.status.Status.{Status}
-use Rattle.flow_exchange.specs.declared.status.Status.TheVariants.{Done, Usage, NotFlow, Torn, ReadFault, WriteFault, NoMemory, Rejected, TooLong}
+use Rattle.flow_exchange.specs.declared.status.Status.TheVariants.{Done, Usage, NotFlow, Torn, ReadFault, WriteFault, NoMemory, Rejected, TooLong, BadText}
 use Rattle.flow_exchange.specs.Statuses.{ending_status}
 use Rattle.flow_exchange.specs.Auditing.{legal_line, audit_status, audit_text}
+use Rattle.flow_exchange.specs.Encoding.{EncodeEnds}
 
 -- as many bytes has the longest pair with a plain reply: 5 and 1,024 of the record, and 13 of the reply's
 abbrev pub most_plain_pair : ℕ
@@ -47,6 +50,7 @@ ServesOne old asked new before after (Err (Torn place)) = ⊥
 ServesOne old asked new before after (Err ReadFault) = ⊥
 ServesOne old asked new before after (Err (Rejected number)) = ⊥
 ServesOne old asked new before after (Err (TooLong most)) = ⊥
+ServesOne old asked new before after (Err (BadText number)) = ⊥
 
 -- a record is served, and its pair written
 pub record WritesPair (old : Market) (asked : Record) (new : Market) (out : Change) : Type 0 where
@@ -102,6 +106,7 @@ ServesAll limit start place More bytes Done before after = (text : List ℕ) × 
 ServesAll limit start place More bytes NotFlow before after = ⊥
 ServesAll limit start place More bytes (Torn n) before after = (text : List ℕ) × AnswersAll limit start place More bytes (Torn n) text × Grows before after text
 ServesAll limit start place More bytes (Rejected n) before after = ⊥
+ServesAll limit start place More bytes (BadText n) before after = ⊥
 ServesAll limit start place More bytes (TooLong n) before after = (text : List ℕ) × AnswersAll limit start place More bytes (TooLong n) text × Grows before after text
 
 -- the line on a legal journal, by what was found
@@ -133,7 +138,27 @@ AuditsAll limit More bytes NoMemory before after = after ≡ before
 AuditsAll limit More bytes Usage before after = ⊥
 AuditsAll limit More bytes ReadFault before after = ⊥
 AuditsAll limit More bytes NotFlow before after = ⊥
+AuditsAll limit More bytes (BadText n) before after = ⊥
 AuditsAll limit More bytes Done before after = AuditsThrough limit More bytes Done before after
 AuditsAll limit More bytes (Torn n) before after = AuditsThrough limit More bytes (Torn n) before after
 AuditsAll limit More bytes (Rejected n) before after = AuditsThrough limit More bytes (Rejected n) before after
 AuditsAll limit More bytes (TooLong n) before after = AuditsThrough limit More bytes (TooLong n) before after
+
+-- The lines were read, up to the first that is no command: so the status, and what out grew by.
+pub record EncodesThrough (limit : ℕ) (More : Type 0) (bytes : List ℕ) (status : Status) (before after : Option (List ℕ)) : Type 0 where
+  pub bad : Option ℕ
+  pub encoded : HasEncoded More bytes bad before after
+  pub ends : EncodeEnds limit More bad status
+
+-- by the status
+abbrev pub EncodesAll : ℕ → Type 0 → List ℕ → Status → Option (List ℕ) → Option (List ℕ) → Type 0
+EncodesAll limit More bytes WriteFault before after = (commands : List Command) × AreFirst More bytes commands × GrowsByFront before after (records_of commands)
+EncodesAll limit More bytes NoMemory before after = (commands : List Command) × AreFirst More bytes commands × Grows before after (records_of commands)
+EncodesAll limit More bytes Usage before after = ⊥
+EncodesAll limit More bytes ReadFault before after = ⊥
+EncodesAll limit More bytes NotFlow before after = ⊥
+EncodesAll limit More bytes (Torn n) before after = ⊥
+EncodesAll limit More bytes (Rejected n) before after = ⊥
+EncodesAll limit More bytes Done before after = EncodesThrough limit More bytes Done before after
+EncodesAll limit More bytes (TooLong n) before after = EncodesThrough limit More bytes (TooLong n) before after
+EncodesAll limit More bytes (BadText n) before after = EncodesThrough limit More bytes (BadText n) before after

@@ -4,14 +4,15 @@ use Rattle.flow_io.specs.Faults.{Rose, Blames}
 use Rattle.flow_io.specs.Streams.{Grows, GrowsByFront, TakesAtMost}
 use Rattle.flow_io.specs.Changes.{Change}
 use Rattle.flow_exchange.specs.declared.form.Form.{Form}
-use Rattle.flow_exchange.specs.declared.form.Form.TheVariants.{Run, Audit, Report}
+use Rattle.flow_exchange.specs.declared.form.Form.TheVariants.{Run, Audit, Report, Encode}
 use Rattle.flow_exchange.specs.declared.status.Status.{Status}
-use Rattle.flow_exchange.specs.declared.status.Status.TheVariants.{Done, Usage, NotFlow, Torn, ReadFault, WriteFault, NoMemory, Rejected, TooLong}
+use Rattle.flow_exchange.specs.declared.status.Status.TheVariants.{Done, Usage, NotFlow, Torn, ReadFault, WriteFault, NoMemory, Rejected, TooLong, BadText}
 use Rattle.flow_exchange.specs.Forms.{Asks, AsksNothing}
 use Rattle.flow_exchange.specs.Statuses.{line_of}
 use Rattle.flow_exchange.specs.Running.{RunsTo, RunsInto, RunsOut}
 use Rattle.flow_exchange.specs.Auditing.{AuditsTo}
 use Rattle.flow_exchange.specs.Reporting.{ReportsTo, ReportsInto}
+use Rattle.flow_exchange.specs.Encoding.{EncodesTo, EncodesInto}
 
 -- ---- a row for each form
 
@@ -20,30 +21,35 @@ abbrev pub ComesTo : Form → ℕ → List ℕ → Status → List ℕ → Type 
 ComesTo Run limit bytes status text = RunsTo limit bytes status text
 ComesTo Audit limit bytes status text = AuditsTo limit bytes status text
 ComesTo Report limit bytes status text = ReportsTo limit bytes status text
+ComesTo Encode limit bytes status text = EncodesTo limit bytes status text
 
 -- what may stand in out, besides nothing, while a form is at work: the text of whole units
 abbrev pub GetsTo : Form → ℕ → List ℕ → List ℕ → Type 0
 GetsTo Run limit bytes text = RunsInto limit bytes text
 GetsTo Audit limit bytes text = ⊥
 GetsTo Report limit bytes text = ReportsInto limit bytes text
+GetsTo Encode limit bytes text = EncodesInto limit bytes text
 
 -- what may stand in out where memory ran out
 abbrev pub LacksAt : Form → ℕ → List ℕ → List ℕ → Type 0
 LacksAt Run limit bytes text = RunsOut limit bytes text
 LacksAt Audit limit bytes text = text ≡ []
 LacksAt Report limit bytes text = (text ≡ []) ⊎ ReportsInto limit bytes text
+LacksAt Encode limit bytes text = (text ≡ []) ⊎ EncodesInto limit bytes text
 
 -- how many bytes of the source are taken at most
 abbrev pub most_taken : Form → ℕ → ℕ
 most_taken Run limit = limit + 1
 most_taken Audit limit = limit + 1
 most_taken Report limit = limit + 1
+most_taken Encode limit = limit + 1
 
 -- what is left of the source where all was done
 abbrev pub left_by : Form → List ℕ → List ℕ
 left_by Run bytes = []
 left_by Audit bytes = []
 left_by Report bytes = []
+left_by Encode bytes = []
 
 -- ---- what holds of all forms
 
@@ -75,6 +81,7 @@ Meets form limit bytes NotFlow before after = Determines form limit bytes NotFlo
 Meets form limit bytes (Torn place) before after = Determines form limit bytes (Torn place) before after
 Meets form limit bytes (Rejected number) before after = Determines form limit bytes (Rejected number) before after
 Meets form limit bytes (TooLong most) before after = Determines form limit bytes (TooLong most) before after
+Meets form limit bytes (BadText number) before after = Determines form limit bytes (BadText number) before after
 
 -- What a form does to source and out.
 pub record Does (form : Form) (limit : ℕ) (status : Status) (source out : Change) : Type 0 where

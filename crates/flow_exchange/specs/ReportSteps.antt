@@ -1,5 +1,5 @@
 -- Words that only the private functions of a report use: its state from pair to pair, and what reporting pairs comes to.
-use Rattle.std.specs.Prelude.{◌≡◌, ◌+◌, ◌<◌, ◌^◌, ℕ, List, ◌++◌, Option, map}
+use Rattle.std.specs.Prelude.{◌≡◌, ◌+◌, ◌<◌, ◌^◌, ℕ, List, ◌++◌, Option, map, All}
 use Rattle.flow_io.specs.Faults.{Blames}
 use Rattle.flow_io.specs.Streams.{Grows, GrowsByFront}
 use Rattle.flow_io.specs.Changes.{Change}
@@ -15,10 +15,9 @@ use Rattle.journal_replay.specs.Audits.{AuditsOn}
 use Rattle.batch_report.specs.Reports.{IsReport}
 use Rattle.flow_exchange.specs.declared.report.Reporting.{Reporting}
 use Rattle.flow_exchange.specs.declared.status.Status.{Status}
-use Rattle.flow_exchange.specs.declared.status.Status.TheVariants.{Done, Usage, NotFlow, Torn, ReadFault, WriteFault, NoMemory, Rejected, TooLong}
+use Rattle.flow_exchange.specs.declared.status.Status.TheVariants.{Done, Usage, NotFlow, Torn, ReadFault, WriteFault, NoMemory, Rejected, TooLong, BadText}
 use Rattle.flow_exchange.specs.Auditing.{audit_status}
 use Rattle.flow_exchange.specs.Reporting.{AreReported}
-use Rattle.std.specs.Prelude.{All}
 
 -- the market, and the number of the next pair
 pub record Reported : Type 0 where
@@ -58,7 +57,9 @@ StopsReport old pair NotFlow before after = ⊥
 StopsReport old pair (Torn place) before after = ⊥
 StopsReport old pair ReadFault before after = ⊥
 StopsReport old pair (TooLong most) before after = ⊥
+StopsReport old pair (BadText number) before after = ⊥
 
+-- What a report that stops at a pair did to out.
 pub record BreaksOffReport (old : Reported) (pair : Record × Record) (status : Status) (out : Change) : Type 0 where
   pub stops : StopsReport old pair status out.before out.after
   pub cause : Blames (status ≡ WriteFault) out.faults out.faults_after
@@ -91,6 +92,7 @@ ReportsAll limit More bytes NoMemory before after = (text : List ℕ) × Reports
 ReportsAll limit More bytes Usage before after = ⊥
 ReportsAll limit More bytes ReadFault before after = ⊥
 ReportsAll limit More bytes NotFlow before after = ⊥
+ReportsAll limit More bytes (BadText n) before after = ⊥
 ReportsAll limit More bytes Done before after = ReportsThrough limit More bytes Done before after
 ReportsAll limit More bytes (Torn n) before after = ReportsThrough limit More bytes (Torn n) before after
 ReportsAll limit More bytes (Rejected n) before after = ReportsThrough limit More bytes (Rejected n) before after

@@ -4,6 +4,8 @@ use Rattle.flow_io.specs.declared.whole.ReadAllFault.{ReadAllFault}
 use Rattle.flow_io.specs.declared.whole.ReadAllFault.TheVariants as fault
 use Rattle.journal_replay.specs.declared.auditing.PairFault.{PairFault}
 use Rattle.journal_replay.specs.declared.auditing.PairFault.TheVariants as pair
+use Rattle.line_records.specs.declared.encode.EncodeFault.{EncodeFault}
+use Rattle.line_records.specs.declared.encode.EncodeFault.TheVariants as line
 use Rattle.wire_records.specs.Reading.{Ending, End, Torn, TooLong, Reading, NotFlow, File}
 use Rattle.flow_exchange.specs.declared.status.Status.{Status}
 use Rattle.flow_exchange.specs.declared.status.Status.TheVariants as status
@@ -19,6 +21,7 @@ exit_of status.WriteFault = 5
 exit_of status.NoMemory = 6
 exit_of (status.Rejected number) = 7
 exit_of (status.TooLong limit) = 8
+exit_of (status.BadText number) = 9
 
 -- the line on notes, with its line feed
 abbrev pub line_of : Status → List ℕ
@@ -31,6 +34,7 @@ line_of status.WriteFault = codes "flow: write failed\n"
 line_of status.NoMemory = codes "flow: no memory\n"
 line_of (status.Rejected number) = codes "flow: pair " ++ decimal number ++ codes " is not legal\n"
 line_of (status.TooLong limit) = codes "flow: more than " ++ decimal limit ++ codes " bytes\n"
+line_of (status.BadText number) = codes "flow: line " ++ decimal number ++ codes " is no command\n"
 
 -- the status of an ending
 abbrev pub ending_status : ℕ → Ending → Status
@@ -52,6 +56,12 @@ fault_status fault.Memory = status.NoMemory
 abbrev pub pair_status : PairFault → Status
 pair_status (pair.Illegal number) = status.Rejected number
 pair_status pair.Memory = status.NoMemory
+
+-- the status of a fault of encoding lines
+abbrev pub encode_status : EncodeFault → Status
+encode_status (line.NoCommand number) = status.BadText number
+encode_status line.Write = status.WriteFault
+encode_status line.Memory = status.NoMemory
 
 -- the status of what went through, or broke off with one
 abbrev pub status_of : Result (Unit {0}) Status → Status

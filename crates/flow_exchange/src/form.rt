@@ -11,6 +11,8 @@ pub enum Form {
     Audit,
     /// `report`: a journal in, and its text out.
     Report,
+    /// `encode`: lines of JSON in, and the command file of their commands out.
+    Encode,
 }
 
 // Whether the words are this one alone.
@@ -33,6 +35,9 @@ pub(crate) fn form_of(words: &[String]) -> Option<Form>
     }
     if is_word(words, "report") {
         return Some(Form::Report);
+    }
+    if is_word(words, "encode") {
+        return Some(Form::Encode);
     }
     None
 }

@@ -49,6 +49,12 @@ impl Status {
                 b" is not legal\n",
             ),
             Status::TooLong(limit) => write_number(notes, b"flow: more than ", limit, b" bytes\n"),
+            Status::BadText(number) => write_number(
+                notes,
+                b"flow: line ",
+                number,
+                b" is no command\n",
+            ),
         }
     }
 }

@@ -3,6 +3,7 @@ ghost use Rattle.std.specs.Prelude.{◌≡◌};
 
 use flow_io::ReadAllFault;
 use journal_replay::PairFault;
+use line_records::EncodeFault;
 
 /// How the program ends. Each status has one exit number and one line on standard error, but for
 /// `Done`, which has none.
@@ -26,6 +27,8 @@ pub enum Status {
     Rejected(u64),
     /// The input has more than this many bytes.
     TooLong(u64),
+    /// The line of this number, counted from 1, is neither blank nor a command.
+    BadText(u64),
 }
 
 impl Status {
@@ -45,6 +48,7 @@ impl Status {
             Status::NoMemory => 6,
             Status::Rejected(_) => 7,
             Status::TooLong(_) => 8,
+            Status::BadText(_) => 9,
         }
     }
 }
@@ -71,6 +75,20 @@ impl From<PairFault> for Status {
         match fault {
             PairFault::Illegal(number) => Status::Rejected(number),
             PairFault::Memory => Status::NoMemory,
+        }
+    }
+}
+
+impl From<EncodeFault> for Status {
+    ghost use Rattle.flow_exchange.specs.Statuses.{encode_status};
+
+    ghost from_gives = { λ fault status. status ≡ encode_status fault };
+
+    fn from(fault: EncodeFault) -> Status {
+        match fault {
+            EncodeFault::NoCommand(number) => Status::BadText(number),
+            EncodeFault::Write => Status::WriteFault,
+            EncodeFault::Memory => Status::NoMemory,
         }
     }
 }

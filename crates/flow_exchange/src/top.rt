@@ -6,6 +6,7 @@ ghost use Rattle.flow_exchange.specs.Program.{Does, Serves};
 
 use crate::Status;
 use crate::audit::audit;
+use crate::encode::encode;
 use crate::form::{Form, form_of};
 use crate::report::report;
 use crate::run::run;
@@ -41,6 +42,7 @@ fn do_form<S: Source, K: Sink>(
         Form::Run => status_after(run(alloc, limit, source, out)),
         Form::Audit => status_after(audit(alloc, limit, source, out)),
         Form::Report => status_after(report(alloc, limit, source, out)),
+        Form::Encode => status_after(encode(alloc, limit, source, out)),
     }
 }
 
@@ -71,8 +73,9 @@ pub fn flow_limited<S: Source, K: Sink, N: Sink>(
 /// With the word `run` it reads a command file from the source, at most 2^32 bytes, and writes its
 /// journal to out: one write for the magic, and one for each pair. With the word `audit` it reads a journal, whoever wrote
 /// it, and writes a line to out where each pair is legal and nothing stands behind them. With the word `report` it reads a
-/// journal in the same way, and writes the text of each legal pair to out, by one write each. On every status but `Done`
-/// it writes one line to notes; a fault of notes changes nothing.
+/// journal in the same way, and writes the text of each legal pair to out, by one write each. With the word `encode` it reads
+/// lines of JSON, and writes the command file of what they ask for to out: one write for the magic, and one for each record. On
+/// every status but `Done` it writes one line to notes; a fault of notes changes nothing.
 ///
 /// A command of `run` costs the same however many accounts and orders there are, but for the gap that a cancelled order leaves, which is
 /// closed by a block move. Memory: the input, one buffer for a pair, 528 bytes for each account, 64 bytes for each live

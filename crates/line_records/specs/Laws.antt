@@ -1,0 +1,24 @@
+-- What holds of the lines of a text, whether it has more or not. The module `laws` has a function for each of these.
+use Rattle.std.specs.Prelude.{◌≡◌, ℕ, List, ◌++◌, Option}
+use Rattle.wire_records.specs.Commands.{Command}
+use Rattle.line_records.specs.Lines.{AreLines, AreRead, AreFirst}
+
+-- bytes have one list of lines
+abbrev pub OneSplit : Type 0 → Type 0
+OneSplit More = (bytes : List ℕ) (lines other : List (List ℕ)) → AreLines More bytes lines → AreLines More bytes other → lines ≡ other
+
+-- there is one first line that is no command, or none, and the lines before it ask for one list of commands
+abbrev pub OneReading : Type 0 → Type 0
+OneReading More =
+    (bytes : List ℕ) (bad other : Option ℕ) (commands others : List Command) → AreRead More bytes bad commands → AreRead More bytes other others
+    → (bad ≡ other) × (commands ≡ others)
+
+-- no text is without a reading
+abbrev pub NoneIsUnread : Type 0 → Type 0
+NoneIsUnread More = (bytes : List ℕ) → ¬ ((bad : Option ℕ) (commands : List Command) → ¬ AreRead More bytes bad commands)
+
+-- what the first lines ask for is a front of what is read
+abbrev pub FirstIsAFront : Type 0 → Type 0
+FirstIsAFront More =
+    (bytes : List ℕ) (bad : Option ℕ) (first commands : List Command) → AreFirst More bytes first → AreRead More bytes bad commands
+    → (rest : List Command) × (commands ≡ first ++ rest)

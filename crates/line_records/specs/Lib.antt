@@ -1,0 +1,4 @@
+pub mod Lines
+pub mod Encoded
+pub mod Private
+pub mod Laws

@@ -1,0 +1,63 @@
+-- The lines of a text, and the commands that they ask for.
+use Rattle.std.specs.Prelude.{◌≡◌, ◌≢◌, ◌+◌, ℕ, List, [], ◌∷◌, ◌++◌, length, ◌⊎◌, All, Contains, Option, Some, None}
+use Rattle.std.specs.List.{flat_map}
+use Rattle.wire_records.specs.Records.{spelling}
+use Rattle.wire_records.specs.Commands.{Command}
+use Rattle.wire_records.specs.CommandRecords.{IsCommand, record_of}
+use Rattle.order_text.specs.Lines.{IsBlank, Says, SaysNothing}
+
+-- a piece with no line feed (10) in it
+abbrev pub IsPiece : List ℕ → Type 0
+IsPiece piece = ¬ Contains piece 10
+
+-- pieces, each with a line feed behind it
+abbrev pub ended_by_feeds : List (List ℕ) → List ℕ
+ended_by_feeds pieces = flat_map (λ piece. piece ++ 10 ∷ []) pieces
+
+-- The lines of these bytes, where the text may have more behind them: the pieces before line feeds, and the piece behind
+-- the last line feed, where it isn't empty and the text has no more.
+pub record AreLines (More : Type 0) (bytes : List ℕ) (lines : List (List ℕ)) : Type 0 where
+  pub ended : List (List ℕ)
+  pub last : List ℕ
+  pub whole : bytes ≡ ended_by_feeds ended ++ last
+  pub pieces : All IsPiece ended
+  pub piece : IsPiece last
+  pub all : ((lines ≡ ended) × (More ⊎ (last ≡ []))) ⊎ ((lines ≡ ended ++ last ∷ []) × (¬ More) × (last ≢ []))
+
+-- the lines ask for these commands, one after the other, from the tickers of the lines before on, and leave these tickers;
+-- a blank line asks for none
+abbrev pub Say : List (List ℕ) → List (List ℕ) → List Command → List (List ℕ) → Type 0
+Say tickers [] commands after = (commands ≡ []) × (after ≡ tickers)
+Say tickers (line ∷ lines) commands after =
+    (IsBlank line × Say tickers lines commands after)
+    ⊎ ((command : Command) × (rest : List Command) × (next : List (List ℕ)) × Says tickers line command next × Say next lines rest after × (commands ≡ command ∷ rest))
+
+-- these are all the lines, or the next one is no command and this is its number, counted from 1
+abbrev pub StopsAt : List (List ℕ) → List (List ℕ) → List (List ℕ) → Option ℕ → Type 0
+StopsAt tickers read lines None = lines ≡ read
+StopsAt tickers read lines (Some number) =
+    (bad : List ℕ) × (more : List (List ℕ)) × (lines ≡ read ++ bad ∷ more) × SaysNothing tickers bad × (number ≡ length read + 1)
+
+-- The lines before the first that is no command, or all of them, ask for these commands. Each text has one such reading, by
+-- the laws.
+pub record AreRead (More : Type 0) (bytes : List ℕ) (bad : Option ℕ) (commands : List Command) : Type 0 where
+  pub lines : List (List ℕ)
+  pub read : List (List ℕ)
+  pub tickers : List (List ℕ)
+  pub split : AreLines More bytes lines
+  pub say : Say [] read commands tickers
+  pub stops : StopsAt tickers read lines bad
+
+-- The first lines ask for these commands.
+pub record AreFirst (More : Type 0) (bytes : List ℕ) (commands : List Command) : Type 0 where
+  pub lines : List (List ℕ)
+  pub read : List (List ℕ)
+  pub more : List (List ℕ)
+  pub tickers : List (List ℕ)
+  pub split : AreLines More bytes lines
+  pub front : lines ≡ read ++ more
+  pub say : Say [] read commands tickers
+
+-- the bytes of the records of commands, one after the other
+abbrev pub records_of : List Command → List ℕ
+records_of commands = flat_map (λ command. spelling (record_of command)) commands

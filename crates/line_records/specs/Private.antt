@@ -1,0 +1,33 @@
+-- Words that only private functions use: what encoding one line comes to.
+use Rattle.std.specs.Prelude.{◌≡◌, ℕ, List, [], ◌∷◌, Option, Result, Ok, Err, All}
+use Rattle.flow_io.specs.Streams.{Grows, GrowsByFront}
+use Rattle.wire_records.specs.Records.{spelling}
+use Rattle.wire_records.specs.Commands.{Command}
+use Rattle.wire_records.specs.CommandRecords.{IsCommand, record_of}
+use Rattle.order_text.specs.Lines.{Says, SaysNothing}
+use Rattle.line_records.specs.declared.encode.EncodeFault.{EncodeFault}
+use Rattle.line_records.specs.declared.encode.EncodeFault.TheVariants.{NoCommand, Write, Memory}
+use Rattle.line_records.specs.Lines.{Say, records_of}
+
+-- the record of a command is written and fits its widths, or a front of it is where the write fails, or nothing where memory is
+-- wanted
+abbrev pub IsRecordWritten : Command → Result (Unit {0}) EncodeFault → Option (List ℕ) → Option (List ℕ) → Type 0
+IsRecordWritten command (Ok _) before after = IsCommand command × Grows before after (spelling (record_of command))
+IsRecordWritten command (Err (NoCommand number)) before after = ⊥
+IsRecordWritten command (Err Write) before after = GrowsByFront before after (spelling (record_of command))
+IsRecordWritten command (Err Memory) before after = after ≡ before
+
+-- A line that is blank or a command was read, and the record of its command was written.
+pub record EncodesLine (tickers : List (List ℕ)) (line : List ℕ) (next : List (List ℕ)) (before after : Option (List ℕ)) : Type 0 where
+  pub commands : List Command
+  pub say : Say tickers (line ∷ []) commands next
+  pub fit : All IsCommand commands
+  pub written : Grows before after (records_of commands)
+
+-- by the answer to a line of this number
+abbrev pub IsLineEncoded : List (List ℕ) → List ℕ → ℕ → List (List ℕ) → Result (Unit {0}) EncodeFault → Option (List ℕ) → Option (List ℕ) → Type 0
+IsLineEncoded tickers line number next (Ok _) before after = EncodesLine tickers line next before after
+IsLineEncoded tickers line number next (Err (NoCommand bad)) before after = SaysNothing tickers line × (bad ≡ number) × (after ≡ before)
+IsLineEncoded tickers line number next (Err Write) before after =
+    (command : Command) × Says tickers line command next × GrowsByFront before after (spelling (record_of command))
+IsLineEncoded tickers line number next (Err Memory) before after = after ≡ before

@@ -1,0 +1,23 @@
+//! What holds of the lines of a text, whether it has more or not. Each law is the contract of a function that does nothing.
+ghost use Rattle.line_records.specs.Laws.{OneSplit, OneReading, NoneIsUnread, FirstIsAFront};
+
+/// Bytes have one list of lines.
+pub fn one_split<More>()
+    ensures { OneSplit More }
+{}
+
+/// There is one first line that is no command, or none, and the lines before it ask for one list of commands.
+pub fn one_reading<More>()
+    ensures { OneReading More }
+{}
+
+/// No text is without a reading.
+pub fn none_is_unread<More>()
+    ensures { NoneIsUnread More }
+{}
+
+/// What the first lines ask for is a front of what all of them do, or those before the first that is no command: so what
+/// stands after a fault is a front of what would have been written.
+pub fn first_is_a_front<More>()
+    ensures { FirstIsAFront More }
+{}

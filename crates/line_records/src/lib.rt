@@ -1,0 +1,12 @@
+//! The records that the lines of a text ask for.
+//!
+//! [`encode_lines`] reads the lines one after the other, each by the tickers of those before it, and writes the record of
+//! each command. Each line is looked at where it lies, and one buffer holds a record at a time.
+#![tactic(auto)]
+
+mod encode;
+pub mod laws;
+#[cfg(test)]
+mod tests;
+
+pub use encode::{EncodeFault, encode_lines};
