@@ -138,6 +138,7 @@ meets limit left input answer.Done before after whole begins audited = determine
 meets limit left input (answer.Torn n) before after whole begins audited = determines limit left input (answer.Torn n) before after whole begins audited
 meets limit left input (answer.Rejected n) before after whole begins audited = determines limit left input (answer.Rejected n) before after whole begins audited
 meets limit left input (answer.TooLong n) before after whole begins audited = determines limit left input (answer.TooLong n) before after whole begins audited
+meets limit left input (answer.BadText n) before after whole begins audited = absurd audited
 
 -- the same over what the source told
 pub audits_on : (told : Option (List ℕ)) (limit : ℕ) (input : WholeInput) (status : Status) (before after : Option (List ℕ)) → IfSome told (λ left. IsWholeInput limit left input) → take 8 input.bytes.items ≡ journal_magic

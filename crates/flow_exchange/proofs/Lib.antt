@@ -6,4 +6,6 @@ pub mod Auditing
 pub mod AuditLaws
 pub mod Reports
 pub mod Reporting
+pub mod Encoding
+pub mod EncodeLaws
 pub mod Dispatch

@@ -70,6 +70,7 @@ meets limit left input answer.Done before after whole begins reported = determin
 meets limit left input (answer.Torn n) before after whole begins reported = determines limit left input (answer.Torn n) before after whole begins reported
 meets limit left input (answer.Rejected n) before after whole begins reported = determines limit left input (answer.Rejected n) before after whole begins reported
 meets limit left input (answer.TooLong n) before after whole begins reported = determines limit left input (answer.TooLong n) before after whole begins reported
+meets limit left input (answer.BadText n) before after whole begins reported = absurd reported
 
 -- the same over what the source told
 pub reports_on : (told : Option (List ℕ)) (limit : ℕ) (input : WholeInput) (status : Status) (before after : Option (List ℕ)) → IfSome told (λ left. IsWholeInput limit left input) → take 8 input.bytes.items ≡ journal_magic

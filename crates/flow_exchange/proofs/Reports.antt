@@ -228,6 +228,7 @@ module _ {O : Type 0} (held : O → Option (List ℕ)) (faults : O → ℕ) wher
     reports_to_break (answer.Torn n) goes = absurd goes.breaks.broken.stops
     reports_to_break answer.ReadFault goes = absurd goes.breaks.broken.stops
     reports_to_break (answer.TooLong n) goes = absurd goes.breaks.broken.stops
+    reports_to_break (answer.BadText n) goes = absurd goes.breaks.broken.stops
 
     -- the fault of out is to be blamed, or nothing
     pub report_blames : (status : Status) (result : Result (Unit {0}) Status) → result ≡ Err status → GoesToBreak journals Reports Breaks bytes status start before after → Blames (result ≡ Err answer.WriteFault) (faults before) (faults after)

@@ -169,6 +169,7 @@ meets limit left input answer.Done before middle now whole begins magic served =
 meets limit left input (answer.Torn n) before middle now whole begins magic served = determines limit left input (answer.Torn n) before middle now whole begins magic served
 meets limit left input (answer.Rejected n) before middle now whole begins magic served = absurd served
 meets limit left input (answer.TooLong n) before middle now whole begins magic served = determines limit left input (answer.TooLong n) before middle now whole begins magic served
+meets limit left input (answer.BadText n) before middle now whole begins magic served = absurd served
 
 -- the same over what the source told
 pub runs_on : (told : Option (List ℕ)) (limit : ℕ) (input : WholeInput) (status : Status) (before middle now : Option (List ℕ)) → IfSome told (λ left. IsWholeInput limit left input) → take 8 input.bytes.items ≡ command_magic → Grows before middle journal_magic → ServesAll limit empty_market 8 (IsTrue input.more) (drop 8 input.bytes.items) status middle now → IfSome told (λ bytes. Meets Run limit bytes status before now)

@@ -171,6 +171,7 @@ module _ {O : Type 0} (held : O → Option (List ℕ)) (faults : O → ℕ) wher
     serves_to_break answer.ReadFault goes = absurd goes.breaks.broken.served
     serves_to_break (answer.Rejected n) goes = absurd goes.breaks.broken.served
     serves_to_break (answer.TooLong n) goes = absurd goes.breaks.broken.served
+    serves_to_break (answer.BadText n) goes = absurd goes.breaks.broken.served
 
     -- the fault of out is to be blamed, or nothing
     pub blames_break : (status : Status) (result : Result (Unit {0}) Status) → result ≡ Err status → GoesToBreak commands Writes Breaks bytes status start before after → Blames (result ≡ Err answer.WriteFault) (faults before) (faults after)

@@ -3,7 +3,7 @@ use Rattle.std.specs.Prelude.{◌≡◌, ◌⊎◌, ◌<◌, ℕ, List, ◌++◌
 use Rattle.wire_records.specs.Records.{command_magic}
 use Rattle.wire_records.specs.Commands.{Command}
 use Rattle.wire_records.specs.CommandRecords.{IsCommand}
-use Rattle.line_records.specs.Lines.{AreRead, AreFirst, records_of}
+use Rattle.line_records.specs.Lines.{AreRead, AreFirst, spell_commands}
 use Rattle.flow_exchange.specs.declared.status.Status.{Status}
 use Rattle.flow_exchange.specs.declared.status.Status.TheVariants.{Done, TooLong, BadText}
 
@@ -20,10 +20,10 @@ pub record EncodesTo (limit : ℕ) (bytes : List ℕ) (status : Status) (text : 
   pub reads : AreRead (limit < length bytes) (take limit bytes) bad commands
   pub fit : All IsCommand commands
   pub ends : EncodeEnds limit (limit < length bytes) bad status
-  pub writes : text ≡ command_magic ++ records_of commands
+  pub writes : text ≡ command_magic ++ spell_commands commands
 
 -- The text is the command file of what the first lines ask for.
 pub record EncodesInto (limit : ℕ) (bytes : List ℕ) (text : List ℕ) : Type 0 where
   pub commands : List Command
   pub first : AreFirst (limit < length bytes) (take limit bytes) commands
-  pub writes : text ≡ command_magic ++ records_of commands
+  pub writes : text ≡ command_magic ++ spell_commands commands

@@ -1,18 +1,23 @@
 -- What holds of the program's words and outcomes, whatever code there is.
-use Rattle.std.specs.Prelude.{◌≡◌, ◌≤◌, ◌+◌, ◌↔◌, ℕ, List, [], ◌++◌, length, take}
+use Rattle.std.specs.Prelude.{◌≡◌, ◌≤◌, ◌+◌, ◌↔◌, ℕ, List, [], ◌++◌, length, take, map, All, Ok}
 use Rattle.wire_records.specs.Records.{Record}
 use Rattle.wire_records.specs.Commands.{Pair}
+use Rattle.wire_records.specs.CommandRecords.{record_of, IsReadAs}
+use Rattle.wire_records.specs.Reading.{Reads, File, End}
+use Rattle.wire_records.specs.Formats.{One, commands}
 use Rattle.flow_orders.specs.Outcomes.{Outcome}
 use Rattle.journal_records.specs.Pairs.{journal}
 use Rattle.journal_records.specs.Formats.{journals}
 use Rattle.market_core.specs.Market.{Market}
 use Rattle.batch_audit.specs.Legal.{IsLegalJournal, IsIllegalPair}
 use Rattle.flow_exchange.specs.declared.form.Form.{Form}
-use Rattle.flow_exchange.specs.declared.form.Form.TheVariants.{Audit}
+use Rattle.flow_exchange.specs.declared.form.Form.TheVariants.{Run, Audit}
 use Rattle.flow_exchange.specs.declared.status.Status.{Status}
 use Rattle.flow_exchange.specs.declared.status.Status.TheVariants.{Done, Rejected}
 use Rattle.flow_exchange.specs.Forms.{Asks}
 use Rattle.flow_exchange.specs.Auditing.{legal_line}
+use Rattle.flow_exchange.specs.Running.{Journals}
+use Rattle.flow_exchange.specs.Encoding.{EncodesTo}
 use Rattle.flow_exchange.specs.Program.{ComesTo}
 
 -- words ask for one form
@@ -47,3 +52,14 @@ pub record HasFirstIllegal (limit : ℕ) (bytes : List ℕ) (number : ℕ) : Typ
 abbrev pub RejectedIsFirstIllegal : Type 0
 RejectedIsFirstIllegal = (limit number : ℕ) (bytes text : List ℕ)
     → ComesTo Audit limit bytes (Rejected number) text ↔ (HasFirstIllegal limit bytes number × (text ≡ []))
+
+-- what is encoded is a command file, which is read to its end as the records of the commands that the lines ask for, and each
+-- of these records as its command
+abbrev pub EncodedIsRead : Type 0
+EncodedIsRead = (limit most : ℕ) (bytes text : List ℕ) (status : Status) (encoded : EncodesTo limit bytes status text) → length text ≤ most
+    → Reads commands most text (File One (map record_of encoded.commands) End) × All (λ command. IsReadAs (record_of command) (Ok command)) encoded.commands
+
+-- and a run of it is done, and writes the journal of these records, each with its reply
+abbrev pub EncodedIsServed : Type 0
+EncodedIsServed = (limit most : ℕ) (bytes text journal : List ℕ) (status ran : Status) (encoded : EncodesTo limit bytes status text) → length text ≤ most
+    → ComesTo Run most text ran journal → (ran ≡ Done) × (market : Market) × Journals (map record_of encoded.commands) market journal

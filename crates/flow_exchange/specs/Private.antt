@@ -19,7 +19,7 @@ use Rattle.market_core.specs.Journal.{IsAnswered}
 use Rattle.market_core.specs.Wanting.{RecordMayWant}
 use Rattle.journal_replay.specs.Audits.{AuditsOn}
 use Rattle.journal_replay.specs.declared.auditing.Audited.{Audited}
-use Rattle.line_records.specs.Lines.{AreFirst, records_of}
+use Rattle.line_records.specs.Lines.{AreFirst, spell_commands}
 use Rattle.line_records.specs.Encoded.{HasEncoded}
 use Rattle.exchange_session.specs.Serving.{AnswersOne}
 use Rattle.flow_exchange.specs.declared.status.Status.{Status}
@@ -152,8 +152,8 @@ pub record EncodesThrough (limit : ℕ) (More : Type 0) (bytes : List ℕ) (stat
 
 -- by the status
 abbrev pub EncodesAll : ℕ → Type 0 → List ℕ → Status → Option (List ℕ) → Option (List ℕ) → Type 0
-EncodesAll limit More bytes WriteFault before after = (commands : List Command) × AreFirst More bytes commands × GrowsByFront before after (records_of commands)
-EncodesAll limit More bytes NoMemory before after = (commands : List Command) × AreFirst More bytes commands × Grows before after (records_of commands)
+EncodesAll limit More bytes WriteFault before after = (commands : List Command) × AreFirst More bytes commands × GrowsByFront before after (spell_commands commands)
+EncodesAll limit More bytes NoMemory before after = (commands : List Command) × AreFirst More bytes commands × Grows before after (spell_commands commands)
 EncodesAll limit More bytes Usage before after = ⊥
 EncodesAll limit More bytes ReadFault before after = ⊥
 EncodesAll limit More bytes NotFlow before after = ⊥

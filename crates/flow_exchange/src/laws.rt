@@ -1,7 +1,7 @@
 //! What holds of the program's words and outcomes, whatever code there is. Each law is the contract of a function that
 //! does nothing.
 ghost use Rattle.std.specs.Prelude.{◌≡◌, ◌↔◌, IsTrue};
-ghost use Rattle.flow_exchange.specs.Laws.{OneForm, OneOutcome, DoneIsForLegalJournals, RejectedIsFirstIllegal};
+ghost use Rattle.flow_exchange.specs.Laws.{OneForm, OneOutcome, DoneIsForLegalJournals, RejectedIsFirstIllegal, EncodedIsRead, EncodedIsServed};
 
 use crate::Status;
 
@@ -24,6 +24,18 @@ pub fn done_is_for_legal_journals()
 /// `audit` rejects a pair exactly where it is the first that isn't legal, by its number, counted from 1.
 pub fn rejected_is_first_illegal()
     ensures { RejectedIsFirstIllegal }
+{}
+
+/// What `encode` makes of lines, up to the first that is no command, is a command file. It is read to its end as the records of
+/// the commands that the lines ask for, and each of these records as its command.
+pub fn encoded_is_read()
+    ensures { EncodedIsRead }
+{}
+
+/// `run` of what `encode` makes of lines is done, and writes the journal that holds each command of the lines with its one
+/// reply.
+pub fn encoded_is_served()
+    ensures { EncodedIsServed }
 {}
 
 /// Two statuses are equal in a test exactly where they are the same.

@@ -525,6 +525,7 @@ fn wants_its_words(rt: HostRuntime) -> Result<(), Fail> {
         (Status::NoMemory, 6),
         (Status::Rejected(1), 7),
         (Status::TooLong(1), 8),
+        (Status::BadText(1), 9),
     ];
     for (status, exit) in statuses {
         assert_eq!(rt; status.exit(), exit);
@@ -678,4 +679,55 @@ fn reports_legal_pairs(rt: HostRuntime) -> Result<(), Fail> {
         Status::Torn(22),
         torn,
     )
+}
+
+// Lines of a day's beginning, and the command file that they make.
+const JSON: &[u8] =
+    b"{\"do\":\"asset\",\"ticker\":\"AAPL\"}\n\n{\"do\":\"account\"}\r\n{\"do\":\"place\",\"account\":1,\"low\":90,\"high\":110,\"rate\":1000,\"cap\":10000,\"weights\":{\"AAPL\":1}}\n{\"do\":\"batch\",\"budget\":10}";
+
+const COMMANDS: &[u8] =
+    b"FLOWCMD1\x01\0\0\0\x08AAPL    \x02\0\0\0\0\x07\0\0\0\x27\0\0\0\x01\0\0\0\0\0\0\0\x5A\0\0\0\0\0\0\0\x6E\0\0\x03\xE8\0\0\0\0\0\0\x27\x10\x01\0\0\0\0\0\x01\x09\0\0\0\x04\0\0\0\x0A";
+
+#[test]
+fn encodes_lines(rt: HostRuntime) -> Result<(), Fail> {
+    let alloc = rt.alloc();
+    expect(&rt, alloc, "encode", JSON, COMMANDS, Status::Done, b"")?;
+    expect(&rt, alloc, "encode", b"", b"FLOWCMD1", Status::Done, b"")?;
+    // The ticker is added by no line before.
+    let unknown =
+        b"{\"do\":\"account\"}\n{\"do\":\"deposit\",\"account\":1,\"asset\":\"AAPL\",\"units\":1}\n{\"do\":\"account\"}\n".as_slice();
+    let opened = b"FLOWCMD1\x02\0\0\0\0".as_slice();
+    let line = b"flow: line 2 is no command\n".as_slice();
+    expect(
+        &rt,
+        alloc,
+        "encode",
+        unknown,
+        opened,
+        Status::BadText(2),
+        line,
+    )
+}
+
+#[test]
+fn encodes_to_the_limit(rt: HostRuntime) -> Result<(), Fail> {
+    let alloc = rt.alloc();
+    let encode = words(alloc, &["encode"])?;
+    // Seventeen bytes end with the line feed of the first line. One byte fewer doesn't have it, and more have a piece of the
+    // second line, which is no line then.
+    let lines = b"{\"do\":\"account\"}\n{\"do\":\"account\"}\n".as_slice();
+    let cases: [(u64, &[u8]); 3] = [
+        (16, b"FLOWCMD1"),
+        (17, b"FLOWCMD1\x02\0\0\0\0"),
+        (33, b"FLOWCMD1\x02\0\0\0\0"),
+    ];
+    for (limit, file) in cases {
+        let mut source = SteadySource::new(Vec::from_slice(alloc, lines)?);
+        let mut out = SteadySink::new(alloc, 64)?;
+        let mut notes = SteadySink::new(alloc, 64)?;
+        let status = flow_limited(alloc, &encode, limit, &mut source, &mut out, &mut notes);
+        assert_eq!(rt; status, Status::TooLong(limit));
+        assert_eq!(rt; out.bytes(), file);
+    }
+    Ok(())
 }

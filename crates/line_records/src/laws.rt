@@ -1,5 +1,5 @@
 //! What holds of the lines of a text, whether it has more or not. Each law is the contract of a function that does nothing.
-ghost use Rattle.line_records.specs.Laws.{OneSplit, OneReading, NoneIsUnread, FirstIsAFront};
+ghost use Rattle.line_records.specs.Laws.{OneSplit, OneReading, NoneIsUnread, FirstIsAFront, RowsAreShort};
 
 /// Bytes have one list of lines.
 pub fn one_split<More>()
@@ -20,4 +20,9 @@ pub fn none_is_unread<More>()
 /// stands after a fault is a front of what would have been written.
 pub fn first_is_a_front<More>()
     ensures { FirstIsAFront More }
+{}
+
+/// The row of each command that lines ask for, if it has one, is within what a record holds.
+pub fn rows_are_short()
+    ensures { RowsAreShort }
 {}

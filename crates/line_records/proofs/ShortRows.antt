@@ -1,0 +1,43 @@
+-- The rows of commands that lines ask for are within what a record holds.
+use Rattle.std.proofs.Common.{◌≡◌, ◌⊎◌, ℕ, List, [], ◌∷◌, ◌++◌, All, inl, inr, arith}
+use Rattle.std.proofs.lemmas.List.Elements.{All-nil, All-cons}
+use Rattle.wire_records.specs.Commands.{Command, AddAsset, OpenAccount, DepositMoney, DepositAsset, WithdrawMoney, WithdrawAsset, PlaceOrder, CancelOrder, RunBatch}
+use Rattle.wire_records.specs.CommandRecords.{HasShortRow}
+use Rattle.ticker_table.specs.Tickers.{IsTicker, AreTickers}
+use Rattle.ticker_table.proofs.Places.{AreTickers-push}
+use Rattle.order_text.specs.Lines.{AreAfter, AreWith}
+use Rattle.order_text.proofs.ShortRows.{row_is_short}
+use Rattle.line_records.specs.Lines.{Say}
+
+-- tickers with one more are tickers
+still_tickers : (tickers : List (List ℕ)) (ticker : List ℕ) (after : List (List ℕ)) → AreTickers tickers → AreWith tickers ticker after → AreTickers after
+still_tickers tickers ticker after are (inl added) = rw added.1 (AreTickers-push tickers ticker are added.0)
+still_tickers tickers ticker after are (inr not) = rw not.1 are
+
+-- the tickers after a command are tickers
+tickers_after : (tickers : List (List ℕ)) (command : Command) (after : List (List ℕ)) → AreTickers tickers → AreAfter tickers command after → AreTickers after
+tickers_after tickers (AddAsset ticker) after are leaves = still_tickers tickers ticker after are leaves
+tickers_after tickers OpenAccount after are leaves = rw leaves are
+tickers_after tickers (DepositMoney account ticks) after are leaves = rw leaves are
+tickers_after tickers (DepositAsset account asset units) after are leaves = rw leaves are
+tickers_after tickers (WithdrawMoney account ticks) after are leaves = rw leaves are
+tickers_after tickers (WithdrawAsset account asset units) after are leaves = rw leaves are
+tickers_after tickers (PlaceOrder request) after are leaves = rw leaves are
+tickers_after tickers (CancelOrder account order) after are leaves = rw leaves are
+tickers_after tickers (RunBatch budget) after are leaves = rw leaves are
+
+-- the rows of what lines ask for, from some tickers on
+rows_are_short : (tickers : List (List ℕ)) (lines : List (List ℕ)) (commands : List Command) (after : List (List ℕ)) → AreTickers tickers → Say tickers lines commands after → All HasShortRow commands
+rows_are_short tickers [] commands after are say = rw say.0 (All-nil HasShortRow)
+rows_are_short tickers (line ∷ lines) commands after are (inl blank) = rows_are_short tickers lines commands after are blank.1
+rows_are_short tickers (line ∷ lines) commands after are (inr said) =
+    rw said.5
+    (All-cons HasShortRow said.0 said.1 (row_is_short tickers line said.0 are said.3.asks)
+      (rows_are_short said.2 lines said.1 after (tickers_after tickers said.0 said.2 are said.3.leaves) said.4))
+
+-- no tickers are tickers
+no_tickers : AreTickers []
+no_tickers = record { valid = All-nil IsTicker; distinct = λ i j d below within. absurd (omega (arith, below, within)); few = omega arith }
+
+pub all_rows_are_short : (lines : List (List ℕ)) (commands : List Command) (tickers : List (List ℕ)) → Say [] lines commands tickers → All HasShortRow commands
+all_rows_are_short lines commands tickers say = rows_are_short [] lines commands tickers no_tickers say
