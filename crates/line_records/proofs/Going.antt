@@ -1,5 +1,5 @@
 -- Going through the lines of a text: what was written so far, and how it ends.
-use Rattle.std.proofs.Common.{◌≡◌, ◌≢◌, ◌+◌, ◌≤◌, ◌<◌, ℕ, List, [], ◌∷◌, ◌++◌, ◌⊎◌, inl, inr, Bool, true, false, IsTrue, All, Option, Some, None, Result, Ok, Err, length, take, drop, length-append, length-drop, append_assoc, append-nil, drop-drop, refl, sym, ap, subst, ◌∙◌, arith}
+use Rattle.std.proofs.Common.{◌≡◌, ◌≢◌, ◌+◌, ◌≤◌, ◌<◌, ℕ, List, [], ◌∷◌, ◌++◌, ◌⊎◌, inl, inr, Bool, true, false, IsTrue, All, Option, Some, None, Result, Ok, Err, length, take, drop, length-append, length-drop, append_assoc, append-nil, drop-drop, eqb-true, eq-eqb, true≢false, ◌==◌, ◌-◌, refl, sym, ap, subst, ◌∙◌, arith}
 use Rattle.std.proofs.lemmas.List.{flat_map_more}
 use Rattle.std.proofs.lemmas.Grind.{flat_map-append}
 use Rattle.std.proofs.lemmas.List.Elements.{All-nil, All-cons, All-push, All-append}
@@ -15,7 +15,7 @@ use Rattle.line_records.specs.Encoded.{HasEncoded, IsEncoded}
 use Rattle.line_records.specs.Private.{EncodesLine, IsLineEncoded, IsRecordWritten}
 use Rattle.line_records.proofs.Growth.{Grows-nothing, Grows-more, GrowsByFront-more}
 use Rattle.line_records.proofs.Pieces.{ended_lines, line_found, no_line_found, any_or_none, lines_behind}
-use Rattle.line_records.proofs.Saying.{say_more}
+use Rattle.line_records.proofs.Saying.{say_more, no_more}
 use Rattle.order_text.specs.Lines.{Says}
 
 -- What going through the lines before a place of the text has done.
@@ -30,6 +30,22 @@ pub record HasGone (text : List ℕ) (place number : ℕ) (tickers : List (List 
   pub counted : number ≡ length ended + 1
   pub few : length ended ≤ place
   pub within : place ≤ length text
+
+-- the size of a slice from a place on
+pub slice_size : (place size : ℕ) → place + size - place ≡ size
+slice_size place size = omega arith
+
+-- what is told to be empty is so
+pub empty_where : (xs : List ℕ) (empty : Bool) → empty ≡ (length xs == 0) → empty ≡ true → xs ≡ []
+empty_where xs empty is yes_is = no_more xs (eqb-true (length xs) 0 (sym is ∙ yes_is))
+
+-- what is told not to be empty isn't
+pub some_where : (xs : List ℕ) (empty : Bool) → empty ≡ (length xs == 0) → empty ≡ false → xs ≢ []
+some_where xs empty is no_is none = true≢false (sym (eq-eqb (length xs) 0 (ap length none)) ∙ sym is ∙ no_is)
+
+-- what is told to be false isn't true
+pub not_where : (more : Bool) → more ≡ false → ¬ IsTrue more
+not_where more no_is is = true≢false (sym is ∙ no_is)
 
 -- before the first line
 pub none_gone : (text : List ℕ) (tickers : List (List ℕ)) (held : Option (List ℕ)) → tickers ≡ [] → HasGone text 0 1 tickers held held
@@ -79,11 +95,12 @@ line_ended text place size ended whole first =
 
 -- one line more
 pub one_more : (text : List ℕ) (place size number : ℕ) (tickers next : List (List ℕ)) (before between after : Option (List ℕ)) → HasGone text place number tickers before between
-    → IsFirstByte (is_byte 10) (drop place text) (Some size) → EncodesLine tickers (take size (drop place text)) next between after → HasGone text (place + (size + 1)) (number + 1) next before after
-one_more text place size number tickers next before between after so first one =
+    → IsFirstByte (is_byte 10) (drop place text) (Some size) → EncodesLine tickers (take (place + size - place) (drop place text)) next between after → HasGone text (place + (size + 1)) (number + 1) next before after
+one_more text place size number tickers next before between after so first encoded =
     let line = take size (drop place text) in
     let found = line_found (drop place text) size first in
     let left = length-drop place text in
+    let one = rw slice_size at encoded in
     record {
       ended = so.ended ++ line ∷ [];
       commands = so.commands ++ one.commands;
@@ -163,12 +180,13 @@ module _ (More : Type 0) (text : List ℕ) (place number : ℕ) (tickers next : 
 
 -- a line that is ended stopped it
 pub stopped_within : (more : Bool) (text : List ℕ) (place size number : ℕ) (tickers next : List (List ℕ)) (before between after : Option (List ℕ)) (fault : EncodeFault) → HasGone text place number tickers before between
-    → IsFirstByte (is_byte 10) (drop place text) (Some size) → IsLineEncoded tickers (take size (drop place text)) number next (Err fault) between after → IsEncoded (IsTrue more) text (Err fault) before after
+    → IsFirstByte (is_byte 10) (drop place text) (Some size) → IsLineEncoded tickers (take (place + size - place) (drop place text)) number next (Err fault) between after → IsEncoded (IsTrue more) text (Err fault) before after
 stopped_within more text place size number tickers next before between after fault so first at =
     let line = take size (drop place text) in
     let pieces = All-push IsPiece so.ended line so.pieces (line_found (drop place text) size first).0.0 in
     let behind = lines_behind (IsTrue more) (told more) text (drop (place + (size + 1)) text) (so.ended ++ line ∷ []) (line_ended text place size so.ended so.whole first) pieces in
-    stopped (IsTrue more) text place number tickers next before between after so line behind.0 (subst (λ lines. AreLines (IsTrue more) text lines) (append_assoc so.ended (line ∷ []) behind.0) behind.1) fault at
+    stopped (IsTrue more) text place number tickers next before between after so line behind.0 (subst (λ lines. AreLines (IsTrue more) text lines) (append_assoc so.ended (line ∷ []) behind.0) behind.1) fault
+    (subst (λ n. IsLineEncoded tickers (take n (drop place text)) number next (Err fault) between after) (slice_size place size) at)
 
 -- there is no line behind the last line feed
 pub ended_text : (more : Bool) (text : List ℕ) (place number : ℕ) (tickers : List (List ℕ)) (before after : Option (List ℕ)) → HasGone text place number tickers before after

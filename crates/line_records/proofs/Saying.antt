@@ -67,7 +67,7 @@ goes_on tickers (line ∷ lines) more (first ∷ other) rest commands others aft
     }
 
 -- a list of no length is empty
-no_more : {A : Type 0} (xs : List A) → length xs ≡ 0 → xs ≡ []
+pub no_more : {A : Type 0} (xs : List A) → length xs ≡ 0 → xs ≡ []
 no_more [] none = refl
 no_more (x ∷ xs) none = absurd (omega (arith, none))
 
