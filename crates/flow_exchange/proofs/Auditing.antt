@@ -29,7 +29,7 @@ use Rattle.flow_exchange.specs.Auditing.{legal_line, audit_status, audit_text, A
 use Rattle.flow_exchange.specs.Private.{found_line, AuditsThrough, AuditsAll}
 use Rattle.flow_exchange.specs.Program.{Determines, Meets}
 use Rattle.flow_exchange.proofs.Outcomes.{one_outcome}
-use Rattle.flow_exchange.proofs.Growth.{Grows-nothing}
+use Rattle.flow_io.proofs.Growth.{Grows-nothing}
 
 -- the line on what was found is that on the legal pairs
 line_is : (More : Type 0) (bytes : List ℕ) (found : Audited) (finds : FindsLegal 8 More bytes found) → found_line found ≡ legal_line finds.legal

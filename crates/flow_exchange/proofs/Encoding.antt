@@ -1,6 +1,7 @@
 -- What encoding lines comes to.
-use Rattle.std.proofs.Common.{◌≡◌, ◌≢◌, ◌↔◌, ◌+◌, ◌<◌, ◌≤◌, ℕ, List, [], ◌++◌, Bool, true, false, Option, Some, None, IfSome, IsTrue, All, Result, Ok, Err, length, take, drop, inl, inr, ◌⊎◌, refl, sym, ap, ◌∙◌, arith}
+use Rattle.std.proofs.Common.{◌≡◌, ◌≢◌, ◌↔◌, ◌+◌, ◌<◌, ◌≤◌, ℕ, List, [], ◌++◌, Option, Some, None, IfSome, IsTrue, All, Result, Ok, Err, length, take, drop, inl, inr, ◌⊎◌, refl, sym, ap, ◌∙◌, arith}
 use Rattle.std.proofs.lemmas.List.{drop_all}
+use Rattle.std.proofs.lemmas.List.Elements.{All-nil}
 use Rattle.flow_io.specs.declared.whole.WholeInput.{WholeInput}
 use Rattle.flow_io.specs.declared.whole.ReadAllFault.{ReadAllFault}
 use Rattle.flow_io.specs.declared.whole.ReadAllFault.TheVariants as fault
@@ -10,9 +11,9 @@ use Rattle.wire_records.specs.Records.{command_magic}
 use Rattle.wire_records.specs.Commands.{Command}
 use Rattle.line_records.specs.declared.encode.EncodeFault.{EncodeFault}
 use Rattle.line_records.specs.declared.encode.EncodeFault.TheVariants as line
-use Rattle.line_records.specs.Lines.{AreLines, AreRead, AreFirst, spell_commands}
+use Rattle.line_records.specs.Lines.{IsPiece, AreLines, AreRead, AreFirst, spell_commands}
 use Rattle.line_records.specs.Encoded.{HasEncoded, IsEncoded}
-use Rattle.line_records.proofs.Splits.{split_of}
+use Rattle.line_records.proofs.Pieces.{lines_behind, told}
 use Rattle.flow_exchange.specs.declared.form.Form.TheVariants.{Encode}
 use Rattle.flow_exchange.specs.declared.status.Status.{Status}
 use Rattle.flow_exchange.specs.declared.status.Status.TheVariants as answer
@@ -21,7 +22,7 @@ use Rattle.flow_exchange.specs.Encoding.{EncodeEnds, EncodesTo, EncodesInto}
 use Rattle.flow_exchange.specs.Private.{EncodesThrough, EncodesAll}
 use Rattle.flow_exchange.specs.Program.{Determines, Meets}
 use Rattle.flow_exchange.proofs.Outcomes.{one_outcome}
-use Rattle.flow_exchange.proofs.Growth.{Grows-nothing, Grows-more, GrowsByFront-more}
+use Rattle.flow_io.proofs.Growth.{Grows-nothing, Grows-more, GrowsByFront-more}
 
 -- ---- the lines of the input, one after the other
 
@@ -93,7 +94,7 @@ encodes_into limit left input commands whole first = record {
 -- no line was read
 none_first : (input : WholeInput) → AreFirst (IsTrue input.more) input.bytes.items []
 none_first input =
-    let lines = split_of input.more input.bytes.items in
+    let lines = lines_behind (IsTrue input.more) (told input.more) input.bytes.items input.bytes.items [] refl (All-nil IsPiece) in
     record {
       lines = lines.0;
       read = [];

@@ -1,4 +1,3 @@
-pub mod Growth
 pub mod Serving
 pub mod Outcomes
 pub mod Running

@@ -18,7 +18,7 @@ use Rattle.flow_exchange.specs.Reporting.{ReportsTo, ReportsInto}
 use Rattle.flow_exchange.specs.ReportSteps.{ReportsThrough, ReportsSome, ReportsAll}
 use Rattle.flow_exchange.specs.Program.{Determines, Meets}
 use Rattle.flow_exchange.proofs.Outcomes.{one_outcome}
-use Rattle.flow_exchange.proofs.Growth.{Grows-nothing}
+use Rattle.flow_io.proofs.Growth.{Grows-nothing}
 
 -- the magic and what stands behind it
 behind_magic : (limit : ℕ) (left : List ℕ) (input : WholeInput) → IsWholeInput limit left input → take 8 input.bytes.items ≡ journal_magic → take limit left ≡ journal_magic ++ drop 8 input.bytes.items

@@ -26,7 +26,7 @@ use Rattle.flow_exchange.specs.declared.status.Status.TheVariants as answer
 use Rattle.flow_exchange.specs.Statuses.{ending_status, status_of}
 use Rattle.flow_exchange.specs.Reporting.{AreReported}
 use Rattle.flow_exchange.specs.ReportSteps.{Reported, HasRoom, ReportsPair, BreaksOffReport, ReportsThrough, ReportsSome, ReportsAll}
-use Rattle.flow_exchange.proofs.Growth.{Grows-nothing, Grows-more, GrowsByFront-more}
+use Rattle.flow_io.proofs.Growth.{Grows-nothing, Grows-more, GrowsByFront-more}
 
 -- the numbers still fit behind a pair
 pub room_more : (old new : Reported) (pair : Record × Record) (left taken : ℕ) → HasRoom old left → IsLegalPair old.market pair new.market → new.number ≡ old.number + 1 → taken ≤ left → 10 ≤ taken → HasRoom new (left - taken)

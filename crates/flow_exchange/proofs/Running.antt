@@ -24,7 +24,7 @@ use Rattle.flow_exchange.specs.Private.{Answers, AnswersAll, AnswersSome, Serves
 use Rattle.flow_exchange.specs.Running.{Journals, RunsTo, RunsInto, RunsShort}
 use Rattle.flow_exchange.specs.Program.{Determines, BreaksOff, Meets}
 use Rattle.flow_exchange.proofs.Outcomes.{one_outcome}
-use Rattle.flow_exchange.proofs.Growth.{Grows-nothing, Grows-more, GrowsByFront-more}
+use Rattle.flow_io.proofs.Growth.{Grows-nothing, Grows-more, GrowsByFront-more}
 
 -- an ending depends only on whether there is more
 ends_alike : (P Q : Type 0) (rest : List ℕ) (place : ℕ) (ending : Ending) → (P ↔ Q) → EndsAs commands P rest place ending → EndsAs commands Q rest place ending

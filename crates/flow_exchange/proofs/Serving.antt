@@ -23,7 +23,7 @@ use Rattle.flow_exchange.specs.declared.status.Status.{Status}
 use Rattle.flow_exchange.specs.declared.status.Status.TheVariants as answer
 use Rattle.flow_exchange.specs.Statuses.{ending_status, status_of}
 use Rattle.flow_exchange.specs.Private.{most_plain_pair, WritesPair, BreaksOffPair, AnswersAll, ServesSome, StopsAtWant, ServesAll}
-use Rattle.flow_exchange.proofs.Growth.{Grows-nothing, Grows-more, GrowsByFront-more}
+use Rattle.flow_io.proofs.Growth.{Grows-nothing, Grows-more, GrowsByFront-more}
 
 -- a record has room in the buffer
 pub has_room : (r : Record) (capacity : ℕ) → IsRecord 1024 r → most_plain_pair ≤ capacity → plain_room r ≤ capacity

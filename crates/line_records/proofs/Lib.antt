@@ -1,1 +1,6 @@
+pub mod Pieces
+pub mod Saying
+pub mod OneSplits
+pub mod OneReadings
 pub mod ShortRows
+mod Going

@@ -5,18 +5,18 @@ use Rattle.wire_records.specs.Commands.{Command}
 use Rattle.wire_records.specs.CommandRecords.{IsCommand}
 use Rattle.line_records.specs.declared.encode.EncodeFault.{EncodeFault}
 use Rattle.line_records.specs.declared.encode.EncodeFault.TheVariants.{NoCommand, Write, Memory}
-use Rattle.line_records.specs.Lines.{AreRead, AreFirst, records_of}
+use Rattle.line_records.specs.Lines.{AreRead, AreFirst, spell_commands}
 
 -- The records of all commands up to the first line that is none, or to the end, were written. Each fits its record.
 pub record HasEncoded (More : Type 0) (bytes : List ℕ) (bad : Option ℕ) (before after : Option (List ℕ)) : Type 0 where
   pub commands : List Command
   pub read : AreRead More bytes bad commands
   pub fit : All IsCommand commands
-  pub written : Grows before after (records_of commands)
+  pub written : Grows before after (spell_commands commands)
 
 -- by the answer
 abbrev pub IsEncoded : Type 0 → List ℕ → Result (Unit {0}) EncodeFault → Option (List ℕ) → Option (List ℕ) → Type 0
 IsEncoded More bytes (Ok _) before after = HasEncoded More bytes None before after
 IsEncoded More bytes (Err (NoCommand number)) before after = HasEncoded More bytes (Some number) before after
-IsEncoded More bytes (Err Write) before after = (commands : List Command) × AreFirst More bytes commands × GrowsByFront before after (records_of commands)
-IsEncoded More bytes (Err Memory) before after = (commands : List Command) × AreFirst More bytes commands × Grows before after (records_of commands)
+IsEncoded More bytes (Err Write) before after = (commands : List Command) × AreFirst More bytes commands × GrowsByFront before after (spell_commands commands)
+IsEncoded More bytes (Err Memory) before after = (commands : List Command) × AreFirst More bytes commands × Grows before after (spell_commands commands)

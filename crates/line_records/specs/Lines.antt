@@ -3,7 +3,7 @@ use Rattle.std.specs.Prelude.{◌≡◌, ◌≢◌, ◌+◌, ℕ, List, [], ◌�
 use Rattle.std.specs.List.{flat_map}
 use Rattle.wire_records.specs.Records.{spelling}
 use Rattle.wire_records.specs.Commands.{Command}
-use Rattle.wire_records.specs.CommandRecords.{IsCommand, record_of}
+use Rattle.wire_records.specs.CommandRecords.{record_of}
 use Rattle.order_text.specs.Lines.{IsBlank, Says, SaysNothing}
 
 -- a piece with no line feed (10) in it
@@ -59,5 +59,5 @@ pub record AreFirst (More : Type 0) (bytes : List ℕ) (commands : List Command)
   pub say : Say [] read commands tickers
 
 -- the bytes of the records of commands, one after the other
-abbrev pub records_of : List Command → List ℕ
-records_of commands = flat_map (λ command. spelling (record_of command)) commands
+abbrev pub spell_commands : List Command → List ℕ
+spell_commands commands = flat_map (λ command. spelling (record_of command)) commands

@@ -7,7 +7,7 @@ use Rattle.wire_records.specs.CommandRecords.{IsCommand, record_of}
 use Rattle.order_text.specs.Lines.{Says, SaysNothing}
 use Rattle.line_records.specs.declared.encode.EncodeFault.{EncodeFault}
 use Rattle.line_records.specs.declared.encode.EncodeFault.TheVariants.{NoCommand, Write, Memory}
-use Rattle.line_records.specs.Lines.{Say, records_of}
+use Rattle.line_records.specs.Lines.{Say, spell_commands}
 
 -- the record of a command is written and fits its widths, or a front of it is where the write fails, or nothing where memory is
 -- wanted
@@ -22,7 +22,7 @@ pub record EncodesLine (tickers : List (List ℕ)) (line : List ℕ) (next : Lis
   pub commands : List Command
   pub say : Say tickers (line ∷ []) commands next
   pub fit : All IsCommand commands
-  pub written : Grows before after (records_of commands)
+  pub written : Grows before after (spell_commands commands)
 
 -- by the answer to a line of this number
 abbrev pub IsLineEncoded : List (List ℕ) → List ℕ → ℕ → List (List ℕ) → Result (Unit {0}) EncodeFault → Option (List ℕ) → Option (List ℕ) → Type 0

@@ -1,6 +1,6 @@
 use Rattle.std.proofs.Common.{◌++◌, decimal, codes}
 use Rattle.std.proofs.lemmas.Result.{err_from_is_err_and}
-use Rattle.flow_exchange.proofs.Growth.{GrowsByFront-front, number_cut, end_cut}
+use Rattle.flow_io.proofs.Growth.{GrowsByFront-front, number_cut, end_cut}
 use Rattle.flow_exchange.proofs.audit.write_found.Goals as goal
 
 pub returns-in_err-write_number-clause-cut : goal.returns-in_err-write_number-clause-cut

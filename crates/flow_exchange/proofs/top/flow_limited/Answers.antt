@@ -3,7 +3,7 @@ use Rattle.flow_io.specs.Faults.{Rose, Blames}
 use Rattle.flow_io.specs.Streams.{Grows, GrowsByFront}
 use Rattle.flow_io.specs.declared.sink.WriteFailed.{WriteFailed}
 use Rattle.flow_exchange.specs.Statuses.{line_of}
-use Rattle.flow_exchange.proofs.Growth.{GrowsByFront-whole}
+use Rattle.flow_io.proofs.Growth.{GrowsByFront-whole}
 use Rattle.flow_exchange.proofs.Dispatch.{serves_form, serves_none}
 use Rattle.flow_exchange.proofs.top.flow_limited.Goals as goal
 use Rattle.flow_exchange.proofs.top.flow_limited.Goals.{in-Some, in-None}
