@@ -2,4 +2,6 @@ pub mod Named
 pub mod Rows
 pub mod AskedFor
 pub mod ShortRows
+pub mod ReadNumbers
+pub mod Fitting
 pub mod OneAnswers

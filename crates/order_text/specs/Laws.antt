@@ -2,7 +2,7 @@
 use Rattle.std.specs.Prelude.{◌≡◌, ◌≢◌, ℕ, List, Result}
 use Rattle.wire_records.specs.Commands.{Command}
 use Rattle.ticker_table.specs.Tickers.{AreTickers}
-use Rattle.wire_records.specs.CommandRecords.{HasShortRow}
+use Rattle.wire_records.specs.CommandRecords.{IsCommand, HasShortRow}
 use Rattle.order_text.specs.declared.line.LineRead.{LineRead}
 use Rattle.order_text.specs.declared.line.LineFault.{LineFault}
 use Rattle.order_text.specs.Lines.{LineAsks, Says}
@@ -18,6 +18,11 @@ OneSaying =
 abbrev pub RowIsShort : Type 0
 RowIsShort =
     (tickers : List (List ℕ)) (line : List ℕ) (command : Command) → AreTickers tickers → LineAsks tickers line command → HasShortRow command
+
+-- a command that a line asks for has fields within their widths
+abbrev pub CommandFits : Type 0
+CommandFits =
+    (tickers : List (List ℕ)) (line : List ℕ) (command : Command) → AreTickers tickers → LineAsks tickers line command → IsCommand command
 
 -- but for want of memory a line has at most one answer, with one table after it
 abbrev pub OneAnswer : Type 0
