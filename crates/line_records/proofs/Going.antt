@@ -1,20 +1,20 @@
 -- Going through the lines of a text: what was written so far, and how it ends.
-use Rattle.std.proofs.Common.{◌≡◌, ◌≢◌, ◌+◌, ◌≤◌, ◌<◌, ℕ, List, [], ◌∷◌, ◌++◌, ◌⊎◌, inl, inr, Bool, true, false, IsTrue, All, Option, Some, None, Result, Ok, Err, length, take, drop, length-append, length-drop, append_assoc, append-nil, drop-drop, eqb-true, eq-eqb, true≢false, ◌==◌, ◌-◌, refl, sym, ap, subst, ◌∙◌, arith}
+use Rattle.std.proofs.Common.{◌≡◌, ◌≢◌, ◌+◌, ◌≤◌, ℕ, List, [], ◌∷◌, ◌++◌, ◌⊎◌, inl, inr, Bool, true, false, IsTrue, All, Option, Some, None, Result, Ok, Err, length, take, drop, length-append, length-drop, append_assoc, append-nil, drop-drop, eqb-true, eq-eqb, true≢false, ◌==◌, ◌-◌, refl, sym, ap, subst, ◌∙◌, arith}
 use Rattle.std.proofs.lemmas.List.{flat_map_more}
 use Rattle.std.proofs.lemmas.Grind.{flat_map-append}
 use Rattle.std.proofs.lemmas.List.Elements.{All-nil, All-cons, All-push, All-append}
 use Rattle.memchr.specs.Find.{IsFirstByte, is_byte}
-use Rattle.flow_io.specs.Streams.{Grows, GrowsByFront}
+use Rattle.flow_io.specs.Streams.{Grows}
 use Rattle.wire_records.specs.Records.{spelling}
 use Rattle.wire_records.specs.Commands.{Command}
 use Rattle.wire_records.specs.CommandRecords.{IsCommand, record_of}
 use Rattle.line_records.specs.declared.encode.EncodeFault.{EncodeFault}
 use Rattle.line_records.specs.declared.encode.EncodeFault.TheVariants.{NoCommand, Write, Memory}
-use Rattle.line_records.specs.Lines.{IsPiece, ended_by_feeds, AreLines, Say, AreRead, AreFirst, records_of}
+use Rattle.line_records.specs.Lines.{IsPiece, ended_by_feeds, AreLines, Say, records_of}
 use Rattle.line_records.specs.Encoded.{HasEncoded, IsEncoded}
 use Rattle.line_records.specs.Private.{EncodesLine, IsLineEncoded, IsRecordWritten}
 use Rattle.line_records.proofs.Growth.{Grows-nothing, Grows-more, GrowsByFront-more}
-use Rattle.line_records.proofs.Pieces.{ended_lines, line_found, no_line_found, any_or_none, lines_behind}
+use Rattle.line_records.proofs.Pieces.{ended_lines, line_found, no_line_found, lines_behind}
 use Rattle.line_records.proofs.Saying.{say_more, no_more}
 use Rattle.order_text.specs.Lines.{Says}
 
@@ -114,14 +114,6 @@ one_more text place size number tickers next before between after so first encod
       within = omega (arith, left, found.1, so.within);
     }
 
--- a number has room where a line is ended
-pub has_room : (text : List ℕ) (place size number : ℕ) (tickers : List (List ℕ)) (before after : Option (List ℕ)) → HasGone text place number tickers before after → IsFirstByte (is_byte 10) (drop place text) (Some size)
-    → (place + (size + 1) ≤ length text) × (number ≤ length text)
-has_room text place size number tickers before after so first =
-    let inside = (line_found (drop place text) size first).1 in
-    let left = length-drop place text in
-    (omega (arith, left, inside, so.within), omega (arith, left, inside, so.within, so.few, so.counted))
-
 -- there is more, or not
 told : (more : Bool) → IsTrue more ⊎ (¬ IsTrue more)
 told true = inl refl
@@ -218,19 +210,19 @@ pub last_line : (more : Bool) (text : List ℕ) (place number : ℕ) (tickers ne
     → IsEncoded (IsTrue more) text result before after
 last_line more text place number tickers next before between after (Ok done) so none not some is =
     all_read (IsTrue more) text place number tickers next before between after so (drop place text) [] (record {
-          ended = so.ended;
-          last = drop place text;
-          whole = so.whole;
-          pieces = so.pieces;
-          piece = no_line_found (drop place text) none;
-          all = inr (refl, not, some);
-        }) refl is
+      ended = so.ended;
+      last = drop place text;
+      whole = so.whole;
+      pieces = so.pieces;
+      piece = no_line_found (drop place text) none;
+      all = inr (refl, not, some);
+    }) refl is
 last_line more text place number tickers next before between after (Err fault) so none not some is =
     stopped (IsTrue more) text place number tickers next before between after so (drop place text) [] (record {
-          ended = so.ended;
-          last = drop place text;
-          whole = so.whole;
-          pieces = so.pieces;
-          piece = no_line_found (drop place text) none;
-          all = inr (refl, not, some);
-        }) fault is
+      ended = so.ended;
+      last = drop place text;
+      whole = so.whole;
+      pieces = so.pieces;
+      piece = no_line_found (drop place text) none;
+      all = inr (refl, not, some);
+    }) fault is

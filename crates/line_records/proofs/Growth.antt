@@ -1,8 +1,7 @@
 -- How what a sink holds grows.
-use Rattle.std.proofs.Common.{◌+◌, ◌≤◌, ℕ, List, [], ◌++◌, Option, Some, None, length, take, length-append, sym, append_assoc, arith}
+use Rattle.std.proofs.Common.{◌+◌, ℕ, List, [], ◌++◌, Option, Some, None, length, take, length-append, sym, append_assoc, arith}
 use Rattle.std.proofs.lemmas.List.{append-nil}
-use Rattle.std.proofs.Math.Seq.{take-length, take-append-add}
-use Rattle.std.proofs.lemmas.List.{take-append-le}
+use Rattle.std.proofs.Math.Seq.{take-append-add}
 use Rattle.flow_io.specs.Streams.{Grows, GrowsByFront}
 
 -- nothing was written
@@ -18,10 +17,6 @@ Grows-more None (Some y) (Some z) bytes more a b = absurd a
 Grows-more (Some x) None (Some z) bytes more a b = absurd b
 Grows-more (Some x) (Some y) (Some z) bytes more a b = rw (b, a) (append_assoc x bytes more)
 
--- all of the bytes are a front of them
-pub GrowsByFront-whole : (first second : Option (List ℕ)) (bytes : List ℕ) → Grows first second bytes → GrowsByFront first second bytes
-GrowsByFront-whole first second bytes a = (length bytes, omega arith, rw (take-length bytes) a)
-
 -- bytes were written, and then a front of more
 pub GrowsByFront-more : (first second third : Option (List ℕ)) (bytes more : List ℕ) → Grows first second bytes → GrowsByFront second third more → GrowsByFront first third (bytes ++ more)
 GrowsByFront-more first second third bytes more a b = (
@@ -29,8 +24,3 @@ GrowsByFront-more first second third bytes more a b = (
   omega (arith, length-append bytes more, b.1),
   rw (take-append-add bytes more b.0) (Grows-more first second third bytes (take b.0 more) a b.2),
 )
-
--- a front of the bytes is a front of them and more
-pub GrowsByFront-front : (first second : Option (List ℕ)) (bytes more : List ℕ) → GrowsByFront first second bytes → GrowsByFront first second (bytes ++ more)
-GrowsByFront-front first second bytes more a = (a.0, omega (arith, length-append bytes more, a.1), let within : a.0 ≤ length bytes = a.1 in rw take-append-le a.2)
-

@@ -1,12 +1,12 @@
 -- A text has a reading, and one alone.
-use Rattle.std.proofs.Common.{◌≡◌, ◌+◌, ℕ, List, [], ◌∷◌, ◌++◌, ◌⊎◌, inl, inr, Option, Some, None, length, append_assoc, append-nil, refl, sym, ap, ◌∙◌}
+use Rattle.std.proofs.Common.{◌≡◌, ◌+◌, ℕ, List, [], ◌∷◌, ◌++◌, ◌⊎◌, inl, inr, Option, Some, None, length, append-nil, refl, sym, ap, ◌∙◌}
 use Rattle.std.proofs.lemmas.List.{append_cancel_left}
 use Rattle.wire_records.specs.Commands.{Command}
 use Rattle.wire_records.proofs.CodeLaws.{parted}
-use Rattle.line_records.specs.Lines.{AreLines, AreRead, AreFirst, Say, StopsAt}
+use Rattle.line_records.specs.Lines.{AreRead, StopsAt}
 use Rattle.line_records.specs.Laws.{OneReading, NoneIsUnread, FirstIsAFront}
 use Rattle.line_records.proofs.Pieces.{ended_lines, ended_code, piece_from_none, all_lines}
-use Rattle.line_records.proofs.Saying.{Stops, HasStopped, goes_on, stop_alike, none_is_unstopped}
+use Rattle.line_records.proofs.Saying.{Stops, goes_on, stop_alike, none_is_unstopped}
 use Rattle.line_records.proofs.OneSplits.{one_split}
 
 -- the number of the next line, if there is one
@@ -50,13 +50,13 @@ unread_where More bytes none more =
     let parts = parted ended_lines ended_code bytes in
     let all = all_lines More more bytes parts.values parts.rest parts.whole parts.each (piece_from_none parts.rest parts.none) in
     none_is_unstopped [] (parts.values ++ all.0) (λ so. none (number_of so.read so.more) so.commands (record {
-          lines = parts.values ++ all.0;
-          read = so.read;
-          tickers = so.after;
-          split = all.1;
-          say = so.say;
-          stops = stops_at so.after so.read (parts.values ++ all.0) so.more so.all so.stops;
-        }))
+      lines = parts.values ++ all.0;
+      read = so.read;
+      tickers = so.after;
+      split = all.1;
+      say = so.say;
+      stops = stops_at so.after so.read (parts.values ++ all.0) so.more so.all so.stops;
+    }))
 
 pub none_is_unread : (More : Type 0) → NoneIsUnread More
 none_is_unread More bytes none =

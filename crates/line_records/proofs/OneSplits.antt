@@ -1,7 +1,6 @@
 -- Bytes have one list of lines.
-use Rattle.std.proofs.Common.{◌≡◌, ◌≢◌, ℕ, List, [], ◌∷◌, ◌++◌, ◌⊎◌, inl, inr, sym, ap, ap₂, ◌∙◌}
+use Rattle.std.proofs.Common.{◌≡◌, ◌≢◌, ℕ, List, [], ◌∷◌, ◌++◌, ◌⊎◌, inl, inr, sym, ◌∙◌}
 use Rattle.wire_records.proofs.CodeLaws.{values_unique}
-use Rattle.line_records.specs.Lines.{AreLines}
 use Rattle.line_records.specs.Laws.{OneSplit}
 use Rattle.line_records.proofs.Pieces.{ended_lines, ended_code, none_in_piece}
 

@@ -1,5 +1,5 @@
 -- Lines that end with a line feed: bytes are such lines and a rest in one way.
-use Rattle.std.proofs.Common.{◌≡◌, ◌≢◌, ◌+◌, ◌<◌, ℕ, zero, suc, List, [], ◌∷◌, ◌++◌, ◌⊎◌, inl, inr, All, Contains, Option, Some, None, length, take, drop, get_or, length-append, length-take, append_assoc, append-nil, take-append-drop, get_or-take, zero-le, refl, sym, ap, subst, ◌∙◌, arith, eq-eqb, eqb-true}
+use Rattle.std.proofs.Common.{◌≡◌, ◌≢◌, ◌+◌, ◌<◌, ℕ, zero, suc, List, [], ◌∷◌, ◌++◌, ◌⊎◌, inl, inr, All, Contains, Some, None, length, take, drop, get_or, length-append, length-take, append_assoc, append-nil, take-append-drop, get_or-take, zero-le, refl, sym, ap, subst, ◌∙◌, arith, eq-eqb, eqb-true}
 use Rattle.std.proofs.lemmas.Bool.{cases_eq}
 use Rattle.std.proofs.lemmas.List.{get_or_default, drop_more}
 use Rattle.std.proofs.lemmas.Grind.{flat_map-append}
@@ -86,7 +86,7 @@ line_found bytes size first =
             first.0.before has.0 zero-le low
             (eq-eqb (get_or bytes has.0 0) 10 (get_or_default bytes has.0 0 10 (omega (arith, low, inside)) ∙ sym (get_or-take size bytes has.0 10 low) ∙ has.2)),
         sym (take-append-drop size bytes) ∙ ap (λ xs. take size bytes ++ xs) (drop_more bytes size 0 inside ∙ ap (λ b. b ∷ drop (size + 1) bytes) feed)
-        ∙ sym (append_assoc (take size bytes) (10 ∷ []) (drop (size + 1) bytes)),
+            ∙ sym (append_assoc (take size bytes) (10 ∷ []) (drop (size + 1) bytes)),
       ),
       inside,
     )

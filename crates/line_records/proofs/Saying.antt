@@ -1,5 +1,5 @@
 -- What lines say, one after the other.
-use Rattle.std.proofs.Common.{◌≡◌, ◌≢◌, ◌+◌, ℕ, List, [], ◌∷◌, ◌++◌, ◌⊎◌, inl, inr, Option, Some, None, Result, Ok, Err, length, length-append, append_assoc, append-nil, get_or, drop, refl, sym, ap, subst, ◌∙◌, arith}
+use Rattle.std.proofs.Common.{◌≡◌, ◌≢◌, ℕ, List, [], ◌∷◌, ◌++◌, inl, inr, Result, Ok, Err, length, length-append, append-nil, get_or, drop, refl, sym, ap, subst, ◌∙◌, arith}
 use Rattle.wire_records.specs.Commands.{Command}
 use Rattle.wire_records.specs.Views.{command_in}
 use Rattle.order_text.specs.declared.line.LineRead.{LineRead}

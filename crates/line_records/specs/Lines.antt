@@ -3,7 +3,7 @@ use Rattle.std.specs.Prelude.{◌≡◌, ◌≢◌, ◌+◌, ℕ, List, [], ◌�
 use Rattle.std.specs.List.{flat_map}
 use Rattle.wire_records.specs.Records.{spelling}
 use Rattle.wire_records.specs.Commands.{Command}
-use Rattle.wire_records.specs.CommandRecords.{IsCommand, record_of}
+use Rattle.wire_records.specs.CommandRecords.{record_of}
 use Rattle.order_text.specs.Lines.{IsBlank, Says, SaysNothing}
 
 -- a piece with no line feed (10) in it
