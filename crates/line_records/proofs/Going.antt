@@ -13,7 +13,7 @@ use Rattle.line_records.specs.declared.encode.EncodeFault.TheVariants.{NoCommand
 use Rattle.line_records.specs.Lines.{IsPiece, ended_by_feeds, AreLines, Say, records_of}
 use Rattle.line_records.specs.Encoded.{HasEncoded, IsEncoded}
 use Rattle.line_records.specs.Private.{EncodesLine, IsLineEncoded, IsRecordWritten}
-use Rattle.line_records.proofs.Growth.{Grows-nothing, Grows-more, GrowsByFront-more}
+use Rattle.line_records.proofs.Growth.{Grows-more, GrowsByFront-more}
 use Rattle.line_records.proofs.Pieces.{ended_lines, line_found, no_line_found, lines_behind}
 use Rattle.line_records.proofs.Saying.{say_more, no_more}
 use Rattle.order_text.specs.Lines.{Says}
@@ -46,21 +46,6 @@ some_where xs empty is no_is none = true≢false (sym (eq-eqb (length xs) 0 (ap 
 -- what is told to be false isn't true
 pub not_where : (more : Bool) → more ≡ false → ¬ IsTrue more
 not_where more no_is is = true≢false (sym is ∙ no_is)
-
--- before the first line
-pub none_gone : (text : List ℕ) (tickers : List (List ℕ)) (held : Option (List ℕ)) → tickers ≡ [] → HasGone text 0 1 tickers held held
-none_gone text tickers held empty = record {
-  ended = [];
-  commands = [];
-  whole = refl;
-  pieces = All-nil IsPiece;
-  say = (refl, empty);
-  fit = All-nil IsCommand;
-  written = Grows-nothing held;
-  counted = refl;
-  few = omega arith;
-  within = omega arith;
-}
 
 -- a command's line alone
 one_command : (tickers : List (List ℕ)) (line : List ℕ) (command : Command) (next : List (List ℕ)) → Says tickers line command next → Say tickers (line ∷ []) (command ∷ []) next
@@ -120,7 +105,7 @@ told true = inl refl
 told false = inr (λ e. absurd cc)
 
 module _ (More : Type 0) (text : List ℕ) (place number : ℕ) (tickers next : List (List ℕ)) (before between after : Option (List ℕ)) (so : HasGone text place number tickers before between) (line : List ℕ) (rest : List (List ℕ)) (split : AreLines More text (so.ended ++ line ∷ rest)) where
-  -- the next line ended it
+  -- the next line stopped it
   stopped : (fault : EncodeFault) → IsLineEncoded tickers line number next (Err fault) between after → IsEncoded More text (Err fault) before after
   stopped (NoCommand bad) at = record {
     commands = so.commands;

@@ -1,13 +1,7 @@
 -- How what a sink holds grows.
-use Rattle.std.proofs.Common.{◌+◌, ℕ, List, [], ◌++◌, Option, Some, None, length, take, length-append, sym, append_assoc, arith}
-use Rattle.std.proofs.lemmas.List.{append-nil}
+use Rattle.std.proofs.Common.{◌+◌, ℕ, List, ◌++◌, Option, Some, None, length, take, length-append, append_assoc, arith}
 use Rattle.std.proofs.Math.Seq.{take-append-add}
 use Rattle.flow_io.specs.Streams.{Grows, GrowsByFront}
-
--- nothing was written
-pub Grows-nothing : (held : Option (List ℕ)) → Grows held held []
-Grows-nothing None = tt
-Grows-nothing (Some bytes) = sym (append-nil bytes)
 
 -- bytes were written, and then more
 pub Grows-more : (first second third : Option (List ℕ)) (bytes more : List ℕ) → Grows first second bytes → Grows second third more → Grows first third (bytes ++ more)
