@@ -14,7 +14,7 @@ use Rattle.wire_records.proofs.ReadingLaws.{file_read, reads_one}
 use Rattle.wire_records.proofs.RecordCode.{commands_readable}
 use Rattle.market_core.specs.Market.{Market}
 use Rattle.line_records.specs.Lines.{spell_commands}
-use Rattle.line_records.proofs.ShortRows.{all_rows_are_short}
+use Rattle.line_records.proofs.Fitting.{commands_fit}
 use Rattle.flow_exchange.specs.declared.status.Status.{Status}
 use Rattle.flow_exchange.specs.declared.status.Status.TheVariants as answer
 use Rattle.flow_exchange.specs.Statuses.{reading_status}
@@ -38,9 +38,10 @@ file_of most text cs each is fits =
     (file_read commands commands_readable (λ over. states_none-from_few over.0 [] (omega arith) over.1) most One (map record_of cs) tt each (rw (ap length spelled) fits))
 
 pub encoded_is_read : EncodedIsRead
-encoded_is_read limit most bytes text status encoded fits = (
-  file_of most text encoded.commands (all_within encoded.commands encoded.fit (all_rows_are_short encoded.reads.read encoded.commands encoded.reads.tickers encoded.reads.say)) encoded.writes fits,
-  all_read encoded.commands encoded.fit,
+encoded_is_read limit most bytes text status encoded fits =
+    let fit = commands_fit encoded.reads.read encoded.commands encoded.reads.tickers encoded.reads.say in (
+  file_of most text encoded.commands (all_within encoded.commands fit.0 fit.1) encoded.writes fits,
+  all_read encoded.commands fit.0,
 )
 
 -- what a run of a file that is read to its end comes to

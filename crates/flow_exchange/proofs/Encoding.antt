@@ -115,7 +115,6 @@ determines limit left input status before middle now whole magic through =
       bad = through.bad;
       commands = through.encoded.commands;
       reads = rw whole.bytes at (read_alike (IsTrue input.more) (limit < length left) whole.more input.bytes.items through.bad through.encoded.commands through.encoded.read);
-      fit = through.encoded.fit;
       ends = ends_alike (IsTrue input.more) (limit < length left) whole.more limit through.bad status through.ends;
       writes = refl;
     }

@@ -1,8 +1,7 @@
 -- What `flow encode` makes of the bytes of its source.
-use Rattle.std.specs.Prelude.{◌≡◌, ◌⊎◌, ◌<◌, ℕ, List, ◌++◌, length, take, All, Option, Some, None}
+use Rattle.std.specs.Prelude.{◌≡◌, ◌⊎◌, ◌<◌, ℕ, List, ◌++◌, length, take, Option, Some, None}
 use Rattle.wire_records.specs.Records.{command_magic}
 use Rattle.wire_records.specs.Commands.{Command}
-use Rattle.wire_records.specs.CommandRecords.{IsCommand}
 use Rattle.line_records.specs.Lines.{AreRead, AreFirst, spell_commands}
 use Rattle.flow_exchange.specs.declared.status.Status.{Status}
 use Rattle.flow_exchange.specs.declared.status.Status.TheVariants.{Done, TooLong, BadText}
@@ -13,12 +12,11 @@ EncodeEnds limit More (Some number) status = status ≡ BadText number
 EncodeEnds limit More None status = ((¬ More) × (status ≡ Done)) ⊎ (More × (status ≡ TooLong limit))
 
 -- The lines of the first `limit` bytes, up to the first that is no command, ask for these commands. The text is the command
--- file of their records. Each command fits its record, so that the file is read as them, by the laws.
+-- file of their records, which is read as them, by the laws.
 pub record EncodesTo (limit : ℕ) (bytes : List ℕ) (status : Status) (text : List ℕ) : Type 0 where
   pub bad : Option ℕ
   pub commands : List Command
   pub reads : AreRead (limit < length bytes) (take limit bytes) bad commands
-  pub fit : All IsCommand commands
   pub ends : EncodeEnds limit (limit < length bytes) bad status
   pub writes : text ≡ command_magic ++ spell_commands commands
 

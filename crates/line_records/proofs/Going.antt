@@ -13,7 +13,7 @@ use Rattle.line_records.specs.declared.encode.EncodeFault.TheVariants.{NoCommand
 use Rattle.line_records.specs.Lines.{IsPiece, ended_by_feeds, AreLines, Say, spell_commands}
 use Rattle.line_records.specs.Encoded.{HasEncoded, IsEncoded}
 use Rattle.line_records.specs.Private.{EncodesLine, IsLineEncoded, IsRecordWritten}
-use Rattle.flow_io.proofs.Growth.{Grows-nothing, Grows-more, GrowsByFront-more}
+use Rattle.flow_io.proofs.Growth.{Grows-more, GrowsByFront-more}
 use Rattle.line_records.proofs.Pieces.{ended_lines, line_found, no_line_found, lines_behind, told}
 use Rattle.line_records.proofs.Saying.{say_more, no_more}
 use Rattle.order_text.specs.Lines.{Says}
@@ -25,7 +25,6 @@ pub record HasGone (text : List ℕ) (place number : ℕ) (tickers : List (List 
   pub whole : text ≡ ended_by_feeds ended ++ drop place text
   pub pieces : All IsPiece ended
   pub say : Say [] ended commands tickers
-  pub fit : All IsCommand commands
   pub written : Grows before after (spell_commands commands)
   pub counted : number ≡ length ended + 1
   pub few : length ended ≤ place
@@ -47,21 +46,6 @@ some_where xs empty is no_is none = true≢false (sym (eq-eqb (length xs) 0 (ap 
 pub not_where : (more : Bool) → more ≡ false → ¬ IsTrue more
 not_where more no_is is = true≢false (sym is ∙ no_is)
 
--- before the first line
-pub none_gone : (text : List ℕ) (tickers : List (List ℕ)) (held : Option (List ℕ)) → tickers ≡ [] → HasGone text 0 1 tickers held held
-none_gone text tickers held empty = record {
-  ended = [];
-  commands = [];
-  whole = refl;
-  pieces = All-nil IsPiece;
-  say = (refl, empty);
-  fit = All-nil IsCommand;
-  written = Grows-nothing held;
-  counted = refl;
-  few = omega arith;
-  within = omega arith;
-}
-
 -- a command's line alone
 one_command : (tickers : List (List ℕ)) (line : List ℕ) (command : Command) (next : List (List ℕ)) → Says tickers line command next → Say tickers (line ∷ []) (command ∷ []) next
 one_command tickers line command next says = inr (command, [], next, says, (refl, refl), refl)
@@ -72,8 +56,7 @@ pub command_encoded : (tickers : List (List ℕ)) (line : List ℕ) (number : �
 command_encoded tickers line number command next (Ok done) before after says is = record {
   commands = command ∷ [];
   say = one_command tickers line command next says;
-  fit = All-cons IsCommand command [] is.0 (All-nil IsCommand);
-  written = rw (append-nil (spelling (record_of command))) is.1;
+  written = rw (append-nil (spelling (record_of command))) is;
 }
 command_encoded tickers line number command next (Err (NoCommand bad)) before after says is = absurd is
 command_encoded tickers line number command next (Err Write) before after says is = (command, says, is)
@@ -107,23 +90,14 @@ one_more text place size number tickers next before between after so first encod
       whole = line_ended text place size so.ended so.whole first;
       pieces = All-push IsPiece so.ended line so.pieces found.0.0;
       say = say_more [] tickers next so.ended (line ∷ []) so.commands one.commands so.say one.say;
-      fit = All-append IsCommand so.commands one.commands so.fit one.fit;
       written = rw (records_more so.commands one.commands) (Grows-more before between after (spell_commands so.commands) (spell_commands one.commands) so.written one.written);
       counted = omega (arith, so.counted, length-append so.ended (line ∷ []));
       few = omega (arith, so.few, length-append so.ended (line ∷ []));
       within = omega (arith, left, found.1, so.within);
     }
 
--- a number has room where a line is ended
-pub has_room : (text : List ℕ) (place size number : ℕ) (tickers : List (List ℕ)) (before after : Option (List ℕ)) → HasGone text place number tickers before after → IsFirstByte (is_byte 10) (drop place text) (Some size)
-    → (place + (size + 1) ≤ length text) × (number ≤ length text)
-has_room text place size number tickers before after so first =
-    let inside = (line_found (drop place text) size first).1 in
-    let left = length-drop place text in
-    (omega (arith, left, inside, so.within), omega (arith, left, inside, so.within, so.few, so.counted))
-
 module _ (More : Type 0) (text : List ℕ) (place number : ℕ) (tickers next : List (List ℕ)) (before between after : Option (List ℕ)) (so : HasGone text place number tickers before between) (line : List ℕ) (rest : List (List ℕ)) (split : AreLines More text (so.ended ++ line ∷ rest)) where
-  -- the next line ended it
+  -- the next line stopped it
   stopped : (fault : EncodeFault) → IsLineEncoded tickers line number next (Err fault) between after → IsEncoded More text (Err fault) before after
   stopped (NoCommand bad) at = record {
     commands = so.commands;
@@ -135,7 +109,6 @@ module _ (More : Type 0) (text : List ℕ) (place number : ℕ) (tickers next : 
       say = so.say;
       stops = (line, rest, refl, at.0, at.1 ∙ so.counted);
     };
-    fit = so.fit;
     written = rw at.2 so.written;
   }
   stopped Write at = (
@@ -169,7 +142,6 @@ module _ (More : Type 0) (text : List ℕ) (place number : ℕ) (tickers next : 
       say = say_more [] tickers next so.ended (line ∷ []) so.commands one.commands so.say one.say;
       stops = ap (λ xs. so.ended ++ line ∷ xs) none;
     };
-    fit = All-append IsCommand so.commands one.commands so.fit one.fit;
     written = rw (records_more so.commands one.commands) (Grows-more before between after (spell_commands so.commands) (spell_commands one.commands) so.written one.written);
   }
 
@@ -203,7 +175,6 @@ ended_text more text place number tickers before after so none ends = record {
     say = so.say;
     stops = refl;
   };
-  fit = so.fit;
   written = so.written;
 }
 
@@ -213,19 +184,19 @@ pub last_line : (more : Bool) (text : List ℕ) (place number : ℕ) (tickers ne
     → IsEncoded (IsTrue more) text result before after
 last_line more text place number tickers next before between after (Ok done) so none not some is =
     all_read (IsTrue more) text place number tickers next before between after so (drop place text) [] (record {
-          ended = so.ended;
-          last = drop place text;
-          whole = so.whole;
-          pieces = so.pieces;
-          piece = no_line_found (drop place text) none;
-          all = inr (refl, not, some);
-        }) refl is
+      ended = so.ended;
+      last = drop place text;
+      whole = so.whole;
+      pieces = so.pieces;
+      piece = no_line_found (drop place text) none;
+      all = inr (refl, not, some);
+    }) refl is
 last_line more text place number tickers next before between after (Err fault) so none not some is =
     stopped (IsTrue more) text place number tickers next before between after so (drop place text) [] (record {
-          ended = so.ended;
-          last = drop place text;
-          whole = so.whole;
-          pieces = so.pieces;
-          piece = no_line_found (drop place text) none;
-          all = inr (refl, not, some);
-        }) fault is
+      ended = so.ended;
+      last = drop place text;
+      whole = so.whole;
+      pieces = so.pieces;
+      piece = no_line_found (drop place text) none;
+      all = inr (refl, not, some);
+    }) fault is

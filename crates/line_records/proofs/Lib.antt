@@ -2,5 +2,5 @@ pub mod Pieces
 pub mod Saying
 pub mod OneSplits
 pub mod OneReadings
-pub mod ShortRows
+pub mod Fitting
 mod Going

@@ -21,14 +21,17 @@ record HasRest (tickers read lines : List (List ℕ)) (bad : Option ℕ) : Type 
   stops : Stops tickers more
   number : bad ≡ number_of read more
 
+-- what StopsAt says of them
 rest_of : (tickers read lines : List (List ℕ)) (bad : Option ℕ) → StopsAt tickers read lines bad → HasRest tickers read lines bad
 rest_of tickers read lines None is = record { more = []; all = is ∙ sym (append-nil read); stops = tt; number = refl }
 rest_of tickers read lines (Some number) at = record { more = at.0 ∷ at.1; all = at.2; stops = at.3; number = ap Some at.4 }
 
+-- and back
 stops_at : (tickers read lines more : List (List ℕ)) → lines ≡ read ++ more → Stops tickers more → StopsAt tickers read lines (number_of read more)
 stops_at tickers read lines [] all stops = all ∙ append-nil read
 stops_at tickers read lines (bad ∷ more) all stops = (bad, more, all, stops, refl)
 
+-- two readings of one list of lines stop at the same line
 pub one_reading : (More : Type 0) → OneReading More
 one_reading More bytes bad other commands others a b =
     let x = rest_of a.tickers a.read a.lines bad a.stops in
@@ -38,6 +41,7 @@ one_reading More bytes bad other commands others a b =
     let more = append_cancel_left b.read x.more y.more (ap (λ xs. xs ++ x.more) (sym alike.0) ∙ same) in
     (x.number ∙ ap (λ xs. number_of xs x.more) alike.0 ∙ ap (number_of b.read) more ∙ sym y.number, alike.1)
 
+-- the first lines don't go beyond the line where the reading stops
 pub first_is_a_front : (More : Type 0) → FirstIsAFront More
 first_is_a_front More bytes bad first commands a b =
     let y = rest_of b.tickers b.read b.lines bad b.stops in
@@ -50,14 +54,15 @@ unread_where More bytes none more =
     let parts = parted ended_lines ended_code bytes in
     let all = all_lines More more bytes parts.values parts.rest parts.whole parts.each (piece_from_none parts.rest parts.none) in
     none_is_unstopped [] (parts.values ++ all.0) (λ so. none (number_of so.read so.more) so.commands (record {
-          lines = parts.values ++ all.0;
-          read = so.read;
-          tickers = so.after;
-          split = all.1;
-          say = so.say;
-          stops = stops_at so.after so.read (parts.values ++ all.0) so.more so.all so.stops;
-        }))
+      lines = parts.values ++ all.0;
+      read = so.read;
+      tickers = so.after;
+      split = all.1;
+      say = so.say;
+      stops = stops_at so.after so.read (parts.values ++ all.0) so.more so.all so.stops;
+    }))
 
+-- and it is not so that it can't be told
 pub none_is_unread : (More : Type 0) → NoneIsUnread More
 none_is_unread More bytes none =
     unread_where More bytes none (inr (λ more. unread_where More bytes none (inl more)))

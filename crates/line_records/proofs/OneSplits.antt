@@ -13,12 +13,14 @@ both_ways : (More : Type 0) (last : List ℕ) → More ⊎ (last ≡ []) → (¬
 both_ways More last (inl more) not some = not more
 both_ways More last (inr none) not some = some none
 
+-- so there is one list of them
 one_all : (More : Type 0) (ended : List (List ℕ)) (last : List ℕ) (lines other : List (List ℕ)) → AreAll More ended last lines → AreAll More ended last other → lines ≡ other
 one_all More ended last lines other (inl a) (inl b) = a.0 ∙ sym b.0
 one_all More ended last lines other (inl a) (inr b) = absurd (both_ways More last a.1 b.1 b.2)
 one_all More ended last lines other (inr a) (inl b) = absurd (both_ways More last b.1 a.1 a.2)
 one_all More ended last lines other (inr a) (inr b) = a.0 ∙ sym b.0
 
+-- pieces before line feeds are the only ones, so the lines are
 pub one_split : (More : Type 0) → OneSplit More
 one_split More bytes lines other a b =
     let parts = values_unique ended_lines ended_code a.ended b.ended a.last b.last a.pieces b.pieces (none_in_piece a.last a.piece) (none_in_piece b.last b.piece) (sym a.whole ∙ b.whole) in

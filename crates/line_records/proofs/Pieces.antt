@@ -86,7 +86,7 @@ line_found bytes size first =
             first.0.before has.0 zero-le low
             (eq-eqb (get_or bytes has.0 0) 10 (get_or_default bytes has.0 0 10 (omega (arith, low, inside)) ∙ sym (get_or-take size bytes has.0 10 low) ∙ has.2)),
         sym (take-append-drop size bytes) ∙ ap (λ xs. take size bytes ++ xs) (drop_more bytes size 0 inside ∙ ap (λ b. b ∷ drop (size + 1) bytes) feed)
-        ∙ sym (append_assoc (take size bytes) (10 ∷ []) (drop (size + 1) bytes)),
+            ∙ sym (append_assoc (take size bytes) (10 ∷ []) (drop (size + 1) bytes)),
       ),
       inside,
     )

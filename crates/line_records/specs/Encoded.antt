@@ -1,17 +1,15 @@
 -- What encoding the lines of a text comes to.
-use Rattle.std.specs.Prelude.{ℕ, List, Option, Some, None, Result, Ok, Err, All}
+use Rattle.std.specs.Prelude.{ℕ, List, Option, Some, None, Result, Ok, Err}
 use Rattle.flow_io.specs.Streams.{Grows, GrowsByFront}
 use Rattle.wire_records.specs.Commands.{Command}
-use Rattle.wire_records.specs.CommandRecords.{IsCommand}
 use Rattle.line_records.specs.declared.encode.EncodeFault.{EncodeFault}
 use Rattle.line_records.specs.declared.encode.EncodeFault.TheVariants.{NoCommand, Write, Memory}
 use Rattle.line_records.specs.Lines.{AreRead, AreFirst, spell_commands}
 
--- The records of all commands up to the first line that is none, or to the end, were written. Each fits its record.
+-- The records of all commands up to the first line that is none, or to the end, were written.
 pub record HasEncoded (More : Type 0) (bytes : List ℕ) (bad : Option ℕ) (before after : Option (List ℕ)) : Type 0 where
   pub commands : List Command
   pub read : AreRead More bytes bad commands
-  pub fit : All IsCommand commands
   pub written : Grows before after (spell_commands commands)
 
 -- by the answer

@@ -1,7 +1,7 @@
 -- What holds of the lines of a text, whether it has more or not. The module `laws` has a function for each of these.
 use Rattle.std.specs.Prelude.{◌≡◌, ℕ, List, [], ◌++◌, Option, All}
 use Rattle.wire_records.specs.Commands.{Command}
-use Rattle.wire_records.specs.CommandRecords.{HasShortRow}
+use Rattle.wire_records.specs.CommandRecords.{IsCommand, HasShortRow}
 use Rattle.line_records.specs.Lines.{AreLines, Say, AreRead, AreFirst}
 
 -- bytes have one list of lines
@@ -24,6 +24,6 @@ FirstIsAFront More =
     (bytes : List ℕ) (bad : Option ℕ) (first commands : List Command) → AreFirst More bytes first → AreRead More bytes bad commands
     → (rest : List Command) × (commands ≡ first ++ rest)
 
--- what lines ask for has rows that fit their records
-abbrev pub RowsAreShort : Type 0
-RowsAreShort = (lines : List (List ℕ)) (commands : List Command) (tickers : List (List ℕ)) → Say [] lines commands tickers → All HasShortRow commands
+-- what lines ask for fits its records: fields are within their widths, and rows aren't too long
+abbrev pub CommandsFit : Type 0
+CommandsFit = (lines : List (List ℕ)) (commands : List Command) (tickers : List (List ℕ)) → Say [] lines commands tickers → All IsCommand commands × All HasShortRow commands

@@ -1,18 +1,17 @@
 -- Words that only private functions use: what encoding one line comes to.
-use Rattle.std.specs.Prelude.{◌≡◌, ℕ, List, [], ◌∷◌, Option, Result, Ok, Err, All}
+use Rattle.std.specs.Prelude.{◌≡◌, ℕ, List, [], ◌∷◌, Option, Result, Ok, Err}
 use Rattle.flow_io.specs.Streams.{Grows, GrowsByFront}
 use Rattle.wire_records.specs.Records.{spelling}
 use Rattle.wire_records.specs.Commands.{Command}
-use Rattle.wire_records.specs.CommandRecords.{IsCommand, record_of}
+use Rattle.wire_records.specs.CommandRecords.{record_of}
 use Rattle.order_text.specs.Lines.{Says, SaysNothing}
 use Rattle.line_records.specs.declared.encode.EncodeFault.{EncodeFault}
 use Rattle.line_records.specs.declared.encode.EncodeFault.TheVariants.{NoCommand, Write, Memory}
 use Rattle.line_records.specs.Lines.{Say, spell_commands}
 
--- the record of a command is written and fits its widths, or a front of it is where the write fails, or nothing where memory is
--- wanted
+-- the record of a command is written, or a front of it where the write fails, or nothing where memory is wanted
 abbrev pub IsRecordWritten : Command → Result (Unit {0}) EncodeFault → Option (List ℕ) → Option (List ℕ) → Type 0
-IsRecordWritten command (Ok _) before after = IsCommand command × Grows before after (spelling (record_of command))
+IsRecordWritten command (Ok _) before after = Grows before after (spelling (record_of command))
 IsRecordWritten command (Err (NoCommand number)) before after = ⊥
 IsRecordWritten command (Err Write) before after = GrowsByFront before after (spelling (record_of command))
 IsRecordWritten command (Err Memory) before after = after ≡ before
@@ -21,7 +20,6 @@ IsRecordWritten command (Err Memory) before after = after ≡ before
 pub record EncodesLine (tickers : List (List ℕ)) (line : List ℕ) (next : List (List ℕ)) (before after : Option (List ℕ)) : Type 0 where
   pub commands : List Command
   pub say : Say tickers (line ∷ []) commands next
-  pub fit : All IsCommand commands
   pub written : Grows before after (spell_commands commands)
 
 -- by the answer to a line of this number

@@ -1,5 +1,9 @@
-//! What holds of the lines of a text, whether it has more or not. Each law is the contract of a function that does nothing.
-ghost use Rattle.line_records.specs.Laws.{OneSplit, OneReading, NoneIsUnread, FirstIsAFront, RowsAreShort};
+//! What holds of the lines of a text, whether it has more or not. Each law is the contract of a function that does
+//! nothing.
+ghost use Rattle.std.specs.Prelude.{◌≡◌, ◌↔◌, IsTrue};
+ghost use Rattle.line_records.specs.Laws.{OneSplit, OneReading, NoneIsUnread, FirstIsAFront, CommandsFit};
+
+use crate::EncodeFault;
 
 /// Bytes have one list of lines.
 pub fn one_split<More>()
@@ -16,13 +20,19 @@ pub fn none_is_unread<More>()
     ensures { NoneIsUnread More }
 {}
 
-/// What the first lines ask for is a front of what all of them do, or those before the first that is no command: so what
-/// stands after a fault is a front of what would have been written.
+/// What the first lines ask for is a front of what all of them do, or those before the first that is no command: so
+/// what stands after a fault is a front of what would have been written.
 pub fn first_is_a_front<More>()
     ensures { FirstIsAFront More }
 {}
 
-/// The row of each command that lines ask for, if it has one, is within what a record holds.
-pub fn rows_are_short()
-    ensures { RowsAreShort }
+/// What lines ask for fits its records: the fields of each command are within their widths, and its row, if it has one, isn't
+/// too long.
+pub fn commands_fit()
+    ensures { CommandsFit }
+{}
+
+/// Two faults are equal in a test exactly where they are the same.
+pub fn equal_faults()
+    ensures { (a b : EncodeFault) → IsTrue (⟦<EncodeFault as PartialEq>⟧.eq a b) ↔ (a ≡ b) }
 {}

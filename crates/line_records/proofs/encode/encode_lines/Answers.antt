@@ -15,8 +15,8 @@ returns-in_err-encode_line-clause-encoded g c =
 pub loop-length-preserved : goal.loop-length-preserved
 loop-length-preserved g c = (
   one_more c.args.text.now c.loop-length.place c.in-Some.length c.loop-length.number c.loop-length.encoding.tickers c.encode_line.new.self.tickers
-  (g.K.Sink.held c.args.out.now) (g.K.Sink.held c.loop-length.out) (g.K.Sink.held c.encode_line.new.out) c.loop-length.invariant.0
-  (rw take_rest at c.in-Some.ensures) c.in_ok-encode_line.ensures.encoded,
+      (g.K.Sink.held c.args.out.now) (g.K.Sink.held c.loop-length.out) (g.K.Sink.held c.encode_line.new.out) c.loop-length.invariant.0
+      (rw take_rest at c.in-Some.ensures) c.in_ok-encode_line.ensures.encoded,
   c.in_ok-encode_line.ensures.cause.quiet (λ e. absurd cc) ∙ c.loop-length.invariant.1,
 )
 
@@ -24,9 +24,9 @@ pub returns-then-more-clause-encoded : goal.returns-then-more-clause-encoded
 returns-then-more-clause-encoded g c =
     ended_text c.args.more c.args.text.now c.loop-length.place c.loop-length.number c.loop-length.encoding.tickers (g.K.Sink.held c.args.out.now) (g.K.Sink.held c.loop-length.out)
     c.loop-length.invariant.0 (rw take_rest at c.in_default.ensures) (elim c.then-more.branch [
-          | then-more-via-then-more w ↦ inl w.if-more.true
-          | then-more-via-else-more+then-is_empty w ↦ inr (empty_where _ w.is_empty.result (rw take_rest at w.is_empty.ensures) w.if-is_empty.true)
-        ])
+      | then-more-via-then-more w ↦ inl w.if-more.true
+      | then-more-via-else-more+then-is_empty w ↦ inr (empty_where _ w.is_empty.result (rw take_rest at w.is_empty.ensures) w.if-is_empty.true)
+    ])
 
 pub returns-clause-encoded : goal.returns-clause-encoded
 returns-clause-encoded g c =

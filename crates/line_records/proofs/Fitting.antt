@@ -1,12 +1,13 @@
--- The rows of commands that lines ask for are within what a record holds.
+-- The commands that lines ask for fit their records.
 use Rattle.std.proofs.Common.{ℕ, List, [], ◌∷◌, All, inl, inr, arith}
 use Rattle.std.proofs.lemmas.List.Elements.{All-nil, All-cons}
 use Rattle.wire_records.specs.Commands.{Command, AddAsset, OpenAccount, DepositMoney, DepositAsset, WithdrawMoney, WithdrawAsset, PlaceOrder, CancelOrder, RunBatch}
-use Rattle.wire_records.specs.CommandRecords.{HasShortRow}
+use Rattle.wire_records.specs.CommandRecords.{IsCommand, HasShortRow}
 use Rattle.ticker_table.specs.Tickers.{IsTicker, AreTickers}
 use Rattle.ticker_table.proofs.Places.{AreTickers-push}
 use Rattle.order_text.specs.Lines.{AreAfter, AreWith}
 use Rattle.order_text.proofs.ShortRows.{row_is_short}
+use Rattle.order_text.proofs.Fitting.{command_fits}
 use Rattle.line_records.specs.Lines.{Say}
 
 -- tickers with one more are tickers
@@ -26,18 +27,20 @@ tickers_after tickers (PlaceOrder request) after are leaves = rw leaves are
 tickers_after tickers (CancelOrder account order) after are leaves = rw leaves are
 tickers_after tickers (RunBatch budget) after are leaves = rw leaves are
 
--- the rows of what lines ask for, from some tickers on
-rows_are_short : (tickers : List (List ℕ)) (lines : List (List ℕ)) (commands : List Command) (after : List (List ℕ)) → AreTickers tickers → Say tickers lines commands after → All HasShortRow commands
-rows_are_short tickers [] commands after are say = rw say.0 (All-nil HasShortRow)
-rows_are_short tickers (line ∷ lines) commands after are (inl blank) = rows_are_short tickers lines commands after are blank.1
-rows_are_short tickers (line ∷ lines) commands after are (inr said) =
-    rw said.5
-    (All-cons HasShortRow said.0 said.1 (row_is_short tickers line said.0 are said.3.asks)
-      (rows_are_short said.2 lines said.1 after (tickers_after tickers said.0 said.2 are said.3.leaves) said.4))
+-- what lines ask for, from some tickers on
+all_fit : (tickers : List (List ℕ)) (lines : List (List ℕ)) (commands : List Command) (after : List (List ℕ)) → AreTickers tickers → Say tickers lines commands after → All IsCommand commands × All HasShortRow commands
+all_fit tickers [] commands after are say = rw say.0 (All-nil IsCommand, All-nil HasShortRow)
+all_fit tickers (line ∷ lines) commands after are (inl blank) = all_fit tickers lines commands after are blank.1
+all_fit tickers (line ∷ lines) commands after are (inr said) =
+    let more = all_fit said.2 lines said.1 after (tickers_after tickers said.0 said.2 are said.3.leaves) said.4 in
+    rw said.5 (
+      All-cons IsCommand said.0 said.1 (command_fits tickers line said.0 are said.3.asks) more.0,
+      All-cons HasShortRow said.0 said.1 (row_is_short tickers line said.0 are said.3.asks) more.1,
+    )
 
 -- no tickers are tickers
 no_tickers : AreTickers []
 no_tickers = record { valid = All-nil IsTicker; distinct = λ i j d below within. absurd (omega (arith, below, within)); few = omega arith }
 
-pub all_rows_are_short : (lines : List (List ℕ)) (commands : List Command) (tickers : List (List ℕ)) → Say [] lines commands tickers → All HasShortRow commands
-all_rows_are_short lines commands tickers say = rows_are_short [] lines commands tickers no_tickers say
+pub commands_fit : (lines : List (List ℕ)) (commands : List Command) (tickers : List (List ℕ)) → Say [] lines commands tickers → All IsCommand commands × All HasShortRow commands
+commands_fit lines commands tickers say = all_fit [] lines commands tickers no_tickers say
