@@ -1,0 +1,181 @@
+"""Lines of JSON and the records of their commands, by the formats alone: what lines ask for, and the line that asks for
+a record. The sample of lines is made with it, and what the program writes is compared."""
+import json
+import math
+import struct
+
+DEEPEST = 127
+TICKERS = 64
+LETTERS = frozenset(b"ABCDEFGHIJKLMNOPQRSTUVWXYZ0123456789.-")
+TERMS, ENTRY = ">IqqIQB", ">Hi"
+
+# The word, the further keys and the form of their values, by tag. Each number is any that its width holds.
+COMMANDS = {
+    1: ("asset", ["ticker"], ["8s"]),
+    2: ("account", [], []),
+    3: ("deposit", ["account", "ticks"], ["I", "Q"]),
+    4: ("deposit", ["account", "asset", "units"], ["I", "H", "Q"]),
+    5: ("withdraw", ["account", "ticks"], ["I", "Q"]),
+    6: ("withdraw", ["account", "asset", "units"], ["I", "H", "Q"]),
+    7: ("place", ["account", "low", "high", "rate", "cap", "weights"], ["I", "q", "q", "I", "Q", "row"]),
+    8: ("cancel", ["account", "order"], ["I", "Q"]),
+    9: ("batch", ["budget"], ["I"]),
+}
+TAGS = {(word, frozenset(keys)): tag for tag, (word, keys, _) in COMMANDS.items()}
+
+
+class Object(tuple):
+    """The members of an object, each a key and a value, with those of doubled keys."""
+
+
+def fraction(spelling):
+    """A number that isn't whole by its spelling. One that no float of 64 bits reaches is none at all."""
+    if math.isinf(float(spelling)):
+        raise ValueError(f"the number {spelling} is too large")
+    return float(spelling)
+
+
+def whole(spelling):
+    """A number without fraction and exponent. Where it needs more than 64 bits, and where it is -0, it isn't whole."""
+    if spelling != "-0" and len(spelling) <= 20 and -(1 << 63) <= int(spelling) < 1 << 64:
+        return int(spelling)
+    return fraction(spelling)
+
+
+def constant(spelling):
+    raise ValueError(f"{spelling} is no JSON")
+
+
+READER = json.JSONDecoder(object_pairs_hook=Object, parse_float=fraction, parse_int=whole, parse_constant=constant)
+
+
+def see(value, depth=0):
+    """Refuses what the decoder lets pass: values that are too deep, and halves of surrogate pairs."""
+    if isinstance(value, str):
+        value.encode("utf-8")
+    elif isinstance(value, (list, Object)):
+        if depth == DEEPEST:
+            raise ValueError("the value is too deep")
+        for item in value:
+            for part in item if isinstance(value, Object) else [item]:
+                see(part, depth + 1)
+
+
+def members(line):
+    """The object that a line is. Of a doubled key the last value counts."""
+    value = READER.decode(line.decode("utf-8"))
+    see(value)
+    if not isinstance(value, Object):
+        raise ValueError("the line is no object")
+    return dict(value)
+
+
+def padded(text):
+    name = text.encode("utf-8") if isinstance(text, str) else None
+    if name is None or len(name) > 8:
+        raise ValueError(f"{text} is no text of at most 8 bytes")
+    return name.ljust(8)
+
+
+def number(form, value):
+    if type(value) is not int:
+        raise ValueError(f"{value} is no whole number")
+    return struct.pack(">" + form, value)
+
+
+def row(weights, tickers):
+    """The entries of weights, in ascending order of assets, behind their count."""
+    if not isinstance(weights, Object):
+        raise ValueError(f"{weights} is no object")
+    entries = {}
+    for name, weight in dict(weights).items():
+        asset = tickers.index(padded(name))
+        if asset in entries:
+            raise ValueError(f"{name} is there twice")
+        entries[asset] = number("i", weight)
+    spelled = (number("H", asset) + entries[asset] for asset in sorted(entries))
+    return number("B", len(entries)) + b"".join(spelled)
+
+
+def field(form, value, tickers):
+    if form == "8s":
+        ticker = padded(value)
+        if not ticker.isascii():
+            raise ValueError(f"{value} isn't ASCII")
+        return ticker
+    if form == "H":
+        return number("H", tickers.index(padded(value)))
+    return row(value, tickers) if form == "row" else number(form, value)
+
+
+def add(ticker, tickers):
+    """The market's rule: a ticker is added where it is valid, isn't taken and there is room for it."""
+    name = ticker.rstrip(b" ")
+    if name and LETTERS.issuperset(name) and ticker not in tickers and len(tickers) < TICKERS:
+        tickers.append(ticker)
+
+
+def record(tag, body):
+    return bytes([tag]) + struct.pack(">I", len(body)) + body
+
+
+def record_of(line, tickers):
+    """The record that a line asks for after lines that left these tickers, to which its own is added. It is empty where
+    the line is blank, and None where it is no command."""
+    if not line.strip(b" \t\r"):
+        return b""
+    try:
+        asked = members(line)
+        word = asked.pop("do", None)
+        tag = TAGS.get((word, frozenset(asked))) if isinstance(word, str) else None
+        if tag is None:
+            return None
+        _, keys, forms = COMMANDS[tag]
+        body = b"".join(field(form, asked[key], tickers) for key, form in zip(keys, forms))
+    except (ValueError, RecursionError, struct.error):
+        return None
+    if tag == 1:
+        add(body, tickers)
+    return record(tag, body)
+
+
+def encoded(text):
+    """The command file of the lines before the first that is no command, and the number of that one, or None."""
+    made, tickers = [b"FLOWCMD1"], []
+    lines = text.split(b"\n")
+    for place, line in enumerate(lines if lines[-1] else lines[:-1], 1):
+        asked = record_of(line, tickers)
+        if asked is None:
+            return b"".join(made), place
+        made.append(asked)
+    return b"".join(made), None
+
+
+def name_of(ticker):
+    return ticker.decode("ascii").rstrip(" ")
+
+
+def values_of(tag, body, tickers):
+    """What stands in a record for the further keys. Assets are named by these tickers."""
+    if tag == 7:
+        *terms, _ = struct.unpack_from(TERMS, body)
+        return [*terms, {name_of(tickers[asset]): weight for asset, weight in struct.iter_unpack(ENTRY, body[33:])}]
+    values = struct.unpack(">" + "".join(COMMANDS[tag][2]), body)
+    if tag == 1:
+        return [name_of(*values)]
+    return [values[0], name_of(tickers[values[1]]), values[2]] if tag in (4, 6) else values
+
+
+def line_of(asked, tickers):
+    """The line that asks for a record, after lines that left these tickers, to which its own is added."""
+    tag, body = asked[0], asked[5:]
+    word, keys, _ = COMMANDS[tag]
+    values = values_of(tag, body, tickers)
+    if tag == 1:
+        add(body, tickers)
+    return json.dumps({"do": word, **dict(zip(keys, values))}, separators=(",", ":")).encode("ascii")
+
+
+def lines_of(records):
+    tickers = []
+    return b"".join(line_of(asked, tickers) + b"\n" for asked in records)
