@@ -40,15 +40,16 @@ file_of most text cs each is fits =
 pub encoded_is_read : EncodedIsRead
 encoded_is_read limit most bytes text status encoded fits =
     let fit = commands_fit encoded.reads.read encoded.commands encoded.reads.tickers encoded.reads.say in (
-  file_of most text encoded.commands (all_within encoded.commands fit.0 fit.1) encoded.writes fits,
-  all_read encoded.commands fit.0,
-)
+      file_of most text encoded.commands (all_within encoded.commands fit.0 fit.1) encoded.writes fits,
+      all_read encoded.commands fit.0,
+    )
 
 -- what a run of a file that is read to its end comes to
 run_of : (most : ℕ) (text journal : List ℕ) (ran : Status) (records : List Record) → Reads commands most text (File One records End) → (runs : RunsTo most text ran journal) → (ran ≡ answer.Done) × (market : Market) × Journals records market journal
 run_of most text journal ran records reads runs =
     let one = reads_one commands commands_readable most text runs.reading (File One records End) runs.reads reads in
-    (runs.ends ∙ ap (reading_status most) one, subst (λ (reading : Reading Version Record). WritesOf reading journal) one runs.writes)
+    let writes = subst (λ (reading : Reading Version Record). WritesOf reading journal) one runs.writes in
+    (runs.ends ∙ ap (reading_status most) one, writes.0, writes.1)
 
 pub encoded_is_served : EncodedIsServed
 encoded_is_served limit most bytes text journal status ran encoded fits runs =

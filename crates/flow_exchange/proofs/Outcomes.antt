@@ -37,7 +37,7 @@ heads : (x y : List ℕ) → x ∷ [] ≡ y ∷ [] → x ≡ y
 heads x y e = cc
 
 -- a number that tells the words apart
-mark : List ℕ → ℕ
+abbrev mark : List ℕ → ℕ
 mark word = length word + get_or word 0 0
 
 -- words of two marks are two words

@@ -40,3 +40,16 @@ returns-in-Report-clause-does g c =
       reads = report.reads;
       writes = report.writes;
     })
+
+pub returns-in-Encode-clause-does : goal.returns-in-Encode-clause-does
+returns-in-Encode-clause-does g c =
+    let encode = c.encode.ensures in
+    rw (c.in-Encode.is, c.status_after-in-Encode.ensures)
+    (record {
+      meets = encode.meets;
+      complete = completes_form form.Encode _ c.args.limit _ _ _ _ _ _ _ encode.meets encode.reads encode.writes;
+      left = encode.left;
+      taken = encode.taken;
+      reads = encode.reads;
+      writes = encode.writes;
+    })
