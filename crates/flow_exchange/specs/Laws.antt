@@ -1,5 +1,5 @@
 -- What holds of the program's words and outcomes, whatever code there is.
-use Rattle.std.specs.Prelude.{◌≡◌, ◌≤◌, ◌+◌, ◌↔◌, ℕ, List, [], ◌++◌, length, take, map, All, Ok}
+use Rattle.std.specs.Prelude.{◌≡◌, ◌⊎◌, ◌≤◌, ◌+◌, ◌↔◌, ℕ, List, [], ◌++◌, length, take, map, All, Ok}
 use Rattle.wire_records.specs.Records.{Record}
 use Rattle.wire_records.specs.Commands.{Pair}
 use Rattle.wire_records.specs.CommandRecords.{record_of, IsReadAs}
@@ -18,7 +18,7 @@ use Rattle.flow_exchange.specs.Forms.{Asks}
 use Rattle.flow_exchange.specs.Auditing.{legal_line}
 use Rattle.flow_exchange.specs.Running.{Journals}
 use Rattle.flow_exchange.specs.Encoding.{EncodesTo}
-use Rattle.flow_exchange.specs.Program.{ComesTo}
+use Rattle.flow_exchange.specs.Program.{ComesTo, GetsTo, LacksAt}
 
 -- words ask for one form
 abbrev pub OneForm : Type 0
@@ -63,3 +63,17 @@ EncodedIsRead = (limit most : ℕ) (bytes text : List ℕ) (status : Status) (en
 abbrev pub EncodedIsServed : Type 0
 EncodedIsServed = (limit most : ℕ) (bytes text journal : List ℕ) (status ran : Status) (encoded : EncodesTo limit bytes status text) → length text ≤ most
     → ComesTo Run most text ran journal → (ran ≡ Done) × (market : Market) × Journals (map record_of encoded.commands) market journal
+
+-- no bytes are without an outcome, whatever the form
+abbrev pub NoneIsWithoutOutcome : Type 0
+NoneIsWithoutOutcome = (form : Form) (limit : ℕ) (bytes : List ℕ) → ¬ ((status : Status) (text : List ℕ) → ¬ ComesTo form limit bytes status text)
+
+-- what may stand in out while a form is at work, or where memory ran out, is a front of the text that the bytes determine
+abbrev pub BegunIsAFront : Type 0
+BegunIsAFront = (form : Form) (limit : ℕ) (bytes : List ℕ) (status : Status) (text begun : List ℕ)
+    → ComesTo form limit bytes status text → GetsTo form limit bytes begun ⊎ LacksAt form limit bytes begun → (rest : List ℕ) × (text ≡ begun ++ rest)
+
+-- the tickers by which lines name assets are those of the market that a run of their file leads to
+abbrev pub TickersAgree : Type 0
+TickersAgree = (limit : ℕ) (bytes text journal : List ℕ) (status : Status) (encoded : EncodesTo limit bytes status text) (market : Market)
+    → Journals (map record_of encoded.commands) market journal → market.tickers ≡ encoded.reads.tickers

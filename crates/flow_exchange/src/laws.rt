@@ -1,7 +1,7 @@
 //! What holds of the program's words and outcomes, whatever code there is. Each law is the contract of a function that
 //! does nothing.
 ghost use Rattle.std.specs.Prelude.{◌≡◌, ◌↔◌, IsTrue};
-ghost use Rattle.flow_exchange.specs.Laws.{OneForm, OneOutcome, DoneIsForLegalJournals, RejectedIsFirstIllegal, EncodedIsRead, EncodedIsServed};
+ghost use Rattle.flow_exchange.specs.Laws.{OneForm, OneOutcome, DoneIsForLegalJournals, RejectedIsFirstIllegal, EncodedIsRead, EncodedIsServed, NoneIsWithoutOutcome, BegunIsAFront, TickersAgree};
 
 use crate::Status;
 
@@ -36,6 +36,22 @@ pub fn encoded_is_read()
 /// reply.
 pub fn encoded_is_served()
     ensures { EncodedIsServed }
+{}
+
+/// The tickers by which lines name assets are those of the market that `run` of their command file leads to.
+pub fn tickers_agree()
+    ensures { TickersAgree }
+{}
+
+/// For each form no bytes are without a status and a text.
+pub fn none_is_without_outcome()
+    ensures { NoneIsWithoutOutcome }
+{}
+
+/// What stands in out after a fault, up to a whole unit, or where memory ran out, is a front of the text that the bytes
+/// determine.
+pub fn begun_is_a_front()
+    ensures { BegunIsAFront }
 {}
 
 /// Two statuses are equal in a test exactly where they are the same.
