@@ -7,4 +7,5 @@ pub mod Reports
 pub mod Reporting
 pub mod Encoding
 pub mod EncodeLaws
+pub mod TickersAgree
 pub mod Dispatch
