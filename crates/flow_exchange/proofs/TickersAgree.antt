@@ -91,7 +91,7 @@ module _ (Rule : BatchRule) where
   heads a b x y e = (cc, cc)
 
   -- lines and steps of their commands' records, from the same tickers on, lead to the same tickers
-  steps_tickers : (lines : List (List ℕ)) (commands : List Command) (after : List (List ℕ)) (m market : Market) (pairs : List (Pair Record Outcome)) → Say m.tickers lines commands after → All IsCommand commands
+  pub steps_tickers : (lines : List (List ℕ)) (commands : List Command) (after : List (List ℕ)) (m market : Market) (pairs : List (Pair Record Outcome)) → Say m.tickers lines commands after → All IsCommand commands
       → map (λ (pair : Pair Record Outcome). pair.asked) pairs ≡ map record_of commands → Follows IsReadAs Rule m pairs market → market.tickers ≡ after
   steps_tickers [] commands after m market [] say fit asked steps = made_tickers market m steps ∙ sym say.1
   steps_tickers [] commands after m market (pair ∷ pairs) say fit asked steps =
