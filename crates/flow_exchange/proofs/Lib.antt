@@ -7,5 +7,6 @@ pub mod Reports
 pub mod Reporting
 pub mod Encoding
 pub mod EncodeLaws
+pub mod TickersAgree
 pub mod Dispatch
 pub mod SomeOutcome
