@@ -1,6 +1,6 @@
 -- A command that a line asks for fits its record: each of its fields is within its width.
-use Rattle.std.proofs.Common.{◌≡◌, ◌≢◌, ℕ, ℤ, pos, suc, ◌+◌, ◌-◌, ◌*◌, ◌<◌, ◌≤◌, ◌^◌, eqb, ltb, leb, cond, Bool, true, false, List, [], ◌∷◌, ◌++◌, length, Option, Some, None, option_map, position, bytes_eq, true≢false, refl, sym, ap, ◌∙◌, subst, arith, ltb-true, leb-true, Ordering, Less, Equal, Greater}
-use Rattle.std.specs.Prelude.{option_and_then, unwrap_or, ◌≤ℤ◌, ◌<ℤ◌, neg_ℤ, nat_lt, nat_le, int_le, int_lt, if◌then◌else◌, ◌&&◌, ⊤, ◌==◌, codes, replicate, All}
+use Rattle.std.proofs.Common.{◌≡◌, ℕ, ℤ, pos, ◌-◌, ◌<◌, ◌≤◌, ◌^◌, eqb, ltb, cond, Bool, true, false, List, [], ◌∷◌, ◌++◌, length, Option, Some, None, option_map, position, bytes_eq, refl, ap, subst, arith, ltb-true, leb-true, Ordering, Less, Equal, Greater}
+use Rattle.std.specs.Prelude.{option_and_then, unwrap_or, neg_ℤ, nat_lt, nat_le, int_le, int_lt, if◌then◌else◌, ◌&&◌, codes, replicate, All}
 use Rattle.std.specs.Ordering.{nat_cmp, match_ordering}
 use Rattle.std.specs.Cmp.Lexicographic.{slice_cmp}
 use Rattle.std.proofs.lemmas.Int.{ints}
@@ -8,12 +8,12 @@ use Rattle.std.proofs.lemmas.List.Quantifiers.{position-Some}
 use Rattle.std.proofs.lemmas.List.Elements.{All-nil, All-cons, All-head, All-tail, All-replicate, All-append, All-weaker}
 use Rattle.std.proofs.lemmas.List.{length-replicate, length-append}
 use Rattle.weight_rows.specs.declared.entries.Entry.{Entry}
-use Rattle.serde_json.specs.Data.{Num, unsigned, negative, float, Data, null, boolean, number, string, array, object, Items, no_items, item, Members, no_members, member, put}
-use Rattle.serde_json.specs.Find.{get, get_member, as_str, as_number, as_u64, as_i64, as_object}
+use Rattle.serde_json.specs.Data.{Num, unsigned, negative, float, Data, null, boolean, number, string, array, object, Members, no_members, member}
+use Rattle.serde_json.specs.Find.{get, get_member, as_number, as_u64, as_i64, as_object}
 use Rattle.wire_fields.specs.Numbers.{IsUnsigned, IsSigned}
 use Rattle.wire_records.specs.Records.{AreBytes}
-use Rattle.wire_records.specs.Commands.{Request, Command, AddAsset, OpenAccount, DepositMoney, DepositAsset, WithdrawMoney, WithdrawAsset, PlaceOrder, CancelOrder, RunBatch}
-use Rattle.wire_records.specs.CommandRecords.{IsCommand, IsRequest, IsEntry, HasShortRow}
+use Rattle.wire_records.specs.Commands.{Command, AddAsset, OpenAccount, DepositMoney, DepositAsset, WithdrawMoney, WithdrawAsset, PlaceOrder, CancelOrder, RunBatch}
+use Rattle.wire_records.specs.CommandRecords.{IsCommand, IsEntry}
 use Rattle.ticker_table.specs.Tickers.{AreTickers}
 use Rattle.order_text.specs.Lines.{number_at, in_32_bits, small_at, signed_at, padded, asset_named, asset_at, in_signed_32_bits, weight_of, entry_of, put_entry, put_members, row_at, text_at, HasTicker, LineAsks}
 use Rattle.order_text.proofs.ShortRows.{row_is_short}

@@ -1,5 +1,5 @@
 -- The whole numbers of a value that was read are within 64 bits.
-use Rattle.std.proofs.Common.{◌≡◌, ◌≢◌, ℕ, ℤ, pos, suc, ◌+◌, ◌<◌, ◌≤◌, ◌^◌, eqb, ltb, leb, cond, Bool, true, false, List, [], ◌∷◌, length, Option, Some, None, option_map, true≢false, refl, sym, ap, subst, arith, ltb-true}
+use Rattle.std.proofs.Common.{◌≡◌, ℕ, pos, ◌<◌, ◌≤◌, ◌^◌, Bool, true, false, List, Option, Some, None, option_map, refl, ap, subst, arith, ltb-true}
 use Rattle.std.specs.Prelude.{option_and_then, unwrap_or, ◌≤ℤ◌, ◌<ℤ◌, neg_ℤ, nat_lt, nat_le, if◌then◌else◌, ◌&&◌, slice_index, drop, ⊤, ◌==◌}
 use Rattle.std.proofs.Common.{Ordering, leb-true, Less, Equal, Greater}
 use Rattle.std.specs.Ordering.{nat_cmp, match_ordering}
@@ -9,7 +9,7 @@ use Rattle.std.specs.Float.{binary64, float_is_finite}
 use Rattle.fast_float.specs.Text.{minus, Parts, scan, digits_of, nearest, with_sign}
 use Rattle.json.specs.Json as json
 use Rattle.json.specs.Lex.{tokens}
-use Rattle.serde_json.specs.Data.{Num, unsigned, negative, float, Data, null, boolean, number, string, array, object, Items, no_items, item, Members, no_members, member, put}
+use Rattle.serde_json.specs.Data.{Num, unsigned, negative, float, Data, null, boolean, number, string, array, object, Members, no_members, member, put}
 use Rattle.serde_json.specs.Read.{number_of, number_from, float_of, is_integer, of_json, of_items, of_members, read}
 
 -- a whole number is within 64 bits, with or without a sign
