@@ -8,3 +8,4 @@ pub mod Reporting
 pub mod Encoding
 pub mod EncodeLaws
 pub mod Dispatch
+pub mod Fronts
