@@ -7,6 +7,7 @@ pub mod Reports
 pub mod Reporting
 pub mod Encoding
 pub mod EncodeLaws
-pub mod TickersAgree
-pub mod Dispatch
 pub mod SomeOutcome
+pub mod TickersAgree
+pub mod Fronts
+pub mod Dispatch

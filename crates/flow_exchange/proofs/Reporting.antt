@@ -38,6 +38,7 @@ reports_into limit left input text whole begins some = record {
     whole = some.begins;
     each = some.each;
   };
+  fits = some.fits;
   writes = some.reports;
 }
 

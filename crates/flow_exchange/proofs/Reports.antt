@@ -180,6 +180,7 @@ module _ {O : Type 0} (held : O → Option (List ℕ)) (faults : O → ℕ) wher
       rest = goes.left;
       begins = rw so.parts at goes.begins;
       each = rw so.parts at goes.each;
+      fits = so.each;
       reports = from_first so.legal goes.middle.market so.text so.reports;
     }
 
@@ -206,6 +207,7 @@ module _ {O : Type 0} (held : O → Option (List ℕ)) (faults : O → ℕ) wher
             begins = goes.begins ∙ ap (λ xs. spell_all journals.units goes.units ++ xs) off.front ∙ sym (append_assoc (spell_all journals.units goes.units) (spell off.unit) off.rest)
                 ∙ ap (λ xs. xs ++ off.rest) (flat_map_more spell [] goes.units off.unit) ∙ ap (λ us. spell_all journals.units us ++ off.rest) units;
             each = rw units at (All-push journals.units.IsLawful goes.units off.unit goes.each off.lawful);
+            fits = All-push IsPair so.legal pair so.each (record { asked = off.lawful.0; answer = legal.spelled.fits; answered = rw (← legal.spelled.spelled) off.lawful.1 });
             reports = reported_more empty_market goes.middle.market stops.0 1 so.legal pair so.text stops.1 (from_first so.legal goes.middle.market so.text so.reports) legal.step
                 (subst (λ (n : ℕ). IsReport stops.0.tickers n (records_of pair) stops.1) count line);
           },

@@ -8,6 +8,7 @@ use Rattle.wire_records.specs.Commands.{Pair}
 use Rattle.wire_records.specs.Grammars.{spell_all}
 use Rattle.wire_records.specs.Reading.{Ending}
 use Rattle.flow_orders.specs.Outcomes.{Outcome}
+use Rattle.journal_records.specs.Pairs.{IsPair}
 use Rattle.journal_records.specs.Formats.{journals, records_of}
 use Rattle.market_core.specs.Market.{Market, empty_market}
 use Rattle.batch_audit.specs.Legal.{IsLegalPair, IsIllegalPair}
@@ -83,6 +84,7 @@ pub record ReportsSome (bytes : List ℕ) (text : List ℕ) : Type 0 where
   pub rest : List ℕ
   pub begins : bytes ≡ spell_all journals.units (map records_of legal) ++ rest
   pub each : All journals.units.IsLawful (map records_of legal)
+  pub fits : All IsPair legal
   pub reports : AreReported empty_market 1 legal market text
 
 -- by the status

@@ -1,5 +1,5 @@
 -- What `flow report` makes of the bytes of its source.
-use Rattle.std.specs.Prelude.{◌≡◌, ◌⊎◌, ◌+◌, ℕ, List, [], ◌∷◌, ◌++◌, map}
+use Rattle.std.specs.Prelude.{◌≡◌, ◌⊎◌, ◌+◌, ℕ, List, [], ◌∷◌, ◌++◌, map, All}
 use Rattle.wire_records.specs.Records.{Record}
 use Rattle.wire_records.specs.Commands.{Pair}
 use Rattle.wire_records.specs.CommandRecords.{IsReadAs}
@@ -7,6 +7,7 @@ use Rattle.wire_records.specs.Reading.{Ending, Reads, StartsWith}
 use Rattle.wire_records.specs.Reading as reading
 use Rattle.wire_records.specs.Formats.{Version}
 use Rattle.flow_orders.specs.Outcomes.{Outcome, IsRightOutcome}
+use Rattle.journal_records.specs.Pairs.{IsPair}
 use Rattle.journal_records.specs.Formats.{journals, records_of}
 use Rattle.market_core.specs.Market.{Market, empty_market}
 use Rattle.market_core.specs.Journal.{Step}
@@ -38,10 +39,11 @@ abbrev pub ReportsTo : ℕ → List ℕ → Status → List ℕ → Type 0
 ReportsTo limit bytes status text =
     (Reads journals limit bytes reading.NotFlow × (status ≡ NotFlow) × (text ≡ [])) ⊎ ReportsFile limit bytes status text
 
--- The text is that of the first pairs, which are legal.
+-- The text is that of the first pairs, which are legal and fit their widths.
 pub record ReportsInto (limit : ℕ) (bytes : List ℕ) (text : List ℕ) : Type 0 where
   pub version : Version
   pub legal : List (Pair Record Outcome)
   pub market : Market
   pub starts : StartsWith journals limit bytes version (map records_of legal)
+  pub fits : All IsPair legal
   pub writes : AreReported empty_market 1 legal market text
