@@ -19,7 +19,6 @@ use Rattle.flow_exchange.specs.declared.status.Status.{Status}
 use Rattle.flow_exchange.specs.declared.status.Status.TheVariants as answer
 use Rattle.flow_exchange.specs.Statuses.{reading_status}
 use Rattle.flow_exchange.specs.Running.{Journals, WritesOf, RunsTo}
-use Rattle.flow_exchange.specs.Encoding.{EncodesTo}
 use Rattle.flow_exchange.specs.Laws.{EncodedIsRead, EncodedIsServed}
 
 -- commands that fit, with short rows, have records within the limit

@@ -1,10 +1,10 @@
 -- What stands in out after a fault is a front of the text that the bytes determine.
-use Rattle.std.proofs.Common.{◌≡◌, ◌+◌, ◌<◌, ◌⊎◌, ℕ, List, [], ◌∷◌, ◌++◌, All, map, length, take, inl, inr, append-nil, append_assoc, refl, sym, ap, subst, ◌∙◌}
+use Rattle.std.proofs.Common.{◌≡◌, ◌+◌, ◌<◌, ℕ, List, [], ◌∷◌, ◌++◌, All, map, length, take, inl, inr, append-nil, append_assoc, refl, sym, ap, subst, ◌∙◌}
 use Rattle.std.specs.List.{flat_map}
 use Rattle.std.proofs.lemmas.Grind.{flat_map-append}
 use Rattle.std.proofs.lemmas.List.Elements.{All-head, All-tail}
 use Rattle.wire_records.specs.Records.{Record, command_magic, spelling}
-use Rattle.wire_records.specs.Commands.{Pair, Command}
+use Rattle.wire_records.specs.Commands.{Pair}
 use Rattle.wire_records.specs.CommandRecords.{record_of, IsReadAs}
 use Rattle.wire_records.specs.Reading.{Reading, NotFlow, File, Reads, StartsWith}
 use Rattle.wire_records.specs.Formats.{Version, commands}
@@ -23,15 +23,12 @@ use Rattle.batch_audit.specs.Legal.{IsLegalPair, StopsAt}
 use Rattle.batch_audit.proofs.LawProofs.{one_market}
 use Rattle.batch_report.specs.Reports.{IsReport}
 use Rattle.batch_report.proofs.OneReport.{one_report}
-use Rattle.line_records.specs.Lines.{spell_commands}
 use Rattle.line_records.proofs.OneReadings.{first_is_a_front}
-use Rattle.flow_exchange.specs.declared.form.Form.{Form}
 use Rattle.flow_exchange.specs.declared.form.Form.TheVariants.{Run, Audit, Report, Encode}
 use Rattle.flow_exchange.specs.declared.status.Status.{Status}
-use Rattle.flow_exchange.specs.Running.{Journals, WritesOf, RunsTo, RunsInto, RunsShort, RunsOut}
+use Rattle.flow_exchange.specs.Running.{Journals, WritesOf, RunsTo, RunsInto, RunsOut}
 use Rattle.flow_exchange.specs.Reporting.{AreReported, ReportsTo, ReportsInto}
 use Rattle.flow_exchange.specs.Encoding.{EncodesTo, EncodesInto}
-use Rattle.flow_exchange.specs.Program.{ComesTo, GetsTo, LacksAt}
 use Rattle.flow_exchange.specs.Laws.{BegunIsAFront}
 
 -- a text begins with another
@@ -48,7 +45,7 @@ begins-spelled : {A : Type 0} (magic : List ℕ) (spell : A → List ℕ) (all f
 begins-spelled magic spell all first more text begun parts is begun_is = (
   flat_map spell more,
   is ∙ ap (λ xs. magic ++ flat_map spell xs) parts ∙ ap (λ xs. magic ++ xs) (flat_map-append spell first more)
-  ∙ sym (append_assoc magic (flat_map spell first) (flat_map spell more)) ∙ ap (λ xs. xs ++ flat_map spell more) (sym begun_is),
+      ∙ sym (append_assoc magic (flat_map spell first) (flat_map spell more)) ∙ ap (λ xs. xs ++ flat_map spell more) (sym begun_is),
 )
 
 -- ---- encode

@@ -106,7 +106,7 @@ is_run limit bytes NotFlow reads =
     not_denied (answer.NotFlow, [], record { reading = NotFlow; reads = reads; ends = refl; writes = refl })
 is_run limit bytes (File version records ending) reads =
     follows (λ all. let own = has_journal records all in
-        not_denied (ending_status limit ending, own.1, record { reading = File version records ending; reads = reads; ends = refl; writes = (own.0, own.2) })) (can_all_be_read records)
+    not_denied (ending_status limit ending, own.1, record { reading = File version records ending; reads = reads; ends = refl; writes = (own.0, own.2) })) (can_all_be_read records)
 
 -- so a run has an outcome
 run_outcome : (limit : ℕ) (bytes : List ℕ) → IsNotDenied (HasOutcome Run limit bytes)
@@ -151,12 +151,12 @@ is_judged : (old : Market) (units : List (Record × Record)) → All journals.un
 is_judged old [] each = not_denied (judged_none old)
 is_judged old (unit ∷ units) each =
     follows (λ (first : ((new : Market) × IsLegalPair old unit new) ⊎ (((new : Market) × IsLegalPair old unit new) → ⊥)).
-        elim first [
-          | inl legal ↦
-              follows (λ rest. not_denied (judged_legal old legal.0 unit units (All-head journals.units.IsLawful unit units each) legal.1 rest))
-              (is_judged legal.0 units (All-tail journals.units.IsLawful unit units each))
-          | inr not ↦ not_denied (judged_illegal old unit units not)
-        ]) (one_of ((new : Market) × IsLegalPair old unit new))
+    elim first [
+      | inl legal ↦
+          follows (λ rest. not_denied (judged_legal old legal.0 unit units (All-head journals.units.IsLawful unit units each) legal.1 rest))
+          (is_judged legal.0 units (All-tail journals.units.IsLawful unit units each))
+      | inr not ↦ not_denied (judged_illegal old unit units not)
+    ]) (one_of ((new : Market) × IsLegalPair old unit new))
 
 -- the audit of a journal whose pairs are judged
 audits_of : (limit : ℕ) (bytes : List ℕ) (version : Version) (units : List (Record × Record)) (ending : Ending) → Reads journals limit bytes (File version units ending) → (judged : IsJudgedFrom empty_market units) → Audits limit bytes judged.legal judged.behind ending judged.market
@@ -172,9 +172,12 @@ is_audited : (limit : ℕ) (bytes : List ℕ) (reading : Reading Version (Record
 is_audited limit bytes NotFlow reads = not_denied (answer.NotFlow, [], inl (reads, refl, refl))
 is_audited limit bytes (File version units ending) reads =
     follows (λ (judged : IsJudgedFrom empty_market units).
-        let status = audit_status limit ending judged.legal judged.behind in
-        not_denied (status, audit_text status judged.legal,
-        inr (file_of limit bytes status judged.legal judged.behind ending judged.market (audits_of limit bytes version units ending reads judged) refl)))
+    let status = audit_status limit ending judged.legal judged.behind in
+    not_denied (
+      status,
+      audit_text status judged.legal,
+      inr (file_of limit bytes status judged.legal judged.behind ending judged.market (audits_of limit bytes version units ending reads judged) refl),
+    ))
     (is_judged empty_market units reads.2.each)
 
 -- so an audit has an outcome
@@ -255,16 +258,20 @@ is_reported : (limit : ℕ) (bytes : List ℕ) (reading : Reading Version (Recor
 is_reported limit bytes NotFlow reads = not_denied (answer.NotFlow, [], inl (reads, refl, refl))
 is_reported limit bytes (File version units ending) reads =
     follows (λ (judged : IsJudgedFrom empty_market units).
-        let told = are_reported empty_market 1 judged.legal judged.market judged.each judged.steps in
-        not_denied (audit_status limit ending judged.legal judged.behind, told.0, inr (record {
-          legal = judged.legal;
-          behind = judged.behind;
-          ending = ending;
-          market = judged.market;
-          audits = audits_of limit bytes version units ending reads judged;
-          ends = refl;
-          writes = told.1;
-        }))) (is_judged empty_market units reads.2.each)
+    let told = are_reported empty_market 1 judged.legal judged.market judged.each judged.steps in
+    not_denied (
+      audit_status limit ending judged.legal judged.behind,
+      told.0,
+      inr (record {
+        legal = judged.legal;
+        behind = judged.behind;
+        ending = ending;
+        market = judged.market;
+        audits = audits_of limit bytes version units ending reads judged;
+        ends = refl;
+        writes = told.1;
+      }),
+    )) (is_judged empty_market units reads.2.each)
 
 -- so a report has an outcome
 report_outcome : (limit : ℕ) (bytes : List ℕ) → IsNotDenied (HasOutcome Report limit bytes)
@@ -285,8 +292,8 @@ ends_some limit size None =
 encode_outcome : (limit : ℕ) (bytes : List ℕ) → IsNotDenied (HasOutcome Encode limit bytes)
 encode_outcome limit bytes none =
     none_is_unread (limit < length bytes) (take limit bytes) (λ bad commands reads.
-        let ends = ends_some limit (length bytes) bad in
-        none (ends.0, command_magic ++ spell_commands commands, record { bad = bad; commands = commands; reads = reads; ends = ends.1; writes = refl }))
+    let ends = ends_some limit (length bytes) bad in
+    none (ends.0, command_magic ++ spell_commands commands, record { bad = bad; commands = commands; reads = reads; ends = ends.1; writes = refl }))
 
 -- ---- all forms
 

@@ -695,7 +695,7 @@ fn encodes_lines(rt: HostRuntime) -> Result<(), Fail> {
     expect(&rt, alloc, "encode", b"", b"FLOWCMD1", Status::Done, b"")?;
     // The ticker is added by no line before.
     let unknown =
-        b"{\"do\":\"account\"}\n{\"do\":\"deposit\",\"account\":1,\"asset\":\"AAPL\",\"units\":1}\n{\"do\":\"account\"}\n".as_slice();
+        b"{\"do\":\"account\"}\n{\"do\":\"place\",\"account\":1,\"low\":90,\"high\":110,\"rate\":1,\"cap\":1,\"weights\":{\"AAPL\":1}}\n{\"do\":\"account\"}\n".as_slice();
     let opened = b"FLOWCMD1\x02\0\0\0\0".as_slice();
     let line = b"flow: line 2 is no command\n".as_slice();
     expect(

@@ -1,7 +1,7 @@
 use Rattle.std.proofs.Common.{ℕ, List, Err, IsTrue, subst}
 use Rattle.line_records.specs.Encoded.{IsEncoded}
 use Rattle.std.proofs.lemmas.Result.{err_from_is_err_and}
-use Rattle.flow_exchange.proofs.Encoding.{encodes_broken, encodes_on, encodes_out}
+use Rattle.flow_exchange.proofs.Encoding.{encodes_broken}
 use Rattle.flow_exchange.proofs.encode.encode_all.Goals as goal
 
 pub returns-in_err-encode_lines-clause-encoded : goal.returns-in_err-encode_lines-clause-encoded
