@@ -1,4 +1,4 @@
-use Rattle.std.proofs.Common.{◌≡◌, ◌+◌, ◌∷◌, ◌++◌, [], None, ◌∙◌, ap, refl}
+use Rattle.std.proofs.Common.{◌≡◌, ◌+◌, ◌∷◌, ◌++◌, [], Some, None, ◌∙◌, ap, refl}
 use Rattle.std.specs.Int.{w64}
 use Rattle.std.proofs.lemmas.Int.{to_z-of_z}
 use Rattle.wire_records.specs.Commands.{PlaceOrder, Plain}
@@ -28,3 +28,9 @@ served c =
 
 pub invariant_of-self-2 : goal.invariant_of-self-2
 invariant_of-self-2 c = sound-served (market_in c.self.inside) _ _ _ c.self.invariant (served c)
+
+pub returns-in-Some-clause-served : goal.returns-in-Some-clause-served
+returns-in-Some-clause-served c = record { first = Some c.in-Some.refusal; refused = c.in-Some.ensures; answered = (refl, refl) }
+
+pub returns-clause-served : goal.returns-clause-served
+returns-clause-served c = rw (← c.self.view_is) (served c)
