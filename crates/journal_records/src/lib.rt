@@ -32,8 +32,6 @@ mod plain;
 mod reply_view;
 mod skipped;
 mod skipped_view;
-#[cfg(test)]
-mod tests;
 
 pub use cleared::write_cleared;
 pub use cleared_view::ClearedView;

@@ -6,7 +6,5 @@
 
 mod encode;
 pub mod laws;
-#[cfg(test)]
-mod tests;
 
 pub use encode::{EncodeFault, encode_lines};

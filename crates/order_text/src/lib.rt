@@ -9,7 +9,5 @@ mod fields;
 pub mod laws;
 mod line;
 mod row;
-#[cfg(test)]
-mod tests;
 
 pub use line::{LineFault, LineRead, read_line};

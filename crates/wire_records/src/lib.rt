@@ -13,8 +13,6 @@ pub mod laws;
 mod place;
 mod record;
 mod reply;
-#[cfg(test)]
-mod tests;
 mod write;
 
 pub use command::{BodyFault, Command, CommandView};
