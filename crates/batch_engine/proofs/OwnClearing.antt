@@ -13,12 +13,11 @@ use Rattle.flow_orders.specs.Excess.{price_for, is_unsettled, residual_bound}
 use Rattle.flow_orders.specs.Turns.{visits, IsOwnTrace}
 use Rattle.flow_orders.specs.Trades.{trades, residual}
 use Rattle.flow_orders.specs.Outcomes.{most_budget, dual_of, step_of, end_of, trades_of, IsRightClearing, IsRightOutcome}
-use Rattle.flow_orders.specs.Own.{are_single, moved_once, ArePricesOf, floor_rates, clearing_at, IsOwnOutcome, ClearsNear}
+use Rattle.flow_orders.specs.Own.{are_single, moved_once, ArePricesOf, rates_by_choice, clearing_at, IsOwnOutcome, ClearsNear}
 use Rattle.flow_orders.proofs.OwnIsRight.{own_prices_count, own_is_right, single_each}
 use Rattle.flow_orders.proofs.OwnLaws.{one_asset_books_clear}
 use Rattle.flow_orders.proofs.WalkLaws.{walks_lower_the_dual, right_skips_lower_the_dual}
 use Rattle.coordinate_search.proofs.Settling.{single_all}
-use Rattle.rate_rounding.proofs.Roundings.{floors_are_roundings}
 use Rattle.batch_certificate.specs.declared.outcome.Cleared.{Cleared}
 use Rattle.batch_certificate.specs.declared.outcome.Outcome.{Outcome}
 use Rattle.batch_certificate.specs.declared.outcome.Outcome.TheVariants as parts
@@ -43,11 +42,12 @@ wide_where orders test tests fails = ⊎_elim (λ single. absurd (false≢true (
 
 -- ---- clearings and skips
 
--- demands that are rounded down are roundings
-pub rates_are_roundings : (orders : List Order) (prices : List ℤ) (rates : List ℕ) → rates ≡ floor_rates orders prices → All IsOrder orders
-    → All (λ t. IsRounding (terms_of t.order) t.traded (price_for prices t.order)) (trades orders rates)
-rates_are_roundings orders prices rates rounded each =
-    subst (λ xs. All (λ t. IsRounding (terms_of t.order) t.traded (price_for prices t.order)) (trades orders xs)) (sym rounded) (floors_are_roundings orders prices each).roundings
+-- what holds of rates and prices as they were made holds of them as they are kept
+pub rates_are_roundings : (orders : List Order) (at prices : List ℤ) (made rates : List ℕ) → rates ≡ made → at ≡ prices
+    → All (λ t. IsRounding (terms_of t.order) t.traded (price_for at t.order)) (trades orders made) → All (λ t. IsRounding (terms_of t.order) t.traded (price_for prices t.order)) (trades orders rates)
+rates_are_roundings orders at prices made rates rates_are prices_are each =
+    subst (λ p. All (λ t. IsRounding (terms_of t.order) t.traded (price_for p t.order)) (trades orders rates)) prices_are
+    (subst (λ xs. All (λ t. IsRounding (terms_of t.order) t.traded (price_for at t.order)) (trades orders xs)) (sym rates_are) each)
 
 -- where the prices are those of the own rule, the clearing at them is the own outcome
 pub cleared_is_own : (orders : List Order) (start prices : List ℤ) (budget : ℕ) (c : Cleared) → All IsOrder orders → All (IsWithin (2 ^ 60)) start → budget ≤ most_budget
@@ -58,8 +58,8 @@ cleared_is_own orders start prices budget c each range few own at =
       each = each;
       own = (
         subst (ArePricesOf (are_single orders) orders start budget) (sym at.prices_are) own,
-        at.certified ∙ ap (λ n. clearing_at n prices (trades orders c.rates)) count ∙ ap (λ xs. clearing_at (length start) prices (trades orders xs)) at.rates_are
-            ∙ ap (λ p. clearing_at (length start) p (trades orders (floor_rates orders p))) (sym at.prices_are),
+        at.certified ∙ ap (λ n. clearing_at n prices (trades orders c.rates)) count ∙ ap (λ xs. clearing_at (length start) prices (trades orders xs)) (at.rates_are ∙ ap (λ n. rates_by_choice n orders prices) count)
+            ∙ ap (λ p. clearing_at (length start) p (trades orders (rates_by_choice (length start) orders p))) (sym at.prices_are),
       );
       at = subst (λ p. IsClearedAt orders p c) (sym at.prices_are) at;
     }

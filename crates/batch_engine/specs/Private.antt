@@ -4,7 +4,7 @@ use Rattle.flow_orders.specs.Orders.{Order, IsOrder}
 use Rattle.flow_orders.specs.Trades.{trades}
 use Rattle.flow_orders.specs.Welfare.{IsOptimalWithin}
 use Rattle.flow_orders.specs.Outcomes as outcomes
-use Rattle.flow_orders.specs.Own.{floor_rates, clearing_at, IsOwnOutcome}
+use Rattle.flow_orders.specs.Own.{rates_by_choice, clearing_at, IsOwnOutcome}
 use Rattle.batch_certificate.specs.declared.outcome.Cleared.{Cleared}
 use Rattle.batch_certificate.specs.declared.outcome.Outcome.{Outcome}
 use Rattle.batch_certificate.specs.declared.outcome.Outcome.TheVariants as parts
@@ -12,10 +12,10 @@ use Rattle.batch_certificate.specs.Published.{clearing_of, skipping_of}
 use Rattle.batch_certificate.specs.GapBound.{gap_bound}
 use Rattle.batch_certificate.specs.Laws.{AreBounded}
 
--- what is certified of all demands rounded down, at these prices
+-- what is certified of the chosen rates at these prices
 pub record IsClearedAt (orders : List Order) (prices : List ℤ) (c : Cleared) : Type 0 where
   pub prices_are : c.prices ≡ prices
-  pub rates_are : c.rates ≡ floor_rates orders prices
+  pub rates_are : c.rates ≡ rates_by_choice (length prices) orders prices
   pub one_rate_each : length c.rates ≡ length orders
   pub certified : clearing_of orders c ≡ clearing_at (length prices) prices (trades orders c.rates)
   pub optimal : IsOptimalWithin c.gap orders c.rates

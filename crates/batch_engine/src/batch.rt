@@ -15,7 +15,7 @@ use coordinate_search::{Found, search, settle_single};
 use dual_value::dual_floor;
 use excess_bounds::Workspace;
 use flow_orders::Order;
-use rate_rounding::floor_rates;
+use rate_rounding::chosen_rates;
 use std::alloc::{AllocError, Global};
 
 /// There is no memory for the outcome.
@@ -138,6 +138,6 @@ fn clear_at(alloc: Global, orders: &[Order], prices: &[i64]) -> Result<Cleared, 
     ensures { IfOk result (IsClearedAt orders.now prices.now) }
 {
     let prices = PriceList::new(Vec::from_slice(alloc, prices)?);
-    let rates = RateList::new(floor_rates(alloc, orders, prices.as_slice())?);
+    let rates = RateList::new(chosen_rates(alloc, orders, prices.as_slice())?);
     Ok(certify(alloc, orders, prices, rates)?)
 }

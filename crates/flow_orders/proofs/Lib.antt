@@ -1,3 +1,4 @@
+pub mod AddedRows
 pub mod Book
 pub mod BookLaws
 pub mod BookSums

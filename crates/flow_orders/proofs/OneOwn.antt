@@ -4,7 +4,7 @@ use Rattle.flow_orders.specs.Orders.{Order}
 use Rattle.flow_orders.specs.Excess.{is_unsettled}
 use Rattle.flow_orders.specs.Turns.{visits}
 use Rattle.flow_orders.specs.Outcomes.{Clearing, Outcome, Cleared, Skipped, step_of, end_of, skipping_at}
-use Rattle.flow_orders.specs.Own.{are_single, IsOwnOutcome, ArePricesOf, moved_once, clearing_at, own_rates}
+use Rattle.flow_orders.specs.Own.{are_single, IsOwnOutcome, ArePricesOf, moved_once, clearing_at, rates_by_choice}
 use Rattle.flow_orders.specs.Trades.{trades}
 use Rattle.flow_orders.proofs.Walks.{own_prices_unique, own_trace_unique, loop-own}
 use Rattle.flow_orders.proofs.Loops.{loop_walk}
@@ -17,7 +17,7 @@ one_prices false orders start budget p q first other = own_prices_unique (length
 pub one_own : (orders : List Order) (start : List ℤ) (budget : ℕ) (o p : Outcome) → IsOwnOutcome orders start budget o → IsOwnOutcome orders start budget p → o ≡ p
 one_own orders start budget (Cleared c) (Cleared d) first other =
     let same = one_prices (are_single orders) orders start budget c.prices d.prices first.0 other.0 in
-    let at : List ℤ → Clearing = λ prices. clearing_at (length start) prices (trades orders (own_rates (length start) orders prices)) in
+    let at : List ℤ → Clearing = λ prices. clearing_at (length start) prices (trades orders (rates_by_choice (length start) orders prices)) in
     ap Cleared (first.1 ∙ ap at same ∙ sym other.1)
 one_own orders start budget (Cleared c) (Skipped s) first other =
     absurd (other.1.none c.prices (subst (λ single. ArePricesOf single orders start budget c.prices) other.0 first.0))
@@ -29,7 +29,7 @@ one_own orders start budget (Skipped r) (Skipped s) first other =
 
 -- a clearing at prices that the own rule reaches
 own_cleared : (orders : List Order) (start : List ℤ) (budget : ℕ) (end : List ℤ) → ArePricesOf (are_single orders) orders start budget end → (o : Outcome) × IsOwnOutcome orders start budget o
-own_cleared orders start budget end reached = (Cleared (clearing_at (length start) end (trades orders (own_rates (length start) orders end))), (reached, refl))
+own_cleared orders start budget end reached = (Cleared (clearing_at (length start) end (trades orders (rates_by_choice (length start) orders end))), (reached, refl))
 
 pub own_is_there : (orders : List Order) (start : List ℤ) (budget : ℕ) → (o : Outcome) × IsOwnOutcome orders start budget o
 own_is_there orders start budget = by_single (are_single orders) refl

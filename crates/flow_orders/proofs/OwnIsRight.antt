@@ -15,7 +15,7 @@ use Rattle.flow_orders.specs.Moves.{moved, single_reach}
 use Rattle.flow_orders.specs.Choice.{left_by}
 use Rattle.flow_orders.specs.Trades.{Trade, trades, residual}
 use Rattle.flow_orders.specs.Outcomes.{most_budget, IsUnnamed, IsWide, Fill, Outcome, Cleared, Skipped, trades_of, fill_of, step_of, end_of, IsRightOutcome, IsRightClearing}
-use Rattle.flow_orders.specs.Own.{are_single, moved_once, ArePricesOf, floor_at, is_fraction_at, floor_rates, rates_by_choice, own_rates, clearing_at, IsOwnOutcome}
+use Rattle.flow_orders.specs.Own.{are_single, moved_once, ArePricesOf, floor_at, is_fraction_at, floor_rates, rates_by_choice, clearing_at, IsOwnOutcome}
 use Rattle.flow_orders.proofs.Book.{IsSound as IsSoundOrder, IsSettled}
 use Rattle.flow_orders.proofs.Choice.{chosen_are_roundings}
 use Rattle.flow_orders.proofs.ChoiceByEntries.{choice_is_rounding}
@@ -91,10 +91,6 @@ module _ (orders : List Order) (each : All IsOrder orders) (n : ℕ) (prices : L
         choice_is_rounding (terms_of t.order) (All-trades IsOrder orders (floor_rates orders prices) each k d inside).terms (price_for prices t.order) t.traded
         (inl (zip_trades (λ o rate. rate ≡ floor_at prices o) orders (floor_rates orders prices) (floors orders) k d inside));
   }
-
-  -- the rates that the program publishes
-  pub own_roundings : AreRoundings orders prices (own_rates n orders prices)
-  own_roundings = floors_are_roundings
 
 sound_each : (orders : List Order) → All IsOrder orders → All IsSoundOrder orders
 sound_each orders each k d inside = let o = each k d inside in record { limits = o.terms; lawful = o.row }
@@ -219,7 +215,7 @@ own_prices_count orders start budget end each range few own = (prices_are_right 
 pub own_is_right : (orders : List Order) (start : List ℤ) (budget : ℕ) (o : Outcome) → All IsOrder orders → All (IsWithin (2 ^ 60)) start → budget ≤ most_budget → IsOwnOutcome orders start budget o → IsRightOutcome orders start budget o
 own_is_right orders start budget (Cleared c) each range few own =
     let prices = prices_are_right (are_single orders) orders start budget c.prices refl each range few own.0 in
-    subst (IsRightClearing orders start) (sym own.1) (right_at orders start c.prices (own_rates (length start) orders c.prices) each (own_roundings orders each (length start) c.prices) prices.count prices.small prices.unnamed prices.settled)
+    subst (IsRightClearing orders start) (sym own.1) (right_at orders start c.prices (rates_by_choice (length start) orders c.prices) each (choices_are_roundings orders each (length start) c.prices) prices.count prices.small prices.unnamed prices.settled)
 own_is_right orders start budget (Skipped s) each range few own =
     let n = length start in
     let trace = own.1 in

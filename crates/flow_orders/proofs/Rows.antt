@@ -8,7 +8,7 @@ use Rattle.flow_orders.specs.Orders.{Order}
 use Rattle.flow_orders.specs.Excess.{steepness, residual_bound, low_excess, is_above, is_unsettled}
 use Rattle.flow_orders.specs.Trades.{trades}
 use Rattle.flow_orders.specs.Outcomes.{dual_of}
-use Rattle.flow_orders.specs.Own.{clearing_at, own_rates, rates_by_choice}
+use Rattle.flow_orders.specs.Own.{clearing_at, floor_rates, rates_by_choice}
 
 -- ---- a buyer and a seller of one asset
 
@@ -34,16 +34,15 @@ unfolding buyer_and_seller weight_in portfolio_price floor_rate ceil_rate scaled
 low_was_2 = refl
 
 -- all demands rounded down
+floors_are : floor_rates buyer_and_seller one_price ≡ 500 ∷ 499 ∷ []
+unfolding buyer_and_seller one_price portfolio_price floor_rate scaled_demand line span distance
+floors_are = refl
+
 floors_gap : (clearing_at 1 one_price (trades buyer_and_seller (500 ∷ 499 ∷ []))).gap ≡ neg_ℤ (pos 429367880581)
 unfolding buyer_and_seller one_price weight_in portfolio_price loss scaled_demand line span distance
 floors_gap = refl
 
 -- the rates that the program publishes
-own_are : own_rates 1 buyer_and_seller one_price ≡ 500 ∷ 499 ∷ []
-unfolding buyer_and_seller one_price portfolio_price floor_rate scaled_demand line span distance
-own_are = refl
-
--- the chosen rates
 chosen_are : rates_by_choice 1 buyer_and_seller one_price ≡ 500 ∷ 500 ∷ []
 unfolding buyer_and_seller one_price weight_in portfolio_price floor_rate ceil_rate scaled_demand line span distance
 chosen_are = refl

@@ -13,7 +13,7 @@ use Rattle.flow_orders.specs.Orders.{Order, IsOrder, terms_of, price_of_ticks}
 use Rattle.flow_orders.specs.Excess.{price_for, steepness, spread, residual_bound, high_excess, is_above, is_below, is_unsettled}
 use Rattle.flow_orders.specs.Trades.{Trade, trades, residual, staying}
 use Rattle.flow_orders.specs.Outcomes.{trades_of, Clearing, Cleared, Skipping, Skipped, IsUnnamed, IsRightClearing, IsRightOutcome, dual_of, step_of}
-use Rattle.flow_orders.specs.Own.{clearing_at, own_rates, rates_by_choice, IsOwnOutcome}
+use Rattle.flow_orders.specs.Own.{clearing_at, floor_rates, rates_by_choice, IsOwnOutcome}
 use Rattle.flow_orders.specs.Turns.{visits, IsInTurnFrom, Settles}
 use Rattle.flow_orders.specs.Walks.{first_that, walk_end}
 use Rattle.flow_orders.specs.Duals.{movement_of}
@@ -79,7 +79,7 @@ steep_move : (is_above steep_orders (pos 0 ∷ []) 0 ≡ true) × (is_above stee
 unfolding steepness weight_in portfolio_price floor_rate ceil_rate scaled_demand line span distance
 steep_move = (refl, refl, refl, refl)
 
-steep_rates : (own_rates 1 steep_orders (pos 524287 ∷ []) ≡ 8388624 ∷ 8388592 ∷ []) × (rates_by_choice 1 steep_orders (pos 524287 ∷ []) ≡ 8388624 ∷ 8388592 ∷ [])
+steep_rates : (floor_rates steep_orders (pos 524287 ∷ []) ≡ 8388624 ∷ 8388592 ∷ []) × (rates_by_choice 1 steep_orders (pos 524287 ∷ []) ≡ 8388624 ∷ 8388592 ∷ [])
 unfolding weight_in portfolio_price floor_rate ceil_rate scaled_demand line span distance
 steep_rates = (refl, refl)
 
@@ -105,21 +105,21 @@ buyer = order 1 1 (pos 90) (pos 110) 1000 501 (entry 0 (pos 1) ∷ [])
 abbrev seller : Order
 seller = order 2 2 (neg_ℤ (pos 110)) (neg_ℤ (pos 90)) 1000 10000 (entry 0 (neg_ℤ (pos 1)) ∷ [])
 
-first_batch : (own_rates 1 (buyer ∷ seller ∷ []) (pos 429410830255 ∷ []) ≡ 500 ∷ 499 ∷ []) × (rates_by_choice 1 (buyer ∷ seller ∷ []) (pos 429410830255 ∷ []) ≡ 500 ∷ 500 ∷ [])
+first_batch : (floor_rates (buyer ∷ seller ∷ []) (pos 429410830255 ∷ []) ≡ 500 ∷ 499 ∷ []) × (rates_by_choice 1 (buyer ∷ seller ∷ []) (pos 429410830255 ∷ []) ≡ 500 ∷ 500 ∷ [])
 unfolding weight_in portfolio_price floor_rate ceil_rate scaled_demand line span distance
 first_batch = (refl, refl)
 
-after_first : staying (trades (buyer ∷ seller ∷ []) (500 ∷ 499 ∷ [])) ≡ filled_by 500 buyer ∷ filled_by 499 seller ∷ []
+after_first : staying (trades (buyer ∷ seller ∷ []) (500 ∷ 500 ∷ [])) ≡ filled_by 500 buyer ∷ filled_by 500 seller ∷ []
 after_first = refl
 
 abbrev second_book : List Order
-second_book = filled_by 500 buyer ∷ filled_by 499 seller ∷ []
+second_book = filled_by 500 buyer ∷ filled_by 500 seller ∷ []
 
 second_move : (is_below second_book (pos 429410830255 ∷ []) 0 ≡ true) × (high_excess second_book (pos 386804754678 ∷ []) 0 ≡ neg_ℤ (pos 2)) × (high_excess second_book (pos 386804754677 ∷ []) 0 ≡ neg_ℤ (pos 1)) × (steepness second_book 0 ≡ 1)
 unfolding steepness weight_in portfolio_price floor_rate ceil_rate scaled_demand line span distance
 second_move = (refl, refl, refl, refl)
 
-second_rates : (own_rates 1 second_book (pos 386804754677 ∷ []) ≡ 1 ∷ 2 ∷ []) × (rates_by_choice 1 second_book (pos 386804754677 ∷ []) ≡ 1 ∷ 2 ∷ [])
+second_rates : (floor_rates second_book (pos 386804754677 ∷ []) ≡ 1 ∷ 2 ∷ []) × (rates_by_choice 1 second_book (pos 386804754677 ∷ []) ≡ 1 ∷ 2 ∷ [])
 unfolding weight_in portfolio_price floor_rate ceil_rate scaled_demand line span distance
 second_rates = (refl, refl)
 
@@ -129,7 +129,7 @@ unfolding weight_in portfolio_price loss scaled_demand line span distance
 second_published = refl
 
 -- an order that is filled to its cap leaves
-after_second : staying (trades second_book (1 ∷ 2 ∷ [])) ≡ filled_by 501 seller ∷ []
+after_second : staying (trades second_book (1 ∷ 2 ∷ [])) ≡ filled_by 502 seller ∷ []
 after_second = refl
 
 -- ---- welfare of a buyer and a seller
@@ -187,13 +187,16 @@ pair_move : (moved pair single_reach (pos 0 ∷ []) 0 ≡ pos 429410830255 ∷ [
 unfolding steepness weight_in portfolio_price floor_rate ceil_rate scaled_demand line span distance
 pair_move = rises_to pair single_reach (pos 0 ∷ []) 0 429410830254 (sound pair pair_is_lawful) (omega arith) (omega arith) refl refl refl
 
-abbrev pub floors_published : Clearing
-floors_published =
-    record { prices = pos 429410830255 ∷ []; fills = record { order = 1; rate = 500 } ∷ record { order = 2; rate = 499 } ∷ []; residuals = pos 1 ∷ []; gap = neg_ℤ (pos 429367880581) }
+abbrev pub chosen_published : Clearing
+chosen_published =
+    record { prices = pos 429410830255 ∷ []; fills = record { order = 1; rate = 500 } ∷ record { order = 2; rate = 500 } ∷ []; residuals = pos 0 ∷ []; gap = pos 85899346 }
 
-pub own : IsOwnOutcome pair (pos 0 ∷ []) 10 (Cleared floors_published)
+pub own : IsOwnOutcome pair (pos 0 ∷ []) 10 (Cleared chosen_published)
 unfolding is_unsettled steepness weight_in portfolio_price floor_rate ceil_rate scaled_demand loss line span distance
 own = (sym pair_move.0, refl)
+
+chosen_are_right : IsRightClearing pair (pos 0 ∷ []) chosen_published
+chosen_are_right = own_outcomes_are_right pair (pos 0 ∷ []) 10 (Cleared chosen_published) pair_is_lawful (All-from_recursion (IsWithin (2 ^ 60)) (pos 0 ∷ []) ((omega (arith, ints), omega (arith, ints)), tt)) (omega arith) own
 
 -- a price that the program doesn't publish: all demands are whole there, and the gap is 0
 abbrev even_published : Clearing
@@ -221,29 +224,29 @@ also_right = record {
     within zero inside = omega arith
     within (suc asset) inside = absurd (omega (arith, inside))
 
--- the chosen rates are right as well
-abbrev chosen_published : Clearing
-chosen_published =
-    record { prices = pos 429410830255 ∷ []; fills = record { order = 1; rate = 500 } ∷ record { order = 2; rate = 500 } ∷ []; residuals = pos 0 ∷ []; gap = pos 85899346 }
+-- all demands rounded down are right as well
+abbrev floors_published : Clearing
+floors_published =
+    record { prices = pos 429410830255 ∷ []; fills = record { order = 1; rate = 500 } ∷ record { order = 2; rate = 499 } ∷ []; residuals = pos 1 ∷ []; gap = neg_ℤ (pos 429367880581) }
 
-chosen_are_right : IsRightClearing pair (pos 0 ∷ []) chosen_published
+floors_are_right : IsRightClearing pair (pos 0 ∷ []) floors_published
 unfolding steepness weight_in portfolio_price scaled_demand loss line span distance
-chosen_are_right = record {
+floors_are_right = record {
   one_price_each = refl;
-  small = All-from_recursion IsPrice chosen_published.prices (omega arith, tt);
+  small = All-from_recursion IsPrice floors_published.prices (omega arith, tt);
   unnamed = nothing_unnamed;
   numbers = refl;
-  roundings = All-from_recursion (λ (t : Trade). IsRounding (terms_of t.order) t.traded (price_for chosen_published.prices t.order)) (trades_of pair chosen_published.fills) (record { less_than_one_above = omega arith; less_than_one_below = omega arith }, (record { less_than_one_above = omega arith; less_than_one_below = omega arith }, tt));
+  roundings = All-from_recursion (λ (t : Trade). IsRounding (terms_of t.order) t.traded (price_for floors_published.prices t.order)) (trades_of pair floors_published.fills) (record { less_than_one_above = omega arith; less_than_one_below = omega arith }, (record { less_than_one_above = omega arith; less_than_one_below = omega arith }, tt));
   residual_each = refl;
   bounded = within;
   gap_is = refl;
 }
   where
-    nothing_unnamed : (asset : ℕ) → asset < 1 → IsUnnamed pair asset → price_of chosen_published.prices asset ≡ price_of (pos 0 ∷ []) asset
+    nothing_unnamed : (asset : ℕ) → asset < 1 → IsUnnamed pair asset → price_of floors_published.prices asset ≡ price_of (pos 0 ∷ []) asset
     nothing_unnamed zero inside unnamed = absurd (unnamed 0 (order 1 1 (pos 90) (pos 110) 1000 10000 (entry 0 (pos 1) ∷ [])) (omega arith) (0, omega arith, refl))
     nothing_unnamed (suc asset) inside unnamed = absurd (omega (arith, inside))
 
-    within : (asset : ℕ) → asset < 1 → unsigned_abs (residual (trades_of pair chosen_published.fills) asset) ≤ residual_bound pair asset
+    within : (asset : ℕ) → asset < 1 → unsigned_abs (residual (trades_of pair floors_published.fills) asset) ≤ residual_bound pair asset
     within zero inside = omega arith
     within (suc asset) inside = absurd (omega (arith, inside))
 
@@ -387,11 +390,11 @@ walk_of_3 = ap (λ p. step_of wide_book (step_of wide_book p 1) 0) move_1.0 ∙ 
 -- with a budget of 3 the batch clears where the third move ends
 wide_clears : IsOwnOutcome wide_book at_0 3 (Cleared (record {
   prices = at_3;
-  fills = record { order = 1; rate = 79 } ∷ record { order = 2; rate = 81 } ∷ record { order = 3; rate = 77 } ∷ [];
-  residuals = neg_ℤ (pos 2) ∷ pos 2 ∷ [];
-  gap = pos 1262935134;
+  fills = record { order = 1; rate = 79 } ∷ record { order = 2; rate = 81 } ∷ record { order = 3; rate = 78 } ∷ [];
+  residuals = neg_ℤ (pos 2) ∷ pos 1 ∷ [];
+  gap = pos 394467191082;
 }))
-unfolding weight_in portfolio_price floor_rate scaled_demand loss line span distance
+unfolding weight_in portfolio_price floor_rate ceil_rate scaled_demand loss line span distance
 wide_clears = (
   (
     0 ∷ 1 ∷ 0 ∷ [],
@@ -489,7 +492,7 @@ morning = buyer_at 1 0 22950 ∷ seller_at 2 0 22950 ∷ buyer_at 3 1 41000 ∷ 
 abbrev morning_prices : List ℤ
 morning_prices = pos 98565204475905 ∷ pos 176089364168705 ∷ pos 249103808200705 ∷ []
 
-morning_rates : (own_rates 3 morning morning_prices ≡ 100 ∷ 99 ∷ 100 ∷ 99 ∷ 100 ∷ 99 ∷ []) × (rates_by_choice 3 morning morning_prices ≡ 100 ∷ 100 ∷ 100 ∷ 100 ∷ 100 ∷ 100 ∷ [])
+morning_rates : (floor_rates morning morning_prices ≡ 100 ∷ 99 ∷ 100 ∷ 99 ∷ 100 ∷ 99 ∷ []) × (rates_by_choice 3 morning morning_prices ≡ 100 ∷ 100 ∷ 100 ∷ 100 ∷ 100 ∷ 100 ∷ [])
 unfolding weight_in portfolio_price floor_rate ceil_rate scaled_demand line span distance
 morning_rates = (refl, refl)
 
@@ -509,7 +512,7 @@ afternoon sold =
 abbrev afternoon_prices : List ℤ
 afternoon_prices = pos 98672578658305 ∷ pos 176110839005185 ∷ pos 249168232710145 ∷ []
 
-afternoon_rates : (own_rates 3 (afternoon 99) afternoon_prices ≡ 75 ∷ 124 ∷ 95 ∷ 104 ∷ 85 ∷ 114 ∷ 20 ∷ 30 ∷ []) × (rates_by_choice 3 (afternoon 100) afternoon_prices ≡ 75 ∷ 125 ∷ 95 ∷ 105 ∷ 85 ∷ 115 ∷ 20 ∷ 30 ∷ [])
+afternoon_rates : (floor_rates (afternoon 99) afternoon_prices ≡ 75 ∷ 124 ∷ 95 ∷ 104 ∷ 85 ∷ 114 ∷ 20 ∷ 30 ∷ []) × (rates_by_choice 3 (afternoon 100) afternoon_prices ≡ 75 ∷ 125 ∷ 95 ∷ 105 ∷ 85 ∷ 115 ∷ 20 ∷ 30 ∷ [])
 unfolding weight_in portfolio_price floor_rate ceil_rate scaled_demand line span distance
 afternoon_rates = (refl, refl)
 
@@ -583,7 +586,7 @@ balanced_500s = record {
         by true = refl
         by false = refl
 
--- the published rates and the gap bound their welfare
+-- demands rounded down and their gap bound that welfare
 bound_holds : welfare 4000000 1 (trades pair (500 ∷ 500 ∷ [])) ≤ℤ (pos 1 *ℤ (welfare 4000000 1 (trades pair (500 ∷ 499 ∷ [])) +ℤ pos 4000000 *ℤ floors_published.gap))
 bound_holds = (right_clearings_are_optimal pair (pos 0 ∷ []) floors_published pair_is_lawful priced floors_are_right).best 4000000 1 (500 ∷ 500 ∷ []) common balanced_500s
   where
@@ -592,6 +595,3 @@ bound_holds = (right_clearings_are_optimal pair (pos 0 ∷ []) floors_published 
       where
         at_0 : (weight : ℤ) → IsPricedBy (entry 0 weight ∷ []) (pos 0 ∷ [])
         at_0 weight = All-from_recursion (λ (e : Entry). e.asset < 1) (entry 0 weight ∷ []) (omega arith, tt)
-
-    floors_are_right : IsRightClearing pair (pos 0 ∷ []) floors_published
-    floors_are_right = own_outcomes_are_right pair (pos 0 ∷ []) 10 (Cleared floors_published) pair_is_lawful (All-from_recursion (IsWithin (2 ^ 60)) (pos 0 ∷ []) ((omega (arith, ints), omega (arith, ints)), tt)) (omega arith) own

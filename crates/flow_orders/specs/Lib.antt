@@ -6,6 +6,7 @@ pub mod Moves
 pub mod Turns
 pub mod Choice
 pub mod Trades
+pub mod Residuals
 pub mod Outcomes
 pub mod Own
 pub mod Welfare

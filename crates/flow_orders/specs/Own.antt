@@ -37,13 +37,9 @@ is_fraction_at prices o = nat_lt (floor_at prices o) (ceil_rate (terms_of o) (pr
 abbrev pub floor_rates : List Order → List ℤ → List ℕ
 floor_rates orders prices = map (floor_at prices) orders
 
--- rates that are chosen order by order, for a smaller sum of absolute residuals of n assets
+-- the rates that the program publishes at prices of n assets: chosen order by order, for a smaller sum of absolute residuals
 abbrev pub rates_by_choice : ℕ → List Order → List ℤ → List ℕ
 rates_by_choice n orders prices = chosen_rates n (λ o asset. weight_in o.row asset) (floor_at prices) (is_fraction_at prices) orders
-
--- the rates that the program publishes at prices of n assets: today all demands are rounded down
-abbrev pub own_rates : ℕ → List Order → List ℤ → List ℕ
-own_rates n orders prices = floor_rates orders prices
 
 -- what is published of trades at prices of n assets
 abbrev pub clearing_at : ℕ → List ℤ → List Trade → Clearing
@@ -53,7 +49,7 @@ clearing_at n prices ts = record { prices = prices; fills = map fill_of ts; resi
 abbrev pub IsOwnOutcome : BatchRule
 IsOwnOutcome orders start budget (Cleared c) =
     ArePricesOf (are_single orders) orders start budget c.prices
-    × (c ≡ clearing_at (length start) c.prices (trades orders (own_rates (length start) orders c.prices)))
+    × (c ≡ clearing_at (length start) c.prices (trades orders (rates_by_choice (length start) orders c.prices)))
 IsOwnOutcome orders start budget (Skipped s) =
     (are_single orders ≡ false)
     × IsOwnTrace (length start) (is_unsettled orders) (step_of orders) start budget s.trace

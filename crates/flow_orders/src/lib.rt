@@ -6,9 +6,10 @@
 //! welfare and the dual. [`laws`] has what holds of them.
 //!
 //! [`Order`] is an order as the program keeps it: 64 bytes beside the entries of its row. [`order_fault`] tells
-//! what is wrong with the numbers of one that is asked for, [`money_need`] and [`unit_need`] tell what it needs, and
-//! [`spread`] and [`steepness`] bound what a book of orders leaves over of an asset. No call takes memory. Each takes
-//! constant time, but `spread` and `steepness`, which go once over the entries of all orders.
+//! what is wrong with the numbers of one that is asked for, [`money_need`] and [`unit_need`] tell what it needs.
+//! [`add_residuals`] adds up what rates leave over of each asset, and [`spread`] and [`steepness`] bound what a book of
+//! orders leaves over of one. No call takes memory. Each takes constant time, but `add_residuals`, which goes once over
+//! the entries of a row, and `spread` and `steepness`, which go once over those of all orders.
 //!
 //! Limit prices are whole ticks, and 2^32 grains are a tick. Contracts see them in grains, as curves and prices are.
 #![tactic(auto)]
@@ -16,6 +17,7 @@
 mod bounds;
 mod fault;
 pub mod laws;
+mod left_over;
 mod needs;
 mod order;
 #[cfg(test)]
@@ -23,5 +25,6 @@ mod tests;
 
 pub use bounds::{spread, steepness};
 pub use fault::{OrderFault, order_fault};
+pub use left_over::add_residuals;
 pub use needs::{money_need, unit_need};
 pub use order::Order;

@@ -1,26 +1,30 @@
 //! The rates at which the orders of a batch trade: what each asks for at the prices, in whole units.
 //!
-//! An order's demand is a fraction, and trades are whole. Each rate here is the demand rounded down, so an order never
-//! trades more than it asks for. What rounding leaves over of an asset, the exchange takes.
+//! An order's demand is a fraction, and trades are whole, so a demand is rounded, and what rounding leaves over of an asset
+//! the exchange takes. [`chosen_rates`] are those that the program publishes: some demands are rounded up, order by order,
+//! so that less is left over. [`floor_rates`] rounds all demands down, so an order never trades more than it asks for.
 //!
 //! Prices are in grains, and 2^32 grains are a tick; there is one for each asset, by its number. Rates are in whole
 //! units of an order's portfolio per batch.
 //!
 //! # Costs
 //!
-//! A call goes once over the entries of all orders and divides at most once an order. It takes memory once, 4 bytes for
-//! each order, before it rounds anything.
+//! [`floor_rates`] goes once over the entries of all orders, and [`chosen_rates`] twice. Each divides at most once an order,
+//! and takes memory once, 4 bytes for each order, before it rounds anything.
 #![tactic(auto)]
 
 ghost use Rattle.std.specs.Prelude.{◌≡◌, ◌≤◌, IfOk, length, All};
 ghost use Rattle.weight_rows.specs.Rows.{IsPrice, IsPricedBy};
-ghost use Rattle.flow_orders.specs.Orders.{most_orders};
+ghost use Rattle.demand_curve.specs.Demand.{most_rate};
+ghost use Rattle.flow_orders.specs.Orders.{most_orders, IsOrder};
 ghost use Rattle.flow_orders.specs.Own.{floor_at, floor_rates};
 
+mod choice;
 pub mod laws;
 #[cfg(test)]
 mod tests;
 
+pub use choice::chosen_rates;
 use flow_orders::Order;
 use std::alloc::{AllocError, Global};
 
@@ -51,10 +55,12 @@ pub fn floor_rates(alloc: Global, orders: &[Order], prices: &[i64]) -> Result<Ve
 }
 
 // One order's demand, rounded down.
-fn floor_rate(order: &Order, prices: &[i64]) -> u32
+pub(crate) fn floor_rate(order: &Order, prices: &[i64]) -> u32
     requires range { All IsPrice prices.now }
     requires priced { IsPricedBy order.now.row prices.now }
-    ensures { result ≡ floor_at prices.now order.now }
+    ensures value { result ≡ floor_at prices.now order.now }
+    ensures small { result ≤ most_rate }
+    ensures order { IsOrder order.now }
 {
     order.curve().floor_rate(order.row().price(prices))
 }

@@ -1,0 +1,24 @@
+-- Words that only private functions use.
+use Rattle.std.specs.Prelude.{◌≡◌, ℕ, ◌+◌, Bool, true, false, ℤ, List, length}
+use Rattle.weight_rows.specs.Rows.{weight_in}
+use Rattle.flow_orders.specs.Orders.{Order}
+use Rattle.flow_orders.specs.Choice.{left_by, is_raised}
+use Rattle.flow_orders.specs.Residuals.{residual_in, IsTradeAdded}
+use Rattle.flow_orders.specs.Own.{floor_at, is_fraction_at, floor_rates}
+
+-- what all demands rounded down leave over of an asset
+abbrev pub left_by_floors : List Order → List ℤ → ℕ → ℤ
+left_by_floors orders prices asset = left_by (λ o asset. weight_in o.row asset) orders (floor_rates orders prices) asset
+
+-- whether an order is rounded up by the rule of choice, where so much is left over of each asset
+abbrev pub is_raised_at : List ℤ → List ℤ → Order → Bool
+is_raised_at prices residuals o = is_raised (length prices) (λ o asset. weight_in o.row asset) (floor_at prices) (is_fraction_at prices) (residual_in residuals) o
+
+-- an order's rate is rounded up, and its row added to the residuals, or it is rounded down, and they stay
+abbrev pub IsChosenBy : Bool → List ℤ → Order → ℕ → List ℤ → List ℤ → Type 0
+IsChosenBy true prices o rate old new = (rate ≡ floor_at prices o + 1) × IsTradeAdded o.row 1 old new
+IsChosenBy false prices o rate old new = (rate ≡ floor_at prices o) × (new ≡ old)
+
+-- by the rule
+abbrev pub IsChosen : List ℤ → Order → ℕ → List ℤ → List ℤ → Type 0
+IsChosen prices o rate old new = IsChosenBy (is_raised_at prices old o) prices o rate old new
