@@ -1,7 +1,8 @@
-//! A benchmark of the check of a published clearing: `check_benchmark PASSES`.
+//! A benchmark of what a clearing costs: `check_benchmark KIND PASSES`.
 //!
-//! It checks the clearing of a fixed book of 16,384 orders with 16 entries each, as often as PASSES says, and prints how
-//! often it was found right. `tools/benchmark` times it.
+//! Over a fixed book of 16,384 orders with 16 entries each it does one thing as often as PASSES says. KIND is `check`, for
+//! the check of a published clearing, `floors`, for all demands rounded down, or `chosen`, for the chosen rates. It prints
+//! how often the clearing was found right, or how many units all orders trade together. `tools/benchmark` times it.
 #![tactic(auto)]
 
 ghost use Rattle.std.specs.Prelude.{IsTrue};
@@ -9,11 +10,13 @@ ghost use Rattle.weight_rows.specs.Rows.{IsPricedBy};
 
 mod book;
 mod published;
+mod rates;
 
 use batch_certificate::{Verdict, check_cleared};
 use book::ORDERS;
 use flow_orders::Order;
 use published::Published;
+use rates::{Rounding, traded};
 use std::alloc::{AllocError, Global};
 use std::process::ExitCode;
 use std::{env, io};
@@ -26,7 +29,7 @@ const RATE: u32 = 499;
 const LOSS: i128 = 10_748_167;
 
 // Whether each asset that the order names has a price.
-fn is_priced(order: &Order, prices: &[i64]) -> bool
+pub(crate) fn is_priced(order: &Order, prices: &[i64]) -> bool
     ensures { IsTrue result → IsPricedBy order.now.row prices.now }
 {
     order
@@ -69,21 +72,43 @@ fn rights(orders: &[Order], fills: &[(u64, u32)], passes: u32) -> u32 {
     rights
 }
 
-// None where there isn't one word, which is a number.
-fn passes(words: &[String]) -> Option<u32> {
-    let [passes] = words else { return None };
-    passes.as_str().parse().ok()
+// What is done in each pass.
+enum Kind {
+    Check,
+    Round(Rounding),
+}
+
+// None where the words aren't a kind and a number.
+fn task(words: &[String]) -> Option<(Kind, u32)> {
+    let [kind, passes] = words else { return None };
+    let kind = match kind.as_str() {
+        "check" => Kind::Check,
+        "floors" => Kind::Round(Rounding::Floors),
+        "chosen" => Kind::Round(Rounding::Chosen),
+        _ => return None,
+    };
+    Some((kind, passes.as_str().parse().ok()?))
 }
 
 fn run(rt: &HostRuntime) -> io::Result<ExitCode> {
     let words: Vec<String> = env::args(rt)?.skip(1).collect(rt.alloc())?;
-    let Some(passes) = passes(words.as_slice()) else {
-        eprintln!(rt; "usage: check_benchmark PASSES")?;
+    let Some((kind, passes)) = task(words.as_slice()) else {
+        eprintln!(rt; "usage: check_benchmark check|floors|chosen PASSES")?;
         return Ok(ExitCode::FAILURE);
     };
     let orders = book::fixed(rt.alloc())?;
-    let fills = fills(rt.alloc())?;
-    println!(rt; "{}", rights(orders.as_slice(), fills.as_slice(), passes))?;
+    match kind {
+        Kind::Check => {
+            let fills = fills(rt.alloc())?;
+            println!(rt; "{}", rights(orders.as_slice(), fills.as_slice(), passes))?;
+        }
+        Kind::Round(rounding) => {
+            let Some(units) = traded(rt.alloc(), orders.as_slice(), rounding, passes) else {
+                return Ok(ExitCode::FAILURE);
+            };
+            println!(rt; "{units}")?;
+        }
+    }
     Ok(ExitCode::SUCCESS)
 }
 

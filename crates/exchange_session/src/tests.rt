@@ -59,13 +59,13 @@ fn batches_settle(rt: HostRuntime) -> Result<(), Fail> {
     serve_all(&rt, &mut session, &BUYER_AND_SELLER, &mut journal)?;
     serve_all(&rt, &mut session, &[RUN_BATCH], &mut journal)?;
     assert_eq!(rt; held(&session, 1), (Some(4_509_758_610_472_500), Some(500)));
-    assert_eq!(rt; held(&session, 2), (Some(214_276_004_297_245), Some(9_501)));
-    assert_eq!(rt; left_over(&session), Some((429_410_830_255, -1)));
+    assert_eq!(rt; held(&session, 2), (Some(214_705_415_127_500), Some(9_500)));
+    assert_eq!(rt; left_over(&session), Some((0, 0)));
     assert_eq!(rt; session.market().orders().len(), 2);
     serve_all(&rt, &mut session, &[RUN_BATCH], &mut journal)?;
     assert_eq!(rt; held(&session, 1), (Some(4_509_371_805_717_823), Some(501)));
-    assert_eq!(rt; held(&session, 2), (Some(215_049_613_806_599), Some(9_499)));
-    assert_eq!(rt; left_over(&session), Some((42_606_075_578, 0)));
+    assert_eq!(rt; held(&session, 2), (Some(215_479_024_636_854), Some(9_498)));
+    assert_eq!(rt; left_over(&session), Some((-386_804_754_677, 1)));
     assert_eq!(rt; session.market().orders().len(), 1);
     assert_eq!(rt; session.market().batches(), 2);
     Ok(())

@@ -355,9 +355,9 @@ const BUYS: &[u8] =
 const SELLS: &[u8] =
     b"\x07\0\0\0\x27\0\0\0\x02\xFF\xFF\xFF\xFF\xFF\xFF\xFF\x92\xFF\xFF\xFF\xFF\xFF\xFF\xFF\xA6\0\0\x03\xE8\0\0\0\0\0\0\x27\x10\x01\0\0\xFF\xFF\xFF\xFF";
 
-// The price is 429,410,830,255 grains, the rates are 500 and 499, the residual is 1 and the gap -429,367,880,581.
+// The price is 429,410,830,255 grains, both rates are 500, the residual is 0 and the gap 85,899,346.
 const CLEARED: &[u8] =
-    b"\x85\0\0\0\x42\0\0\0\x02\0\x01\0\0\0\x63\xFA\xE1\x47\xAF\0\0\0\x02\0\0\0\0\0\0\0\x01\0\0\x01\xF4\0\0\0\0\0\0\0\x02\0\0\x01\xF3\0\0\0\0\0\0\0\x01\xFF\xFF\xFF\xFF\xFF\xFF\xFF\xFF\xFF\xFF\xFF\x9C\x07\xAE\x14\x7B";
+    b"\x85\0\0\0\x42\0\0\0\x02\0\x01\0\0\0\x63\xFA\xE1\x47\xAF\0\0\0\x02\0\0\0\0\0\0\0\x01\0\0\x01\xF4\0\0\0\0\0\0\0\x02\0\0\x01\xF4\0\0\0\0\0\0\0\0\0\0\0\0\0\0\0\0\0\0\0\0\x05\x1E\xB8\x52";
 
 #[test]
 fn holds_batches(rt: HostRuntime) -> Result<(), Fail> {
@@ -392,10 +392,10 @@ const SELLS_OTHER: &[u8] =
 const SKIPPED: &[u8] =
     b"\x86\0\0\0\x29\0\0\0\x01\0\0\0\0\0\0\0\0\0\0\x75\x30\0\0\0\0\0\0\0\0\0\0\0\0\0\0\x51\xA4\x0A\x3D\x70\xA2\0\0\0\x01\0";
 
-// The prices are 393,590,803,005 and 393,161,306,276 grains, the rates are 79, 81 and 77, the residuals -2 and 2, and
-// the gap is 1,262,935,134.
+// The prices are 393,590,803,005 and 393,161,306,276 grains, the rates are 79, 81 and 78, the residuals -2 and 1, and
+// the gap is 394,467,191,082.
 const FOUND: &[u8] =
-    b"\x85\0\0\0\x5E\0\0\0\x02\0\x02\0\0\0\x5B\xA3\xD7\x0A\x3D\0\0\0\x5B\x8A\x3D\x70\xA4\0\0\0\x03\0\0\0\0\0\0\0\x01\0\0\0\x4F\0\0\0\0\0\0\0\x02\0\0\0\x51\0\0\0\0\0\0\0\x03\0\0\0\x4D\xFF\xFF\xFF\xFF\xFF\xFF\xFF\xFE\0\0\0\0\0\0\0\x02\0\0\0\0\0\0\0\0\0\0\0\0\x4B\x46\xDC\x5E";
+    b"\x85\0\0\0\x5E\0\0\0\x02\0\x02\0\0\0\x5B\xA3\xD7\x0A\x3D\0\0\0\x5B\x8A\x3D\x70\xA4\0\0\0\x03\0\0\0\0\0\0\0\x01\0\0\0\x4F\0\0\0\0\0\0\0\x02\0\0\0\x51\0\0\0\0\0\0\0\x03\0\0\0\x4E\xFF\xFF\xFF\xFF\xFF\xFF\xFF\xFE\0\0\0\0\0\0\0\x01\0\0\0\0\0\0\0\0\0\0\0\x5B\xD8\x13\xA9\x2A";
 
 #[test]
 fn searches_and_skips(rt: HostRuntime) -> Result<(), Fail> {

@@ -152,7 +152,7 @@ abbrev traded : List (Pair Command Outcome)
 traded =
     says (PlaceOrder buys) (Plain (reply.Order 1))
     ∷ says (PlaceOrder sells) (Plain (reply.Order 2))
-    ∷ says (RunBatch 10) (Batch 1 (Cleared batches.floors_published))
+    ∷ says (RunBatch 10) (Batch 1 (Cleared batches.chosen_published))
     ∷ []
 
 -- the markets in between
@@ -174,13 +174,13 @@ with_buyer = record enough { orders = placed enough buys ∷ []; next_order = 2 
 abbrev with_seller : Market
 with_seller = record enough { orders = placed enough buys ∷ placed with_buyer sells ∷ []; next_order = 3 }
 
--- after the batch: the buyer paid for 500 units, the seller was paid for 499, and the exchange holds the rest
+-- after the batch: the buyer paid for 500 units, the seller was paid for as many, and the exchange holds nothing
 abbrev after_trade : Market
 after_trade = record {
   tickers = aapl ∷ [];
-  balances = record { accounts = holds (pos 4509758610472500) (pos 500) ∷ holds (pos 214276004297245) (pos 9501) ∷ []; total_money = pos 4724464025600000; total_units = pos 10000 ∷ [] };
-  exchange = holds (pos 429410830255) (neg_ℤ (pos 1));
-  orders = record (placed enough buys) { filled = 500 } ∷ record (placed with_buyer sells) { filled = 499 } ∷ [];
+  balances = record { accounts = holds (pos 4509758610472500) (pos 500) ∷ holds (pos 214705415127500) (pos 9500) ∷ []; total_money = pos 4724464025600000; total_units = pos 10000 ∷ [] };
+  exchange = holds (pos 0) (pos 0);
+  orders = record (placed enough buys) { filled = 500 } ∷ record (placed with_buyer sells) { filled = 500 } ∷ [];
   next_order = 3;
   batches = 1;
   last_prices = pos 429410830255 ∷ [];
@@ -264,12 +264,12 @@ serves_seller = record {
   answered = (refl, refl);
 }
 
-serves_batch : Serves IsOwnOutcome with_seller (RunBatch 10) (Batch 1 (Cleared batches.floors_published)) after_trade
+serves_batch : Serves IsOwnOutcome with_seller (RunBatch 10) (Batch 1 (Cleared batches.chosen_published)) after_trade
 unfolding settled_account weight_in portfolio_price
 serves_batch = record {
   first = None;
   refused = inr ((omega arith, omega arith), inr ((λ full. omega (arith, full)), refl));
-  answered = (Cleared batches.floors_published, batches.own, (refl, refl));
+  answered = (Cleared batches.chosen_published, batches.own, (refl, refl));
 }
 
 step : {old new : Market} {command : Command} {answer : Answer Outcome} → Serves IsOwnOutcome old command answer new → Step Itself IsOwnOutcome old command answer new
@@ -305,7 +305,7 @@ the_journal = record {
   );
 }
 
-fills_are : (fills_of 1 (opened ++ traded) ≡ 500) × (fills_of 2 (opened ++ traded) ≡ 499) × (fills_of 3 (opened ++ traded) ≡ 0)
+fills_are : (fills_of 1 (opened ++ traded) ≡ 500) × (fills_of 2 (opened ++ traded) ≡ 500) × (fills_of 3 (opened ++ traded) ≡ 0)
 fills_are = (refl, refl, refl)
 
 held_is : (held_money after_trade ≡ pos 4724464025600000) × (held_units after_trade 0 ≡ pos 10000)
@@ -597,8 +597,8 @@ order_16385 orders count =
 abbrev with_msft : Market
 with_msft = record {
   tickers = aapl ∷ codes "MSFT    " ∷ [];
-  balances = record { accounts = record { money = pos 4509758610472500; units = pos 500 ∷ pos 0 ∷ [] } ∷ record { money = pos 214276004297245; units = pos 9501 ∷ pos 0 ∷ [] } ∷ []; total_money = pos 4724464025600000; total_units = pos 10000 ∷ pos 0 ∷ [] };
-  exchange = record { money = pos 429410830255; units = neg_ℤ (pos 1) ∷ pos 0 ∷ [] };
+  balances = record { accounts = record { money = pos 4509758610472500; units = pos 500 ∷ pos 0 ∷ [] } ∷ record { money = pos 214705415127500; units = pos 9500 ∷ pos 0 ∷ [] } ∷ []; total_money = pos 4724464025600000; total_units = pos 10000 ∷ pos 0 ∷ [] };
+  exchange = record { money = pos 0; units = pos 0 ∷ pos 0 ∷ [] };
   orders = after_trade.orders;
   next_order = 3;
   batches = 1;
@@ -613,13 +613,13 @@ adds_msft = (refl, refl)
 abbrev before_wide : Balances
 before_wide = record { accounts = record { money = pos (500000 * 2 ^ 32); units = pos 0 ∷ pos 0 ∷ [] } ∷ record { money = pos 0; units = pos 10000 ∷ pos 10000 ∷ [] } ∷ []; total_money = pos (500000 * 2 ^ 32); total_units = pos 10000 ∷ pos 10000 ∷ [] }
 
-wide_balances : settled_balances batches.at_3 (trades batches.wide_book (79 ∷ 81 ∷ 77 ∷ [])) before_wide
-    ≡ record { accounts = record { money = pos (500000 * 2 ^ 32 - 62153416633199); units = pos 79 ∷ pos 79 ∷ [] } ∷ record { money = pos 62154275626657; units = pos 9919 ∷ pos 9923 ∷ [] } ∷ []; total_money = pos (500000 * 2 ^ 32); total_units = pos 10000 ∷ pos 10000 ∷ [] }
+wide_balances : settled_balances batches.at_3 (trades batches.wide_book (79 ∷ 81 ∷ 78 ∷ [])) before_wide
+    ≡ record { accounts = record { money = pos (500000 * 2 ^ 32 - 62153416633199); units = pos 79 ∷ pos 79 ∷ [] } ∷ record { money = pos 62547436932933; units = pos 9919 ∷ pos 9922 ∷ [] } ∷ []; total_money = pos (500000 * 2 ^ 32); total_units = pos 10000 ∷ pos 10000 ∷ [] }
 unfolding settled_account weight_in portfolio_price
 wide_balances = refl
 
-wide_exchange : settled_exchange batches.at_3 (trades batches.wide_book (79 ∷ 81 ∷ 77 ∷ [])) before_wide (record { money = pos 0; units = pos 0 ∷ pos 0 ∷ [] })
-    ≡ record { money = neg_ℤ (pos 858993458); units = pos 2 ∷ neg_ℤ (pos 2) ∷ [] }
+wide_exchange : settled_exchange batches.at_3 (trades batches.wide_book (79 ∷ 81 ∷ 78 ∷ [])) before_wide (record { money = pos 0; units = pos 0 ∷ pos 0 ∷ [] })
+    ≡ record { money = neg_ℤ (pos 394020299734); units = pos 2 ∷ neg_ℤ (pos 1) ∷ [] }
 unfolding weight_in
 wide_exchange = refl
 
