@@ -1,8 +1,9 @@
 //! A benchmark of what a clearing costs: `check_benchmark KIND PASSES`.
 //!
-//! Over a fixed book of 16,384 orders with 16 entries each it does one thing as often as PASSES says. KIND is `check`, for
-//! the check of a published clearing, `floors`, for all demands rounded down, or `chosen`, for the chosen rates. It prints
-//! how often the clearing was found right, or how many units all orders trade together. `tools/benchmark` times it.
+//! Over a fixed book of 16,384 orders with 16 entries each it does one thing as often as PASSES says. KIND is `check`,
+//! for the check of a published clearing, `floors`, for all demands rounded down, or `chosen`, for the chosen rates. It
+//! prints how often the clearing was found right, or how many units all orders trade together. `tools/benchmark` times
+//! it.
 #![tactic(auto)]
 
 ghost use Rattle.std.specs.Prelude.{IsTrue};
@@ -73,6 +74,7 @@ fn rights(orders: &[Order], fills: &[(u64, u32)], passes: u32) -> u32 {
 }
 
 // What is done in each pass.
+#[derive(Clone, Copy)]
 enum Kind {
     Check,
     Round(Rounding),

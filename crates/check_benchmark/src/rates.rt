@@ -8,10 +8,11 @@ use flow_orders::Order;
 use rate_rounding::{chosen_rates, floor_rates};
 use std::alloc::Global;
 
-// Prices lie up to so many grains from 0, where no demand of the book is cut, and ascend by a step that is no fraction of it.
-const MOST: i64 = 1 << 27;
+// Prices lie up to so many grains from 0, where no demand of the book is cut, and each is a step above the one before,
+// or begins anew.
+const MOST: u32 = 1 << 27;
 
-const STEP: i64 = 39_916_801;
+const STEP: u64 = 39_916_801;
 
 /// How demands are rounded.
 #[derive(Clone, Copy)]
@@ -22,13 +23,12 @@ pub enum Rounding {
     Chosen,
 }
 
-// A price for each asset, here and there around 0.
+// A price for each asset.
 fn prices() -> [i64; 64] {
     let mut prices = [0; 64];
-    let mut price = 0;
     for place in 0..64 {
-        prices[place] = price - MOST;
-        price = (price + STEP) % (2 * MOST);
+        let step = place as u64 * STEP % u64::from(2 * MOST);
+        prices[place] = step as i64 - i64::from(MOST);
     }
     prices
 }

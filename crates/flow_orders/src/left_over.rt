@@ -9,8 +9,8 @@ use weight_rows::{Entry, WeightRow};
 /// Adds to the residuals of a row's assets what an order for its portfolio gets of them at this rate, or gives where a
 /// weight is negative: the weight times the rate, in units.
 ///
-/// There is a residual for each asset that the row names, by the assets' numbers, within 2^60 units of 0, and the rate is
-/// at most 2^24. It costs one pass over the entries and takes no memory.
+/// There is a residual for each asset that the row names, by the assets' numbers, within 2^60 units of 0, and the rate
+/// is at most 2^24. It costs one pass over the entries and takes no memory.
 pub fn add_residuals(row: &WeightRow, rate: u32, residuals: &mut [i64])
     requires places { IsPricedBy row.now residuals.old }
     requires rate { rate ≤ most_rate }

@@ -23,15 +23,16 @@ const PLACES: usize = 64;
 /// their order.
 ///
 /// At first all demands are rounded down. Then the orders have their turn, one after the other: an order whose demand
-/// isn't whole gets 1 more exactly where that makes the sum of the absolute residuals of all assets strictly smaller, a
-/// residual being what the rates leave over of an asset, bought less sold, in units. So no more is left over in all than
-/// by [`floor_rates`](crate::floor_rates). The rule is this project's own.
+/// isn't whole gets 1 more exactly where that makes the sum of the absolute residuals of all assets strictly smaller,
+/// a residual being what the rates leave over of an asset, bought less sold, in units. So no more is left over in all
+/// than by [`floor_rates`](crate::floor_rates). The rule is this project's own.
 ///
-/// There are at most 16,384 orders, in the order of their numbers, and at most 64 prices, in grains and within 2^62 of 0,
-/// one for each asset that an order names.
+/// There are at most 16,384 orders, in the order of their numbers, and at most 64 prices, in grains and within 2^62 of
+/// 0, one for each asset that an order names.
 ///
-/// It costs two passes over the orders, one to round down and one to choose, and divides at most once an order. It takes
-/// memory once, 4 bytes for each order, before it rounds anything.
+/// It costs two passes over the orders: one to round down, which goes twice over each row and divides at most once an
+/// order, and one to choose, which goes over each row once, and up to twice more where a unit more leaves less over,
+/// and divides nowhere. It takes memory once, 4 bytes for each order, before it rounds anything.
 pub fn chosen_rates(alloc: Global, orders: &[Order], prices: &[i64]) -> Result<Vec<u32>, Memory>
     requires few { length orders.now ≤ most_orders }
     requires assets { length prices.now ≤ most_prices }

@@ -1,16 +1,17 @@
 //! The rates at which the orders of a batch trade: what each asks for at the prices, in whole units.
 //!
-//! An order's demand is a fraction, and trades are whole, so a demand is rounded, and what rounding leaves over of an asset
-//! the exchange takes. [`chosen_rates`] are those that the program publishes: some demands are rounded up, order by order,
-//! so that less is left over. [`floor_rates`] rounds all demands down, so an order never trades more than it asks for.
+//! An order's demand is a fraction, and trades are whole, so a demand is rounded, and what rounding leaves over of an
+//! asset the exchange takes. [`chosen_rates`] are those that the program publishes: some demands are rounded up, order
+//! by order, so that less is left over. [`floor_rates`] rounds all demands down, so an order never trades more than it
+//! asks for.
 //!
 //! Prices are in grains, and 2^32 grains are a tick; there is one for each asset, by its number. Rates are in whole
 //! units of an order's portfolio per batch.
 //!
 //! # Costs
 //!
-//! [`floor_rates`] goes once over the entries of all orders, and [`chosen_rates`] twice. Each divides at most once an order,
-//! and takes memory once, 4 bytes for each order, before it rounds anything.
+//! [`floor_rates`] goes once over the orders, and [`chosen_rates`] twice. Each divides at most once an order, and takes
+//! memory once, 4 bytes for each order, before it rounds anything.
 #![tactic(auto)]
 
 ghost use Rattle.std.specs.Prelude.{◌≡◌, ◌≤◌, IfOk, length, All};
