@@ -14,7 +14,7 @@ use ticker_table::TickerTable;
 use wire_records::{Command, write_command};
 
 /// Why the lines of a text weren't encoded to their end.
-#[derive(Clone, Copy, Debug, PartialEq, Eq)]
+#[derive(Clone, Copy, PartialEq, Eq)]
 pub enum EncodeFault {
     /// The line of this number, counted from 1, is neither blank nor a command.
     NoCommand(u64),

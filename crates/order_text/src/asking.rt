@@ -110,7 +110,7 @@ fn run_batch(value: &Value) -> Option<Command>
 }
 
 // What stands at the keys of an order but its row.
-#[derive(Clone, Copy, Debug, PartialEq, Eq)]
+#[derive(Drop)]
 struct Limits {
     account: u32,
     low: i64,

@@ -15,7 +15,7 @@ use ticker_table::TickerTable;
 use wire_records::Command;
 
 /// What a line is.
-#[derive(Debug, Drop)]
+#[derive(Drop)]
 pub enum LineRead {
     /// It has no byte but spaces, tabs and carriage returns.
     Blank,

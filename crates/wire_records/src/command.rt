@@ -9,7 +9,7 @@ use wire_fields::Cursor;
 
 /// A command that owns its fields. An account is a number from 1, an asset a number from 0, and money is in
 /// ticks of 2^32 grains. Each number may be any of its width: the market says which it accepts.
-#[derive(Debug, Drop)]
+#[derive(Drop)]
 pub enum Command {
     /// A new asset under this ticker: one to eight characters, padded with spaces to eight bytes.
     AddAsset {
@@ -62,7 +62,7 @@ pub enum Command {
 }
 
 /// A command in borrowed bytes: the fields are those of [`Command`], in the same units.
-#[derive(Debug, Drop)]
+#[derive(Drop)]
 pub enum CommandView<'a> {
     /// A new asset under this ticker. It has 8 bytes, of any value: a record gives no other length.
     AddAsset(&'a [u8]),
@@ -104,7 +104,7 @@ pub enum CommandView<'a> {
 }
 
 /// Why a record spells no command.
-#[derive(Clone, Copy, Debug, PartialEq, Eq)]
+#[derive(Clone, Copy, PartialEq, Eq)]
 pub enum BodyFault {
     /// The tag is no command's.
     UnknownTag,

@@ -19,7 +19,7 @@ const ENTRY: usize = 6;
 
 /// Entries in borrowed bytes, in the order in which they stand there, lawful as a row or not. Contracts see them as
 /// the list of the entries. A record has at most 255 of them.
-#[derive(Debug, Drop)]
+#[derive(Drop)]
 pub struct RowView<'a> {
     bytes: &'a [u8],
 }
@@ -114,7 +114,7 @@ impl<'a> RowView<'a> {
 /// The order that a command asks for, with its entries in borrowed bytes. The limits are in whole ticks per unit of
 /// the portfolio, rate and cap in whole units of it, each any number of its width. Contracts see it as these numbers
 /// and the list of the entries. Each of its calls is of constant cost.
-#[derive(Debug, Drop)]
+#[derive(Drop)]
 pub struct PlaceView<'a> {
     account: u32,
     low: i64,
