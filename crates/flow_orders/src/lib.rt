@@ -18,8 +18,6 @@ mod fault;
 pub mod laws;
 mod needs;
 mod order;
-#[cfg(test)]
-mod tests;
 
 pub use bounds::{spread, steepness};
 pub use fault::{OrderFault, order_fault};

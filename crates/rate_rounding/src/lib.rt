@@ -18,8 +18,6 @@ ghost use Rattle.flow_orders.specs.Orders.{most_orders};
 ghost use Rattle.flow_orders.specs.Own.{floor_at, floor_rates};
 
 pub mod laws;
-#[cfg(test)]
-mod tests;
 
 use flow_orders::Order;
 use std::alloc::{AllocError, Global};
