@@ -21,8 +21,6 @@ pub mod laws;
 mod lists;
 mod outcome;
 mod parts;
-#[cfg(test)]
-mod tests;
 mod trade;
 mod verdict;
 mod weights;

@@ -13,7 +13,5 @@
 #![tactic(auto)]
 
 mod batch;
-#[cfg(test)]
-mod tests;
 
 pub use batch::{Memory, clear};

@@ -21,8 +21,6 @@ mod probes;
 mod retracing;
 mod searching;
 mod single;
-#[cfg(test)]
-mod tests;
 
 pub use moves::step;
 pub use retracing::{Retraced, retrace};

@@ -18,8 +18,6 @@ ghost use Rattle.demand_curve.specs.Demand.{IsWithinLimits};
 mod arithmetic;
 pub mod laws;
 mod rounding;
-#[cfg(test)]
-mod tests;
 
 use arithmetic::{distance, floor_square_over};
 pub use rounding::Roundings;

@@ -19,8 +19,6 @@ ghost use Rattle.flow_orders.specs.Excess.{price_for};
 ghost use Rattle.flow_orders.specs.Outcomes.{dual_of};
 
 pub mod laws;
-#[cfg(test)]
-mod tests;
 
 use flow_orders::Order;
 

@@ -13,8 +13,6 @@
 
 pub mod laws;
 mod parts;
-#[cfg(test)]
-mod tests;
 mod workspace;
 
 pub use parts::Excess;

@@ -4,7 +4,6 @@ pub mod Needs
 pub mod OrderMoves
 pub mod Parts
 pub mod RowMoves
-pub mod Scenes
 pub mod Settled
 pub mod SettledBalances
 pub mod Totals

@@ -18,7 +18,5 @@
 
 mod entries;
 mod settlement;
-#[cfg(test)]
-mod tests;
 
 pub use settlement::settle;

@@ -33,8 +33,6 @@ mod growth;
 pub mod laws;
 mod places;
 mod settlement;
-#[cfg(test)]
-mod tests;
 mod withdrawals;
 
 pub use fault::AccountFault;

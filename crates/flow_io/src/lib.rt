@@ -29,6 +29,3 @@ pub use source::{ReadFailed, Source};
 pub use standard::{StdSink, StdSource};
 pub use steady::{Memory, SteadySink, SteadySource};
 pub use whole::{ReadAllFault, WholeInput, read_all};
-
-#[cfg(test)]
-mod tests;

@@ -20,8 +20,6 @@ pub mod laws;
 mod left_over;
 mod needs;
 mod order;
-#[cfg(test)]
-mod tests;
 
 pub use bounds::{spread, steepness};
 pub use fault::{OrderFault, order_fault};

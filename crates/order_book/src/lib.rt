@@ -20,7 +20,5 @@ mod book;
 mod fill;
 pub mod laws;
 mod sums;
-#[cfg(test)]
-mod tests;
 
 pub use book::{Book, Memory};

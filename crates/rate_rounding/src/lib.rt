@@ -22,8 +22,6 @@ ghost use Rattle.flow_orders.specs.Own.{floor_at, floor_rates};
 
 mod choice;
 pub mod laws;
-#[cfg(test)]
-mod tests;
 
 pub use choice::chosen_rates;
 use flow_orders::Order;

@@ -21,9 +21,6 @@ ghost use Rattle.std.specs.Prelude.{◌≡◌, ◌<◌, ◌≤◌, ◌+ℤ◌, l
 ghost use Rattle.std.specs.Int.{w64, w128};
 ghost use Rattle.flow_accounts.specs.Places.{HasSpare};
 
-#[cfg(test)]
-mod tests;
-
 use std::marker::Model;
 use std::mem::size_of;
 

@@ -8,8 +8,6 @@
 mod greatest;
 mod least;
 mod places;
-#[cfg(test)]
-mod tests;
 mod turn;
 
 pub use greatest::greatest_true;

@@ -8,8 +8,6 @@
 pub mod laws;
 mod spelling;
 mod table;
-#[cfg(test)]
-mod tests;
 
 pub use table::{TickerFault, TickerTable};
 

@@ -10,8 +10,6 @@ mod entries;
 mod faults;
 pub mod laws;
 mod rows;
-#[cfg(test)]
-mod tests;
 
 pub use entries::{Entry, EntryList};
 pub use faults::{MOST_ENTRIES, RowFault, place_fault, row_fault};

@@ -11,8 +11,6 @@
 mod conversions;
 pub mod laws;
 mod reading;
-#[cfg(test)]
-mod tests;
 mod writing;
 
 pub use reading::Cursor;

@@ -1,0 +1,183 @@
+//! Accounts: deposits, withdrawals, what a settlement leaves, and how many there may be.
+use crate::market::Call::{Deposit, DepositUnits, Withdraw, WithdrawUnits};
+use crate::market::{add_asset, deposit, deposit_often, deposit_units, open, serve_all};
+use flow_accounts::AccountFault::{Full, NoAccount, NoAsset, NotFree, TotalLimit, Zero};
+use flow_accounts::{Accounts, MOST_ACCOUNTS, MOST_ASSETS, laws};
+use std::process::Abort;
+use std::test::Fail;
+
+// What each account has, and the total.
+fn holds_money(rt: &impl Abort, accounts: &Accounts, rows: &[(u32, Option<i128>)], total: i128) {
+    for (account, money) in rows {
+        assert_eq!(rt; accounts.money(*account), *money, "account {account}");
+    }
+    assert_eq!(rt; accounts.total_money(), total);
+}
+
+// What an account has of an asset, and the asset's total.
+fn holds_units(
+    rt: &impl Abort,
+    accounts: &Accounts,
+    rows: &[(u32, u16, Option<i64>, Option<i64>)],
+) {
+    for (account, asset, units, total) in rows {
+        assert_eq!(rt;
+            accounts.units(*account, *asset),
+            *units,
+            "account {account} asset {asset}"
+        );
+        assert_eq!(rt; accounts.total_units(*asset), *total, "asset {asset}");
+    }
+}
+
+#[test]
+fn deposits_and_withdrawals_of_money(rt: HostRuntime) -> Result<(), Fail> {
+    let mut accounts = Accounts::new(rt.alloc());
+    laws::totals_stay_sums();
+    open(&mut accounts)?;
+    open(&mut accounts)?;
+    let rows = [
+        (Deposit(0, 5), Err(NoAccount)),
+        (Deposit(3, 5), Err(NoAccount)),
+        (Deposit(0, 0), Err(NoAccount)),
+        (Deposit(1, 0), Err(Zero)),
+        (Deposit(1, 5), Ok(())),
+        (Withdraw(0, 5, 0), Err(NoAccount)),
+        (Withdraw(1, 0, 0), Err(Zero)),
+        (Withdraw(1, 6, 0), Err(NotFree(21_474_836_480))),
+        (Withdraw(1, 5, 1), Err(NotFree(21_474_836_479))),
+        (Withdraw(2, 1, 0), Err(NotFree(0))),
+        (Withdraw(1, 5, 0), Ok(())),
+    ];
+    serve_all(&rt, &mut accounts, &rows);
+    holds_money(&rt, &accounts, &[(1, Some(0)), (2, Some(0))], 0);
+
+    deposit_often(&mut accounts, 2, u64::MAX, 16)?;
+    let rows = [
+        (Deposit(1, 17), Err(TotalLimit)),
+        (Deposit(1, 16), Ok(())),
+        (Deposit(2, 1), Err(TotalLimit)),
+        (Deposit(2, 0), Err(Zero)),
+    ];
+    serve_all(&rt, &mut accounts, &rows);
+    let rows = [
+        (0, None),
+        (1, Some(68_719_476_736)),
+        (2, Some(1_267_650_600_228_229_401_427_983_728_640)),
+        (3, None),
+    ];
+    holds_money(
+        &rt,
+        &accounts,
+        &rows,
+        1_267_650_600_228_229_401_496_703_205_376,
+    );
+    Ok(())
+}
+
+#[test]
+fn deposits_and_withdrawals_of_units(rt: HostRuntime) -> Result<(), Fail> {
+    let mut accounts = Accounts::new(rt.alloc());
+    laws::totals_stay_sums();
+    open(&mut accounts)?;
+    add_asset(&rt, &mut accounts);
+    open(&mut accounts)?;
+    add_asset(&rt, &mut accounts);
+    let rows = [
+        (DepositUnits(0, 2, 0), Err(NoAccount)),
+        (DepositUnits(1, 2, 0), Err(NoAsset)),
+        (DepositUnits(1, 1, 0), Err(Zero)),
+        (DepositUnits(2, 0, 1_152_921_504_606_846_976), Ok(())),
+        (DepositUnits(1, 0, 1), Err(TotalLimit)),
+        (DepositUnits(1, 0, u64::MAX), Err(TotalLimit)),
+        (DepositUnits(1, 1, 1), Ok(())),
+        (WithdrawUnits(3, 2, 0, 0), Err(NoAccount)),
+        (WithdrawUnits(2, 2, 0, 0), Err(NoAsset)),
+        (WithdrawUnits(2, 0, 0, 0), Err(Zero)),
+        (WithdrawUnits(2, 0, 1, 1 << 60), Err(NotFree(0))),
+        (WithdrawUnits(1, 0, 1, 0), Err(NotFree(0))),
+        (WithdrawUnits(2, 0, 10_000, 1 << 59), Ok(())),
+        (DepositUnits(2, 1, 10_000), Ok(())),
+        (WithdrawUnits(2, 1, 2, 9_999), Err(NotFree(1))),
+        (DepositUnits(1, 0, 9_999), Ok(())),
+        (DepositUnits(1, 0, 2), Err(TotalLimit)),
+    ];
+    serve_all(&rt, &mut accounts, &rows);
+    let rows = [
+        (0, 0, None, Some(1_152_921_504_606_846_975)),
+        (1, 0, Some(9_999), Some(1_152_921_504_606_846_975)),
+        (1, 1, Some(1), Some(10_001)),
+        (1, 2, None, None),
+        (
+            2,
+            0,
+            Some(1_152_921_504_606_836_976),
+            Some(1_152_921_504_606_846_975),
+        ),
+        (2, 1, Some(10_000), Some(10_001)),
+        (3, 1, None, Some(10_001)),
+    ];
+    holds_units(&rt, &accounts, &rows);
+    Ok(())
+}
+
+// Settlement changes the money of an account, and answers what it has then.
+fn pay(rt: &impl Abort, accounts: &mut Accounts, account: u32, grains: i128) -> Option<i128> {
+    let money = accounts.money(account)?.checked_add(grains)?;
+    assert!(rt; 0 <= money && money < 1 << 124);
+    accounts.add_money(account, grains);
+    accounts.money(account)
+}
+
+// The same for the units of an asset.
+fn give(
+    rt: &impl Abort,
+    accounts: &mut Accounts,
+    account: u32,
+    asset: u16,
+    amount: i64,
+) -> Option<i64> {
+    let units = accounts.units(account, asset)?.checked_add(amount)?;
+    assert!(rt; 0 <= units && units < 1 << 62);
+    accounts.add_units(account, asset, amount);
+    accounts.units(account, asset)
+}
+
+// A batch takes 214,705,415,127,500 grains from one account and gives 214,276,004,297,245 to
+// another for 499 of its units. The first account gets 500 of them.
+#[test]
+fn what_a_settlement_leaves(rt: HostRuntime) -> Result<(), Fail> {
+    let mut accounts = Accounts::new(rt.alloc());
+    laws::totals_stay_sums();
+    add_asset(&rt, &mut accounts);
+    assert_eq!(rt; open(&mut accounts)?, 1);
+    assert_eq!(rt; open(&mut accounts)?, 2);
+    deposit(&mut accounts, 1, 1_100_000)?;
+    deposit_units(&mut accounts, 2, 0, 10_000)?;
+    let paid = pay(&rt, &mut accounts, 1, -214_705_415_127_500);
+    assert_eq!(rt; paid, Some(4_509_758_610_472_500));
+    let received = pay(&rt, &mut accounts, 2, 214_276_004_297_245);
+    assert_eq!(rt; received, Some(214_276_004_297_245));
+    assert_eq!(rt; give(&rt, &mut accounts, 1, 0, 500), Some(500));
+    assert_eq!(rt; give(&rt, &mut accounts, 2, 0, -499), Some(9_501));
+    assert_eq!(rt; accounts.total_money(), 4_724_464_025_600_000);
+    assert_eq!(rt; accounts.total_units(0), Some(10_000));
+    Ok(())
+}
+
+#[test]
+fn as_many_as_there_may_be(rt: HostRuntime) -> Result<(), Fail> {
+    let mut accounts = Accounts::new(rt.alloc());
+    for number in 0..MOST_ACCOUNTS {
+        assert_eq!(rt; accounts.add_account()?, number + 1);
+    }
+    assert_eq!(rt; accounts.add_account(), Err(Full));
+    assert_eq!(rt; accounts.count(), 65_536);
+    for number in 0..MOST_ASSETS {
+        assert_eq!(rt; accounts.assets(), number);
+        accounts.add_asset();
+    }
+    assert_eq!(rt; accounts.assets(), 64);
+    assert_eq!(rt; accounts.units(65_536, 63), Some(0));
+    Ok(())
+}

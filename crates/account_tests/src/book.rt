@@ -1,0 +1,125 @@
+//! The book of live orders, and what accounts need as orders are cancelled and filled.
+ghost use Rattle.std.specs.Prelude.{◌≡◌, ◌≤◌, length, All, IsTrue};
+ghost use Rattle.flow_orders.specs.Orders.{terms_of};
+ghost use Rattle.flow_orders.specs.Trades.{trades};
+
+use crate::placing::{Placed, order_of};
+use flow_orders::Order;
+use order_book::{Book, Memory};
+use std::alloc::{AllocError, Global};
+use std::test::Fail;
+
+// Adds the order where the book can take it.
+fn add(book: &mut Book, order: Order) -> bool {
+    let number = order.number();
+    if book.orders().len() >= 16_384 || !book.orders().iter().all(|other| other.number() < number) {
+        return false;
+    }
+    match book.reserve_one() {
+        Ok(()) => book.add(order),
+        Err(Memory) => return false,
+    }
+    true
+}
+
+// Whether there is one rate for each order, and none above its room.
+fn are_within(orders: &[Order], rates: &[u32]) -> bool
+    ensures count { IsTrue result → length rates.now ≡ length orders.now }
+    ensures within { IsTrue result →
+        All (λ t. t.traded ≤ (terms_of t.order).room) (trades orders.now rates.now) }
+{
+    if rates.len() != orders.len() {
+        return false;
+    }
+    for place in 0..orders.len() {
+        if rates[place] > orders[place].curve().room {
+            return false;
+        }
+    }
+    true
+}
+
+// Fills the orders where the rates are within their rooms.
+fn fill(book: &mut Book, rates: &[u32]) -> bool {
+    if !are_within(book.orders(), rates) {
+        return false;
+    }
+    book.fill(rates);
+    true
+}
+
+// A buyer of account 1, a seller of account 2, and a pair of account 1.
+fn three(alloc: Global, cap: u64) -> Result<Option<Book>, AllocError> {
+    let mut book = Book::new(alloc);
+    let rows: [Placed<'_>; 3] = [
+        ((1, 1), (90, 110), (1000, cap), &[(0, 1)]),
+        ((2, 2), (-110, -90), (1000, 10_000), &[(0, -1)]),
+        ((7, 1), (-5, 20), (10, 100), &[(0, 2), (3, -4)]),
+    ];
+    for placed in rows {
+        match order_of(alloc, placed)? {
+            Some(order) => {
+                if !add(&mut book, order) {
+                    return Ok(None);
+                }
+            }
+            None => return Ok(None),
+        }
+    }
+    Ok(Some(book))
+}
+
+// What the accounts need: money of 1 and 2, units of asset 3 of 1, units of asset 0 of 2; and the count of orders.
+fn needs_in(book: &Book) -> (i128, i128, i128, i128, usize) {
+    (
+        book.money_needed(1),
+        book.money_needed(2),
+        book.units_needed(1, 3),
+        book.units_needed(2, 0),
+        book.orders().len(),
+    )
+}
+
+#[test]
+fn cancelled_orders_need_nothing(rt: HostRuntime) -> Result<(), Fail> {
+    let mut book = three(rt.alloc(), 10_000)?.ok_or("an order isn't taken")?;
+    for (account, number, there, needs) in [
+        (2, 1, false, (4_733_053_960_192_000, 0, 400, 10_000, 3)),
+        (1, 1, true, (8_589_934_592_000, 0, 400, 10_000, 2)),
+        (1, 1, false, (8_589_934_592_000, 0, 400, 10_000, 2)),
+        (3, 7, false, (8_589_934_592_000, 0, 400, 10_000, 2)),
+        (1, 6, false, (8_589_934_592_000, 0, 400, 10_000, 2)),
+        (1, 8, false, (8_589_934_592_000, 0, 400, 10_000, 2)),
+        (1, 7, true, (0, 0, 0, 10_000, 1)),
+        (2, 2, true, (0, 0, 0, 0, 0)),
+        (2, 2, false, (0, 0, 0, 0, 0)),
+    ] {
+        assert_eq!(rt; book.cancel(account, number).is_some(), there);
+        assert_eq!(rt; needs_in(&book), needs);
+    }
+    assert_eq!(rt; (book.units_needed(1, 0), book.money_needed(9)), (0, 0));
+    Ok(())
+}
+
+#[test]
+fn filled_orders_need_less(rt: HostRuntime) -> Result<(), Fail> {
+    let mut book = three(rt.alloc(), 501)?.ok_or("an order isn't taken")?;
+    let batches: [(&[u32], bool, (i128, i128, i128, i128, usize)); 6] = [
+        (
+            &[502, 0, 0],
+            false,
+            (245_285_582_274_560, 0, 400, 10_000, 3),
+        ),
+        (&[500, 499], false, (245_285_582_274_560, 0, 400, 10_000, 3)),
+        (&[500, 499, 10], true, (8_203_387_535_360, 0, 360, 9501, 3)),
+        (&[1, 2, 0], true, (7_730_941_132_800, 0, 360, 9499, 2)),
+        (&[1000, 10], true, (6_871_947_673_600, 0, 320, 8499, 2)),
+        (&[1000, 0], true, (6_871_947_673_600, 0, 320, 7499, 2)),
+    ];
+    for (rates, taken, needs) in batches {
+        assert_eq!(rt; fill(&mut book, rates), taken);
+        assert_eq!(rt; needs_in(&book), needs);
+    }
+    assert!(rt; book.cancel(1, 1).is_none());
+    Ok(())
+}

@@ -1,0 +1,150 @@
+//! A market that settles nothing: each total stays the sum of all balances, and by that every call
+//! may be made.
+ghost use Rattle.flow_accounts.specs.Sums.{TotalsAreSums};
+
+use flow_accounts::{AccountFault, Accounts, MOST_ASSETS, laws};
+use std::process::Abort;
+
+// A call on accounts whose totals are the sums of the balances. The first numbers are the account
+// and the asset, the last ones what is reserved.
+#[derive(Clone, Copy, Debug)]
+pub enum Call {
+    Deposit(u32, u64),
+    DepositUnits(u32, u16, u64),
+    Withdraw(u32, u64, i128),
+    WithdrawUnits(u32, u16, u64, i128),
+}
+
+pub fn open(accounts: &mut Accounts) -> Result<u32, AccountFault>
+    requires { TotalsAreSums accounts.old }
+    ensures { TotalsAreSums accounts.new }
+{
+    laws::totals_stay_sums();
+    let number = accounts.add_account()?;
+    Ok(number)
+}
+
+pub fn add_asset(rt: &impl Abort, accounts: &mut Accounts)
+    requires { TotalsAreSums accounts.old }
+    ensures { TotalsAreSums accounts.new }
+{
+    laws::totals_stay_sums();
+    assert!(rt; accounts.assets() < MOST_ASSETS);
+    accounts.add_asset();
+}
+
+pub fn deposit(accounts: &mut Accounts, account: u32, ticks: u64) -> Result<(), AccountFault>
+    requires { TotalsAreSums accounts.old }
+    ensures { TotalsAreSums accounts.new }
+{
+    laws::changes_fit_at_sums();
+    laws::totals_stay_sums();
+    let _count = accounts.count();
+    accounts.deposit_money(account, ticks)?;
+    Ok(())
+}
+
+pub fn deposit_often(
+    accounts: &mut Accounts,
+    account: u32,
+    ticks: u64,
+    times: u32,
+) -> Result<(), AccountFault>
+    requires { TotalsAreSums accounts.old }
+    ensures { TotalsAreSums accounts.new }
+{
+    for _ in 0..times {
+        deposit(accounts, account, ticks)?;
+    }
+    Ok(())
+}
+
+pub fn deposit_units(
+    accounts: &mut Accounts,
+    account: u32,
+    asset: u16,
+    units: u64,
+) -> Result<(), AccountFault>
+    requires { TotalsAreSums accounts.old }
+    ensures { TotalsAreSums accounts.new }
+{
+    laws::changes_fit_at_sums();
+    laws::totals_stay_sums();
+    let _count = accounts.count();
+    accounts.deposit_units(account, asset, units)?;
+    Ok(())
+}
+
+fn withdraw(
+    rt: &impl Abort,
+    accounts: &mut Accounts,
+    account: u32,
+    ticks: u64,
+    reserved: i128,
+) -> Result<(), AccountFault>
+    requires { TotalsAreSums accounts.old }
+    ensures { TotalsAreSums accounts.new }
+{
+    laws::changes_fit_at_sums();
+    laws::totals_stay_sums();
+    let _count = accounts.count();
+    assert!(rt; reserved >= 0);
+    if let Some(money) = accounts.money(account) {
+        assert!(rt; reserved <= money);
+    }
+    accounts.withdraw_money(account, ticks, reserved)?;
+    Ok(())
+}
+
+fn withdraw_units(
+    rt: &impl Abort,
+    accounts: &mut Accounts,
+    account: u32,
+    asset: u16,
+    units: u64,
+    reserved: i128,
+) -> Result<(), AccountFault>
+    requires { TotalsAreSums accounts.old }
+    ensures { TotalsAreSums accounts.new }
+{
+    laws::changes_fit_at_sums();
+    laws::totals_stay_sums();
+    let _count = accounts.count();
+    assert!(rt; reserved >= 0);
+    if let Some(held) = accounts.units(account, asset) {
+        assert!(rt; reserved <= i128::from(held));
+    }
+    accounts.withdraw_units(account, asset, units, reserved)?;
+    Ok(())
+}
+
+fn serve(rt: &impl Abort, accounts: &mut Accounts, call: Call) -> Result<(), AccountFault>
+    requires { TotalsAreSums accounts.old }
+    ensures { TotalsAreSums accounts.new }
+{
+    match call {
+        Call::Deposit(account, ticks) => deposit(accounts, account, ticks),
+        Call::DepositUnits(account, asset, units) => {
+            deposit_units(accounts, account, asset, units)
+        }
+        Call::Withdraw(account, ticks, reserved) => {
+            withdraw(rt, accounts, account, ticks, reserved)
+        }
+        Call::WithdrawUnits(account, asset, units, reserved) => {
+            withdraw_units(rt, accounts, account, asset, units, reserved)
+        }
+    }
+}
+
+pub fn serve_all(
+    rt: &impl Abort,
+    accounts: &mut Accounts,
+    rows: &[(Call, Result<(), AccountFault>)],
+)
+    requires { TotalsAreSums accounts.old }
+    ensures { TotalsAreSums accounts.new }
+{
+    for (call, answer) in rows {
+        assert_eq!(rt; serve(rt, accounts, *call), *answer, "{call:?}");
+    }
+}

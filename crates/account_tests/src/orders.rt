@@ -1,0 +1,129 @@
+//! Orders: their faults, needs and fills, and sums of their weights.
+use crate::placing::{Placed, order_of};
+use demand_curve::Curve;
+use flow_orders::{Order, OrderFault, money_need, order_fault, spread, steepness, unit_need};
+use std::test::Fail;
+
+const FAR: i64 = 268_435_456;
+
+#[test]
+fn names_the_first_fault(rt: HostRuntime) -> Result<(), Fail> {
+    let cases: [(i64, i64, u32, u64, Option<OrderFault>); 16] = [
+        (90, 110, 1000, 10_000, None),
+        (-110, -90, 1000, 10_000, None),
+        (-FAR, FAR, 16_777_216, 1_099_511_627_776, None),
+        (0, 1, 1, 1, None),
+        (110, 110, 1000, 10_000, Some(OrderFault::BadLimits)),
+        (110, 90, 0, 0, Some(OrderFault::BadLimits)),
+        (-FAR - 1, 0, 1, 1, Some(OrderFault::BadLimits)),
+        (0, FAR + 1, 1, 1, Some(OrderFault::BadLimits)),
+        (i64::MIN, i64::MAX, 1, 1, Some(OrderFault::BadLimits)),
+        (90, 110, 0, 10_000, Some(OrderFault::BadRate)),
+        (90, 110, 0, 0, Some(OrderFault::BadRate)),
+        (90, 110, 16_777_217, 1, Some(OrderFault::BadRate)),
+        (90, 110, u32::MAX, 0, Some(OrderFault::BadRate)),
+        (90, 110, 1000, 0, Some(OrderFault::BadCap)),
+        (90, 110, 1, 1_099_511_627_777, Some(OrderFault::BadCap)),
+        (90, 110, 1, u64::MAX, Some(OrderFault::BadCap)),
+    ];
+    for (low, high, rate, cap, fault) in cases {
+        assert!(rt; order_fault(low, high, rate, cap) == fault);
+    }
+    Ok(())
+}
+
+#[test]
+fn tells_needs(rt: HostRuntime) -> Result<(), Fail> {
+    let cases: [(i64, i32, u64, i128, i64); 6] = [
+        (110, 1, 10_000, 4_724_464_025_600_000, 0),
+        (-90, -1, 10_000, 0, 10_000),
+        (0, -4096, 1, 0, 4096),
+        (1, 4096, 1, 4_294_967_296, 0),
+        (
+            FAR,
+            -4096,
+            1_099_511_627_776,
+            1_267_650_600_228_229_401_496_703_205_376,
+            4_503_599_627_370_496,
+        ),
+        (-FAR, 0, 0, 0, 0),
+    ];
+    for (high, weight, left, money, units) in cases {
+        assert!(rt; -FAR <= high && high <= FAR && left <= 1 << 40);
+        assert!(rt; weight.unsigned_abs() <= 4096);
+        assert_eq!(rt; money_need(high, left), money);
+        assert_eq!(rt; unit_need(weight, left), units);
+    }
+    Ok(())
+}
+
+// What an order tells of its numbers.
+fn numbers_of(order: &Order) -> (u64, u32, i64, i64, u32, u64) {
+    (
+        order.number(),
+        order.account(),
+        order.low(),
+        order.high(),
+        order.rate(),
+        order.cap(),
+    )
+}
+
+// Fills an order by `x` where it has the room.
+fn fill(order: &mut Order, x: u32) -> Option<bool> {
+    if x <= order.curve().room {
+        Some(order.add_fill(x))
+    } else {
+        None
+    }
+}
+
+#[test]
+fn orders_are_filled_to_their_cap(rt: HostRuntime) -> Result<(), Fail> {
+    let placed: Placed<'_> = ((7, 1), (90, 110), (1000, 1501), &[(0, -3)]);
+    let mut order = order_of(rt.alloc(), placed)?.ok_or("fault")?;
+    assert_eq!(rt; numbers_of(&order), (7, 1, 90, 110, 1000, 1501));
+    assert_eq!(rt; order.row().weight_of(0), -3);
+    for (x, full, filled, room) in [
+        (0, Some(false), 0, 1000),
+        (1001, None, 0, 1000),
+        (1000, Some(false), 1000, 501),
+        (501, Some(true), 1000, 501),
+        (500, Some(false), 1500, 1),
+        (1, Some(true), 1500, 1),
+    ] {
+        assert_eq!(rt; fill(&mut order, x), full);
+        assert_eq!(rt; order.filled(), filled);
+        let Curve {
+            low,
+            high,
+            rate,
+            room: left,
+        } = order.curve();
+        assert_eq!(rt; (low, high), (386_547_056_640, 472_446_402_560));
+        assert_eq!(rt; (rate, left), (1000, room));
+    }
+    Ok(())
+}
+
+#[test]
+fn sums_weights(rt: HostRuntime) -> Result<(), Fail> {
+    for (one, other, sums) in [
+        (1, -1, (2, 1)),
+        (4096, -4096, (8192, 131_072)),
+        (16, 1, (17, 2)),
+        (16, 0, (16, 1)),
+    ] {
+        let mut orders = Vec::new(rt.alloc());
+        for weight in [one, other] {
+            if let Some(order) = order_of(rt.alloc(), ((7, 1), (0, 1), (1, 1), &[(5, weight)]))? {
+                orders.push(order)?;
+            }
+        }
+        assert!(rt; orders.len() <= 2);
+        let found = (spread(&orders, 5), steepness(&orders, 5));
+        assert_eq!(rt; found, sums);
+        assert_eq!(rt; (spread(&orders, 4), steepness(&orders, 4)), (0, 0));
+    }
+    Ok(())
+}

@@ -1,0 +1,68 @@
+//! The excess of assets, as prices move.
+use crate::orders::{Placed, SELLER, are_priced, orders_of};
+use excess_bounds::{Excess, Workspace};
+use flow_orders::Order;
+use std::alloc::Global;
+use std::test::Fail;
+
+// The workspace, or None where the orders or the prices can't be, or there is no memory.
+fn workspace<'a>(alloc: Global, orders: &'a [Order], prices: &[i64]) -> Option<Workspace<'a>> {
+    if orders.len() > 16_384
+        || prices.len() > 64
+        || !prices.iter().all(|price| price.unsigned_abs() <= 1 << 62)
+        || !are_priced(orders, prices)
+    {
+        return None;
+    }
+    Workspace::new(alloc, orders, prices).ok()
+}
+
+// The excess of the asset at a price, before and after it is set, and whether the asset is settled then.
+fn moved(workspace: &mut Workspace<'_>, asset: u16, price: i64) -> Option<(Excess, Excess, bool)> {
+    if usize::from(asset) >= workspace.prices().len() || price.unsigned_abs() > 1 << 62 {
+        return None;
+    }
+    let tried = workspace.excess_at(asset, price);
+    workspace.set_price(asset, price);
+    let settled = workspace.is_settled(asset);
+    Some((tried, workspace.excess(asset), settled))
+}
+
+// The spread and the steepness of the asset.
+fn bounds(workspace: &Workspace<'_>, asset: u16) -> Option<(i64, i64)> {
+    if usize::from(asset) >= workspace.prices().len() {
+        return None;
+    }
+    Some((workspace.spread(asset), workspace.steepness(asset)))
+}
+
+#[test]
+fn excess_follows_the_prices(rt: HostRuntime) -> Result<(), Fail> {
+    let pair: Placed<'_> = ((-5, 20), (10, 100), 0, &[(0, 2), (1, -3)]);
+    let orders = orders_of(rt.alloc(), &[pair, SELLER])?;
+    assert_eq!(rt; orders.len(), 2);
+    let start = [429_496_741_945, 279_172_874_240, 7];
+    let mut made = workspace(rt.alloc(), orders.as_slice(), &start).ok_or("no workspace")?;
+    assert_eq!(rt; made.prices(), start.as_slice());
+    assert_eq!(rt; bounds(&made, 0), Some((3, 1)));
+    assert_eq!(rt; bounds(&made, 1), Some((3, 1)));
+    assert_eq!(rt; bounds(&made, 2), Some((0, 0)));
+    let cases = [
+        ((0, 429_496_741_945), (-491, -488), false),
+        ((0, 388_694_540_288), (-5, -5), false),
+        ((1, 229_064_922_453), (0, 0), true),
+        ((1, 231_928_233_984), (-3, 0), true),
+        ((1, 236_223_201_280), (-6, -3), false),
+        ((0, 386_547_056_640), (4, 4), false),
+        ((1, 4_611_686_018_427_387_904), (-30, -30), false),
+        ((0, -4_611_686_018_427_387_904), (20, 20), false),
+        ((1, -4_611_686_018_427_387_904), (0, 0), true),
+        ((0, 388_694_540_288), (-25, -25), false),
+        ((2, 4_611_686_018_427_387_904), (0, 0), true),
+    ];
+    for ((asset, price), (low, high), settled) in cases {
+        let excess = Excess { low, high };
+        assert!(rt; moved(&mut made, asset, price) == Some((excess, excess, settled)));
+    }
+    Ok(())
+}

@@ -1,0 +1,257 @@
+//! Moves of prices, one asset at a time: single moves, searches, and walks that are made again.
+ghost use Rattle.std.specs.Prelude.{◌≡◌, ◌^◌, ◌≤◌, true, length, IsTrue, All};
+ghost use Rattle.weight_rows.specs.Rows.{IsPricedBy};
+ghost use Rattle.demand_curve.specs.Demand.{IsWithin};
+ghost use Rattle.flow_orders.specs.Own.{are_single};
+
+use crate::orders::{BASKET, BUYER, FILLED, Placed, SELLER, STEEP, are_priced, orders_of};
+use coordinate_search::{Found, Retraced, retrace, search, settle_single, step};
+use excess_bounds::Workspace;
+use flow_orders::Order;
+use std::alloc::Global;
+use std::process::Abort;
+use std::test::Fail;
+
+const TOP: i64 = 1 << 60;
+
+// Whether each order names one asset.
+#[tactic(auto, using(coordinate_search::proofs::Settling::single_all))]
+fn are_all_single(orders: &[Order]) -> bool
+    ensures { IsTrue result → are_single orders.now ≡ true }
+{
+    orders.iter().all(|order| order.row().entries().len() == 1)
+}
+
+// Sees to it that a search of these orders may begin at these prices.
+fn may_search(rt: &impl Abort, orders: &[Order], prices: &[i64])
+    ensures few { length orders.now ≤ 16384 }
+    ensures assets { length prices.now ≤ 64 }
+    ensures start { All (IsWithin (2 ^ 60)) prices.now }
+    ensures priced { All (λ o. IsPricedBy o.row prices.now) orders.now }
+{
+    assert!(rt; orders.len() <= 16_384);
+    assert!(rt; prices.len() <= 64);
+    assert!(rt; prices.iter().all(|price| -TOP <= *price && *price <= TOP));
+    assert!(rt; are_priced(orders, prices));
+}
+
+// Sees to it that these orders, each of one asset, may be settled from these prices.
+fn may_settle(rt: &impl Abort, orders: &[Order], prices: &[i64])
+    ensures few { length orders.now ≤ 16384 }
+    ensures assets { length prices.now ≤ 64 }
+    ensures start { All (IsWithin (2 ^ 60)) prices.now }
+    ensures priced { All (λ o. IsPricedBy o.row prices.now) orders.now }
+    ensures single { are_single orders.now ≡ true }
+{
+    may_search(rt, orders, prices);
+    assert!(rt; are_all_single(orders));
+}
+
+#[test]
+fn a_book_of_one_asset_orders_settles(rt: HostRuntime) -> Result<(), Fail> {
+    let far: [Placed<'_>; 4] = [
+        BUYER,
+        SELLER,
+        ((90, 110), (1000, 10_000), 0, &[(1, 1)]),
+        ((-110, -90), (1000, 10_000), 0, &[(1, -1)]),
+    ];
+    let cases: [(&[Placed<'_>], &[i64], &[i64]); 5] = [
+        (&far[..2], &[0], &[429_410_830_255]),
+        (&STEEP, &[0], &[524_287]),
+        (&FILLED, &[429_410_830_255], &[386_804_754_677]),
+        (
+            &far,
+            &[0, 429_410_830_260, -5],
+            &[429_410_830_255, 429_410_830_260, -5],
+        ),
+        (&far[..2], &[TOP, TOP], &[429_582_628_945, TOP]),
+    ];
+    for (placed, start, end) in cases {
+        let orders = orders_of(rt.alloc(), placed)?;
+        assert_eq!(rt; orders.len(), placed.len());
+        may_settle(&rt, orders.as_slice(), start);
+        let mut work = Workspace::new(rt.alloc(), orders.as_slice(), start).map_err(
+            |_| "no memory",
+        )?;
+        settle_single(&mut work);
+        assert_eq!(rt; work.prices(), end);
+    }
+    Ok(())
+}
+
+#[test]
+fn a_move_ends_at_its_reach_or_before(rt: HostRuntime) -> Result<(), Fail> {
+    let orders = orders_of(rt.alloc(), &[BUYER, SELLER])?;
+    let cases = [
+        (0, 1 << 20, 1_048_576),
+        (0, 1, 1),
+        (0, 429_410_830_254, 429_410_830_254),
+        (0, 429_410_830_255, 429_410_830_255),
+        (0, 1 << 61, 429_410_830_255),
+        (TOP, 1 << 20, 1_152_921_504_605_798_400),
+        (TOP, 1 << 61, 429_582_628_945),
+    ];
+    for (start, reach, end) in cases {
+        let start: [i64; 1] = [start];
+        may_settle(&rt, orders.as_slice(), &start);
+        assert!(rt; 1 <= reach && reach <= 1 << 61);
+        let mut work = Workspace::new(rt.alloc(), orders.as_slice(), &start).map_err(
+            |_| "no memory",
+        )?;
+        assert!(rt; !work.is_settled(0));
+        step(&mut work, 0, reach);
+        assert_eq!(rt; work.prices(), [end].as_slice());
+    }
+    Ok(())
+}
+
+// Five orders of four assets, of which the search passes over one and comes back to it.
+const FOUR_ASSETS: [Placed<'static>; 5] = [
+    ((-144, 31), (820, 10_000), 0, &[(2, 1)]),
+    ((32, 65), (695, 10_000), 0, &[(0, 3), (2, -1), (3, -2)]),
+    ((-185, -48), (793, 10_000), 0, &[(1, 2), (2, -1), (3, 1)]),
+    ((-8, 169), (840, 10_000), 0, &[(0, 1)]),
+    ((117, 153), (727, 10_000), 0, &[(2, 1), (3, 2)]),
+];
+
+// How a search ends, its trace and its prices.
+type Searched<'a> = (u32, Found, &'a [u8], &'a [i64]);
+
+// Searches from these prices, and sees to it that this is found.
+fn see_search(
+    rt: &impl Abort,
+    alloc: Global,
+    orders: &[Order],
+    start: &[i64],
+    wanted: Searched<'_>,
+) -> Result<(), Fail> {
+    let (budget, found, walk, end) = wanted;
+    may_search(rt, orders, start);
+    assert!(rt; budget <= 65_536);
+    let mut trace = Vec::with_capacity(alloc, budget as usize)?;
+    let mut work = Workspace::new(alloc, orders, start).map_err(|_| "no memory")?;
+    assert!(rt; search(&mut work, budget, &mut trace) == found);
+    assert_eq!(rt; trace.as_slice(), walk);
+    assert_eq!(rt; work.prices(), end);
+    Ok(())
+}
+
+#[test]
+fn a_book_of_portfolios_is_searched_in_turn(rt: HostRuntime) -> Result<(), Fail> {
+    let orders = orders_of(rt.alloc(), &BASKET)?;
+    assert_eq!(rt; orders.len(), 3);
+    let cases: [(&[i64], Searched<'_>); 6] = [
+        (&[0, 0], (1, Found::Spent, &[0], &[394_965_192_541, 0])),
+        (
+            &[0, 0],
+            (
+                2,
+                Found::Spent,
+                &[0, 1],
+                &[394_965_192_541, 393_161_306_276],
+            ),
+        ),
+        (
+            &[0, 0],
+            (
+                3,
+                Found::Settled,
+                &[0, 1, 0],
+                &[393_590_803_005, 393_161_306_276],
+            ),
+        ),
+        (
+            &[0, 0],
+            (
+                65_536,
+                Found::Settled,
+                &[0, 1, 0],
+                &[393_590_803_005, 393_161_306_276],
+            ),
+        ),
+        (
+            &[393_590_803_005, 393_161_306_276],
+            (1, Found::Settled, &[], &[393_590_803_005, 393_161_306_276]),
+        ),
+        (
+            &[TOP, TOP],
+            (
+                4,
+                Found::Spent,
+                &[0, 1, 0, 1],
+                &[1_152_851_135_862_669_312, 1_152_851_135_862_669_312],
+            ),
+        ),
+    ];
+    for (start, wanted) in cases {
+        see_search(&rt, rt.alloc(), orders.as_slice(), start, wanted)?;
+    }
+    see_search(&rt, rt.alloc(), &[], &[], (1, Found::Settled, &[], &[]))
+}
+
+#[test]
+fn a_settled_asset_is_passed_over_until_it_is_not(rt: HostRuntime) -> Result<(), Fail> {
+    let orders = orders_of(rt.alloc(), &FOUR_ASSETS)?;
+    assert_eq!(rt; orders.len(), 5);
+    let cases: [Searched<'_>; 2] = [
+        (
+            3,
+            Found::Spent,
+            &[0, 2, 3],
+            &[724_039_451_093, 0, 556_319_374_639, 348_676_933_033],
+        ),
+        (
+            4,
+            Found::Settled,
+            &[0, 2, 3, 1],
+            &[
+                724_039_451_093,
+                371_002_850,
+                556_319_374_639,
+                348_676_933_033,
+            ],
+        ),
+    ];
+    for wanted in cases {
+        see_search(&rt, rt.alloc(), orders.as_slice(), &[0, 0, 0, 0], wanted)?;
+    }
+    Ok(())
+}
+
+#[test]
+fn a_walk_is_made_again_as_far_as_it_is_legal(rt: HostRuntime) -> Result<(), Fail> {
+    let orders = orders_of(rt.alloc(), &BASKET)?;
+    assert_eq!(rt; orders.len(), 3);
+    let cases: [(&[u8], Retraced, &[i64]); 8] = [
+        (&[], Retraced::Legal, &[0, 0]),
+        (
+            &[0, 1, 0],
+            Retraced::Legal,
+            &[393_590_803_005, 393_161_306_276],
+        ),
+        (&[1], Retraced::Legal, &[0, 394_965_192_541]),
+        (
+            &[1, 0],
+            Retraced::Legal,
+            &[393_161_306_276, 394_965_192_541],
+        ),
+        (&[0, 0], Retraced::Illegal(1), &[394_965_192_541, 0]),
+        (&[2], Retraced::Illegal(0), &[0, 0]),
+        (&[0, 255, 1], Retraced::Illegal(1), &[394_965_192_541, 0]),
+        (
+            &[0, 1, 0, 1],
+            Retraced::Illegal(3),
+            &[393_590_803_005, 393_161_306_276],
+        ),
+    ];
+    may_search(&rt, orders.as_slice(), &[0, 0]);
+    for (walk, wanted, end) in cases {
+        assert!(rt; walk.len() <= 65_536);
+        let mut work = Workspace::new(rt.alloc(), orders.as_slice(), &[0, 0]).map_err(
+            |_| "no memory",
+        )?;
+        assert!(rt; retrace(&mut work, walk) == wanted);
+        assert_eq!(rt; work.prices(), end);
+    }
+    Ok(())
+}
