@@ -4,8 +4,10 @@
 #![tactic(auto)]
 
 mod batch;
+mod run;
 mod session;
 #[cfg(test)]
 mod tests;
 
+pub use run::Run;
 pub use session::Session;
