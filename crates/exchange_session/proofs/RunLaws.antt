@@ -1,12 +1,12 @@
 -- A run comes to one end and one text, keeps the promises of the exchange, and is without an end for no bytes.
-use Rattle.std.proofs.Common.{◌≡◌, ℕ, List, [], ◌∷◌, ◌++◌, Option, Some, None, Result, Ok, Err, inl, inr, length, append-nil, refl, sym, ap, ◌∙◌, subst, arith}
+use Rattle.std.proofs.Common.{◌≡◌, ℕ, List, [], ◌∷◌, ◌++◌, Result, Ok, Err, inl, refl, sym, ap, ◌∙◌, arith}
 use Rattle.std.specs.List.{flat_map}
-use Rattle.wire_records.specs.Records.{Record, StatesLength, spelling}
+use Rattle.wire_records.specs.Records.{Record}
 use Rattle.wire_records.specs.Commands.{Command, Answer, Pair}
 use Rattle.wire_records.specs.CommandRecords.{IsReadAs}
 use Rattle.wire_records.specs.declared.command.BodyFault.{BodyFault}
 use Rattle.wire_records.specs.declared.command.BodyFault.TheVariants.{UnknownTag, BadBody}
-use Rattle.wire_records.specs.Formats.{Version, StatesOver, commands}
+use Rattle.wire_records.specs.Formats.{StatesOver}
 use Rattle.wire_records.proofs.Fronts.{states_none-from_few}
 use Rattle.wire_records.proofs.Readings.{reading_unique}
 use Rattle.wire_records.proofs.RecordCode.{commands_readable}
@@ -14,16 +14,15 @@ use Rattle.flow_orders.specs.Outcomes.{Outcome}
 use Rattle.flow_orders.specs.Own.{IsOwnOutcome}
 use Rattle.journal_records.specs.Pairs.{journal_magic, pair_spelling}
 use Rattle.market_core.specs.Market.{Market, empty_market}
-use Rattle.market_core.specs.Journal.{Step, Follows, IsAnswered}
+use Rattle.market_core.specs.Journal.{IsAnswered}
 use Rattle.market_core.proofs.OneJournal.{own_step}
 use Rattle.market_core.proofs.Exists.{step_is_there}
 use Rattle.market_core.proofs.LawProofs.{own_journals_are_legal, journals_hold_deposits}
 use Rattle.market_core.proofs.Promised.{legal_journal_keeps_promises, own_journal_clears_near}
-use Rattle.word_driver.specs.Word.{Word, Goes}
+use Rattle.word_driver.specs.Word.{Goes}
 use Rattle.word_driver.specs.Laws.{IsExact, IsKept, IsNotDenied, HasNext}
 use Rattle.word_driver.proofs.Denying.{not_denied, follows}
 use Rattle.exchange_session.specs.Serving.{AnswersOne}
-use Rattle.exchange_session.specs.Journals.{Journals}
 use Rattle.exchange_session.specs.Running.{run}
 
 -- no bytes state a length

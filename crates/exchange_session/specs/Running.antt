@@ -1,5 +1,5 @@
 -- `flow run`: a command file in, a journal out.
-use Rattle.std.specs.Prelude.{◌≡◌, ◌++◌, ℕ, List, [], Option, Some, None}
+use Rattle.std.specs.Prelude.{◌≡◌, ◌++◌, [], Option, Some, None}
 use Rattle.wire_records.specs.Records.{Record}
 use Rattle.wire_records.specs.Formats.{commands}
 use Rattle.journal_records.specs.Pairs.{journal_magic}

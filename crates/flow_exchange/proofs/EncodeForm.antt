@@ -1,5 +1,5 @@
 -- An encoding does what the clauses of the program say.
-use Rattle.std.proofs.Common.{ℕ, List, refl}
+use Rattle.std.proofs.Common.{ℕ, refl}
 use Rattle.line_records.specs.Tasks.{encoding}
 use Rattle.flow_exchange.specs.declared.form.Form.TheVariants.{Encode}
 use Rattle.flow_exchange.specs.Statuses.{bad_text}

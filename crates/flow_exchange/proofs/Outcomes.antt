@@ -1,5 +1,5 @@
 -- Bytes determine one status and one text, to which a call comes that no fault broke off.
-use Rattle.std.proofs.Common.{◌≡◌, ◌≢◌, ◌+◌, ℕ, List, [], ◌∷◌, ◌++◌, ◌<◌, length, take, get_or, codes, inl, inr, Option, Some, None, IfSome, refl, sym, ap, subst, ◌∙◌, arith}
+use Rattle.std.proofs.Common.{◌≡◌, ◌≢◌, ◌+◌, ℕ, List, [], ◌∷◌, ◌++◌, length, get_or, codes, inl, inr, Option, Some, None, IfSome, refl, sym, ap, subst, ◌∙◌, arith}
 use Rattle.wire_records.specs.Records.{Record}
 use Rattle.wire_records.specs.CommandRecords.{IsReadAs}
 use Rattle.wire_records.specs.Commands.{Pair}

@@ -1,5 +1,5 @@
 //! `flow audit`: a journal in, and a line out where it is legal.
-ghost use Rattle.std.specs.Prelude.{◌≡◌, ◌≢◌};
+ghost use Rattle.std.specs.Prelude.{◌≢◌};
 ghost use Rattle.flow_io.specs.Changes.{change};
 ghost use Rattle.flow_exchange.specs.Program.{Does};
 ghost use Rattle.flow_exchange.specs.declared.form.Form.TheVariants.{Audit};

@@ -16,12 +16,11 @@ use Rattle.journal_records.specs.Formats.{journal_magic_of, journals, records_of
 use Rattle.journal_records.proofs.Files.{journals_readable, short_at_end}
 use Rattle.journal_records.proofs.Spelled.{answer_unique}
 use Rattle.market_core.specs.Market.{Market, empty_market}
-use Rattle.market_core.specs.Journal.{Step, Follows}
+use Rattle.market_core.specs.Journal.{Follows}
 use Rattle.market_core.proofs.LawProofs.{journals_hold_deposits}
 use Rattle.market_core.proofs.Promised.{legal_journal_keeps_promises}
 use Rattle.batch_audit.proofs.LawProofs.{one_market, pairs_number_one}
 use Rattle.batch_audit.specs.Legal.{IsLegalPair, IsIllegalPair}
-use Rattle.batch_report.specs.Reports.{IsReport}
 use Rattle.batch_report.proofs.OneReport.{one_report}
 use Rattle.journal_replay.specs.Audits.{cleared_by, skipped_by}
 use Rattle.word_driver.specs.Word.{Goes}

@@ -1,9 +1,9 @@
 -- Words of the code: what watching a pair answers.
-use Rattle.std.specs.Prelude.{◌≡◌, ◌+◌, ◌<◌, ◌^◌, ℕ, List, Result, Ok, Err, None}
+use Rattle.std.specs.Prelude.{◌+◌, ◌<◌, ◌^◌, ℕ, List, Result, Ok, Err}
 use Rattle.market_core.specs.Market.{Market}
 use Rattle.word_driver.specs.declared.fault.Halt.{Halt}
 use Rattle.word_driver.specs.declared.fault.Halt.TheVariants.{Memory, Stopped}
-use Rattle.journal_words.specs.Watching.{Watch, Watched}
+use Rattle.journal_words.specs.Watching.{Watch}
 
 -- at the end
 abbrev pub IsClosedBy : {S B : Type 0} → Watch S B → Market → ℕ → S → Result (Unit {0}) (Halt B) → List ℕ → Type 0

@@ -1,5 +1,5 @@
 -- `flow audit` and `flow report`, as words over the pairs of a journal.
-use Rattle.std.specs.Prelude.{◌≡◌, ◌+◌, ℕ, List, []}
+use Rattle.std.specs.Prelude.{◌≡◌, ◌+◌, ℕ, []}
 use Rattle.wire_records.specs.Records.{Record}
 use Rattle.wire_records.specs.Commands.{Answer}
 use Rattle.flow_orders.specs.Outcomes.{Outcome}

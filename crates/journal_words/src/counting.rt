@@ -1,5 +1,5 @@
 //! What an audit counts.
-ghost use Rattle.std.specs.Prelude.{◌≡◌, ◌≢◌, ◌≤◌, ◌++◌, ◌+◌, OnOk, decimal, vec_len, vec_capacity};
+ghost use Rattle.std.specs.Prelude.{◌≡◌, ◌≢◌, ◌≤◌, ◌++◌, ◌+◌, OnOk, decimal, vec_capacity};
 ghost use Rattle.journal_words.specs.Line.{counted_line};
 ghost use Rattle.journal_words.specs.Words.{counting};
 

@@ -1,5 +1,5 @@
 //! What is done with the pairs of a journal.
-ghost use Rattle.std.specs.Prelude.{◌≡◌, ◌≤◌, ◌<◌, ◌+◌, ◌^◌, ℕ, List, [], IfOk, OnOk, vec_len, vec_capacity};
+ghost use Rattle.std.specs.Prelude.{◌≡◌, ◌≤◌, ◌<◌, ◌+◌, ◌^◌, ℕ, [], IfOk, OnOk, vec_len, vec_capacity};
 ghost use Rattle.market_core.specs.Market.{Market};
 ghost use Rattle.batch_audit.specs.Legal.{IsLegalPair, IsIllegalPair};
 ghost use Rattle.journal_words.specs.Watching.{Watch};

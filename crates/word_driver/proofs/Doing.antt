@@ -1,24 +1,17 @@
 -- What a word comes to, from what its parts did.
-use Rattle.std.proofs.Common.{◌≡◌, ◌≢◌, ◌+◌, ◌<◌, ◌≤◌, ◌↔◌, ℕ, List, [], ◌++◌, Bool, true, false, Option, Some, None, Result, Ok, Err, IfSome, OnOk, IsTrue, length, take, drop, inl, inr, append-nil, refl, sym, ap, ◌∙◌, subst, arith, length-append}
-use Rattle.std.proofs.lemmas.List.{take_at, drop_all}
+use Rattle.std.proofs.Common.{◌≡◌, ◌+◌, ℕ, List, [], ◌++◌, Option, Ok, Err, length, take, drop, inl, inr, append-nil, refl, sym, ap, ◌∙◌, subst}
 use Rattle.std.proofs.Math.Seq.{take-append-add}
 use Rattle.std.proofs.lemmas.List.Elements.{All-nil}
-use Rattle.flow_io.specs.declared.whole.WholeInput.{WholeInput}
-use Rattle.flow_io.specs.Faults.{Rose, Blames}
 use Rattle.flow_io.specs.Streams.{Grows, GrowsByFront}
-use Rattle.flow_io.specs.Whole.{IsWholeInput}
-use Rattle.flow_io.proofs.Growth.{Grows-nothing, Grows-more, GrowsByFront-more}
-use Rattle.wire_records.specs.Grammars.{BeginsWith, BeginsWithNone}
-use Rattle.wire_records.specs.Reading.{Ending, End, EndsAs}
-use Rattle.wire_records.specs.Reading as reading
+use Rattle.flow_io.proofs.Growth.{Grows-more, GrowsByFront-more}
+use Rattle.wire_records.specs.Grammars.{BeginsWith}
 use Rattle.wire_records.specs.Formats.{Version}
 use Rattle.wire_records.proofs.ReadingLaws.{none_in_none}
-use Rattle.word_driver.specs.declared.fault.Fault.{Fault}
 use Rattle.word_driver.specs.declared.fault.Fault.TheVariants.{Read, Write, Memory, NotFlow, Torn, TooLong, Stopped}
 use Rattle.word_driver.specs.Ended.{Ended}
-use Rattle.word_driver.specs.Word.{Word, Goes, ComesOn, LacksOn, AtEnd, Halts, Opens, Comes, Lacks}
+use Rattle.word_driver.specs.Word.{Word, ComesOn, LacksOn, Comes, Lacks}
 use Rattle.word_driver.specs.Laws.{IsExact, IsKept}
-use Rattle.word_driver.specs.Private.{OpensAt, Ends, GetsTo, Finds}
+use Rattle.word_driver.specs.Private.{OpensAt, Ends, Finds}
 
 module _ {U S B : Type 0} (w : Word U S B) (start : Version → S) (exact : IsExact w) (kept : IsKept w start) where
   -- behind the magic, from the start

@@ -1,9 +1,9 @@
 -- What going through the units of a file has written, to its end or to where it breaks off.
-use Rattle.std.proofs.Common.{◌≡◌, ◌+◌, ◌≤◌, ℕ, List, [], ◌∷◌, ◌++◌, Option, Some, None, Result, Ok, Err, length, take, inl, inr, append-nil, append_assoc, refl, sym, ap, ◌∙◌, subst, arith}
+use Rattle.std.proofs.Common.{◌≡◌, ◌+◌, ℕ, List, [], ◌∷◌, ◌++◌, Option, Some, None, Result, Ok, Err, length, take, inl, inr, append-nil, append_assoc, refl, sym, ap, ◌∙◌, arith}
 use Rattle.std.proofs.lemmas.List.{flat_map_more, take_at}
 use Rattle.std.proofs.lemmas.List.Elements.{All-push}
 use Rattle.flow_io.specs.Faults.{Blames}
-use Rattle.flow_io.specs.Streams.{Grows, GrowsByFront}
+use Rattle.flow_io.specs.Streams.{Grows}
 use Rattle.flow_io.proofs.Growth.{Grows-nothing, Grows-more, GrowsByFront-more}
 use Rattle.wire_records.specs.Grammars.{spell_all}
 use Rattle.wire_records.specs.Reading as reading
@@ -12,9 +12,9 @@ use Rattle.file_units.specs.Units.{Leads, GoesToEnd, GoesToBreak}
 use Rattle.word_driver.specs.declared.fault.Fault.{Fault}
 use Rattle.word_driver.specs.declared.fault.Fault.TheVariants.{Read, Write, Memory, NotFlow, Torn, TooLong, Stopped}
 use Rattle.word_driver.specs.Ended.{Ended}
-use Rattle.word_driver.specs.Word.{Word, Goes, Passes, ComesOn, LacksOn}
+use Rattle.word_driver.specs.Word.{Word, Goes, ComesOn}
 use Rattle.word_driver.specs.Laws.{IsExact}
-use Rattle.word_driver.specs.Private.{WritesStep, BreaksStep, Faults, Closed, GetsTo, Ends}
+use Rattle.word_driver.specs.Private.{Closed, Ends}
 use Rattle.word_driver.proofs.Pieces.{Writes, Breaks}
 
 -- where the count is as before, and nothing failed, nothing is to be blamed

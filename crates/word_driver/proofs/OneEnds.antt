@@ -1,18 +1,17 @@
 -- Bytes come to one end and one text, and what stands in out before is a front of it.
-use Rattle.std.proofs.Common.{◌≡◌, ◌+◌, ◌<◌, ℕ, List, [], ◌∷◌, ◌++◌, Option, Some, None, Result, Ok, Err, ◌⊎◌, inl, inr, length, take, drop, append-nil, append_assoc, refl, sym, ap, ◌∙◌, subst, arith}
+use Rattle.std.proofs.Common.{◌≡◌, ◌+◌, ◌<◌, ℕ, List, [], ◌∷◌, ◌++◌, Some, None, Ok, Err, inl, inr, length, take, drop, append-nil, append_assoc, refl, sym, ap, ◌∙◌, subst, arith}
 use Rattle.std.proofs.lemmas.List.{take-append-drop}
 use Rattle.std.proofs.lemmas.List.Elements.{All-head, All-nil}
-use Rattle.wire_records.specs.Grammars.{BeginsWith, BeginsWithNone, spell_all}
+use Rattle.wire_records.specs.Grammars.{spell_all}
 use Rattle.wire_records.specs.Reading.{Ending, End, EndsAs, ReadsOn}
 use Rattle.wire_records.specs.Reading as reading
 use Rattle.wire_records.specs.Formats.{Version}
 use Rattle.wire_records.proofs.ReadingLaws.{reads_on_one}
-use Rattle.word_driver.specs.declared.fault.Fault.{Fault}
 use Rattle.word_driver.specs.declared.fault.Fault.TheVariants.{Read, Write, Memory, NotFlow, Torn, TooLong, Stopped}
 use Rattle.word_driver.specs.Ended.{Ended}
-use Rattle.word_driver.specs.Word.{Word, Goes, Passes, AtEnd, Halts, ComesOn, LacksOn, Comes, Lacks}
+use Rattle.word_driver.specs.Word.{Word, Passes, AtEnd, Halts, ComesOn, Comes, Lacks}
 use Rattle.word_driver.specs.Laws.{IsExact, OneEnd, BegunIsAFront}
-use Rattle.word_driver.proofs.Ahead.{IsStill, IsAhead, ahead, still_where_halts}
+use Rattle.word_driver.proofs.Ahead.{IsStill, ahead, still_where_halts}
 
 -- endings are told apart
 end_torn : (n : ℕ) → End ≡ reading.Torn n → ⊥

@@ -1,9 +1,8 @@
 -- What taking a unit has written, and where it breaks off.
-use Rattle.std.proofs.Common.{◌≡◌, ◌≢◌, ◌++◌, ℕ, List, [], Option, Some, None, Result, Ok, Err, IsErr, length, drop, inl, inr, refl, sym, ap, ◌∙◌}
+use Rattle.std.proofs.Common.{◌≡◌, ◌≢◌, ℕ, List, [], Option, drop, inl, refl}
 use Rattle.flow_io.specs.Faults.{Blames}
 use Rattle.flow_io.specs.Streams.{Grows, GrowsByFront}
 use Rattle.flow_io.specs.Changes.{change}
-use Rattle.flow_io.specs.declared.sink.WriteFailed.{WriteFailed}
 use Rattle.file_units.specs.declared.walk.Front.{Front}
 use Rattle.file_units.specs.declared.walk.Front.TheVariants.{Taken, NoBytes, Overlong, Short}
 use Rattle.file_units.specs.Units.{IsTaken, BreaksOff}

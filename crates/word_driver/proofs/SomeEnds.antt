@@ -1,17 +1,16 @@
 -- No bytes are without an end and a text. What isn't decided in the logic is told apart under a double negation.
-use Rattle.std.proofs.Common.{◌≡◌, ◌+◌, ◌<◌, ℕ, List, [], ◌∷◌, ◌++◌, All, Option, Some, None, Result, Ok, Err, ◌⊎◌, inl, inr, length, take, append-nil, append_assoc, refl, sym, ap, ◌∙◌, subst, arith}
+use Rattle.std.proofs.Common.{◌≡◌, ◌+◌, ◌<◌, ℕ, List, [], ◌∷◌, ◌++◌, All, Ok, Err, ◌⊎◌, inl, inr, length, take, append-nil, append_assoc, refl, sym, ap, ◌∙◌, subst, arith}
 use Rattle.std.proofs.lemmas.Bool.{cases_lt}
 use Rattle.std.proofs.lemmas.List.{flat_map_more}
 use Rattle.std.proofs.lemmas.List.Elements.{All-nil, All-push, All-head, All-tail}
-use Rattle.wire_records.specs.Grammars.{BeginsWith, BeginsWithNone, spell_all}
-use Rattle.wire_records.specs.Reading.{Ending, End, EndsAs, ReadsOn}
+use Rattle.wire_records.specs.Grammars.{spell_all}
+use Rattle.wire_records.specs.Reading.{Ending, End}
 use Rattle.wire_records.specs.Reading as reading
 use Rattle.wire_records.specs.Formats.{Version}
 use Rattle.wire_records.proofs.ReadingLaws.{reads_on_some}
-use Rattle.word_driver.specs.declared.fault.Fault.{Fault}
 use Rattle.word_driver.specs.declared.fault.Fault.TheVariants.{NotFlow, Torn, TooLong, Stopped}
 use Rattle.word_driver.specs.Ended.{Ended}
-use Rattle.word_driver.specs.Word.{Word, Goes, Passes, AtEnd, Halts, ComesOn, Comes}
+use Rattle.word_driver.specs.Word.{Word, Passes, AtEnd, Halts, ComesOn}
 use Rattle.word_driver.specs.Laws.{IsExact, IsKept, IsNotDenied, HasNext, SomeEnd}
 use Rattle.word_driver.proofs.Going.{goes_more}
 use Rattle.word_driver.proofs.Denying.{not_denied, follows}

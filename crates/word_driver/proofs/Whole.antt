@@ -1,22 +1,20 @@
 -- What a word does to its source and its output.
-use Rattle.std.proofs.Common.{◌≡◌, ◌≢◌, ◌+◌, ◌<◌, ◌≤◌, ◌↔◌, ℕ, List, [], ◌++◌, Option, Some, None, Result, Ok, Err, IfSome, OnOk, IsTrue, length, take, drop, inl, inr, refl, sym, ap, ◌∙◌, subst, arith}
+use Rattle.std.proofs.Common.{◌≡◌, ◌≢◌, ◌+◌, ◌<◌, ◌≤◌, ◌↔◌, ℕ, List, [], Option, Some, None, Ok, Err, IfSome, OnOk, IsTrue, length, take, drop, inl, inr, refl, ap, ◌∙◌, subst, arith}
 use Rattle.std.proofs.lemmas.List.{drop_all}
 use Rattle.flow_io.specs.declared.whole.WholeInput.{WholeInput}
-use Rattle.flow_io.specs.Faults.{Rose, Blames}
+use Rattle.flow_io.specs.Faults.{Blames}
 use Rattle.flow_io.specs.Changes.{Change}
-use Rattle.flow_io.specs.Streams.{Grows, GrowsByFront, TakesAtMost}
+use Rattle.flow_io.specs.Streams.{Grows, TakesAtMost}
 use Rattle.flow_io.specs.Whole.{IsWholeInput}
-use Rattle.flow_io.proofs.Growth.{Grows-nothing}
 use Rattle.wire_records.specs.Grammars.{spell_all}
 use Rattle.wire_records.proofs.ReadingLaws.{none_in_none}
 use Rattle.wire_records.specs.Reading.{Ending, End, EndsAs}
 use Rattle.wire_records.specs.Reading as reading
 use Rattle.wire_records.specs.Formats.{Version}
-use Rattle.word_driver.specs.declared.fault.Fault.{Fault}
 use Rattle.word_driver.specs.declared.fault.Fault.TheVariants.{Read, Write, Memory, NotFlow, Torn, TooLong, Stopped}
 use Rattle.word_driver.specs.Ended.{Ended}
-use Rattle.word_driver.specs.Word.{Word, ComesOn, LacksOn, AtEnd, Halts, Opens, Comes, Lacks}
-use Rattle.word_driver.specs.Does.{Task, task, Determines, Meets, Does}
+use Rattle.word_driver.specs.Word.{Word, ComesOn, LacksOn, AtEnd, Halts, Comes, Lacks}
+use Rattle.word_driver.specs.Does.{task, Determines, Meets, Does}
 use Rattle.word_driver.specs.Laws.{IsExact}
 use Rattle.word_driver.specs.Private.{Finds}
 use Rattle.word_driver.proofs.OneEnds.{one_end}

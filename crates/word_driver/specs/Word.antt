@@ -1,5 +1,5 @@
 -- A word of the program as a value, and what bytes come to by it.
-use Rattle.std.specs.Prelude.{◌≡◌, ◌⊎◌, ◌+◌, ◌<◌, ℕ, List, [], ◌∷◌, ◌++◌, length, take, All, Option, Some, None, Ok, Err}
+use Rattle.std.specs.Prelude.{◌≡◌, ◌⊎◌, ◌+◌, ℕ, List, [], ◌∷◌, ◌++◌, length, All, Option, Some, None, Ok, Err}
 use Rattle.wire_records.specs.Grammars.{BeginsWith, BeginsWithNone, spell_all}
 use Rattle.wire_records.specs.Reading.{Format, Ending, EndsAs}
 use Rattle.wire_records.specs.Reading as reading

@@ -1,5 +1,5 @@
 //! The driver.
-ghost use Rattle.std.specs.Prelude.{◌≡◌, ◌-◌, ◌≤◌, ℕ, Err, IsTrue, length, drop, vec_capacity};
+ghost use Rattle.std.specs.Prelude.{◌≡◌, ◌-◌, ◌≤◌, Err, IsTrue, length, drop, vec_capacity};
 ghost use Rattle.flow_io.specs.Faults.{Blames};
 ghost use Rattle.flow_io.specs.Changes.{change};
 ghost use Rattle.word_driver.specs.Does.{Does, task};

@@ -1,5 +1,5 @@
 //! What a word is for the driver.
-ghost use Rattle.std.specs.Prelude.{◌≡◌, ◌≤◌, ◌-◌, ℕ, List, [], IfOk, IfErr, OnOk, OnErr, length, drop, vec_len, vec_capacity};
+ghost use Rattle.std.specs.Prelude.{◌≡◌, ◌≤◌, ◌-◌, ℕ, [], IfOk, IfErr, length, vec_len, vec_capacity};
 ghost use Rattle.wire_records.specs.Formats.{Version};
 ghost use Rattle.file_units.specs.Units.{StaysReady};
 ghost use Rattle.word_driver.specs.Word.{Word};

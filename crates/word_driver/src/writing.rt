@@ -1,9 +1,9 @@
 //! A word at work with the buffer of what it writes, as what takes the units of a file.
-ghost use Rattle.std.specs.Prelude.{◌≡◌, ◌≢◌, [], ℕ, IfOk, IfErr, OnOk, OnErr, IsErr, Some, None, Err, ◌≤◌, vec_capacity};
+ghost use Rattle.std.specs.Prelude.{◌≡◌, ◌≢◌, [], OnOk, OnErr, IsErr, Err, ◌≤◌, vec_capacity};
 ghost use Rattle.flow_io.specs.Faults.{Blames};
 ghost use Rattle.flow_io.specs.Streams.{Grows, GrowsByFront};
 ghost use Rattle.flow_io.specs.Changes.{change};
-ghost use Rattle.word_driver.specs.Private.{WritesStep, BreaksStep, HaltsWith, Halted};
+ghost use Rattle.word_driver.specs.Private.{WritesStep, BreaksStep, Halted};
 
 use crate::fault::{Fault, Halt};
 use crate::serves::ServesWord;

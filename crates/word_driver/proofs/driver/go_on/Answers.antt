@@ -1,7 +1,6 @@
-use Rattle.std.proofs.Common.{IsTrue, drop, ◌≡◌, ◌∙◌, ap, sym, refl, Err, Result, ℕ}
+use Rattle.std.proofs.Common.{IsTrue, drop}
 use Rattle.std.proofs.lemmas.Result.{err_from_is_err_and}
-use Rattle.word_driver.specs.declared.fault.Fault.{Fault}
-use Rattle.word_driver.specs.declared.fault.Fault.TheVariants.{Write, Torn, TooLong}
+use Rattle.word_driver.specs.declared.fault.Fault.TheVariants.{Write}
 use Rattle.word_driver.proofs.Going.{blames_nobody, blames_later, blames_fault, has_written, to_torn, to_limit, to_end, to_break, break_blames}
 use Rattle.word_driver.proofs.driver.go_on.Goals as goal
 
