@@ -31,6 +31,7 @@ counting = record {
   Stops = λ market pairs counts number text. ⊥;
 }
 
+-- `flow audit`
 abbrev pub audit : Word (Record × Record) (Watched Counts) ℕ
 audit = over_pairs counting
 
@@ -43,5 +44,6 @@ telling = record {
   Stops = λ market pairs seen number text. ⊥;
 }
 
+-- `flow report`
 abbrev pub report : Word (Record × Record) (Watched (Unit {0})) ℕ
 report = over_pairs telling
