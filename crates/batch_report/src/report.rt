@@ -1,5 +1,5 @@
 //! The lines of a pair.
-ghost use Rattle.std.specs.Prelude.{◌≡◌, ◌++◌, ℕ, List, OnOk, OnErr};
+ghost use Rattle.std.specs.Prelude.{◌≡◌, ◌≤◌, ◌++◌, ℕ, List, OnOk, OnErr, vec_capacity};
 ghost use Rattle.journal_records.specs.Views.{answer_of};
 ghost use Rattle.market_core.specs.Market.{Market};
 ghost use Rattle.batch_audit.specs.Legal.{IsLegalPair};
@@ -69,6 +69,7 @@ pub fn report_pair(
     ensures reported { OnOk result ((text : List ℕ) × IsReport audit.now.tickers number pair.now text
         × (out.new.items ≡ out.old.items ++ text)) }
     ensures stays { OnErr result (out.new.items ≡ out.old.items) }
+    ensures room { vec_capacity out.old ≤ vec_capacity out.new }
 {
     let mut text = Vec::new(*out.allocator());
     put_pair(audit.market().tickers(), pair, number, &mut text)?;

@@ -1,1 +1,3 @@
-pub mod Writable
+mod Writable
+mod Frames
+pub mod RunLaws

@@ -1,2 +1,4 @@
 pub mod Serving
+pub mod Journals
+pub mod Running
 pub mod Private

@@ -4,6 +4,8 @@
 #![tactic(auto)]
 
 mod batch;
+mod run;
 mod session;
 
+pub use run::Run;
 pub use session::Session;

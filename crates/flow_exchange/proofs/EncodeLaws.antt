@@ -15,10 +15,11 @@ use Rattle.wire_records.proofs.RecordCode.{commands_readable}
 use Rattle.market_core.specs.Market.{Market}
 use Rattle.line_records.specs.Lines.{spell_commands}
 use Rattle.line_records.proofs.Fitting.{commands_fit}
+use Rattle.exchange_session.specs.Journals.{Journals}
 use Rattle.flow_exchange.specs.declared.status.Status.{Status}
 use Rattle.flow_exchange.specs.declared.status.Status.TheVariants as answer
 use Rattle.flow_exchange.specs.Statuses.{reading_status}
-use Rattle.flow_exchange.specs.Running.{Journals, WritesOf, RunsTo}
+use Rattle.flow_exchange.specs.Running.{WritesOf, RunsTo}
 use Rattle.flow_exchange.specs.Laws.{EncodedIsRead, EncodedIsServed}
 
 -- commands that fit, with short rows, have records within the limit
@@ -37,7 +38,7 @@ file_of most text cs each is fits =
     (file_read commands commands_readable (λ over. states_none-from_few over.0 [] (omega arith) over.1) most One (map record_of cs) tt each (rw (ap length spelled) fits))
 
 pub encoded_is_read : EncodedIsRead
-encoded_is_read limit most bytes text status encoded fits =
+encoded_is_read limit most bytes text ended encoded fits =
     let fit = commands_fit encoded.reads.read encoded.commands encoded.reads.tickers encoded.reads.say in (
       file_of most text encoded.commands (all_within encoded.commands fit.0 fit.1) encoded.writes fits,
       all_read encoded.commands fit.0,
@@ -51,5 +52,5 @@ run_of most text journal ran records reads runs =
     (runs.ends ∙ ap (reading_status most) one, writes.0, writes.1)
 
 pub encoded_is_served : EncodedIsServed
-encoded_is_served limit most bytes text journal status ran encoded fits runs =
-    run_of most text journal ran (map record_of encoded.commands) (encoded_is_read limit most bytes text status encoded fits).0 runs
+encoded_is_served limit most bytes text journal ended ran encoded fits runs =
+    run_of most text journal ran (map record_of encoded.commands) (encoded_is_read limit most bytes text ended encoded fits).0 runs

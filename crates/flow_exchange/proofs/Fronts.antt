@@ -23,12 +23,14 @@ use Rattle.batch_audit.specs.Legal.{IsLegalPair, StopsAt}
 use Rattle.batch_audit.proofs.LawProofs.{one_market}
 use Rattle.batch_report.specs.Reports.{IsReport}
 use Rattle.batch_report.proofs.OneReport.{one_report}
+use Rattle.word_driver.specs.Ended.{Ended}
+use Rattle.line_records.specs.Encoding.{EncodesTo, EncodesInto}
 use Rattle.line_records.proofs.OneReadings.{first_is_a_front}
+use Rattle.exchange_session.specs.Journals.{Journals}
 use Rattle.flow_exchange.specs.declared.form.Form.TheVariants.{Run, Audit, Report, Encode}
 use Rattle.flow_exchange.specs.declared.status.Status.{Status}
-use Rattle.flow_exchange.specs.Running.{Journals, WritesOf, RunsTo, RunsInto, RunsOut}
+use Rattle.flow_exchange.specs.Running.{WritesOf, RunsTo, RunsInto, RunsOut}
 use Rattle.flow_exchange.specs.Reporting.{AreReported, ReportsTo, ReportsInto}
-use Rattle.flow_exchange.specs.Encoding.{EncodesTo, EncodesInto}
 use Rattle.flow_exchange.specs.Laws.{BegunIsAFront}
 
 -- a text begins with another
@@ -50,8 +52,8 @@ begins-spelled magic spell all first more text begun parts is begun_is = (
 
 -- ---- encode
 
-encode_begins : (limit : ℕ) (bytes : List ℕ) (status : Status) (text begun : List ℕ) → EncodesTo limit bytes status text → EncodesInto limit bytes begun → Begins text begun
-encode_begins limit bytes status text begun all first =
+encode_begins : (limit : ℕ) (bytes : List ℕ) (ended : Ended ℕ) (text begun : List ℕ) → EncodesTo limit bytes ended text → EncodesInto limit bytes begun → Begins text begun
+encode_begins limit bytes ended text begun all first =
     let on = first_is_a_front (limit < length bytes) (take limit bytes) all.bad first.commands all.commands first.first all.reads in
     begins-spelled command_magic (λ command. spelling (record_of command)) all.commands first.commands on.0 text begun on.1 all.writes first.writes
 
@@ -150,6 +152,6 @@ begun_is_a_front Audit limit bytes status text begun comes (inr lacks) = begins-
 begun_is_a_front Report limit bytes status text begun comes (inl gets) = report_begins-file limit bytes status text begun comes gets
 begun_is_a_front Report limit bytes status text begun comes (inr (inl none)) = begins-nothing text begun none
 begun_is_a_front Report limit bytes status text begun comes (inr (inr gets)) = report_begins-file limit bytes status text begun comes gets
-begun_is_a_front Encode limit bytes status text begun comes (inl gets) = encode_begins limit bytes status text begun comes gets
+begun_is_a_front Encode limit bytes status text begun comes (inl gets) = encode_begins limit bytes comes.0 text begun comes.1 gets
 begun_is_a_front Encode limit bytes status text begun comes (inr (inl none)) = begins-nothing text begun none
-begun_is_a_front Encode limit bytes status text begun comes (inr (inr gets)) = encode_begins limit bytes status text begun comes gets
+begun_is_a_front Encode limit bytes status text begun comes (inr (inr gets)) = encode_begins limit bytes comes.0 text begun comes.1 gets

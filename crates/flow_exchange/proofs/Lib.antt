@@ -1,11 +1,10 @@
-pub mod Serving
 pub mod Outcomes
-pub mod Running
-pub mod Auditing
+pub mod RunWord
+pub mod FileOf
+pub mod Words
+pub mod JournalForms
 pub mod AuditLaws
-pub mod Reports
-pub mod Reporting
-pub mod Encoding
+pub mod EncodeForm
 pub mod EncodeLaws
 pub mod SomeOutcome
 pub mod TickersAgree

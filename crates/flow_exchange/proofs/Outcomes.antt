@@ -1,8 +1,8 @@
 -- Bytes determine one status and one text, to which a call comes that no fault broke off.
-use Rattle.std.proofs.Common.{◌≡◌, ◌≢◌, ◌+◌, ℕ, List, [], ◌∷◌, ◌++◌, ◌<◌, length, take, get_or, codes, inl, inr, Option, Some, None, IfSome, refl, sym, ap, subst, ◌∙◌, arith}
-use Rattle.wire_records.specs.Records.{Record, command_magic}
+use Rattle.std.proofs.Common.{◌≡◌, ◌≢◌, ◌+◌, ℕ, List, [], ◌∷◌, ◌++◌, length, get_or, codes, inl, inr, Option, Some, None, IfSome, refl, sym, ap, subst, ◌∙◌, arith}
+use Rattle.wire_records.specs.Records.{Record}
 use Rattle.wire_records.specs.CommandRecords.{IsReadAs}
-use Rattle.wire_records.specs.Commands.{Pair, Command}
+use Rattle.wire_records.specs.Commands.{Pair}
 use Rattle.wire_records.specs.Reading.{Reading, Ending, NotFlow, File}
 use Rattle.wire_records.specs.Formats.{Version, commands}
 use Rattle.wire_records.proofs.Readings.{reading_unique}
@@ -18,18 +18,17 @@ use Rattle.market_core.proofs.LawProofs.{market_is_determined}
 use Rattle.batch_report.specs.Reports.{IsReport}
 use Rattle.batch_report.proofs.OneReport.{one_report}
 use Rattle.market_core.proofs.OneJournal.{one_own_journal}
+use Rattle.exchange_session.specs.Journals.{Journals}
 use Rattle.flow_exchange.specs.declared.form.Form.{Form}
 use Rattle.flow_exchange.specs.declared.form.Form.TheVariants.{Run, Audit, Report, Encode}
 use Rattle.flow_exchange.specs.declared.status.Status.{Status}
 use Rattle.flow_exchange.specs.declared.status.Status.TheVariants as answer
-use Rattle.flow_exchange.specs.Statuses.{reading_status}
+use Rattle.flow_exchange.specs.Statuses.{reading_status, ended_status, bad_text}
 use Rattle.flow_exchange.specs.Auditing.{audit_status, audit_text, AuditsTo}
 use Rattle.flow_exchange.specs.Reporting.{AreReported, ReportsTo}
-use Rattle.line_records.specs.Lines.{spell_commands}
-use Rattle.line_records.proofs.OneReadings.{one_reading}
-use Rattle.flow_exchange.specs.Encoding.{EncodeEnds, EncodesTo}
-use Rattle.flow_exchange.specs.Running.{Journals, WritesOf, RunsTo}
-use Rattle.flow_exchange.specs.Program.{Determines, Meets}
+use Rattle.line_records.proofs.Encoding.{encodes_one}
+use Rattle.flow_exchange.specs.Running.{WritesOf, RunsTo}
+use Rattle.flow_exchange.specs.Program.{ComesTo, Determines, Meets}
 use Rattle.flow_exchange.specs.Laws.{OneForm, OneOutcome}
 
 -- the first of one word
@@ -119,27 +118,17 @@ reports_one limit bytes s t x y (inr a) (inr b) =
     in
     (same, one_text empty_market 1 b.legal a.market b.market x y (subst (λ (p : List (Pair Record Outcome)). AreReported empty_market 1 p a.market x) one.0 a.writes) b.writes)
 
--- lines come to one status
-ends_one : (limit : ℕ) (More : Type 0) (bad : Option ℕ) (s t : Status) → EncodeEnds limit More bad s → EncodeEnds limit More bad t → s ≡ t
-ends_one limit More (Some number) s t a b = a ∙ sym b
-ends_one limit More None s t (inl a) (inl b) = a.1 ∙ sym b.1
-ends_one limit More None s t (inl a) (inr b) = absurd (a.0 b.0)
-ends_one limit More None s t (inr a) (inl b) = absurd (b.0 a.0)
-ends_one limit More None s t (inr a) (inr b) = a.1 ∙ sym b.1
-
--- and to one command file
-encodes_one : (limit : ℕ) (bytes : List ℕ) (s t : Status) (x y : List ℕ) → EncodesTo limit bytes s x → EncodesTo limit bytes t y → (s ≡ t) × (x ≡ y)
-encodes_one limit bytes s t x y a b =
-    let one = one_reading (limit < length bytes) (take limit bytes) a.bad b.bad a.commands b.commands a.reads b.reads in (
-      ends_one limit (limit < length bytes) b.bad s t (subst (λ (bad : Option ℕ). EncodeEnds limit (limit < length bytes) bad s) one.0 a.ends) b.ends,
-      a.writes ∙ ap (λ (commands : List Command). command_magic ++ spell_commands commands) one.1 ∙ sym b.writes,
-    )
+-- an encoding comes to one status and one text
+lines_one : (limit : ℕ) (bytes : List ℕ) (s t : Status) (x y : List ℕ) → ComesTo Encode limit bytes s x → ComesTo Encode limit bytes t y → (s ≡ t) × (x ≡ y)
+lines_one limit bytes s t x y a b =
+    let one = encodes_one limit bytes a.0 b.0 x y a.1 b.1 in
+    (a.2 ∙ ap (ended_status limit bad_text) one.0 ∙ sym b.2, one.1)
 
 pub one_outcome : OneOutcome
 one_outcome Run limit bytes s t x y a b = runs_one limit bytes s t x y a b
 one_outcome Audit limit bytes s t x y a b = audits_one limit bytes s t x y a b
 one_outcome Report limit bytes s t x y a b = reports_one limit bytes s t x y a b
-one_outcome Encode limit bytes s t x y a b = encodes_one limit bytes s t x y a b
+one_outcome Encode limit bytes s t x y a b = lines_one limit bytes s t x y a b
 
 -- what a form comes to, where its status is none that a fault or want of memory has
 determined : (form : Form) (limit : ℕ) (bytes : List ℕ) (status : Status) (before after : Option (List ℕ)) → Meets form limit bytes status before after

@@ -109,7 +109,7 @@ module _ (Rule : BatchRule) where
       steps_tickers lines said.1 after steps.0 market pairs (subst (λ tickers. Say tickers lines said.1 after) same.1 said.4) (All-tail IsCommand said.0 said.1 fits) both.1 steps.2
 
 pub tickers_agree : TickersAgree
-tickers_agree limit bytes text journal status encoded market journals =
+tickers_agree limit bytes text journal ended encoded market journals =
     let reads = encoded.reads in
     steps_tickers IsOwnOutcome reads.read encoded.commands reads.tickers empty_market market journals.pairs reads.say (commands_fit reads.read encoded.commands reads.tickers reads.say).0
     journals.journal_of.asked journals.journal_of.steps

@@ -1,5 +1,5 @@
 -- What `flow audit` makes of the bytes of its source.
-use Rattle.std.specs.Prelude.{◌≡◌, ◌⊎◌, ◌+◌, ℕ, List, [], ◌∷◌, ◌++◌, length, codes, decimal}
+use Rattle.std.specs.Prelude.{◌≡◌, ◌⊎◌, ◌+◌, ℕ, List, [], ◌∷◌, length}
 use Rattle.wire_records.specs.Records.{Record}
 use Rattle.wire_records.specs.Commands.{Pair}
 use Rattle.wire_records.specs.CommandRecords.{IsReadAs}
@@ -11,14 +11,14 @@ use Rattle.market_core.specs.Market.{Market}
 use Rattle.market_core.specs.Journal.{HoldsDeposits}
 use Rattle.market_core.specs.Promises.{KeepsPromises}
 use Rattle.journal_replay.specs.Audits.{Audits, cleared_in, skipped_in}
+use Rattle.journal_words.specs.Line.{counted_line}
 use Rattle.flow_exchange.specs.declared.status.Status.{Status}
 use Rattle.flow_exchange.specs.declared.status.Status.TheVariants.{Done, Usage, NotFlow, Torn, ReadFault, WriteFault, NoMemory, Rejected, TooLong, BadText}
 use Rattle.flow_exchange.specs.Statuses.{ending_status}
 
--- the line on a legal journal: how many pairs it has, and how many of their batches cleared and were skipped
+-- the line on a legal journal
 abbrev pub legal_line : List (Pair Record Outcome) → List ℕ
-legal_line legal =
-    (codes "legal: " ++ decimal (length legal) ++ codes " pairs, ") ++ (decimal (cleared_in legal) ++ codes " cleared, ") ++ (decimal (skipped_in legal) ++ codes " skipped\n")
+legal_line legal = counted_line (length legal) (cleared_in legal) (skipped_in legal)
 
 -- the status: that of the ending where no pair stands behind the legal ones, and else the number of the first, counted from 1
 abbrev pub audit_status : ℕ → Ending → List (Pair Record Outcome) → List (Record × Record) → Status

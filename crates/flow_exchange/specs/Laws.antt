@@ -10,14 +10,15 @@ use Rattle.journal_records.specs.Pairs.{journal}
 use Rattle.journal_records.specs.Formats.{journals}
 use Rattle.market_core.specs.Market.{Market}
 use Rattle.batch_audit.specs.Legal.{IsLegalJournal, IsIllegalPair}
+use Rattle.word_driver.specs.Ended.{Ended}
+use Rattle.line_records.specs.Encoding.{EncodesTo}
+use Rattle.exchange_session.specs.Journals.{Journals}
 use Rattle.flow_exchange.specs.declared.form.Form.{Form}
 use Rattle.flow_exchange.specs.declared.form.Form.TheVariants.{Run, Audit}
 use Rattle.flow_exchange.specs.declared.status.Status.{Status}
 use Rattle.flow_exchange.specs.declared.status.Status.TheVariants.{Done, Rejected}
 use Rattle.flow_exchange.specs.Forms.{Asks}
 use Rattle.flow_exchange.specs.Auditing.{legal_line}
-use Rattle.flow_exchange.specs.Running.{Journals}
-use Rattle.flow_exchange.specs.Encoding.{EncodesTo}
 use Rattle.flow_exchange.specs.Program.{ComesTo, GetsTo, LacksAt}
 
 -- words ask for one form
@@ -56,12 +57,12 @@ RejectedIsFirstIllegal = (limit number : ℕ) (bytes text : List ℕ)
 -- what is encoded is a command file, which is read to its end as the records of the commands that the lines ask for, and each
 -- of these records as its command
 abbrev pub EncodedIsRead : Type 0
-EncodedIsRead = (limit most : ℕ) (bytes text : List ℕ) (status : Status) (encoded : EncodesTo limit bytes status text) → length text ≤ most
+EncodedIsRead = (limit most : ℕ) (bytes text : List ℕ) (ended : Ended ℕ) (encoded : EncodesTo limit bytes ended text) → length text ≤ most
     → Reads commands most text (File One (map record_of encoded.commands) End) × All (λ command. IsReadAs (record_of command) (Ok command)) encoded.commands
 
 -- and a run of it is done, and writes the journal of these records, each with its reply
 abbrev pub EncodedIsServed : Type 0
-EncodedIsServed = (limit most : ℕ) (bytes text journal : List ℕ) (status ran : Status) (encoded : EncodesTo limit bytes status text) → length text ≤ most
+EncodedIsServed = (limit most : ℕ) (bytes text journal : List ℕ) (ended : Ended ℕ) (ran : Status) (encoded : EncodesTo limit bytes ended text) → length text ≤ most
     → ComesTo Run most text ran journal → (ran ≡ Done) × (market : Market) × Journals (map record_of encoded.commands) market journal
 
 -- no bytes are without an outcome, whatever the form
@@ -75,5 +76,5 @@ BegunIsAFront = (form : Form) (limit : ℕ) (bytes : List ℕ) (status : Status)
 
 -- the tickers by which lines name assets are those of the market that a run of their file leads to
 abbrev pub TickersAgree : Type 0
-TickersAgree = (limit : ℕ) (bytes text journal : List ℕ) (status : Status) (encoded : EncodesTo limit bytes status text) (market : Market)
+TickersAgree = (limit : ℕ) (bytes text journal : List ℕ) (ended : Ended ℕ) (encoded : EncodesTo limit bytes ended text) (market : Market)
     → Journals (map record_of encoded.commands) market journal → market.tickers ≡ encoded.reads.tickers

@@ -3,8 +3,6 @@ pub mod Forms
 pub mod Running
 pub mod Auditing
 pub mod Reporting
-pub mod Encoding
-pub mod ReportSteps
 pub mod Program
 pub mod Laws
 pub mod Private

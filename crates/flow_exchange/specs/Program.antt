@@ -3,16 +3,17 @@ use Rattle.std.specs.Prelude.{◌≡◌, ◌≢◌, ◌⊎◌, ◌↔◌, ◌+�
 use Rattle.flow_io.specs.Faults.{Rose, Blames}
 use Rattle.flow_io.specs.Streams.{Grows, GrowsByFront, TakesAtMost}
 use Rattle.flow_io.specs.Changes.{Change}
+use Rattle.word_driver.specs.Ended.{Ended}
+use Rattle.line_records.specs.Encoding.{EncodesTo, EncodesInto}
 use Rattle.flow_exchange.specs.declared.form.Form.{Form}
 use Rattle.flow_exchange.specs.declared.form.Form.TheVariants.{Run, Audit, Report, Encode}
 use Rattle.flow_exchange.specs.declared.status.Status.{Status}
 use Rattle.flow_exchange.specs.declared.status.Status.TheVariants.{Done, Usage, NotFlow, Torn, ReadFault, WriteFault, NoMemory, Rejected, TooLong, BadText}
 use Rattle.flow_exchange.specs.Forms.{Asks, AsksNothing}
-use Rattle.flow_exchange.specs.Statuses.{line_of}
+use Rattle.flow_exchange.specs.Statuses.{line_of, ended_status, bad_text}
 use Rattle.flow_exchange.specs.Running.{RunsTo, RunsInto, RunsOut}
 use Rattle.flow_exchange.specs.Auditing.{AuditsTo}
 use Rattle.flow_exchange.specs.Reporting.{ReportsTo, ReportsInto}
-use Rattle.flow_exchange.specs.Encoding.{EncodesTo, EncodesInto}
 
 -- ---- a row for each form
 
@@ -21,7 +22,7 @@ abbrev pub ComesTo : Form → ℕ → List ℕ → Status → List ℕ → Type 
 ComesTo Run limit bytes status text = RunsTo limit bytes status text
 ComesTo Audit limit bytes status text = AuditsTo limit bytes status text
 ComesTo Report limit bytes status text = ReportsTo limit bytes status text
-ComesTo Encode limit bytes status text = EncodesTo limit bytes status text
+ComesTo Encode limit bytes status text = (ended : Ended ℕ) × EncodesTo limit bytes ended text × (status ≡ ended_status limit bad_text ended)
 
 -- what may stand in out, besides nothing, while a form is at work: the text of whole units
 abbrev pub GetsTo : Form → ℕ → List ℕ → List ℕ → Type 0

@@ -1,30 +1,13 @@
 -- What `flow run` makes of the bytes of its source.
 use Rattle.std.specs.Prelude.{◌≡◌, ◌⊎◌, ◌++◌, ◌∷◌, ℕ, List, []}
 use Rattle.wire_records.specs.Records.{Record}
-use Rattle.wire_records.specs.Commands.{Pair}
-use Rattle.wire_records.specs.CommandRecords.{IsReadAs}
 use Rattle.wire_records.specs.Reading.{Reading, NotFlow, File, Reads, StartsWith}
 use Rattle.wire_records.specs.Formats.{Version, commands}
-use Rattle.journal_records.specs.Pairs.{journal}
-use Rattle.flow_orders.specs.Outcomes.{Outcome}
-use Rattle.flow_orders.specs.Own.{IsOwnOutcome}
 use Rattle.market_core.specs.Market.{Market}
-use Rattle.market_core.specs.Journal.{IsJournal, HoldsDeposits}
-use Rattle.market_core.specs.Promises.{KeepsPromises, ClearNear}
 use Rattle.market_core.specs.Wanting.{RecordMayWant}
+use Rattle.exchange_session.specs.Journals.{Journals}
 use Rattle.flow_exchange.specs.declared.status.Status.{Status}
 use Rattle.flow_exchange.specs.Statuses.{reading_status}
-
--- The text is the journal of these command records, each with its one answer by the program's own rule. It leads to this
--- market, which holds the accepted deposits less the accepted withdrawals. The promises of the exchange are kept in it, and
--- what the program's own rule promises besides.
-pub record Journals (records : List Record) (market : Market) (text : List ℕ) : Type 0 where
-  pub pairs : List (Pair Record Outcome)
-  pub journal_of : IsJournal IsReadAs IsOwnOutcome records pairs market
-  pub deposits : HoldsDeposits IsReadAs pairs market
-  pub keeps : KeepsPromises IsReadAs pairs
-  pub near : ClearNear IsReadAs pairs
-  pub spelled : text ≡ journal pairs
 
 -- what is written for a reading: the journal of its records
 abbrev pub WritesOf : Reading Version Record → List ℕ → Type 0

@@ -1,12 +1,8 @@
--- What each status prints, the number that the program exits with, and the status of each ending.
-use Rattle.std.specs.Prelude.{ℕ, List, [], ◌++◌, codes, decimal, Result, Ok, Err}
-use Rattle.flow_io.specs.declared.whole.ReadAllFault.{ReadAllFault}
-use Rattle.flow_io.specs.declared.whole.ReadAllFault.TheVariants as fault
-use Rattle.journal_replay.specs.declared.auditing.PairFault.{PairFault}
-use Rattle.journal_replay.specs.declared.auditing.PairFault.TheVariants as pair
-use Rattle.line_records.specs.declared.encode.EncodeFault.{EncodeFault}
-use Rattle.line_records.specs.declared.encode.EncodeFault.TheVariants as line
+-- What each status prints, the number that the program exits with, and the status of each ending of a reading and of a word.
+use Rattle.std.specs.Prelude.{ℕ, List, [], ◌++◌, codes, decimal, Ok, Err}
 use Rattle.wire_records.specs.Reading.{Ending, End, Torn, TooLong, Reading, NotFlow, File}
+use Rattle.word_driver.specs.declared.fault.Fault.TheVariants as word
+use Rattle.word_driver.specs.Ended.{Ended}
 use Rattle.flow_exchange.specs.declared.status.Status.{Status}
 use Rattle.flow_exchange.specs.declared.status.Status.TheVariants as status
 
@@ -47,23 +43,17 @@ abbrev pub reading_status : {V U : Type 0} → ℕ → Reading V U → Status
 reading_status limit NotFlow = status.NotFlow
 reading_status limit (File version units ending) = ending_status limit ending
 
--- the status of a fault of reading
-abbrev pub fault_status : ReadAllFault → Status
-fault_status fault.Read = status.ReadFault
-fault_status fault.Memory = status.NoMemory
+-- the status of how a word ended, by that of its own reason to stop
+abbrev pub ended_status : {B : Type 0} → ℕ → (B → Status) → Ended B → Status
+ended_status limit own (Ok done) = status.Done
+ended_status limit own (Err word.Read) = status.ReadFault
+ended_status limit own (Err word.Write) = status.WriteFault
+ended_status limit own (Err word.Memory) = status.NoMemory
+ended_status limit own (Err word.NotFlow) = status.NotFlow
+ended_status limit own (Err (word.Torn place)) = status.Torn place
+ended_status limit own (Err word.TooLong) = status.TooLong limit
+ended_status limit own (Err (word.Stopped why)) = own why
 
--- the status of a fault of auditing pairs
-abbrev pub pair_status : PairFault → Status
-pair_status (pair.Illegal number) = status.Rejected number
-pair_status pair.Memory = status.NoMemory
-
--- the status of a fault of encoding lines
-abbrev pub encode_status : EncodeFault → Status
-encode_status (line.NoCommand number) = status.BadText number
-encode_status line.Write = status.WriteFault
-encode_status line.Memory = status.NoMemory
-
--- the status of what went through, or broke off with one
-abbrev pub status_of : Result (Unit {0}) Status → Status
-status_of (Ok _) = status.Done
-status_of (Err why) = why
+-- of an encoding, which stops at the first line that is no command, by its number
+abbrev pub bad_text : ℕ → Status
+bad_text number = status.BadText number

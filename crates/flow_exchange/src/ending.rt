@@ -1,34 +1,55 @@
-//! The words that all forms of a file have in common: how a reading ends, and the write of one piece.
-ghost use Rattle.std.specs.Prelude.{◌≡◌, ◌≢◌, Err, OnOk, OnErr, IfErr};
-ghost use Rattle.flow_io.specs.Faults.{Blames};
-ghost use Rattle.flow_io.specs.Streams.{Grows, GrowsByFront};
-ghost use Rattle.wire_records.specs.Reading.{End};
-ghost use Rattle.file_units.specs.Units.{ending_of};
-ghost use Rattle.flow_exchange.specs.Statuses.{ending_status, status_of};
+//! The status of how a word ended, by its own reason to stop.
+ghost use Rattle.std.specs.Prelude.{◌≡◌};
+ghost use Rattle.flow_exchange.specs.Statuses.{ended_status, bad_text};
+ghost use Rattle.flow_exchange.specs.Private.{no_reason, rejected};
 
 use crate::Status;
-use file_units::Ending;
-use flow_io::Sink;
+use word_driver::{Fault, Never};
 
-// The status of a reading that ended so.
-pub(crate) fn end_with(ending: &Ending, limit: u64) -> Result<(), Status>
-    ensures status { status_of result ≡ ending_status limit (ending_of ending.now) }
-    ensures ok { OnOk result (ending_of ending.now ≡ End) }
-    ensures err { IfErr result (λ status. status ≢ Status.Done) }
+// Of a word that doesn't stop by itself.
+pub(crate) fn plain_status(ended: Result<(), Fault<Never>>, limit: u64) -> Status
+    ensures { result ≡ ended_status limit no_reason ended }
 {
-    match *ending {
-        Ending::End => Ok(()),
-        Ending::Torn(place) => Err(Status::Torn(place)),
-        Ending::TooLong => Err(Status::TooLong(limit)),
+    match ended {
+        Ok(()) => Status::Done,
+        Err(Fault::Read) => Status::ReadFault,
+        Err(Fault::Write) => Status::WriteFault,
+        Err(Fault::Memory) => Status::NoMemory,
+        Err(Fault::NotFlow) => Status::NotFlow,
+        Err(Fault::Torn(place)) => Status::Torn(place),
+        Err(Fault::TooLong) => Status::TooLong(limit),
+        Err(Fault::Stopped(never)) => match never {},
     }
 }
 
-// Writes the bytes by one call.
-pub(crate) fn put<K: Sink>(out: &mut K, bytes: &[u8]) -> Result<(), Status>
-    ensures written { OnOk result (Grows (K.held out.old) (K.held out.new) bytes.now) }
-    ensures cut { OnErr result (GrowsByFront (K.held out.old) (K.held out.new) bytes.now) }
-    ensures status { IfErr result (λ status. status ≡ Status.WriteFault) }
-    ensures cause { Blames (result ≡ Err Status.WriteFault) (K.faults out.old) (K.faults out.new) }
+// Of a word over pairs, which stops at the first that isn't legal.
+pub(crate) fn pairs_status(ended: Result<(), Fault<u64>>, limit: u64) -> Status
+    ensures { result ≡ ended_status limit rejected ended }
 {
-    out.write(bytes).map_err(|_| Status::WriteFault)
+    match ended {
+        Ok(()) => Status::Done,
+        Err(Fault::Read) => Status::ReadFault,
+        Err(Fault::Write) => Status::WriteFault,
+        Err(Fault::Memory) => Status::NoMemory,
+        Err(Fault::NotFlow) => Status::NotFlow,
+        Err(Fault::Torn(place)) => Status::Torn(place),
+        Err(Fault::TooLong) => Status::TooLong(limit),
+        Err(Fault::Stopped(number)) => Status::Rejected(number),
+    }
+}
+
+// Of an encoding, which stops at the first line that is no command.
+pub(crate) fn lines_status(ended: Result<(), Fault<u64>>, limit: u64) -> Status
+    ensures { result ≡ ended_status limit bad_text ended }
+{
+    match ended {
+        Ok(()) => Status::Done,
+        Err(Fault::Read) => Status::ReadFault,
+        Err(Fault::Write) => Status::WriteFault,
+        Err(Fault::Memory) => Status::NoMemory,
+        Err(Fault::NotFlow) => Status::NotFlow,
+        Err(Fault::Torn(place)) => Status::Torn(place),
+        Err(Fault::TooLong) => Status::TooLong(limit),
+        Err(Fault::Stopped(number)) => Status::BadText(number),
+    }
 }

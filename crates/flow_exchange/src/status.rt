@@ -1,10 +1,6 @@
 //! How the program ends.
 ghost use Rattle.std.specs.Prelude.{◌≡◌};
 
-use flow_io::ReadAllFault;
-use journal_replay::PairFault;
-use line_records::EncodeFault;
-
 /// How the program ends. Each status has one exit number and one line on standard error, but for
 /// `Done`, which has none.
 #[derive(Clone, Copy, PartialEq, Eq)]
@@ -49,46 +45,6 @@ impl Status {
             Status::Rejected(_) => 7,
             Status::TooLong(_) => 8,
             Status::BadText(_) => 9,
-        }
-    }
-}
-
-impl From<ReadAllFault> for Status {
-    ghost use Rattle.flow_exchange.specs.Statuses.{fault_status};
-
-    ghost from_gives = { λ fault status. status ≡ fault_status fault };
-
-    fn from(fault: ReadAllFault) -> Status {
-        match fault {
-            ReadAllFault::Read => Status::ReadFault,
-            ReadAllFault::Memory => Status::NoMemory,
-        }
-    }
-}
-
-impl From<PairFault> for Status {
-    ghost use Rattle.flow_exchange.specs.Statuses.{pair_status};
-
-    ghost from_gives = { λ fault status. status ≡ pair_status fault };
-
-    fn from(fault: PairFault) -> Status {
-        match fault {
-            PairFault::Illegal(number) => Status::Rejected(number),
-            PairFault::Memory => Status::NoMemory,
-        }
-    }
-}
-
-impl From<EncodeFault> for Status {
-    ghost use Rattle.flow_exchange.specs.Statuses.{encode_status};
-
-    ghost from_gives = { λ fault status. status ≡ encode_status fault };
-
-    fn from(fault: EncodeFault) -> Status {
-        match fault {
-            EncodeFault::NoCommand(number) => Status::BadText(number),
-            EncodeFault::Write => Status::WriteFault,
-            EncodeFault::Memory => Status::NoMemory,
         }
     }
 }

@@ -1,7 +1,6 @@
 //! The call that the program makes.
-ghost use Rattle.std.specs.Prelude.{◌≡◌, ◌≢◌, ◌+◌, ◌^◌, IfSome, Some, [], map, string_bytes};
+ghost use Rattle.std.specs.Prelude.{◌≡◌, ◌≢◌, ◌^◌, Some, map, string_bytes};
 ghost use Rattle.flow_io.specs.Changes.{change};
-ghost use Rattle.flow_exchange.specs.Statuses.{status_of};
 ghost use Rattle.flow_exchange.specs.Program.{Does, Serves};
 
 use crate::Status;
@@ -16,16 +15,6 @@ use std::alloc::Global;
 // The most bytes of input that the program considers.
 const INPUT_LIMIT: u64 = 1 << 32;
 
-// The status of what went through, or broke off with one.
-fn status_after(outcome: Result<(), Status>) -> Status
-    ensures { result ≡ status_of outcome }
-{
-    match outcome {
-        Ok(()) => Status::Done,
-        Err(status) => status,
-    }
-}
-
 // What a form does.
 fn do_form<S: Source, K: Sink>(
     alloc: Global,
@@ -39,10 +28,10 @@ fn do_form<S: Source, K: Sink>(
         (change K.held K.faults out.old out.new) }
 {
     match form {
-        Form::Run => status_after(run(alloc, limit, source, out)),
-        Form::Audit => status_after(audit(alloc, limit, source, out)),
-        Form::Report => status_after(report(alloc, limit, source, out)),
-        Form::Encode => status_after(encode(alloc, limit, source, out)),
+        Form::Run => run(alloc, limit, source, out),
+        Form::Audit => audit(alloc, limit, source, out),
+        Form::Report => report(alloc, limit, source, out),
+        Form::Encode => encode(alloc, limit, source, out),
     }
 }
 

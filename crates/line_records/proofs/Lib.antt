@@ -4,3 +4,4 @@ pub mod OneSplits
 pub mod OneReadings
 pub mod Fitting
 mod Going
+pub mod Encoding

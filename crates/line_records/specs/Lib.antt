@@ -1,4 +1,6 @@
 pub mod Lines
 pub mod Encoded
+pub mod Encoding
+pub mod Tasks
 pub mod Private
 pub mod Laws

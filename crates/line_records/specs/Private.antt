@@ -1,5 +1,5 @@
--- Words that only private functions use: what encoding one line comes to.
-use Rattle.std.specs.Prelude.{◌≡◌, ℕ, List, [], ◌∷◌, Option, Result, Ok, Err}
+-- Words that only private functions use: what encoding one line comes to, and all lines of an input.
+use Rattle.std.specs.Prelude.{◌≡◌, ℕ, List, [], ◌∷◌, Option, Some, None, Result, Ok, Err}
 use Rattle.flow_io.specs.Streams.{Grows, GrowsByFront}
 use Rattle.wire_records.specs.Records.{spelling}
 use Rattle.wire_records.specs.Commands.{Command}
@@ -7,7 +7,10 @@ use Rattle.wire_records.specs.CommandRecords.{record_of}
 use Rattle.order_text.specs.Lines.{Says, SaysNothing}
 use Rattle.line_records.specs.declared.encode.EncodeFault.{EncodeFault}
 use Rattle.line_records.specs.declared.encode.EncodeFault.TheVariants.{NoCommand, Write, Memory}
-use Rattle.line_records.specs.Lines.{Say, spell_commands}
+use Rattle.word_driver.specs.declared.fault.Fault.TheVariants as fault
+use Rattle.word_driver.specs.Ended.{Ended}
+use Rattle.line_records.specs.Lines.{Say, AreFirst, spell_commands}
+use Rattle.line_records.specs.Encoded.{HasEncoded}
 
 -- the record of a command is written, or a front of it where the write fails, or nothing where memory is wanted
 abbrev pub IsRecordWritten : Command → Result (Unit {0}) EncodeFault → Option (List ℕ) → Option (List ℕ) → Type 0
@@ -29,3 +32,14 @@ IsLineEncoded tickers line number next (Err (NoCommand bad)) before after = Says
 IsLineEncoded tickers line number next (Err Write) before after =
     (command : Command) × Says tickers line command next × GrowsByFront before after (spelling (record_of command))
 IsLineEncoded tickers line number next (Err Memory) before after = after ≡ before
+
+-- the lines of the input were encoded, behind the magic: how that ends, and what was written
+abbrev pub EncodesAll : Type 0 → List ℕ → Ended ℕ → Option (List ℕ) → Option (List ℕ) → Type 0
+EncodesAll More bytes (Err fault.Write) before after = (commands : List Command) × AreFirst More bytes commands × GrowsByFront before after (spell_commands commands)
+EncodesAll More bytes (Err fault.Memory) before after = (commands : List Command) × AreFirst More bytes commands × Grows before after (spell_commands commands)
+EncodesAll More bytes (Err fault.Read) before after = ⊥
+EncodesAll More bytes (Err fault.NotFlow) before after = ⊥
+EncodesAll More bytes (Err (fault.Torn n)) before after = ⊥
+EncodesAll More bytes (Err fault.TooLong) before after = HasEncoded More bytes None before after × More
+EncodesAll More bytes (Err (fault.Stopped number)) before after = HasEncoded More bytes (Some number) before after
+EncodesAll More bytes (Ok done) before after = HasEncoded More bytes None before after × (¬ More)

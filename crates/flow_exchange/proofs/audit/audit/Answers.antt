@@ -1,13 +1,32 @@
-use Rattle.journal_replay.proofs.Replayed.{begins_with_magic, begins_as_journal}
-use Rattle.flow_exchange.proofs.Auditing.{audits_on, audits_nowhere}
+use Rattle.std.proofs.Common.{◌∙◌, ap, refl, subst}
+use Rattle.flow_io.specs.Changes.{change}
+use Rattle.wire_records.specs.Formats.{Version}
+use Rattle.market_core.specs.Market.{empty_market}
+use Rattle.word_driver.specs.Does.{task}
+use Rattle.word_driver.specs.Does as driver
+use Rattle.journal_words.specs.Watching.{Watched}
+use Rattle.journal_words.specs.Words.{Counts, audit, counting}
+use Rattle.journal_words.proofs.JournalLaws.{audit_is_exact, over_pairs_is_kept}
+use Rattle.flow_exchange.specs.declared.form.Form.TheVariants.{Audit}
+use Rattle.flow_exchange.specs.Private.{rejected}
+use Rattle.flow_exchange.proofs.Words.{does, not_asked}
+use Rattle.flow_exchange.proofs.JournalForms.{audit_form, audit_start}
 use Rattle.flow_exchange.proofs.audit.audit.Goals as goal
 
-pub returns-then-not-is_journal-clause-meets : goal.returns-then-not-is_journal-clause-meets
-returns-then-not-is_journal-clause-meets g c =
-    audits_nowhere (g.S.Source.rest c.args.source.now) c.args.limit c.in_ok-input.input (g.K.Sink.held c.args.out.now) c.in_ok-input.ensures.whole
-    (λ begins. let file = c.is_journal.ensures.1 (rw c.deref.ensures.value (begins_as_journal c.in_ok-input.input.bytes.items begins)) in cc)
+-- an audit that has counted so far
+abbrev counted : Counts → Version → Watched Counts
+counted seen version = record { market = empty_market; pairs = 0; seen = seen }
 
-pub returns-clause-meets : goal.returns-clause-meets
-returns-clause-meets g c =
-    audits_on (g.S.Source.rest c.args.source.now) c.args.limit c.in_ok-input.input _ (g.K.Sink.held c.args.out.now) (g.K.Sink.held c.audit_all.new.out) c.in_ok-input.ensures.whole
-    (begins_with_magic c.in_ok-input.input.bytes.items (rw c.deref.ensures.value at (c.is_journal.ensures.0 c.if-not-is_journal.false))) c.audit_all.ensures.audited
+pub go-ended-requires : goal.go-ended-requires
+go-ended-requires g c = record { exact = audit_is_exact; kept = over_pairs_is_kept counting _ (λ version. (refl, refl)); new = c.new-2.ensures.new }
+
+pub returns : goal.returns
+returns g c =
+    let source = change g.S.Source.rest g.S.Source.faults c.args.source.now c.go-ended.new.source in
+    let out = change g.K.Sink.held g.K.Sink.faults c.args.out.now c.go-ended.new.out in
+    let starts = c.new-2.ensures.starts ∙ ap counted c.new.ensures.none in
+    let done = subst (λ (start : Version → Watched Counts). driver.Does (task audit start) c.args.limit c.go-ended.result source out) starts c.go-ended.ensures.does in
+    record {
+      asked = rw c.pairs_status.ensures (not_asked (task audit audit_start) Audit c.args.limit rejected (audit_form c.args.limit) c.go-ended.result);
+      does = rw c.pairs_status.ensures (does (task audit audit_start) Audit c.args.limit rejected (audit_form c.args.limit) c.go-ended.result source out done);
+    }

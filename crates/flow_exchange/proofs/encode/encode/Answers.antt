@@ -1,21 +1,16 @@
-use Rattle.std.proofs.lemmas.Result.{err_from_is_err_and}
-use Rattle.flow_exchange.proofs.Encoding.{encodes_lines, encodes_not, encodes_unread, encode_read_out}
+use Rattle.flow_io.specs.Changes.{change}
+use Rattle.line_records.specs.Tasks.{encoding}
+use Rattle.flow_exchange.specs.declared.form.Form.TheVariants.{Encode}
+use Rattle.flow_exchange.specs.Statuses.{bad_text}
+use Rattle.flow_exchange.proofs.Words.{does, not_asked}
+use Rattle.flow_exchange.proofs.EncodeForm.{encode_form}
 use Rattle.flow_exchange.proofs.encode.encode.Goals as goal
 
-pub returns-in_err-input-clause-meets : goal.returns-in_err-input-clause-meets
-returns-in_err-input-clause-meets g c =
-    let p = err_from_is_err_and c.from_residual.result c.from_residual.ensures.1 in
-    rw (p.1, p.2) (encodes_unread (g.S.Source.rest c.args.source.now) c.args.limit c.in_err-input.field-0.0 (g.K.Sink.held c.args.out.now))
-
-pub returns-in_err-put-clause-meets : goal.returns-in_err-put-clause-meets
-returns-in_err-put-clause-meets g c =
-    let p = err_from_is_err_and c.from_residual-in_err-put.result c.from_residual-in_err-put.ensures.1 in
-    rw (p.1, p.2, c.in_err-put.ensures.status)
-    (encodes_not (g.S.Source.rest c.args.source.now) c.args.limit c.in_ok-input.input (g.K.Sink.held c.args.out.now) (g.K.Sink.held c.put.new.out) c.in_ok-input.ensures.whole c.in_err-put.ensures.cut)
-
-pub returns-clause-meets : goal.returns-clause-meets
-returns-clause-meets g c =
-    encodes_lines (g.S.Source.rest c.args.source.now) c.args.limit c.in_ok-input.input _ (g.K.Sink.held c.args.out.now) (g.K.Sink.held c.put.new.out) (g.K.Sink.held c.encode_all.new.out) c.in_ok-input.ensures.whole c.in_ok-put.ensures.written c.encode_all.ensures.encoded
-
-pub returns-clause-left : goal.returns-clause-left
-returns-clause-left g c = encode_read_out (g.S.Source.rest c.args.source.now) (g.S.Source.rest c.read_all.new.source) c.args.limit c.in_ok-input.input _ _ _ c.in_ok-input.ensures.whole c.in_ok-input.ensures.taken c.encode_all.ensures.encoded
+pub returns : goal.returns
+returns g c =
+    let source = change g.S.Source.rest g.S.Source.faults c.args.source.now c.encode_source-ended.new.source in
+    let out = change g.K.Sink.held g.K.Sink.faults c.args.out.now c.encode_source-ended.new.out in
+    record {
+      asked = rw c.lines_status.ensures (not_asked encoding Encode c.args.limit bad_text (encode_form c.args.limit) c.encode_source-ended.result);
+      does = rw c.lines_status.ensures (does encoding Encode c.args.limit bad_text (encode_form c.args.limit) c.encode_source-ended.result source out c.encode_source-ended.ensures.does);
+    }

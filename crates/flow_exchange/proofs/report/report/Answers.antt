@@ -1,22 +1,26 @@
-use Rattle.std.proofs.lemmas.Result.{err_from_is_err_and}
-use Rattle.journal_replay.proofs.Replayed.{begins_with_magic, begins_as_journal}
-use Rattle.flow_exchange.proofs.Reporting.{reports_on, reports_nowhere, reports_unread, report_read_out}
+use Rattle.std.proofs.Common.{refl, subst}
+use Rattle.wire_records.specs.Formats.{Version}
+use Rattle.word_driver.specs.Does as driver
+use Rattle.journal_words.specs.Watching.{Watched}
+use Rattle.flow_io.specs.Changes.{change}
+use Rattle.word_driver.specs.Does.{task}
+use Rattle.journal_words.specs.Words.{report, telling}
+use Rattle.journal_words.proofs.JournalLaws.{report_is_exact, over_pairs_is_kept}
+use Rattle.flow_exchange.specs.declared.form.Form.TheVariants.{Report}
+use Rattle.flow_exchange.specs.Private.{rejected}
+use Rattle.flow_exchange.proofs.Words.{does, not_asked}
+use Rattle.flow_exchange.proofs.JournalForms.{report_form, report_start}
 use Rattle.flow_exchange.proofs.report.report.Goals as goal
 
-pub returns-in_err-input-clause-meets : goal.returns-in_err-input-clause-meets
-returns-in_err-input-clause-meets g c =
-    let p = err_from_is_err_and c.from_residual.result c.from_residual.ensures.1 in
-    rw (p.1, p.2) (reports_unread (g.S.Source.rest c.args.source.now) c.args.limit c.in_err-input.field-0.0 (g.K.Sink.held c.args.out.now))
+pub go-ended-requires : goal.go-ended-requires
+go-ended-requires g c = record { exact = report_is_exact; kept = over_pairs_is_kept telling _ (λ version. (refl, refl)); new = c.new.ensures.new }
 
-pub returns-then-not-is_journal-clause-meets : goal.returns-then-not-is_journal-clause-meets
-returns-then-not-is_journal-clause-meets g c =
-    reports_nowhere (g.S.Source.rest c.args.source.now) c.args.limit c.in_ok-input.input (g.K.Sink.held c.args.out.now) c.in_ok-input.ensures.whole
-    (λ begins. let file = c.is_journal.ensures.1 (rw c.deref.ensures.value (begins_as_journal c.in_ok-input.input.bytes.items begins)) in cc)
-
-pub returns-clause-meets : goal.returns-clause-meets
-returns-clause-meets g c =
-    reports_on (g.S.Source.rest c.args.source.now) c.args.limit c.in_ok-input.input _ (g.K.Sink.held c.args.out.now) (g.K.Sink.held c.report_all.new.out) c.in_ok-input.ensures.whole
-    (begins_with_magic c.in_ok-input.input.bytes.items (rw c.deref.ensures.value at (c.is_journal.ensures.0 c.if-not-is_journal.false))) c.report_all.ensures.reported
-
-pub returns-clause-left : goal.returns-clause-left
-returns-clause-left g c = report_read_out (g.S.Source.rest c.args.source.now) (g.S.Source.rest c.read_all.new.source) c.args.limit c.in_ok-input.input _ _ _ c.in_ok-input.ensures.whole c.in_ok-input.ensures.taken c.report_all.ensures.reported
+pub returns : goal.returns
+returns g c =
+    let source = change g.S.Source.rest g.S.Source.faults c.args.source.now c.go-ended.new.source in
+    let out = change g.K.Sink.held g.K.Sink.faults c.args.out.now c.go-ended.new.out in
+    let done = subst (λ (start : Version → Watched (Unit {0})). driver.Does (task report start) c.args.limit c.go-ended.result source out) c.new.ensures.starts c.go-ended.ensures.does in
+    record {
+      asked = rw c.pairs_status.ensures (not_asked (task report report_start) Report c.args.limit rejected (report_form c.args.limit) c.go-ended.result);
+      does = rw c.pairs_status.ensures (does (task report report_start) Report c.args.limit rejected (report_form c.args.limit) c.go-ended.result source out done);
+    }

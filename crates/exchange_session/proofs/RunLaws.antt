@@ -1,0 +1,100 @@
+-- A run comes to one end and one text, keeps the promises of the exchange, and is without an end for no bytes.
+use Rattle.std.proofs.Common.{◌≡◌, ℕ, List, [], ◌∷◌, ◌++◌, Result, Ok, Err, inl, refl, sym, ap, ◌∙◌, arith}
+use Rattle.std.specs.List.{flat_map}
+use Rattle.wire_records.specs.Records.{Record}
+use Rattle.wire_records.specs.Commands.{Command, Answer, Pair}
+use Rattle.wire_records.specs.CommandRecords.{IsReadAs}
+use Rattle.wire_records.specs.declared.command.BodyFault.{BodyFault}
+use Rattle.wire_records.specs.declared.command.BodyFault.TheVariants.{UnknownTag, BadBody}
+use Rattle.wire_records.specs.Formats.{StatesOver}
+use Rattle.wire_records.proofs.Fronts.{states_none-from_few}
+use Rattle.wire_records.proofs.Readings.{reading_unique}
+use Rattle.wire_records.proofs.RecordCode.{commands_readable}
+use Rattle.flow_orders.specs.Outcomes.{Outcome}
+use Rattle.flow_orders.specs.Own.{IsOwnOutcome}
+use Rattle.journal_records.specs.Pairs.{journal_magic, pair_spelling}
+use Rattle.market_core.specs.Market.{Market, empty_market}
+use Rattle.market_core.specs.Journal.{IsAnswered}
+use Rattle.market_core.proofs.OneJournal.{own_step}
+use Rattle.market_core.proofs.Exists.{step_is_there}
+use Rattle.market_core.proofs.LawProofs.{own_journals_are_legal, journals_hold_deposits}
+use Rattle.market_core.proofs.Promised.{legal_journal_keeps_promises, own_journal_clears_near}
+use Rattle.word_driver.specs.Word.{Goes}
+use Rattle.word_driver.specs.Laws.{IsExact, IsKept, IsNotDenied, HasNext}
+use Rattle.word_driver.proofs.Denying.{not_denied, follows}
+use Rattle.exchange_session.specs.Serving.{AnswersOne}
+use Rattle.exchange_session.specs.Running.{run}
+
+-- no bytes state a length
+short : StatesOver 1024 [] → ⊥
+short over = states_none-from_few over.0 [] (omega arith) over.1
+
+-- one record has one answer by the own rule, and makes one market
+one_answer : (s : Market) (u : Record) (t r : Market) (x y : List ℕ) → AnswersOne s u t x → AnswersOne s u r y → (t ≡ r) × (x ≡ y)
+one_answer s u t r x y a b =
+    let one = own_step IsReadAs reading_unique s u a.answer b.answer t r a.step b.step in
+    let pair : Answer Outcome → Pair Record Outcome = λ answer. record { asked = u; answer = answer } in
+    (one.1, a.spelled ∙ ap (λ answer. pair_spelling (pair answer)) one.0 ∙ sym b.spelled)
+
+pub run_is_exact : IsExact run
+run_is_exact = record {
+  readable = commands_readable;
+  short = short;
+  one_step = one_answer;
+  one_stop = λ s at b c x y stops other. absurd stops;
+  one_close = λ s x y a b. a ∙ sym b;
+  steps_or_stops = λ s u t b x y step stops. stops;
+  closes_or_stops = λ s b x y closes stops. stops;
+}
+
+-- the pairs that answer records
+pub record Answers (start : Market) (records : List Record) (market : Market) (text : List ℕ) : Type 0 where
+  pub pairs : List (Pair Record Outcome)
+  pub answered : IsAnswered IsReadAs IsOwnOutcome start records pairs market
+  pub spelled : text ≡ flat_map pair_spelling pairs
+
+answers : (start market : Market) (records : List Record) (text : List ℕ) → Goes run start records market text → Answers start records market text
+answers start market [] text goes = record { pairs = []; answered = record { asked = refl; steps = goes.0 }; spelled = goes.1 }
+answers start market (r ∷ records) text goes =
+    let one = goes.3 in
+    let rest = answers goes.0 market records goes.2 goes.4 in
+    let pair : Pair Record Outcome = record { asked = r; answer = one.answer } in
+    record {
+      pairs = pair ∷ rest.pairs;
+      answered = record { asked = ap (λ xs. r ∷ xs) rest.answered.asked; steps = (goes.0, one.step, rest.answered.steps) };
+      spelled = goes.5 ∙ ap (λ xs. xs ++ goes.2) one.spelled ∙ ap (λ xs. pair_spelling pair ++ xs) rest.spelled;
+    }
+
+pub run_is_kept : IsKept run (λ version. empty_market)
+run_is_kept version records market text each goes =
+    let so = answers empty_market market records text goes in
+    record {
+      pairs = so.pairs;
+      journal_of = so.answered;
+      deposits = journals_hold_deposits records so.pairs market (own_journals_are_legal records so.pairs market so.answered);
+      keeps = legal_journal_keeps_promises so.pairs market (own_journals_are_legal records so.pairs market so.answered).steps;
+      near = own_journal_clears_near records so.pairs market so.answered;
+      spelled = ap (λ xs. journal_magic ++ xs) so.spelled;
+    }
+
+-- ---- a run has a next step
+
+-- what a record is read as
+abbrev CanBeRead : Record → Type 0
+CanBeRead asked = (read : Result Command BodyFault) × IsReadAs asked read
+
+-- no record is without a reading: it spells a command, or its tag is none, or its body is bad
+can_be_read : (asked : Record) → IsNotDenied (CanBeRead asked)
+can_be_read asked none = none (Err UnknownTag, λ tag. none (Err BadBody, (tag, λ command spells. none (Ok command, spells))))
+
+-- so each has a step, from any market
+has_step : (s : Market) (asked : Record) → CanBeRead asked → (t : Market) × (text : List ℕ) × AnswersOne s asked t text
+has_step s asked readable =
+    let there = step_is_there IsReadAs CanBeRead (λ r some. some) s asked readable in
+    (there.1, pair_spelling (record { asked = asked; answer = there.0 }), record { answer = there.0; step = there.2; spelled = refl })
+
+pub run_has_next : HasNext run (λ version. empty_market)
+run_has_next = record {
+  some_step = λ version records s x asked goes lawful. follows (λ readable. not_denied (inl (has_step s asked readable))) (can_be_read asked);
+  some_close = λ version records s x goes. not_denied (inl ([], refl));
+}

@@ -1,0 +1,30 @@
+-- `flow run`: a command file in, a journal out.
+use Rattle.std.specs.Prelude.{◌≡◌, ◌++◌, [], Option, Some, None}
+use Rattle.wire_records.specs.Records.{Record}
+use Rattle.wire_records.specs.Formats.{commands}
+use Rattle.journal_records.specs.Pairs.{journal_magic}
+use Rattle.journal_records.specs.Formats.{journal_magic_of}
+use Rattle.market_core.specs.Market.{Market}
+use Rattle.market_core.specs.Wanting.{RecordMayWant}
+use Rattle.word_driver.specs.Word.{Word}
+use Rattle.word_driver.specs.declared.fault.Never.{Never}
+use Rattle.exchange_session.specs.Serving.{AnswersOne}
+use Rattle.exchange_session.specs.Journals.{Journals}
+
+-- where a run may want memory: at a record that may want some
+abbrev pub RunWants : Market → Option Record → Type 0
+RunWants market (Some asked) = RecordMayWant market asked
+RunWants market None = ⊥
+
+-- a run: each record is answered by one step of the market, and its pair is written behind the magic of a journal; what was
+-- written so far is the journal of the records so far
+abbrev pub run : Word Record Market Never
+run = record {
+  format = commands;
+  opens = journal_magic_of;
+  Steps = AnswersOne;
+  Stops = λ market at why text. ⊥;
+  Closes = λ market text. text ≡ [];
+  Wants = RunWants;
+  Keeps = λ records market text. Journals records market (journal_magic ++ text);
+}

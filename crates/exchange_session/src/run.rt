@@ -1,0 +1,81 @@
+//! `run` as a word: records in, pairs out.
+ghost use Rattle.std.specs.Prelude.{◌≡◌, ◌+◌, ◌^◌, ◌<◌};
+ghost use Rattle.market_core.specs.Market.{empty_market};
+ghost use Rattle.exchange_session.specs.Running.{run};
+
+use crate::Session;
+use file_units::Front;
+use journal_records::JOURNAL_MAGIC;
+use std::alloc::Global;
+use wire_records::{Framed, MOST_BODY, is_command_file, next_record};
+use word_driver::{Halt, Memory, Never, ServesWord};
+
+// As many bytes has the longest pair with a plain reply: 5 and 1,024 of the record, and 13 of the reply's.
+const MOST_PLAIN_PAIR: usize = 1042;
+
+/// A run: it serves the records of a command file, one after the other, over a session of its own. Only the pair of a
+/// batch makes the buffer grow.
+#[derive(Drop)]
+pub struct Run {
+    session: Session,
+}
+
+impl Run {
+    /// A run over the empty market. Takes no memory.
+    pub fn new(alloc: Global) -> Run
+        ensures { ⟦<Run as ServesWord>⟧.is_new result }
+    {
+        Run {
+            session: Session::new(alloc),
+        }
+    }
+}
+
+impl ServesWord for Run {
+    ghost use Rattle.wire_records.specs.Records.{Record};
+    ghost use Rattle.market_core.specs.Market.{Market};
+
+    type Stop = Never;
+
+    const ROOM: usize = MOST_PLAIN_PAIR;
+
+    ghost ROOM = { 1042 };
+
+    ghost Unit = { Record };
+
+    ghost State = { Market };
+
+    ghost word = { run };
+
+    ghost is_new = { λ r. r.session ≡ empty_market };
+
+    ghost start = { λ r version. empty_market };
+
+    ghost state = { λ r. r.session };
+
+    ghost is_ready = { λ r left. r.session.next_order + left < 2 ^ 64 };
+
+    fn open(&mut self, bytes: &[u8], text: &mut Vec<u8>) -> Result<bool, Memory> {
+        if !is_command_file(bytes) {
+            return Ok(false);
+        }
+        text.extend_from_slice(&JOURNAL_MAGIC).unwrap();
+        Ok(true)
+    }
+
+    fn take(&mut self, bytes: &[u8], text: &mut Vec<u8>) -> Result<Front, Halt<Never>> {
+        match next_record(bytes, MOST_BODY) {
+            Framed::Whole(asked, taken) => match self.session.serve(&asked, text) {
+                Ok(()) => Ok(Front::Taken(taken)),
+                Err(_) => Err(Halt::Memory),
+            },
+            Framed::End => Ok(Front::NoBytes),
+            Framed::TooLarge(_) => Ok(Front::Overlong),
+            Framed::Short => Ok(Front::Short),
+        }
+    }
+
+    fn close(&mut self, _text: &mut Vec<u8>) -> Result<(), Halt<Never>> {
+        Ok(())
+    }
+}

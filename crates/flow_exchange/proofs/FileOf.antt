@@ -1,0 +1,29 @@
+-- An audit of the first bytes as a file of the program.
+use Rattle.std.proofs.Common.{map, ◌≡◌, ℕ, List, refl}
+use Rattle.wire_records.specs.Records.{Record}
+use Rattle.wire_records.specs.Commands.{Pair}
+use Rattle.wire_records.specs.Reading.{Ending}
+use Rattle.flow_orders.specs.Outcomes.{Outcome}
+use Rattle.market_core.specs.Market.{Market}
+use Rattle.market_core.proofs.LawProofs.{journals_hold_deposits}
+use Rattle.market_core.proofs.Promised.{legal_journal_keeps_promises}
+use Rattle.journal_replay.specs.Audits.{Audits}
+use Rattle.flow_exchange.specs.declared.status.Status.{Status}
+use Rattle.flow_exchange.specs.Auditing.{audit_status, audit_text, AuditsFile}
+
+-- an audit of the first bytes comes to a status and a text
+pub file_of : (limit : ℕ) (bytes : List ℕ) (status : Status) (legal : List (Pair Record Outcome)) (behind : List (Record × Record)) (ending : Ending) (market : Market) → Audits limit bytes legal behind ending market
+    → status ≡ audit_status limit ending legal behind → AuditsFile limit bytes status (audit_text status legal)
+file_of limit bytes status legal behind ending market audits ends =
+    let steps = audits.judged.journal.steps in
+    record {
+      legal = legal;
+      behind = behind;
+      ending = ending;
+      market = market;
+      audits = audits;
+      deposits = journals_hold_deposits (map (λ (pair : Pair Record Outcome). pair.asked) legal) legal market (record { asked = refl; steps = steps });
+      keeps = legal_journal_keeps_promises legal market steps;
+      ends = ends;
+      writes = refl;
+    }

@@ -1,0 +1,136 @@
+-- A run does what the clauses of the program say: what its word comes to is a journal.
+use Rattle.std.proofs.Common.{◌≡◌, ◌⊎◌, ℕ, List, [], ◌++◌, Ok, Err, length, take, drop, refl, sym, ap, ◌∙◌, subst, inl, inr, append-nil, append_assoc}
+use Rattle.std.specs.List.{flat_map}
+use Rattle.std.proofs.lemmas.List.{take-append-drop, flat_map_more}
+use Rattle.std.proofs.lemmas.List.Elements.{All-push}
+use Rattle.wire_records.specs.Records.{Record, IsRecord, spelling}
+use Rattle.wire_records.specs.Reading.{End, NotFlow, File}
+use Rattle.wire_records.specs.Reading as reading
+use Rattle.wire_records.specs.Formats.{Version, One, commands}
+use Rattle.journal_records.specs.Pairs.{journal_magic}
+use Rattle.journal_records.specs.Formats.{journal_magic_of}
+use Rattle.market_core.specs.Market.{Market, empty_market}
+use Rattle.word_driver.specs.declared.fault.Fault.TheVariants as word
+use Rattle.word_driver.specs.declared.fault.Never.{Never}
+use Rattle.word_driver.specs.Ended.{Ended}
+use Rattle.word_driver.specs.Word.{ComesOn}
+use Rattle.word_driver.specs.Does.{task}
+use Rattle.exchange_session.specs.Running.{run}
+use Rattle.exchange_session.specs.Journals.{Journals}
+use Rattle.flow_exchange.specs.declared.form.Form.TheVariants.{Run}
+use Rattle.flow_exchange.specs.Statuses.{ended_status}
+use Rattle.flow_exchange.specs.Private.{no_reason}
+use Rattle.flow_exchange.specs.Running.{RunsTo, RunsInto, RunsOut}
+use Rattle.flow_exchange.proofs.Words.{IsForm}
+
+abbrev pub start : Version → Market
+start version = empty_market
+
+-- the opening is the magic
+journals : (records : List Record) (market : Market) (behind : List ℕ) (text : List ℕ) (version : Version) → Journals records market (journal_magic ++ behind) → text ≡ journal_magic_of version ++ behind → Journals records market text
+journals records market behind text One so is = subst (λ (x : List ℕ). Journals records market x) (sym is) so
+
+-- nothing is written at the end
+ends_there : (version : Version) (text behind so_far last : List ℕ) → text ≡ journal_magic_of version ++ behind → behind ≡ so_far ++ last → last ≡ [] → text ≡ journal_magic_of version ++ so_far
+ends_there version text behind so_far last is parts none = is ∙ ap (λ xs. journal_magic_of version ++ xs) (parts ∙ ap (λ xs. so_far ++ xs) none ∙ append-nil so_far)
+
+pub runs_to : (limit : ℕ) (bytes : List ℕ) (ended : Ended Never) (text : List ℕ) → (task run start).Comes limit bytes ended text → RunsTo limit bytes (ended_status limit no_reason ended) text
+runs_to limit bytes ended text (inl none) = rw none.0 (record { reading = NotFlow; reads = none.1; ends = refl; writes = none.2 })
+runs_to limit bytes (Ok done) text (inr (version, body, behind, magic, is, on)) =
+    let way = on.0 in
+    record {
+      reading = File version way.units End;
+      reads = (body, magic, record { rest = way.rest; whole = way.passes.whole; each = way.passes.each; none = way.halts.0.0; ends = way.halts.0.1 });
+      ends = refl;
+      writes = (way.state, journals way.units way.state way.so_far text version on.1 (ends_there version text behind way.so_far way.last is way.writes way.halts.1));
+    }
+runs_to limit bytes (Err (word.Torn n)) text (inr (version, body, behind, magic, is, on)) =
+    let way = on.0 in
+    record {
+      reading = File version way.units (reading.Torn n);
+      reads = (body, magic, record { rest = way.rest; whole = way.passes.whole; each = way.passes.each; none = way.halts.0.0; ends = way.halts.0.1 });
+      ends = refl;
+      writes = (way.state, journals way.units way.state way.so_far text version on.1 (ends_there version text behind way.so_far way.last is way.writes way.halts.1));
+    }
+runs_to limit bytes (Err word.TooLong) text (inr (version, body, behind, magic, is, on)) =
+    let way = on.0 in
+    record {
+      reading = File version way.units reading.TooLong;
+      reads = (body, magic, record { rest = way.rest; whole = way.passes.whole; each = way.passes.each; none = way.halts.0.0; ends = way.halts.0.1 });
+      ends = refl;
+      writes = (way.state, journals way.units way.state way.so_far text version on.1 (ends_there version text behind way.so_far way.last is way.writes way.halts.1));
+    }
+runs_to limit bytes (Err (word.Stopped never)) text (inr on) = elim never [ ]
+runs_to limit bytes (Err word.NotFlow) text (inr (version, body, behind, magic, is, on)) = absurd on.0.halts
+runs_to limit bytes (Err word.Read) text (inr (version, body, behind, magic, is, on)) = absurd on.0.halts
+runs_to limit bytes (Err word.Write) text (inr (version, body, behind, magic, is, on)) = absurd on.0.halts
+runs_to limit bytes (Err word.Memory) text (inr (version, body, behind, magic, is, on)) = absurd on.0.halts
+
+-- no run stops at a record, and where it ends if more follow nothing is written
+last_is_none : (More : Type 0) (place : ℕ) (body : List ℕ) (s : Market) (ended : Ended Never) (behind : List ℕ) (on : ComesOn run More place body s ended behind) → on.last ≡ []
+last_is_none More place body s (Ok done) behind on = on.halts.1
+last_is_none More place body s (Err (word.Torn n)) behind on = on.halts.1
+last_is_none More place body s (Err word.TooLong) behind on = on.halts.1
+last_is_none More place body s (Err (word.Stopped never)) behind on = elim never [ ]
+last_is_none More place body s (Err word.NotFlow) behind on = absurd on.halts
+last_is_none More place body s (Err word.Read) behind on = absurd on.halts
+last_is_none More place body s (Err word.Write) behind on = absurd on.halts
+last_is_none More place body s (Err word.Memory) behind on = absurd on.halts
+
+pub runs_into : (limit : ℕ) (bytes : List ℕ) (n : ℕ) (text : List ℕ) → (task run start).Begins limit bytes n text → (text ≡ []) ⊎ RunsInto limit bytes text
+runs_into limit bytes n text (ended, inl none) = inl none.2
+runs_into limit bytes n text (ended, inr (version, body, behind, magic, is, on)) =
+    let way = on.0 in
+    let more = drop n (take limit bytes) in
+    inr (record {
+      version = version;
+      records = way.units;
+      market = way.state;
+      starts = record {
+        body = body ++ more;
+        rest = way.rest ++ more;
+        magic = (magic.0, sym (take-append-drop n (take limit bytes)) ∙ ap (λ xs. xs ++ more) magic.1 ∙ append_assoc (commands.magics.spell version) body more);
+        whole = ap (λ xs. xs ++ more) way.passes.whole ∙ append_assoc (flat_map spelling way.units) way.rest more;
+        each = way.passes.each;
+      };
+      writes = journals way.units way.state way.so_far text version on.1 (ends_there version text behind way.so_far way.last is way.writes (last_is_none (Unit {0}) (length (commands.magics.spell version)) body empty_market ended behind way));
+    })
+
+pub runs_out : (limit : ℕ) (bytes : List ℕ) (text : List ℕ) → (task run start).Lacks limit bytes text → RunsOut limit bytes text
+runs_out limit bytes text (inl none) = inl none
+runs_out limit bytes text (inr (version, body, behind, magic, is, on)) =
+    let way = on.0 in
+    elim way.wants [
+      | inl (next, more, front, wants) ↦ inr (record {
+        version = version;
+        records = way.units;
+        next = next;
+        market = way.state;
+        starts = record {
+          body = body;
+          rest = more;
+          magic = magic;
+          whole = way.passes.whole ∙ ap (λ xs. flat_map spelling way.units ++ xs) front.1 ∙ sym (append_assoc (flat_map spelling way.units) (spelling next) more)
+              ∙ ap (λ xs. xs ++ more) (flat_map_more spelling [] way.units next);
+          each = All-push (IsRecord 1024) way.units next way.passes.each front.0;
+        };
+        writes = journals way.units way.state behind text version on.1 is;
+        wants = wants;
+      })
+      | inr at ↦ absurd at.1
+    ]
+
+-- so its task is the form of the program
+pub run_form : (limit : ℕ) → IsForm (task run start) Run limit no_reason
+run_form limit = record {
+  to = runs_to limit;
+  into = runs_into limit;
+  out = runs_out limit;
+  met = λ bytes never. elim never [ ];
+  not_done = λ never. elim never [ ];
+  not_read = λ never. elim never [ ];
+  not_write = λ never. elim never [ ];
+  not_usage = λ never. elim never [ ];
+  most = refl;
+  left = λ bytes. refl;
+}

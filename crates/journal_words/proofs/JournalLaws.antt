@@ -1,0 +1,229 @@
+-- Words over the pairs of a journal come to one end and one text, keep a journal, and are without an end for no bytes.
+use Rattle.std.proofs.Common.{◌≡◌, ◌+◌, ◌-◌, ◌≤◌, ◌<◌, ◌^◌, ◌↔◌, ◌⊎◌, inl, inr, Bool, true, false, IsTrue, ℕ, List, [], ◌∷◌, ◌++◌, map, Option, Some, None, length, drop, refl, sym, ap, subst, ◌∙◌, arith}
+use Rattle.std.specs.Prelude.{All}
+use Rattle.std.proofs.lemmas.List.{take-append-drop}
+use Rattle.std.proofs.lemmas.List.Elements.{All-nil, All-cons, All-head, All-tail}
+use Rattle.wire_records.specs.Records.{Record}
+use Rattle.wire_records.specs.Commands.{Answer, Pair}
+use Rattle.wire_records.specs.CommandRecords.{IsReadAs}
+use Rattle.wire_records.specs.Grammars.{BeginsWith}
+use Rattle.wire_records.specs.Formats.{Version, One}
+use Rattle.journal_replay.proofs.Replayed.{begins_with_magic}
+use Rattle.word_driver.specs.Private.{IsOpened}
+use Rattle.flow_orders.specs.Outcomes.{Outcome, IsRightOutcome}
+use Rattle.journal_records.specs.Pairs.{IsPair}
+use Rattle.journal_records.specs.Formats.{journal_magic_of, journals, records_of}
+use Rattle.journal_records.proofs.Files.{journals_readable, short_at_end}
+use Rattle.journal_records.proofs.Spelled.{answer_unique}
+use Rattle.market_core.specs.Market.{Market, empty_market}
+use Rattle.market_core.specs.Journal.{Follows}
+use Rattle.market_core.proofs.LawProofs.{journals_hold_deposits}
+use Rattle.market_core.proofs.Promised.{legal_journal_keeps_promises}
+use Rattle.batch_audit.proofs.LawProofs.{one_market, pairs_number_one}
+use Rattle.batch_audit.specs.Legal.{IsLegalPair, IsIllegalPair}
+use Rattle.batch_report.proofs.OneReport.{one_report}
+use Rattle.journal_replay.specs.Audits.{cleared_by, skipped_by}
+use Rattle.word_driver.specs.Word.{Goes}
+use Rattle.word_driver.specs.Laws.{IsExact, IsKept, HasNext}
+use Rattle.word_driver.proofs.Denying.{not_denied, follows, one_of}
+use Rattle.journal_words.specs.Line.{counted_line}
+use Rattle.journal_words.specs.Watching.{Watch, Watched, SeesOne, StopsOne, over_pairs}
+use Rattle.journal_words.specs.Words.{Counts, CountsOne, counting, telling, audit, report}
+use Rattle.journal_words.specs.Private.{HasRoom}
+use Rattle.journal_words.proofs.SomeText.{some_text}
+
+-- What is watched is told by the pair: one is seen, one reason and one text where it isn't legal, and one at the end.
+pub record IsExactWatch {S B : Type 0} (watch : Watch S B) : Type 0 where
+  pub one_sight : (m : Market) (n : ℕ) (pair : Record × Record) (s t r : S) (x y : List ℕ) → watch.Sees m n pair s t x → watch.Sees m n pair s r y → (t ≡ r) × (x ≡ y)
+  pub one_reject : (m : Market) (n : ℕ) (pair : Record × Record) (s : S) (b c : B) (x y : List ℕ) → watch.Rejects m n pair s b x → watch.Rejects m n pair s c y → (b ≡ c) × (x ≡ y)
+  pub one_close : (m : Market) (n : ℕ) (s : S) (x y : List ℕ) → watch.Closes m n s x → watch.Closes m n s y → x ≡ y
+  pub one_stop : (m : Market) (n : ℕ) (s : S) (b c : B) (x y : List ℕ) → watch.Stops m n s b x → watch.Stops m n s c y → (b ≡ c) × (x ≡ y)
+  pub closes_or_stops : (m : Market) (n : ℕ) (s : S) (b : B) (x y : List ℕ) → watch.Closes m n s x → watch.Stops m n s b y → ⊥
+
+module _ {S B : Type 0} (watch : Watch S B) where
+  abbrev watched : Market → ℕ → S → Watched S
+  watched m n s = record { market = m; pairs = n; seen = s }
+
+  pub same_watched : (t r : Watched S) → t.market ≡ r.market → t.pairs ≡ r.pairs → t.seen ≡ r.seen → t ≡ r
+  same_watched t r m n s = ap (λ (k : Market). watched k t.pairs t.seen) m ∙ ap (λ (k : ℕ). watched r.market k t.seen) n ∙ ap (λ (z : S). watched r.market r.pairs z) s
+
+  module _ (exact : IsExactWatch watch) where
+    one_step : (s : Watched S) (u : Record × Record) (t r : Watched S) (x y : List ℕ) → SeesOne watch s u t x → SeesOne watch s u r y → (t ≡ r) × (x ≡ y)
+    one_step s u t r x y a b =
+        let market = one_market s.market u t.market r.market a.legal b.legal in
+        let one = exact.one_sight r.market s.pairs u s.seen t.seen r.seen x y (subst (λ (m : Market). watch.Sees m s.pairs u s.seen t.seen x) market a.sees) b.sees in
+        (same_watched t r market (a.counted ∙ sym b.counted) one.0, one.1)
+
+    one_stop : (s : Watched S) (at : Option (Record × Record)) (b c : B) (x y : List ℕ) → StopsOne watch s at b x → StopsOne watch s at c y → (b ≡ c) × (x ≡ y)
+    one_stop s (Some u) b c x y stops other = exact.one_reject s.market s.pairs u s.seen b c x y stops.1 other.1
+    one_stop s None b c x y stops other = exact.one_stop s.market s.pairs s.seen b c x y stops other
+
+    pub over_pairs_is_exact : IsExact (over_pairs watch)
+    over_pairs_is_exact = record {
+      readable = journals_readable;
+      short = short_at_end;
+      one_step = one_step;
+      one_stop = one_stop;
+      one_close = λ s x y a b. exact.one_close s.market s.pairs s.seen x y a b;
+      steps_or_stops = λ s u t b x y step stops. stops.0 t.market step.legal;
+      closes_or_stops = λ s b x y closes stops. exact.closes_or_stops s.market s.pairs s.seen b x y closes stops;
+    }
+
+  -- The units are these legal pairs, which lead from a state to another and are counted.
+  record AreLegal (start new : Watched S) (units : List (Record × Record)) : Type 0 where
+    legal : List (Pair Record Outcome)
+    parts : units ≡ map records_of legal
+    each : All IsPair legal
+    steps : Follows IsReadAs IsRightOutcome start.market legal new.market
+    pairs : new.pairs ≡ start.pairs + length legal
+
+  are_legal : (start new : Watched S) (units : List (Record × Record)) (text : List ℕ) → All journals.units.IsLawful units → Goes (over_pairs watch) start units new text → AreLegal start new units
+  are_legal start new [] text each goes = record {
+    legal = [];
+    parts = refl;
+    each = All-nil IsPair;
+    steps = ap (λ (s : Watched S). s.market) goes.0;
+    pairs = rw goes.0 (omega arith);
+  }
+  are_legal start new (unit ∷ units) text each goes =
+      let one = goes.3 in
+      let lawful = All-head journals.units.IsLawful unit units each in
+      let rest = are_legal goes.0 new units goes.2 (All-tail journals.units.IsLawful unit units each) goes.4 in
+      let pair : Pair Record Outcome = record { asked = unit.0; answer = one.legal.answer } in
+      record {
+        legal = pair ∷ rest.legal;
+        parts = ap (λ xs. unit ∷ xs) rest.parts ∙ ap (λ (r : Record). (unit.0, r) ∷ map records_of rest.legal) one.legal.spelled.spelled;
+        each = All-cons IsPair pair rest.legal (record { asked = lawful.0; answer = one.legal.spelled.fits; answered = rw (← one.legal.spelled.spelled) lawful.1 }) rest.each;
+        steps = (goes.0.market, one.legal.step, rest.steps);
+        pairs = omega (arith, rest.pairs, one.counted);
+      }
+
+  pub over_pairs_is_kept : (start : Version → Watched S) → ((version : Version) → ((start version).market ≡ empty_market) × ((start version).pairs ≡ 0)) → IsKept (over_pairs watch) start
+  over_pairs_is_kept start begins version units s text each goes =
+      let are = are_legal (start version) s units text each goes in
+      let steps = subst (λ (m : Market). Follows IsReadAs IsRightOutcome m are.legal s.market) (begins version).0 are.steps in
+      let none = (begins version).1 in
+      record {
+        legal = are.legal;
+        parts = are.parts;
+        journal = record { each = are.each; steps = steps };
+        counted = omega (arith, are.pairs, none);
+        deposits = journals_hold_deposits (map (λ (pair : Pair Record Outcome). pair.asked) are.legal) are.legal s.market (record { asked = refl; steps = steps });
+        keeps = legal_journal_keeps_promises are.legal s.market steps;
+      }
+
+-- What is watched is there: a legal pair is seen, why it stops at one that isn't, and how it ends.
+pub record HasSight {S B : Type 0} (watch : Watch S B) : Type 0 where
+  pub some_sight : (old new : Market) (n : ℕ) (pair : Record × Record) (s : S) → IsLegalPair old pair new → (t : S) × (x : List ℕ) × watch.Sees new n pair s t x
+  pub some_reject : (m : Market) (n : ℕ) (pair : Record × Record) (s : S) → IsIllegalPair m pair → (why : B) × (x : List ℕ) × watch.Rejects m n pair s why x
+  pub some_close : (m : Market) (n : ℕ) (s : S) → ((x : List ℕ) × watch.Closes m n s x) ⊎ ((why : B) × (x : List ℕ) × watch.Stops m n s why x)
+
+module _ {S B : Type 0} (watch : Watch S B) (sight : HasSight watch) where
+  abbrev HasStep : Watched S → Record × Record → Type 0
+  HasStep s u = ((t : Watched S) × (y : List ℕ) × SeesOne watch s u t y) ⊎ ((why : B) × (y : List ℕ) × StopsOne watch s (Some u) why y)
+
+  -- a legal pair leads on, and any other stops it
+  has_step : (s : Watched S) (u : Record × Record) → (((m : Market) × IsLegalPair s.market u m) ⊎ (((m : Market) × IsLegalPair s.market u m) → ⊥)) → HasStep s u
+  has_step s u (inl (m, legal)) =
+      let seen = sight.some_sight s.market m s.pairs u s.seen legal in
+      inl (watched watch m (s.pairs + 1) seen.0, seen.1, record { legal = legal; counted = refl; sees = seen.2 })
+  has_step s u (inr not) =
+      let illegal : IsIllegalPair s.market u = λ m legal. not (m, legal) in
+      let why = sight.some_reject s.market s.pairs u s.seen illegal in
+      inr (why.0, why.1, (illegal, why.2))
+
+  pub over_pairs_has_next : (start : Version → Watched S) → HasNext (over_pairs watch) start
+  over_pairs_has_next start = record {
+    some_step = λ version units s x u goes lawful. follows (λ legal. not_denied (has_step s u legal)) (one_of ((m : Market) × IsLegalPair s.market u m));
+    some_close = λ version units s x goes. not_denied (sight.some_close s.market s.pairs s.seen);
+  }
+
+-- ---- audit and report
+
+same_counts : (t r : Counts) → t.cleared ≡ r.cleared → t.skipped ≡ r.skipped → t ≡ r
+same_counts t r c s =
+    let made : ℕ → ℕ → Counts = λ c s. record { cleared = c; skipped = s } in
+    ap (λ k. made k t.skipped) c ∙ ap (λ k. made r.cleared k) s
+
+one_count : (pair : Record × Record) (s t r : Counts) → CountsOne pair s t → CountsOne pair s r → t ≡ r
+one_count pair s t r a b =
+    let same = answer_unique a.answer b.answer a.spelled.fits b.spelled.fits (sym a.spelled.spelled ∙ b.spelled.spelled) in
+    same_counts t r (a.cleared ∙ ap (λ (z : Answer Outcome). s.cleared + cleared_by z) same ∙ sym b.cleared) (a.skipped ∙ ap (λ (z : Answer Outcome). s.skipped + skipped_by z) same ∙ sym b.skipped)
+
+counting_is_exact : IsExactWatch counting
+counting_is_exact = record {
+  one_sight = λ m n pair s t r x y a b. (one_count pair s t r a.0 b.0, a.1 ∙ sym b.1);
+  one_reject = λ m n pair s b c x y p q. (p.0 ∙ sym q.0, p.1 ∙ sym q.1);
+  one_close = λ m n s x y a b. a ∙ sym b;
+  one_stop = λ m n s b c x y p q. absurd p;
+  closes_or_stops = λ m n s b x y p q. q;
+}
+
+one_unit : (t r : Unit {0}) → t ≡ r
+one_unit t r = refl
+
+telling_is_exact : IsExactWatch telling
+telling_is_exact = record {
+  one_sight = λ m n pair s t r x y a b. (one_unit t r, one_report m.tickers (n + 1) pair x y a b);
+  one_reject = λ m n pair s b c x y p q. (p.0 ∙ sym q.0, p.1 ∙ sym q.1);
+  one_close = λ m n s x y a b. a ∙ sym b;
+  one_stop = λ m n s b c x y p q. absurd p;
+  closes_or_stops = λ m n s b x y p q. q;
+}
+
+pub audit_is_exact : IsExact audit
+audit_is_exact = over_pairs_is_exact counting counting_is_exact
+
+pub report_is_exact : IsExact report
+report_is_exact = over_pairs_is_exact telling telling_is_exact
+
+counting_has_sight : HasSight counting
+counting_has_sight = record {
+  some_sight = λ old new n pair s legal. (
+    record { cleared = s.cleared + cleared_by legal.answer; skipped = s.skipped + skipped_by legal.answer },
+    [],
+    (record { answer = legal.answer; spelled = legal.spelled; cleared = refl; skipped = refl }, refl),
+  );
+  some_reject = λ m n pair s illegal. (n + 1, [], (refl, refl));
+  some_close = λ m n s. inl (counted_line n s.cleared s.skipped, refl);
+}
+
+telling_has_sight : HasSight telling
+telling_has_sight = record {
+  some_sight = λ old new n pair s legal. let text = some_text old new (n + 1) pair legal in (s, text.0, text.1);
+  some_reject = λ m n pair s illegal. (n + 1, [], (refl, refl));
+  some_close = λ m n s. inl ([], refl);
+}
+
+pub audit_has_next : (start : Version → Watched Counts) → HasNext audit start
+audit_has_next = over_pairs_has_next counting counting_has_sight
+
+pub report_has_next : (start : Version → Watched (Unit {0})) → HasNext report start
+report_has_next = over_pairs_has_next telling telling_has_sight
+
+-- ---- room
+
+-- the numbers still fit behind a pair
+pub room_more : (old new : Market) (pair : Record × Record) (pairs later left taken : ℕ) → HasRoom old pairs left → IsLegalPair old pair new → later ≡ pairs + 1 → taken ≤ left → 10 ≤ taken → HasRoom new later (left - taken)
+room_more old new pair pairs later left taken room legal number within some = record {
+  orders = omega (arith, room.orders, pairs_number_one old pair new legal, within, some);
+  counts = omega (arith, room.counts, number, within, some);
+}
+
+no_journal_there : (bytes : List ℕ) → (IsTrue false ↔ ((body : List ℕ) × BeginsWith journals.magics bytes One body)) → (version : Version) (body : List ℕ) → bytes ≡ journal_magic_of version ++ body → ⊥
+no_journal_there bytes journal One body e = absurd (let there = journal.1 (body, (tt, e)) in cc)
+
+-- a journal begins, or none does
+pub opens_or_not : {S B : Type 0} (watch : Watch S B) (b : Bool) (bytes : List ℕ) (market : Market) (pairs : ℕ) (seen : S) (IsWithin : Type 0) (text : List ℕ)
+    → (IsTrue b ↔ ((body : List ℕ) × BeginsWith journals.magics bytes One body)) → length bytes < 2 ^ 64 → market ≡ empty_market → pairs ≡ 0 → IsWithin → text ≡ []
+    → IsOpened (over_pairs watch) (λ version. record { market = empty_market; pairs = 0; seen = seen }) bytes (record { market = market; pairs = pairs; seen = seen }) (λ left. HasRoom market pairs left × IsWithin) text b
+opens_or_not watch true bytes market pairs seen IsWithin text journal fits new none within empty = record {
+  version = One;
+  magic = (tt, sym (take-append-drop 8 bytes) ∙ ap (λ xs. xs ++ drop 8 bytes) (begins_with_magic bytes (journal.0 refl)));
+  eight = refl;
+  starts = same_watched watch (record { market = market; pairs = pairs; seen = seen }) (record { market = empty_market; pairs = 0; seen = seen }) new none refl;
+  opening = empty;
+  ready = (record { orders = rw new (omega (arith, fits)); counts = omega (arith, fits, none) }, within);
+}
+opens_or_not watch false bytes market pairs seen IsWithin text journal fits new none within empty =
+    λ version body lawful e. absurd (no_journal_there bytes journal version body e)

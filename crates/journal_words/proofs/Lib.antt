@@ -1,0 +1,2 @@
+mod SomeText
+pub mod JournalLaws

@@ -1,0 +1,4 @@
+pub mod Line
+pub mod Watching
+pub mod Words
+pub mod Private

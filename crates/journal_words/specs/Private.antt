@@ -1,0 +1,17 @@
+-- Words of the code: what watching a pair answers.
+use Rattle.std.specs.Prelude.{◌+◌, ◌<◌, ◌^◌, ℕ, List, Result, Ok, Err}
+use Rattle.market_core.specs.Market.{Market}
+use Rattle.word_driver.specs.declared.fault.Halt.{Halt}
+use Rattle.word_driver.specs.declared.fault.Halt.TheVariants.{Memory, Stopped}
+use Rattle.journal_words.specs.Watching.{Watch}
+
+-- at the end
+abbrev pub IsClosedBy : {S B : Type 0} → Watch S B → Market → ℕ → S → Result (Unit {0}) (Halt B) → List ℕ → Type 0
+IsClosedBy watch market pairs seen (Ok done) text = watch.Closes market pairs seen text
+IsClosedBy watch market pairs seen (Err Memory) text = Unit {0}
+IsClosedBy watch market pairs seen (Err (Stopped why)) text = watch.Stops market pairs seen why text
+
+-- the numbers stay within their width while so many bytes are left
+pub record HasRoom (market : Market) (pairs left : ℕ) : Type 0 where
+  pub orders : market.next_order + left < 2 ^ 64
+  pub counts : pairs + left < 2 ^ 64

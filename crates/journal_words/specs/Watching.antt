@@ -1,0 +1,60 @@
+-- Words over the pairs of a journal: each is an audit, with what is seen of its pairs.
+use Rattle.std.specs.Prelude.{◌≡◌, ◌+◌, ℕ, List, [], length, map, Option, Some, None}
+use Rattle.wire_records.specs.Records.{Record}
+use Rattle.wire_records.specs.Commands.{Pair}
+use Rattle.wire_records.specs.CommandRecords.{IsReadAs}
+use Rattle.flow_orders.specs.Outcomes.{Outcome}
+use Rattle.journal_records.specs.Formats.{journals, records_of}
+use Rattle.market_core.specs.Market.{Market}
+use Rattle.market_core.specs.Journal.{HoldsDeposits}
+use Rattle.market_core.specs.Promises.{KeepsPromises}
+use Rattle.batch_audit.specs.Legal.{IsLegalPair, IsIllegalPair, IsLegalJournal}
+use Rattle.word_driver.specs.Word.{Word}
+
+-- What is seen of the pairs of a journal, S, and written. Each is told by the market and by how many legal pairs stand before it.
+pub record Watch (S B : Type 0) : Type 1 where
+  -- Of a legal pair, which made the market; of the first illegal one; and at the end, where it closes or stops.
+  pub Sees : Market → ℕ → Record × Record → S → S → List ℕ → Type 0
+  pub Rejects : Market → ℕ → Record × Record → S → B → List ℕ → Type 0
+  pub Closes : Market → ℕ → S → List ℕ → Type 0
+  pub Stops : Market → ℕ → S → B → List ℕ → Type 0
+
+-- the market, how many pairs were legal, and what was seen of them
+pub record Watched (S : Type 0) : Type 0 where
+  pub market : Market
+  pub pairs : ℕ
+  pub seen : S
+
+-- The pairs of records are those of a legal journal, as many as were counted. It leads to the market, which holds the accepted
+-- deposits less the accepted withdrawals, and keeps the promises of the exchange.
+pub record KeepsJournal (units : List (Record × Record)) (market : Market) (pairs : ℕ) : Type 0 where
+  pub legal : List (Pair Record Outcome)
+  pub parts : units ≡ map records_of legal
+  pub journal : IsLegalJournal legal market
+  pub counted : pairs ≡ length legal
+  pub deposits : HoldsDeposits IsReadAs legal market
+  pub keeps : KeepsPromises IsReadAs legal
+
+module _ {S B : Type 0} (watch : Watch S B) where
+  -- a legal pair
+  pub record SeesOne (old : Watched S) (pair : Record × Record) (new : Watched S) (text : List ℕ) : Type 0 where
+    pub legal : IsLegalPair old.market pair new.market
+    pub counted : new.pairs ≡ old.pairs + 1
+    pub sees : watch.Sees new.market old.pairs pair old.seen new.seen text
+
+  -- the first illegal pair, or the end
+  abbrev pub StopsOne : Watched S → Option (Record × Record) → B → List ℕ → Type 0
+  StopsOne old (Some pair) why text = IsIllegalPair old.market pair × watch.Rejects old.market old.pairs pair old.seen why text
+  StopsOne old None why text = watch.Stops old.market old.pairs old.seen why text
+
+  -- the word: it goes over the legal pairs, and stops at the first that isn't; it may want memory anywhere
+  abbrev pub over_pairs : Word (Record × Record) (Watched S) B
+  over_pairs = record {
+    format = journals;
+    opens = λ version. [];
+    Steps = SeesOne;
+    Stops = StopsOne;
+    Closes = λ s text. watch.Closes s.market s.pairs s.seen text;
+    Wants = λ s at. Unit {0};
+    Keeps = λ units s text. KeepsJournal units s.market s.pairs;
+  }

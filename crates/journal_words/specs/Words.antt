@@ -1,0 +1,49 @@
+-- `flow audit` and `flow report`, as words over the pairs of a journal.
+use Rattle.std.specs.Prelude.{◌≡◌, ◌+◌, ℕ, []}
+use Rattle.wire_records.specs.Records.{Record}
+use Rattle.wire_records.specs.Commands.{Answer}
+use Rattle.flow_orders.specs.Outcomes.{Outcome}
+use Rattle.journal_records.specs.Replies.{SpellsAnswer}
+use Rattle.journal_replay.specs.Audits.{cleared_by, skipped_by}
+use Rattle.batch_report.specs.Reports.{IsReport}
+use Rattle.word_driver.specs.Word.{Word}
+use Rattle.journal_words.specs.Line.{counted_line}
+use Rattle.journal_words.specs.Watching.{Watch, Watched, over_pairs}
+
+-- how many batches cleared, and how many were skipped
+pub record Counts : Type 0 where
+  pub cleared : ℕ
+  pub skipped : ℕ
+
+-- a pair is counted by its answer
+pub record CountsOne (pair : Record × Record) (old new : Counts) : Type 0 where
+  pub answer : Answer Outcome
+  pub spelled : SpellsAnswer pair.1 answer
+  pub cleared : new.cleared ≡ old.cleared + cleared_by answer
+  pub skipped : new.skipped ≡ old.skipped + skipped_by answer
+
+-- An audit counts, names the first illegal pair by its number, counted from 1, and writes the line at the end.
+abbrev pub counting : Watch Counts ℕ
+counting = record {
+  Sees = λ market before pair old new text. CountsOne pair old new × (text ≡ []);
+  Rejects = λ market before pair counts number text. (number ≡ before + 1) × (text ≡ []);
+  Closes = λ market pairs counts text. text ≡ counted_line pairs counts.cleared counts.skipped;
+  Stops = λ market pairs counts number text. ⊥;
+}
+
+-- `flow audit`
+abbrev pub audit : Word (Record × Record) (Watched Counts) ℕ
+audit = over_pairs counting
+
+-- A report writes the lines of each pair under its number, counted from 1.
+abbrev pub telling : Watch (Unit {0}) ℕ
+telling = record {
+  Sees = λ market before pair old new text. IsReport market.tickers (before + 1) pair text;
+  Rejects = λ market before pair seen number text. (number ≡ before + 1) × (text ≡ []);
+  Closes = λ market pairs seen text. text ≡ [];
+  Stops = λ market pairs seen number text. ⊥;
+}
+
+-- `flow report`
+abbrev pub report : Word (Record × Record) (Watched (Unit {0})) ℕ
+report = over_pairs telling

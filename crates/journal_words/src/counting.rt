@@ -1,0 +1,113 @@
+//! What an audit counts.
+ghost use Rattle.std.specs.Prelude.{◌≡◌, ◌≢◌, ◌≤◌, ◌++◌, ◌+◌, OnOk, decimal, vec_capacity};
+ghost use Rattle.journal_words.specs.Line.{counted_line};
+ghost use Rattle.journal_words.specs.Words.{counting};
+
+use crate::on_pair::OnPair;
+use batch_audit::Audit;
+use itoa::Buffer;
+use journal_records::PairView;
+use word_driver::{Halt, Memory};
+
+// The tags of the replies that tell of a batch.
+const CLEARED: u8 = 133;
+
+const SKIPPED: u8 = 134;
+
+// As many bytes has the longest line: three numbers of 20 digits, and 34 bytes of words.
+const MOST_LINE: usize = 94;
+
+// 1 for a tag that is counted, and 0 for any other.
+fn count_of(tag: u8, counted: u8) -> u64
+    ensures one { tag ≡ counted → result ≡ 1 }
+    ensures none { tag ≢ counted → result ≡ 0 }
+{
+    if tag == counted { 1 } else { 0 }
+}
+
+// Appends a number between two texts.
+fn put_number(text: &mut Vec<u8>, before: &[u8], number: u64, after: &[u8]) -> Result<(), Memory>
+    ensures put { OnOk result (text.new.items ≡ text.old.items ++ (before.now ++ decimal number ++ after.now)) }
+    ensures room { vec_capacity text.old ≤ vec_capacity text.new }
+{
+    let mut buffer = Buffer::new();
+    text.extend_from_slice(before)?;
+    text.extend_from_slice(buffer.format(number).as_bytes())?;
+    text.extend_from_slice(after)?;
+    Ok(())
+}
+
+// Appends the line on a legal journal.
+fn put_line(text: &mut Vec<u8>, pairs: u64, cleared: u64, skipped: u64) -> Result<(), Memory>
+    ensures put { OnOk result (text.new.items ≡ text.old.items ++ counted_line pairs cleared skipped) }
+    ensures room { vec_capacity text.old ≤ vec_capacity text.new }
+{
+    put_number(text, b"legal: ", pairs, b" pairs, ")?;
+    put_number(text, b"", cleared, b" cleared, ")?;
+    put_number(text, b"", skipped, b" skipped\n")
+}
+
+/// The counts of an audit.
+#[derive(Drop)]
+pub struct Counting {
+    cleared: u64,
+    skipped: u64,
+}
+
+impl Counting {
+    /// Nothing is counted yet.
+    pub fn new() -> Counting
+        ensures within { ⟦<Counting as OnPair>⟧.is_within result 0 }
+        ensures none { ⟦<Counting as OnPair>⟧.seen result ≡ record { cleared = 0; skipped = 0 } }
+    {
+        Counting {
+            cleared: 0,
+            skipped: 0,
+        }
+    }
+}
+
+impl OnPair for Counting {
+    ghost use Rattle.journal_words.specs.Words.{Counts};
+
+    type Stop = u64;
+
+    const ROOM: usize = MOST_LINE;
+
+    ghost ROOM = { 94 };
+
+    ghost Seen = { Counts };
+
+    ghost watch = { counting };
+
+    ghost seen = { λ c. record { cleared = c.cleared; skipped = c.skipped } };
+
+    ghost is_within = { λ c pairs. (c.cleared ≤ pairs) × (c.skipped ≤ pairs) };
+
+    fn legal(
+        &mut self,
+        _audit: &Audit,
+        pair: &PairView<'_>,
+        _pairs: u64,
+        _text: &mut Vec<u8>,
+    ) -> Result<(), Memory> {
+        let tag = pair.answered().tag();
+        self.cleared += count_of(tag, CLEARED);
+        self.skipped += count_of(tag, SKIPPED);
+        Ok(())
+    }
+
+    fn illegal(
+        &mut self,
+        _audit: &Audit,
+        _pair: &PairView<'_>,
+        pairs: u64,
+        _text: &mut Vec<u8>,
+    ) -> Result<u64, Memory> {
+        Ok(pairs + 1)
+    }
+
+    fn end(&mut self, _audit: &Audit, pairs: u64, text: &mut Vec<u8>) -> Result<(), Halt<u64>> {
+        put_line(text, pairs, self.cleared, self.skipped).map_err(|_| Halt::Memory)
+    }
+}

@@ -1,0 +1,128 @@
+//! The audit of a journal as a word, with what is done with its pairs.
+ghost use Rattle.std.specs.Prelude.{◌≡◌, ◌≤◌, ◌<◌, ◌+◌, ◌^◌, ◌↔◌, ℕ, List, [], length, IsTrue, OnOk, IfErr, Some, vec_len, vec_capacity};
+ghost use Rattle.wire_records.specs.Grammars.{BeginsWith};
+ghost use Rattle.wire_records.specs.Formats.{One};
+ghost use Rattle.journal_records.specs.Formats.{journals};
+ghost use Rattle.market_core.specs.Market.{empty_market};
+ghost use Rattle.word_driver.specs.Private.{HaltsWith};
+ghost use Rattle.journal_words.specs.Watching.{SeesOne, over_pairs};
+ghost use Rattle.journal_words.specs.Private.{HasRoom};
+
+use crate::on_pair::OnPair;
+use batch_audit::{Audit, Legality};
+use file_units::Front;
+use journal_records::{PairFramed, PairView, is_journal, is_overlong, next_pair};
+use std::alloc::Global;
+use word_driver::{Halt, Memory, ServesWord};
+
+// Whether a journal stands there; its pairs can be numbered.
+fn begins(bytes: &[u8]) -> bool
+    ensures journal { IsTrue result ↔ ((body : List ℕ) × BeginsWith journals.magics bytes.now One body) }
+    ensures fits { length bytes.now < 2 ^ 64 }
+{
+    is_journal(bytes)
+}
+
+/// A word over the pairs of a journal, which it audits one after the other from the empty market.
+#[derive(Drop)]
+pub struct Pairs<P> {
+    audit: Audit,
+    pairs: u64,
+    on: P,
+}
+
+impl<P: OnPair + Drop> Pairs<P> {
+    /// An audit from the first pair on, with what is done with the pairs. Takes no memory.
+    pub fn new(alloc: Global, on: P) -> Pairs<P>
+        requires { P.is_within on 0 }
+        ensures new { ⟦<Pairs<P> as ServesWord>⟧.is_new result }
+        ensures starts { ⟦<Pairs<P> as ServesWord>⟧.start result
+            ≡ (λ version. record { market = empty_market; pairs = 0; seen = P.seen on }) }
+    {
+        Pairs {
+            audit: Audit::new(alloc),
+            pairs: 0,
+            on,
+        }
+    }
+
+    // Audits a pair, and does with it what is to be done.
+    fn take_pair(&mut self, pair: &PairView<'_>, text: &mut Vec<u8>) -> Result<(), Halt<P::Stop>>
+        requires next { self.old.audit.next_order + 1 < 2 ^ 64 }
+        requires few { self.old.pairs + 1 < 2 ^ 64 }
+        requires within { P.is_within self.old.on self.old.pairs }
+        requires empty { text.old.items ≡ [] }
+        requires none { vec_len text.old ≡ 0 }
+        requires room { P.ROOM ≤ vec_capacity text.old }
+        ensures room { vec_capacity text.old ≤ vec_capacity text.new }
+        ensures seen { OnOk result (SeesOne P.watch
+            (record { market = self.old.audit; pairs = self.old.pairs; seen = P.seen self.old.on }) pair.now
+            (record { market = self.new.audit; pairs = self.new.pairs; seen = P.seen self.new.on }) text.new.items) }
+        ensures within { OnOk result (P.is_within self.new.on self.new.pairs) }
+        ensures halted { IfErr result (λ halt. HaltsWith (over_pairs P.watch)
+            (record { market = self.old.audit; pairs = self.old.pairs; seen = P.seen self.old.on })
+            (Some pair.now) halt text.new.items) }
+    {
+        match self.audit.pair(pair) {
+            Ok(Legality::Legal) => {}
+            Ok(Legality::Illegal) => {
+                return match self.on.illegal(&self.audit, pair, self.pairs, text) {
+                    Ok(why) => Err(Halt::Stopped(why)),
+                    Err(_) => Err(Halt::Memory),
+                };
+            }
+            Err(_) => return Err(Halt::Memory),
+        }
+        match self.on.legal(&self.audit, pair, self.pairs, text) {
+            Ok(()) => {}
+            Err(_) => return Err(Halt::Memory),
+        }
+        self.pairs += 1;
+        Ok(())
+    }
+}
+
+impl<P: OnPair + Drop> ServesWord for Pairs<P> {
+    ghost use Rattle.wire_records.specs.Records.{Record};
+    ghost use Rattle.journal_words.specs.Watching.{Watched};
+
+    type Stop = P::Stop;
+
+    const ROOM: usize = P::ROOM;
+
+    ghost ROOM = { P.ROOM };
+
+    ghost Unit = { Record × Record };
+
+    ghost State = { Watched P.Seen };
+
+    ghost word = { over_pairs P.watch };
+
+    ghost is_new = { λ p. (p.audit ≡ empty_market) × (p.pairs ≡ 0) × P.is_within p.on p.pairs };
+
+    ghost start = { λ p version. record { market = empty_market; pairs = 0; seen = P.seen p.on } };
+
+    ghost state = { λ p. record { market = p.audit; pairs = p.pairs; seen = P.seen p.on } };
+
+    ghost is_ready = { λ p left. HasRoom p.audit p.pairs left × P.is_within p.on p.pairs };
+
+    fn open(&mut self, bytes: &[u8], _text: &mut Vec<u8>) -> Result<bool, Memory> {
+        Ok(begins(bytes))
+    }
+
+    fn take(&mut self, bytes: &[u8], text: &mut Vec<u8>) -> Result<Front, Halt<P::Stop>> {
+        match next_pair(bytes) {
+            PairFramed::Whole(pair, taken) => match self.take_pair(&pair, text) {
+                Ok(()) => Ok(Front::Taken(taken)),
+                Err(halt) => Err(halt),
+            },
+            PairFramed::End => Ok(Front::NoBytes),
+            PairFramed::Broken if is_overlong(bytes) => Ok(Front::Overlong),
+            PairFramed::Broken => Ok(Front::Short),
+        }
+    }
+
+    fn close(&mut self, text: &mut Vec<u8>) -> Result<(), Halt<P::Stop>> {
+        self.on.end(&self.audit, self.pairs, text)
+    }
+}

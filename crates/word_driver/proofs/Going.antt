@@ -1,0 +1,275 @@
+-- What going through the units of a file has written, to its end or to where it breaks off.
+use Rattle.std.proofs.Common.{◌≡◌, ◌+◌, ℕ, List, [], ◌∷◌, ◌++◌, Option, Some, None, Result, Ok, Err, length, take, inl, inr, append-nil, append_assoc, refl, sym, ap, ◌∙◌, arith}
+use Rattle.std.proofs.lemmas.List.{flat_map_more, take_at}
+use Rattle.std.proofs.lemmas.List.Elements.{All-push}
+use Rattle.flow_io.specs.Faults.{Blames}
+use Rattle.flow_io.specs.Streams.{Grows}
+use Rattle.flow_io.proofs.Growth.{Grows-nothing, Grows-more, GrowsByFront-more}
+use Rattle.wire_records.specs.Grammars.{spell_all}
+use Rattle.wire_records.specs.Reading as reading
+use Rattle.wire_records.proofs.ReadingLaws.{none_in_none}
+use Rattle.file_units.specs.Units.{Leads, GoesToEnd, GoesToBreak}
+use Rattle.word_driver.specs.declared.fault.Fault.{Fault}
+use Rattle.word_driver.specs.declared.fault.Fault.TheVariants.{Read, Write, Memory, NotFlow, Torn, TooLong, Stopped}
+use Rattle.word_driver.specs.Ended.{Ended}
+use Rattle.word_driver.specs.Word.{Word, Goes, ComesOn}
+use Rattle.word_driver.specs.Laws.{IsExact}
+use Rattle.word_driver.specs.Private.{Closed, Ends}
+use Rattle.word_driver.proofs.Pieces.{Writes, Breaks}
+
+-- where the count is as before, and nothing failed, nothing is to be blamed
+pub blames_nobody : {P : Type 0} (before now : ℕ) → ¬ P → now ≡ before → Blames P before now
+blames_nobody before now not same = record { later = omega (arith, same); rose = λ p. absurd (not p); quiet = λ _. same }
+
+-- the count was as before at first
+pub blames_later : {P Q : Type 0} (before middle now : ℕ) → middle ≡ before → (P → Q) → (Q → P) → Blames Q middle now → Blames P before now
+blames_later before middle now same to back cause = record {
+  later = omega (arith, same, cause.later);
+  rose = λ p. rw same at (cause.rose (to p));
+  quiet = λ not. cause.quiet (λ q. not (back q)) ∙ same;
+}
+
+-- errors are the same where their reasons are
+same_fault : (T F : Type 0) (a b : F) → ◌≡◌ {A = Result T F} (Err a) (Err b) → a ≡ b
+same_fault T F a b e = cc
+
+-- a call's fault is that of the call in it
+pub blames_fault : {T F : Type 0} (result : Result T F) (x fault why : F) (before now : ℕ) → result ≡ Err x → x ≡ fault → Blames (fault ≡ why) before now → Blames (result ≡ Err why) before now
+blames_fault {T} {F} result x fault why before now is same cause = record {
+  later = cause.later;
+  rose = λ e. cause.rose (sym same ∙ same_fault T F x why (sym is ∙ e));
+  quiet = λ not. cause.quiet (λ e. not (is ∙ ap (λ (f : F). Err f) (same ∙ e)));
+}
+
+module _ {U S B : Type 0} (w : Word U S B) where
+  -- units lead on by one more
+  pub goes_more : (old middle new : S) (units : List U) (unit : U) (text last : List ℕ) → Goes w old units middle text → w.Steps middle unit new last → Goes w old (units ++ unit ∷ []) new (text ++ last)
+  goes_more old middle new [] unit text last goes step =
+      rw (← goes.0, goes.1) (new, last, [], step, (refl, refl), sym (append-nil last))
+  goes_more old middle new (u ∷ units) unit text last goes step = (
+    goes.0,
+    goes.1,
+    goes.2 ++ last,
+    goes.3,
+    goes_more goes.0 middle new units unit goes.2 last goes.4 step,
+    ap (λ xs. xs ++ last) goes.5 ∙ append_assoc goes.1 goes.2 last,
+  )
+
+module _ {U S B O : Type 0} (w : Word U S B) (held : O → Option (List ℕ)) (faults : O → ℕ) where
+  -- What units have written, and no fault came.
+  pub record HasWritten (start : S) (units : List U) (new : S) (before after : O) : Type 0 where
+    pub text : List ℕ
+    pub goes : Goes w start units new text
+    pub written : Grows (held before) (held after) text
+    pub quiet : faults after ≡ faults before
+
+  pub has_written : (start new : S) (before after : O) (units : List U) → Leads w.format (Writes w held faults) start before units new after → HasWritten start units new before after
+  has_written start new before after [] leads = record {
+    text = [];
+    goes = (leads.0, refl);
+    written = rw leads.1 (Grows-nothing (held before));
+    quiet = ap faults leads.1;
+  }
+  has_written start new before after (unit ∷ units) leads =
+      let one = leads.2 in
+      let rest = has_written leads.0 new leads.1 after units leads.3 in
+      record {
+        text = one.text ++ rest.text;
+        goes = (leads.0, one.text, rest.text, one.step, rest.goes, refl);
+        written = Grows-more (held before) (held leads.1) (held after) one.text rest.text one.written rest.written;
+        quiet = rest.quiet ∙ one.quiet;
+      }
+
+  module _ (More : Type 0) (place : ℕ) (bytes : List ℕ) (start new : S) (before middle after : O) where
+    -- all units were taken, and no whole one is left
+    abbrev pub ToEnd : reading.Ending → Type 0
+    ToEnd ending = GoesToEnd w.format (Writes w held faults) place More bytes ending start new before middle
+
+    pub to_torn : (n : ℕ) → ToEnd (reading.Torn n) → Ends w More place bytes start (Err (Torn n)) (held before) (held middle)
+    to_torn n goes =
+        let so = has_written start new before middle goes.units goes.leads in
+        let reads = goes.reads in (
+          so.text,
+          record {
+            units = goes.units;
+            rest = reads.rest;
+            state = new;
+            so_far = so.text;
+            last = [];
+            passes = record { whole = reads.whole; each = reads.each; goes = so.goes };
+            halts = ((reads.none, reads.ends), refl);
+            writes = sym (append-nil so.text);
+          },
+          so.written,
+        )
+
+    pub to_limit : ToEnd reading.TooLong → Ends w More place bytes start (Err TooLong) (held before) (held middle)
+    to_limit goes =
+        let so = has_written start new before middle goes.units goes.leads in
+        let reads = goes.reads in (
+          so.text,
+          record {
+            units = goes.units;
+            rest = reads.rest;
+            state = new;
+            so_far = so.text;
+            last = [];
+            passes = record { whole = reads.whole; each = reads.each; goes = so.goes };
+            halts = ((reads.none, reads.ends), refl);
+            writes = sym (append-nil so.text);
+          },
+          so.written,
+        )
+
+    -- it closed, and wrote this
+    closed : (goes : ToEnd reading.End) (so : HasWritten start goes.units new before middle) (last : List ℕ) → w.Closes new last → ComesOn w More place bytes start (Ok tt) (so.text ++ last)
+    closed goes so last closes =
+        let reads = goes.reads in
+        record {
+          units = goes.units;
+          rest = reads.rest;
+          state = new;
+          so_far = so.text;
+          last = last;
+          passes = record { whole = reads.whole; each = reads.each; goes = so.goes };
+          halts = ((reads.none, reads.ends), closes);
+          writes = refl;
+        }
+
+    -- it stopped at the end
+    stopped : (goes : ToEnd reading.End) (so : HasWritten start goes.units new before middle) (why : B) (last : List ℕ) → w.Stops new None why last → ComesOn w More place bytes start (Err (Stopped why)) (so.text ++ last)
+    stopped goes so why last stops =
+        let reads = goes.reads in
+        record {
+          units = goes.units;
+          rest = reads.rest;
+          state = new;
+          so_far = so.text;
+          last = last;
+          passes = record { whole = reads.whole; each = reads.each; goes = so.goes };
+          halts = inr ((reads.none, reads.ends), stops);
+          writes = refl;
+        }
+
+    pub to_end : (result : Ended B) → ToEnd reading.End → Closed w new result (held middle) (held after) → Ends w More place bytes start result (held before) (held after)
+    to_end (Ok done) goes closes =
+        let so = has_written start new before middle goes.units goes.leads in
+        (so.text ++ closes.0, closed goes so closes.0 closes.1, Grows-more (held before) (held middle) (held after) so.text closes.0 so.written closes.2)
+    to_end (Err Write) goes closes =
+        let so = has_written start new before middle goes.units goes.leads in (
+          so.text ++ closes.0,
+          elim closes.1 [
+            | inl last ↦ inr (Ok tt, closed goes so closes.0 last)
+            | inr stops ↦ inr (Err (Stopped stops.0), stopped goes so stops.0 closes.0 stops.1)
+          ],
+          GrowsByFront-more (held before) (held middle) (held after) so.text closes.0 so.written closes.2,
+        )
+    to_end (Err Memory) goes closes =
+        let so = has_written start new before middle goes.units goes.leads in
+        let reads = goes.reads in (
+          so.text,
+          record {
+            units = goes.units;
+            rest = reads.rest;
+            state = new;
+            passes = record { whole = reads.whole; each = reads.each; goes = so.goes };
+            wants = inr ((reads.none, reads.ends), closes.0);
+          },
+          rw closes.1 so.written,
+        )
+    to_end (Err (Stopped why)) goes closes =
+        let so = has_written start new before middle goes.units goes.leads in
+        (so.text ++ closes.0, stopped goes so why closes.0 closes.1, Grows-more (held before) (held middle) (held after) so.text closes.0 so.written closes.2)
+    to_end (Err Read) goes closes = absurd closes
+    to_end (Err NotFlow) goes closes = absurd closes
+    to_end (Err (Torn n)) goes closes = absurd closes
+    to_end (Err TooLong) goes closes = absurd closes
+
+  module _ (exact : IsExact w) (More : Type 0) (place : ℕ) (bytes : List ℕ) (start : S) (before after : O) where
+    -- going through the units broke off with a fault
+    abbrev pub ToBreak : Fault B → Type 0
+    ToBreak fault = GoesToBreak w.format (Writes w held faults) (Breaks w held faults) bytes fault start before after
+
+    -- one more unit is what some first bytes come to
+    one_more : {fault : Fault B} (goes : ToBreak fault) (so : HasWritten start goes.units goes.middle before goes.between) (new : S) (text : List ℕ) → w.Steps goes.middle goes.breaks.unit new text
+        → (n : ℕ) × (ended : Ended B) × ComesOn w (Unit {0}) place (take n bytes) start ended (so.text ++ text)
+    one_more goes so new text step =
+        let off = goes.breaks in
+        let units = goes.units ++ off.unit ∷ [] in
+        let whole : bytes ≡ spell_all w.format.units units ++ off.rest =
+        goes.begins ∙ ap (λ xs. spell_all w.format.units goes.units ++ xs) off.front ∙ sym (append_assoc (spell_all w.format.units goes.units) (w.format.units.spell off.unit) off.rest)
+        ∙ ap (λ xs. xs ++ off.rest) (flat_map_more w.format.units.spell [] goes.units off.unit)
+        in (
+          length (spell_all w.format.units units),
+          Err TooLong,
+          record {
+            units = units;
+            rest = [];
+            state = new;
+            so_far = so.text ++ text;
+            last = [];
+            passes = record {
+              whole = ap (take (length (spell_all w.format.units units))) whole ∙ take_at (spell_all w.format.units units) off.rest (length (spell_all w.format.units units)) refl
+                  ∙ sym (append-nil (spell_all w.format.units units));
+              each = All-push w.format.units.IsLawful goes.units off.unit goes.each off.lawful;
+              goes = goes_more w start goes.middle new goes.units off.unit so.text text so.goes step;
+            };
+            halts = ((none_in_none w.format.units exact.readable.units, (exact.short, tt)), refl);
+            writes = sym (append-nil (so.text ++ text));
+          },
+        )
+
+    -- it stopped at the next unit
+    stopped_at : {fault : Fault B} (goes : ToBreak fault) (so : HasWritten start goes.units goes.middle before goes.between) (why : B) (last : List ℕ) → w.Stops goes.middle (Some goes.breaks.unit) why last
+        → ComesOn w More place bytes start (Err (Stopped why)) (so.text ++ last)
+    stopped_at goes so why last stops =
+        let off = goes.breaks in
+        record {
+          units = goes.units;
+          rest = goes.left;
+          state = goes.middle;
+          so_far = so.text;
+          last = last;
+          passes = record { whole = goes.begins; each = goes.each; goes = so.goes };
+          halts = inl (off.unit, off.rest, (off.lawful, off.front), stops);
+          writes = refl;
+        }
+
+    pub to_break : (fault : Fault B) → ToBreak fault → Ends w More place bytes start (Err fault) (held before) (held after)
+    to_break Write goes =
+        let so = has_written start goes.middle before goes.between goes.units goes.leads in
+        let broke = goes.breaks.broken.faults in (
+          so.text ++ broke.0,
+          elim broke.1 [
+            | inl step ↦ inl (one_more goes so step.0 broke.0 step.1)
+            | inr stops ↦ inr (Err (Stopped stops.0), stopped_at goes so stops.0 broke.0 stops.1)
+          ],
+          GrowsByFront-more (held before) (held goes.between) (held after) so.text broke.0 so.written broke.2,
+        )
+    to_break Memory goes =
+        let so = has_written start goes.middle before goes.between goes.units goes.leads in
+        let off = goes.breaks in (
+          so.text,
+          record {
+            units = goes.units;
+            rest = goes.left;
+            state = goes.middle;
+            passes = record { whole = goes.begins; each = goes.each; goes = so.goes };
+            wants = inl (off.unit, off.rest, (off.lawful, off.front), off.broken.faults.0);
+          },
+          rw off.broken.faults.1 so.written,
+        )
+    to_break (Stopped why) goes =
+        let so = has_written start goes.middle before goes.between goes.units goes.leads in
+        let broke = goes.breaks.broken.faults in
+        (so.text ++ broke.0, stopped_at goes so why broke.0 broke.1, Grows-more (held before) (held goes.between) (held after) so.text broke.0 so.written broke.2)
+    to_break Read goes = absurd goes.breaks.broken.faults
+    to_break NotFlow goes = absurd goes.breaks.broken.faults
+    to_break (Torn n) goes = absurd goes.breaks.broken.faults
+    to_break TooLong goes = absurd goes.breaks.broken.faults
+
+    -- the fault of out is to be blamed, or nothing
+    pub break_blames : (fault : Fault B) → ToBreak fault → Blames (fault ≡ Write) (faults before) (faults after)
+    break_blames fault goes =
+        let so = has_written start goes.middle before goes.between goes.units goes.leads in
+        blames_later (faults before) (faults goes.between) (faults after) so.quiet (λ e. e) (λ e. e) goes.breaks.broken.cause

@@ -1,0 +1,9 @@
+pub mod Pieces
+pub mod Going
+pub mod Ahead
+pub mod OneEnds
+mod Doing
+pub mod Tasks
+mod Whole
+pub mod Denying
+pub mod SomeEnds

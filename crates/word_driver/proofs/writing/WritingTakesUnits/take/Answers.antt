@@ -1,0 +1,13 @@
+use Rattle.std.proofs.Common.{refl}
+use Rattle.word_driver.proofs.Pieces.{taken, cut, blamed}
+use Rattle.word_driver.proofs.writing.WritingTakesUnits.take.Goals as goal
+
+pub returns-in-Ok-put-clause-taken : goal.returns-in-Ok-put-clause-taken
+returns-in-Ok-put-clause-taken g c =
+    let put = c.in-Ok-put.ensures in
+    taken g.W.ServesWord.word g.K.Sink.held g.K.Sink.faults c.in-Ok.front c.args.bytes.now _ _ c.take.new.text.items c.args.out.now c.put.new.out c.in-Ok.ensures.taken (rw c.deref.ensures.value at put.written) (rw c.deref.ensures.value at put.none) (put.cause.quiet (λ e. cc))
+
+pub returns-in-Err-put-clause-broken : goal.returns-in-Err-put-clause-broken
+returns-in-Err-put-clause-broken g c =
+    let put = c.in-Err-put.ensures in
+    cut g.W.ServesWord.word g.K.Sink.held g.K.Sink.faults c.in-Ok.front c.args.bytes.now _ _ c.take.new.text.items c.args.out.now c.put.new.out c.in-Ok.ensures.taken (rw c.deref.ensures.value at put.cut) (rw c.deref.ensures.value at put.some) (blamed _ _ refl put.cause)

@@ -1,0 +1,117 @@
+-- Words of the driver's own: what the parts of a word at work answer, and what going through units has written.
+use Rattle.std.specs.Prelude.{◌≡◌, ◌⊎◌, ◌-◌, ◌+◌, ℕ, List, [], ◌++◌, length, take, drop, Bool, true, false, Option, Some, None, Result, Ok, Err}
+use Rattle.flow_io.specs.Faults.{Blames}
+use Rattle.flow_io.specs.Streams.{Grows, GrowsByFront}
+use Rattle.flow_io.specs.Changes.{Change}
+use Rattle.wire_records.specs.Grammars.{BeginsWith, BeginsWithNone}
+use Rattle.wire_records.specs.Formats.{Version}
+use Rattle.file_units.specs.declared.walk.Front.{Front}
+use Rattle.file_units.specs.Units.{IsTaken}
+use Rattle.word_driver.specs.declared.fault.Fault.{Fault}
+use Rattle.word_driver.specs.declared.fault.Fault.TheVariants.{Read, Write, Memory, NotFlow, Torn, TooLong, Stopped}
+use Rattle.word_driver.specs.declared.fault.Halt.{Halt}
+use Rattle.word_driver.specs.declared.fault.Halt.TheVariants as halt
+use Rattle.word_driver.specs.Ended.{Ended}
+use Rattle.word_driver.specs.Word.{Word, ComesOn, LacksOn, Comes, Lacks}
+
+-- the bytes begin with the magic of this version, of eight bytes, and the word is at its start
+pub record OpensAt {U S B : Type 0} (w : Word U S B) (start : Version → S) (bytes : List ℕ) (state : S) (IsReady : ℕ → Type 0) (text : List ℕ) : Type 0 where
+  pub version : Version
+  pub magic : BeginsWith w.format.magics bytes version (drop 8 bytes)
+  pub eight : length (w.format.magics.spell version) ≡ 8
+  pub starts : state ≡ start version
+  pub opening : text ≡ w.opens version
+  pub ready : IsReady (length bytes - 8)
+
+-- by whether a magic stands there
+abbrev pub IsOpened : {U S B : Type 0} → Word U S B → (Version → S) → List ℕ → S → (ℕ → Type 0) → List ℕ → Bool → Type 0
+IsOpened w start bytes state IsReady text true = OpensAt w start bytes state IsReady text
+IsOpened w start bytes state IsReady text false = BeginsWithNone w.format.magics bytes
+
+-- the unit at the front was taken, and the buffer holds its text
+abbrev pub IsTakenBy : {U S B : Type 0} → Word U S B → Front → List ℕ → S → S → List ℕ → Type 0
+IsTakenBy w front bytes old new text = IsTaken w.format (λ old unit new (before after : List ℕ). w.Steps old unit new after) front bytes old new [] text
+
+-- what stands in the buffer where a word goes no further at a unit or at the end
+abbrev pub HaltsWith : {U S B : Type 0} → Word U S B → S → Option U → Halt B → List ℕ → Type 0
+HaltsWith w old at halt.Memory text = w.Wants old at
+HaltsWith w old at (halt.Stopped why) text = w.Stops old at why text
+
+-- it goes no further at the unit at the front
+pub record HaltsAt {U S B : Type 0} (w : Word U S B) (bytes : List ℕ) (old : S) (why : Halt B) (text : List ℕ) : Type 0 where
+  pub unit : U
+  pub rest : List ℕ
+  pub lawful : w.format.units.IsLawful unit
+  pub front : bytes ≡ w.format.units.spell unit ++ rest
+  pub halts : HaltsWith w old (Some unit) why text
+
+-- at the end
+abbrev pub IsClosed : {U S B : Type 0} → Word U S B → S → Result (Unit {0}) (Halt B) → List ℕ → Type 0
+IsClosed w old (Ok done) text = w.Closes old text
+IsClosed w old (Err why) text = HaltsWith w old None why text
+
+module _ {U S B : Type 0} (w : Word U S B) where
+  -- the text of a unit was written
+  pub record WritesStep (old : S) (unit : U) (new : S) (out : Change) : Type 0 where
+    pub text : List ℕ
+    pub step : w.Steps old unit new text
+    pub written : Grows out.before out.after text
+    pub quiet : out.faults_after ≡ out.faults
+
+  -- what was being written at a unit or at the end
+  abbrev pub IsWriting : S → Option U → List ℕ → Type 0
+  IsWriting old (Some unit) text = ((new : S) × w.Steps old unit new text) ⊎ ((why : B) × w.Stops old (Some unit) why text)
+  IsWriting old None text = w.Closes old text ⊎ ((why : B) × w.Stops old None why text)
+
+  -- why it goes no further at a unit or at the end, and what was written of it
+  abbrev pub Faults : S → Option U → Fault B → Option (List ℕ) → Option (List ℕ) → Type 0
+  Faults old at Write before after = (text : List ℕ) × IsWriting old at text × GrowsByFront before after text
+  Faults old at Memory before after = w.Wants old at × (after ≡ before)
+  Faults old at (Stopped why) before after = (text : List ℕ) × w.Stops old at why text × Grows before after text
+  Faults old at Read before after = ⊥
+  Faults old at NotFlow before after = ⊥
+  Faults old at (Torn n) before after = ⊥
+  Faults old at TooLong before after = ⊥
+
+  -- at the end of the input it closed, or went no further
+  abbrev pub Closed : S → Result (Unit {0}) (Fault B) → Option (List ℕ) → Option (List ℕ) → Type 0
+  Closed old (Ok done) before after = (text : List ℕ) × w.Closes old text × Grows before after text
+  Closed old (Err fault) before after = Faults old None fault before after
+
+  -- at a unit
+  pub record BreaksStep (old : S) (unit : U) (fault : Fault B) (out : Change) : Type 0 where
+    pub faults : Faults old (Some unit) fault out.before out.after
+    pub cause : Blames (fault ≡ Write) out.faults out.faults_after
+
+  -- some first bytes, or all, come to this text
+  abbrev pub GetsTo : Type 0 → ℕ → List ℕ → S → List ℕ → Type 0
+  GetsTo More place bytes start text =
+      ((n : ℕ) × (ended : Ended B) × ComesOn w (Unit {0}) place (take n bytes) start ended text) ⊎ ((ended : Ended B) × ComesOn w More place bytes start ended text)
+
+  -- it came to its end from a place on, and wrote this; by the end
+  abbrev pub Ends : Type 0 → ℕ → List ℕ → S → Ended B → Option (List ℕ) → Option (List ℕ) → Type 0
+  Ends More place bytes start (Ok done) before after = (text : List ℕ) × ComesOn w More place bytes start (Ok done) text × Grows before after text
+  Ends More place bytes start (Err (Torn n)) before after = (text : List ℕ) × ComesOn w More place bytes start (Err (Torn n)) text × Grows before after text
+  Ends More place bytes start (Err TooLong) before after = (text : List ℕ) × ComesOn w More place bytes start (Err TooLong) text × Grows before after text
+  Ends More place bytes start (Err (Stopped why)) before after = (text : List ℕ) × ComesOn w More place bytes start (Err (Stopped why)) text × Grows before after text
+  Ends More place bytes start (Err Write) before after = (text : List ℕ) × GetsTo More place bytes start text × GrowsByFront before after text
+  Ends More place bytes start (Err Memory) before after = (text : List ℕ) × LacksOn w More place bytes start text × Grows before after text
+  Ends More place bytes start (Err Read) before after = ⊥
+  Ends More place bytes start (Err NotFlow) before after = ⊥
+
+-- what was written where a word goes no further, by why
+abbrev pub Halted : {B : Type 0} → Halt B → List ℕ → Fault B → Option (List ℕ) → Option (List ℕ) → Type 0
+Halted halt.Memory text fault before after = (fault ≡ Memory) × (after ≡ before)
+Halted (halt.Stopped why) text fault before after = ((fault ≡ Stopped why) × Grows before after text) ⊎ ((fault ≡ Write) × GrowsByFront before after text)
+
+-- what the considered bytes came to, by the end, and what was written
+abbrev pub Finds : {U S B : Type 0} → Word U S B → (Version → S) → Type 0 → List ℕ → Ended B → Option (List ℕ) → Option (List ℕ) → Type 0
+Finds w start More bytes (Ok done) before after = (text : List ℕ) × Comes w start bytes More (Ok done) text × Grows before after text
+Finds w start More bytes (Err NotFlow) before after = (text : List ℕ) × Comes w start bytes More (Err NotFlow) text × Grows before after text
+Finds w start More bytes (Err (Torn n)) before after = (text : List ℕ) × Comes w start bytes More (Err (Torn n)) text × Grows before after text
+Finds w start More bytes (Err TooLong) before after = (text : List ℕ) × Comes w start bytes More (Err TooLong) text × Grows before after text
+Finds w start More bytes (Err (Stopped why)) before after = (text : List ℕ) × Comes w start bytes More (Err (Stopped why)) text × Grows before after text
+Finds {B} w start More bytes (Err Write) before after =
+    (text : List ℕ) × (((n : ℕ) × (ended : Ended B) × Comes w start (take n bytes) (Unit {0}) ended text) ⊎ ((ended : Ended B) × Comes w start bytes More ended text)) × GrowsByFront before after text
+Finds w start More bytes (Err Memory) before after = (text : List ℕ) × Lacks w start bytes More text × Grows before after text
+Finds w start More bytes (Err Read) before after = ⊥

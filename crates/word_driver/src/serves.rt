@@ -1,0 +1,74 @@
+//! What a word is for the driver.
+ghost use Rattle.std.specs.Prelude.{◌≡◌, ◌≤◌, ◌-◌, ℕ, [], IfOk, IfErr, length, vec_len, vec_capacity};
+ghost use Rattle.wire_records.specs.Formats.{Version};
+ghost use Rattle.file_units.specs.Units.{StaysReady};
+ghost use Rattle.word_driver.specs.Word.{Word};
+ghost use Rattle.word_driver.specs.Private.{IsOpened, IsTakenBy, HaltsAt, IsClosed};
+
+use crate::fault::Halt;
+use file_units::Front;
+use std::alloc::AllocError;
+
+/// There is no memory for what was asked.
+#[derive(Clone, Copy, PartialEq, Eq)]
+pub struct Memory;
+
+impl From<AllocError> for Memory {
+    fn from(_error: AllocError) -> Memory {
+        Memory
+    }
+}
+
+/// A word at work: it knows its state, and puts what is to be written into a buffer that the driver empties.
+pub trait ServesWord {
+    /// Why it stops, if not with its input.
+    type Stop: Copy;
+
+    /// As many bytes the buffer has room for, without more memory.
+    const ROOM: usize;
+
+    ghost ROOM: { ℕ };
+
+    ghost Unit: { Type 0 };
+
+    ghost State: { Type 0 };
+    // What it is.
+    ghost word: { Word Unit State Self.Stop };
+    // It wasn't opened yet, and where it starts.
+    ghost is_new: { Self → Type 0 };
+
+    ghost start: { Self → Version → State };
+
+    ghost state: { Self → State };
+    // It can take units while so many bytes are left.
+    ghost is_ready: { Self → ℕ → Type 0 };
+
+    /// Whether the bytes begin with a magic of the word. Then it is at its start, and the opening stands in the buffer.
+    /// It takes here the memory that it needs throughout.
+    fn open(&mut self, bytes: &[u8], text: &mut Vec<u8>) -> Result<bool, Memory>
+        requires new { is_new self.old }
+        requires empty { text.old.items ≡ [] }
+        requires room { ROOM ≤ vec_capacity text.old }
+        ensures room { vec_capacity text.old ≤ vec_capacity text.new }
+        ensures opened { IfOk result
+            (IsOpened word (start self.old) bytes.now (state self.new) (is_ready self.new) text.new.items) };
+
+    /// Takes the unit at the front of the bytes, if a whole one stands there, and puts its text into the buffer.
+    fn take(&mut self, bytes: &[u8], text: &mut Vec<u8>) -> Result<Front, Halt<Self::Stop>>
+        requires ready { is_ready self.old (length bytes.now) }
+        requires empty { text.old.items ≡ [] }
+        requires none { vec_len text.old ≡ 0 }
+        requires room { ROOM ≤ vec_capacity text.old }
+        ensures room { vec_capacity text.old ≤ vec_capacity text.new }
+        ensures taken { IfOk result
+            (λ front. IsTakenBy word front bytes.now (state self.old) (state self.new) text.new.items) }
+        ensures stays { IfOk result (λ front. StaysReady (is_ready self.new) front (length bytes.now)) }
+        ensures halted { IfErr result (λ halt. HaltsAt word bytes.now (state self.old) halt text.new.items) };
+
+    /// Ends with the input, and puts what is to be written then into the buffer.
+    fn close(&mut self, text: &mut Vec<u8>) -> Result<(), Halt<Self::Stop>>
+        requires empty { text.old.items ≡ [] }
+        requires room { ROOM ≤ vec_capacity text.old }
+        ensures room { vec_capacity text.old ≤ vec_capacity text.new }
+        ensures closed { IsClosed word (state self.old) result text.new.items };
+}
