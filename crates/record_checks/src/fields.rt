@@ -39,9 +39,7 @@ pub(crate) fn bytes_of(alloc: Global, field: &str) -> Option<Vec<u8>> {
 pub(crate) fn text_of(alloc: Global, field: &str) -> Option<Vec<u8>> {
     let mut bytes = Vec::new(alloc);
     if field != NONE {
-        percent_decode(field.as_bytes())
-            .append_to(&mut bytes)
-            .ok()?;
+        percent_decode(field.as_bytes()).append_to(&mut bytes).ok()?;
     }
     Some(bytes)
 }
@@ -65,9 +63,7 @@ pub(crate) fn numbers_of(alloc: Global, field: &str) -> Option<Vec<i64>> {
 
 fn add_fill(fill: &str, fills: &mut Vec<(u64, u32)>) -> Option<()> {
     let (order, rate) = fill.split_once(':')?;
-    fills
-        .push((order.parse().ok()?, rate.parse().ok()?))
-        .ok()
+    fills.push((order.parse().ok()?, rate.parse().ok()?)).ok()
 }
 
 fn add_fills(field: &str, fills: &mut Vec<(u64, u32)>) -> Option<()> {
