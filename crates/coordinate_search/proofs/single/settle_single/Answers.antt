@@ -1,6 +1,9 @@
-use Rattle.std.proofs.Common.{◌∙◌}
-use Rattle.coordinate_search.proofs.Settling.{one_more_settled, AreSettled-all, kept}
+use Rattle.std.proofs.Common.{◌∙◌, refl}
+use Rattle.coordinate_search.proofs.Settling.{none_settled, one_more_settled, AreSettled-all, kept}
 use Rattle.coordinate_search.proofs.single.settle_single.Goals as goal
+
+pub loop-asset-init : goal.loop-asset-init
+loop-asset-init c = (refl, none_settled _ c.requires.single c.prices.ensures.priced.each _ c.requires.start)
 
 pub loop-asset-preserved : goal.loop-asset-preserved
 loop-asset-preserved c =
