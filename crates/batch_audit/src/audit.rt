@@ -16,7 +16,7 @@ use std::marker::Model;
 use wire_records::{CommandView, Memory, RecordView, Reply};
 
 /// Whether a pair is legal.
-#[derive(Clone, Copy, Debug, PartialEq, Eq)]
+#[derive(Clone, Copy, PartialEq, Eq)]
 pub enum Legality {
     /// It is a step of the audit's market, which has made it.
     Legal,

@@ -15,7 +15,5 @@
 mod audit;
 pub mod laws;
 mod outcomes;
-#[cfg(test)]
-mod tests;
 
 pub use audit::{Audit, Legality};

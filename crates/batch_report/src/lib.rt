@@ -14,8 +14,6 @@ mod batches;
 pub mod laws;
 mod plain;
 mod report;
-#[cfg(test)]
-mod tests;
 mod words;
 
 pub use report::report_pair;

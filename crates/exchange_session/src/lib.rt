@@ -5,7 +5,5 @@
 
 mod batch;
 mod session;
-#[cfg(test)]
-mod tests;
 
 pub use session::Session;

@@ -14,8 +14,6 @@ mod line;
 mod report;
 mod run;
 mod status;
-#[cfg(test)]
-mod tests;
 mod top;
 
 pub use form::Form;

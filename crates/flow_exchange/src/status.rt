@@ -7,7 +7,7 @@ use line_records::EncodeFault;
 
 /// How the program ends. Each status has one exit number and one line on standard error, but for
 /// `Done`, which has none.
-#[derive(Clone, Copy, Debug, PartialEq, Eq)]
+#[derive(Clone, Copy, PartialEq, Eq)]
 pub enum Status {
     /// All was done.
     Done,

@@ -32,7 +32,7 @@ pub struct Audited {
 }
 
 /// Why an audit of pairs breaks off.
-#[derive(Clone, Copy, Debug, PartialEq, Eq)]
+#[derive(Clone, Copy, PartialEq, Eq)]
 pub enum PairFault {
     /// The pair of this number, counted from 1, isn't legal, and all before it are.
     Illegal(u64),

@@ -12,8 +12,6 @@
 mod auditing;
 pub mod laws;
 mod replaying;
-#[cfg(test)]
-mod tests;
 
 pub use auditing::{Audited, PairFault, audit_pairs};
 pub use replaying::{ReplayFault, replay};

@@ -12,7 +12,5 @@ pub mod laws;
 mod market;
 mod orders;
 mod prices;
-#[cfg(test)]
-mod tests;
 
 pub use market::Market;

@@ -1,0 +1,53 @@
+//! Records, as far as their framing goes.
+ghost use Rattle.std.specs.Prelude.{◌≤◌, ◌<◌, length};
+
+use std::alloc::Global;
+
+// A tag and a length have so many bytes.
+const HEAD: usize = 5;
+
+// How many bytes the first record takes, or all of them where it isn't whole.
+fn record_len(bytes: &[u8]) -> usize
+    ensures within { result ≤ length bytes.now }
+    ensures some { 0 < length bytes.now → 0 < result }
+{
+    if bytes.len() < HEAD {
+        return bytes.len();
+    }
+    let body = u32::from_be_bytes([bytes[1], bytes[2], bytes[3], bytes[4]]);
+    bytes.len().min(HEAD + body as usize)
+}
+
+// How many bytes the first two records take, in the same way.
+fn pair_len(bytes: &[u8]) -> usize
+    ensures within { result ≤ length bytes.now }
+    ensures some { 0 < length bytes.now → 0 < result }
+{
+    let first = record_len(bytes);
+    first + record_len(&bytes[first..])
+}
+
+/// The records that stand one behind the other, whatever they hold. The last one may not be whole. `None` where there is no
+/// memory for the list.
+pub fn records(alloc: Global, bytes: &[u8]) -> Option<Vec<&[u8]>> {
+    let mut records = Vec::new(alloc);
+    let mut rest = bytes;
+    while !rest.is_empty() {
+        let (record, behind) = rest.split_at(record_len(rest));
+        records.push(record).ok()?;
+        rest = behind;
+    }
+    Some(records)
+}
+
+/// The same, two records at a time.
+pub fn pairs(alloc: Global, bytes: &[u8]) -> Option<Vec<&[u8]>> {
+    let mut pairs = Vec::new(alloc);
+    let mut rest = bytes;
+    while !rest.is_empty() {
+        let (pair, behind) = rest.split_at(pair_len(rest));
+        pairs.push(pair).ok()?;
+        rest = behind;
+    }
+    Some(pairs)
+}

@@ -1,0 +1,57 @@
+//! What a case asks for.
+use std::alloc::Global;
+
+// The words of the command line, and what the options say.
+#[derive(Drop)]
+pub(crate) struct Asked {
+    pub(crate) words: Vec<String>,
+    pub(crate) limit: Option<u64>,
+    pub(crate) piece: u64,
+    // The calls that fail, counted from 1, and 0 where none does.
+    pub(crate) read: u64,
+    pub(crate) out: u64,
+    pub(crate) notes: u64,
+    pub(crate) rows: u64,
+}
+
+impl Asked {
+    // No words, and what holds without options.
+    pub(crate) fn new(alloc: Global) -> Asked {
+        Asked {
+            words: Vec::new(alloc),
+            limit: None,
+            piece: 65_536,
+            read: 0,
+            out: 0,
+            notes: 0,
+            rows: 64,
+        }
+    }
+
+    // Takes a word, or sets what an option says.
+    pub(crate) fn add(&mut self, alloc: Global, word: &str) -> Option<()> {
+        match word.split_once('=') {
+            Some((name, number)) => self.set(name, number.parse().ok()?),
+            None => self.add_word(alloc, word),
+        }
+    }
+
+    fn add_word(&mut self, alloc: Global, word: &str) -> Option<()> {
+        let text = if word == "''" { "" } else { word };
+        let word = String::from_str(alloc, text).ok()?;
+        self.words.push(word).ok()
+    }
+
+    fn set(&mut self, name: &str, number: u64) -> Option<()> {
+        match name {
+            "limit" => self.limit = Some(number),
+            "piece" => self.piece = number,
+            "read" => self.read = number,
+            "out" => self.out = number,
+            "notes" => self.notes = number,
+            "rows" => self.rows = number,
+            _ => return None,
+        }
+        Some(())
+    }
+}

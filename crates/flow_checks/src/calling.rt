@@ -1,0 +1,80 @@
+//! A call, over a source and sinks in memory.
+use crate::asked::Asked;
+use crate::telling::{put_end, put_out};
+use flow_exchange::{Status, flow, flow_limited};
+use flow_io::{MemorySink, MemorySource, read_all};
+use std::alloc::Global;
+
+// More bytes than a case writes to out, and than it has on notes.
+const MOST_OUT: usize = 1 << 21;
+
+const MOST_NOTES: usize = 64;
+
+// The call that fails, if one does.
+fn failing(alloc: Global, call: u64) -> Option<Vec<u64>> {
+    let mut calls = Vec::new(alloc);
+    if call > 0 {
+        calls.push(call).ok()?;
+    }
+    Some(calls)
+}
+
+// Makes the call that is asked for.
+fn call(
+    alloc: Global,
+    asked: &Asked,
+    source: &mut MemorySource,
+    out: &mut MemorySink,
+    notes: &mut MemorySink,
+) -> Status {
+    match asked.limit {
+        Some(limit) => flow_limited(alloc, &asked.words, limit, source, out, notes),
+        None => flow(alloc, &asked.words, source, out, notes),
+    }
+}
+
+// How many bytes are left in the source, where nothing was to be read.
+fn left_in(alloc: Global, status: Status, source: &mut MemorySource) -> Option<Option<usize>> {
+    match status {
+        Status::Usage => Some(Some(read_all(alloc, source, 1 << 20).ok()?.bytes.len())),
+        _ => Some(None),
+    }
+}
+
+// Makes the call with these sinks, and appends what it comes to.
+fn put_call_with(
+    alloc: Global,
+    asked: &Asked,
+    source: &mut MemorySource,
+    out: &mut MemorySink,
+    notes: &mut MemorySink,
+    rows: &mut String,
+) -> Option<()> {
+    let status = call(alloc, asked, source, out, notes);
+    let left = left_in(alloc, status, source)?;
+    put_end(status.exit(), out.bytes().len(), left, notes.bytes(), rows)?;
+    put_out(alloc, out.bytes(), asked.rows as usize, rows)
+}
+
+// Makes the source and the sinks that are asked for, and the call with them.
+fn put_call_of(alloc: Global, asked: &Asked, input: Vec<u8>, rows: &mut String) -> Option<()> {
+    let piece = asked.piece.max(1) as usize;
+    let mut source = MemorySource::new(input, piece, failing(alloc, asked.read)?);
+    let mut out = MemorySink::new(alloc, MOST_OUT, failing(alloc, asked.out)?).ok()?;
+    let mut notes = MemorySink::new(alloc, MOST_NOTES, failing(alloc, asked.notes)?).ok()?;
+    put_call_with(alloc, asked, &mut source, &mut out, &mut notes, rows)
+}
+
+// Appends what the call of a case comes to.
+pub(crate) fn put_call(
+    alloc: Global,
+    words: &str,
+    input: Vec<u8>,
+    rows: &mut String,
+) -> Option<()> {
+    let mut asked = Asked::new(alloc);
+    for word in words.split_whitespace() {
+        asked.add(alloc, word)?;
+    }
+    put_call_of(alloc, &asked, input, rows)
+}

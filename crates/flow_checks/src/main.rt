@@ -1,0 +1,77 @@
+//! Whole calls of the exchange over a source and sinks in memory: a call on each line of standard input, and what it comes
+//! to on standard output. A case more costs no proof.
+//!
+//! A line is a remark, a name for bytes, or a case, as `check_lines` says; remarks are passed on as they are. A case is
+//! `WORDS OPTIONS: PIECES`: the words of the command line, with `''` for an empty one, and the bytes of the input. An option
+//! is a name, `=` and a number:
+//!
+//! | option | what it says |
+//! |---|---|
+//! | `limit=N` | the most bytes of input that are considered; without it `flow` is called, and with it `flow_limited` |
+//! | `piece=N` | a read gives at most so many bytes; else 65,536 |
+//! | `read=N`, `out=N`, `notes=N` | the read, the write to out or the write to notes that fails, counted from 1 |
+//! | `rows=N` | of the records in out only the last N are told; else 64 |
+//!
+//! A write that fails writes the first half of its bytes. So
+//!
+//! ```text
+//! let account = 02 00000000
+//! run limit=40 rows=2: 'FLOWCMD1' 3x$account
+//! ```
+//!
+//! runs a command file of three accounts. Printed are words and options, the number that the program would exit with, how
+//! many bytes stand in out, for a faulty command line how many are left in the source, and the line on notes, if there is
+//! one. Then come the rows of out: lines where it is a text, and else its magic and its records.
+//!
+//! ```text
+//! run limit=40 rows=2: 0, 50 bytes
+//!   FLOWJNL1
+//!   02 00000000
+//!   82 00000004 00000003
+//! ```
+//!
+//! The case `statuses:` is no call: it prints the number and the line of each way in which the program can end, with 1 for
+//! what is counted there.
+//!
+//! What stands in `stdout` comes from the formats of the files and the rules of the market, by hand; the numbers of batches
+//! are computed outside.
+#![tactic(auto)]
+
+mod asked;
+mod calling;
+mod statuses;
+mod telling;
+
+use check_lines::{Line, Names};
+use std::alloc::Global;
+use std::io;
+
+// What a case comes to, or `None` where it is faulty or there is no memory.
+fn told_of(alloc: Global, words: &str, input: Vec<u8>) -> Option<String> {
+    let mut rows = format!(in alloc; "{words}:").ok()?;
+    match words {
+        "statuses" => statuses::put_all(alloc, &mut rows)?,
+        _ => calling::put_call(alloc, words, input, &mut rows)?,
+    }
+    Some(rows)
+}
+
+// What a line comes to, in the same way.
+fn told(alloc: Global, names: &mut Names, line: &str) -> Option<String> {
+    match names.read(line)? {
+        Line::Remark => format!(in alloc; "{line}\n").ok(),
+        Line::Named => Some(String::new(alloc)),
+        Line::Case(words, input) => told_of(alloc, words, input),
+    }
+}
+
+fn main(rt: HostRuntime) -> io::Result<()> {
+    let mut names = Names::new(rt.alloc());
+    for line in rt.lines(rt.alloc()) {
+        match told(rt.alloc(), &mut names, line?.as_str()) {
+            Some(rows) => print!(rt; "{rows}")?,
+            None => println!(rt; "not done")?,
+        }
+    }
+    Ok(())
+}

@@ -1,0 +1,40 @@
+//! How the end of a call is told, and what stands in out.
+use check_lines::{put_file, put_text};
+use std::alloc::Global;
+
+// Appends the line on notes, if there is one.
+pub(crate) fn put_line(notes: &[u8], rows: &mut String) -> Option<()> {
+    if notes.is_empty() {
+        return Some(());
+    }
+    let line = match str::from_utf8(notes).ok()?.strip_suffix('\n') {
+        Some(line) => line,
+        None => "a line that is cut",
+    };
+    write!(rows, ", {line}").ok()
+}
+
+// Appends the number of the status, how much stands in out and is left in the source, and the line on notes.
+pub(crate) fn put_end(
+    exit: u8,
+    written: usize,
+    left: Option<usize>,
+    notes: &[u8],
+    rows: &mut String,
+) -> Option<()> {
+    write!(rows, " {exit}, {written} bytes").ok()?;
+    if let Some(left) = left {
+        write!(rows, ", {left} left").ok()?;
+    }
+    put_line(notes, rows)?;
+    rows.push('\n').ok()
+}
+
+// Appends the rows of what stands in out, a file or a text.
+pub(crate) fn put_out(alloc: Global, out: &[u8], most: usize, rows: &mut String) -> Option<()> {
+    if out.starts_with(b"FLOW") {
+        put_file(alloc, out, most, rows)
+    } else {
+        put_text(out, rows)
+    }
+}

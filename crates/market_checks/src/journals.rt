@@ -1,0 +1,65 @@
+//! Journals as a whole.
+use crate::state::put_market;
+use file_units::Ending;
+use journal_replay::{Audited, PairFault, ReplayFault, audit_pairs, replay};
+use std::alloc::Global;
+
+fn put_ending(ending: Ending, rows: &mut String) -> Option<()> {
+    match ending {
+        Ending::End => rows.push_str("  end").ok(),
+        Ending::Torn(place) => write!(rows, "  torn at {place}").ok(),
+        Ending::TooLong => rows.push_str("  more").ok(),
+    }
+}
+
+// Appends what was found where all pairs are legal.
+fn put_found(alloc: Global, found: &Audited, rows: &mut String) -> Option<()> {
+    put_ending(found.ending, rows)?;
+    let pairs = found.pairs;
+    let cleared = found.cleared;
+    let skipped = found.skipped;
+    write!(
+        rows,
+        ": {pairs} pairs, {cleared} cleared, {skipped} skipped\n"
+    )
+    .ok()?;
+    put_market(alloc, &found.market, rows)
+}
+
+// Audits the pairs behind the magic, and appends what was found.
+pub(crate) fn put_counted(
+    alloc: Global,
+    journal: &[u8],
+    more: bool,
+    rows: &mut String,
+) -> Option<()> {
+    if journal.len() < 8 {
+        return None;
+    }
+    match audit_pairs(alloc, journal, 8, more) {
+        Ok(found) => put_found(alloc, &found, rows),
+        Err(PairFault::Illegal(number)) => write!(rows, "  illegal {number}\n").ok(),
+        Err(PairFault::Memory) => None,
+    }
+}
+
+// Appends the market of a journal, or why there is none.
+pub(crate) fn put_replayed(alloc: Global, journal: &[u8], rows: &mut String) -> Option<()> {
+    match replay(alloc, journal) {
+        Ok(market) => put_market(alloc, &market, rows),
+        Err(fault) => write!(rows, "  {fault}\n").ok(),
+    }
+}
+
+// Appends the texts of the faults.
+pub(crate) fn put_faults(number: u64, rows: &mut String) -> Option<()> {
+    for fault in [
+        ReplayFault::NotJournal,
+        ReplayFault::Torn(number),
+        ReplayFault::Illegal(number),
+        ReplayFault::Memory,
+    ] {
+        write!(rows, "  {fault}\n").ok()?;
+    }
+    Some(())
+}
