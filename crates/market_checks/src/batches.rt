@@ -53,22 +53,19 @@ fn put_row(market: &Market, rows: &mut String) -> Option<()> {
 }
 
 // Holds so many batches, and appends the row.
-fn put_held(market: &mut Market, outcome: &Outcome, count: u32, rows: &mut String) -> Option<()>
-    requires { (m : market_value) → MaySettle m outcome.now }
-{
+fn put_held(alloc: Global, market: &mut Market, count: u32, rows: &mut String) -> Option<()> {
     if count > MOST_BATCHES {
         return None;
     }
-    hold(market, outcome, count);
+    hold(market, &skipped(alloc), count);
     put_row(market, rows)
 }
 
 // Holds batches up to each of the counts, and appends its row.
 pub(crate) fn put_allowed(alloc: Global, counts: &str, rows: &mut String) -> Option<()> {
     let mut market = Market::new(alloc);
-    let outcome = skipped(alloc);
     for count in counts.split_whitespace() {
-        put_held(&mut market, &outcome, count.parse().ok()?, rows)?;
+        put_held(alloc, &mut market, count.parse().ok()?, rows)?;
     }
     Some(())
 }

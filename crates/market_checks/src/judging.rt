@@ -4,16 +4,21 @@ use crate::state::put_market;
 use batch_audit::{Audit, Legality};
 use batch_report::report_pair;
 use check_lines::{pairs, put_text};
-use journal_records::{PairFramed, next_pair};
+use journal_records::{PairFramed, PairView, next_pair};
 use std::alloc::Global;
 
-// Appends whether the pair is legal.
-fn put_legality(audit: &mut Audit, pair: &[u8], rows: &mut String) -> Option<()> {
+// Whether the pair is legal.
+fn judge(audit: &mut Audit, pair: &PairView<'_>) -> Option<Legality> {
     if audit.market().next_number() >= MANY {
         return None;
     }
+    audit.pair(pair).ok()
+}
+
+// Appends whether the pair that these bytes are is legal.
+fn put_legality(audit: &mut Audit, pair: &[u8], rows: &mut String) -> Option<()> {
     let legality = match next_pair(pair) {
-        PairFramed::Whole(pair, _) => audit.pair(&pair).ok()?,
+        PairFramed::Whole(pair, _) => judge(audit, &pair)?,
         _ => return None,
     };
     match legality {
@@ -22,18 +27,23 @@ fn put_legality(audit: &mut Audit, pair: &[u8], rows: &mut String) -> Option<()>
     }
 }
 
-// Appends the text of the pair, which is legal.
-fn report(audit: &mut Audit, pair: &[u8], number: u64, text: &mut Vec<u8>) -> Option<()> {
+// Appends the text of the pair, which has to be legal.
+fn report(audit: &mut Audit, pair: &PairView<'_>, number: u64, text: &mut Vec<u8>) -> Option<()> {
     if audit.market().next_number() >= MANY {
         return None;
     }
-    let PairFramed::Whole(pair, _) = next_pair(pair) else {
-        return None;
-    };
-    if audit.pair(&pair).ok()? != Legality::Legal {
-        return None;
+    match audit.pair(pair).ok()? {
+        Legality::Legal => report_pair(audit, pair, number, text).ok(),
+        Legality::Illegal => None,
     }
-    report_pair(audit, &pair, number, text).ok()
+}
+
+// The same, of the pair that these bytes are.
+fn report_one(audit: &mut Audit, pair: &[u8], number: u64, text: &mut Vec<u8>) -> Option<()> {
+    match next_pair(pair) {
+        PairFramed::Whole(pair, _) => report(audit, &pair, number, text),
+        _ => None,
+    }
 }
 
 // Judges each pair. Then come the rows of the market.
@@ -52,7 +62,7 @@ pub(crate) fn put_report(alloc: Global, bytes: &[u8], rows: &mut String) -> Opti
     let mut audit = Audit::new(alloc);
     let mut text = Vec::new(alloc);
     for (place, pair) in pairs(alloc, bytes)?.iter().enumerate() {
-        report(&mut audit, pair, place as u64 + 1, &mut text)?;
+        report_one(&mut audit, pair, place as u64 + 1, &mut text)?;
     }
     put_text(&text, rows)
 }

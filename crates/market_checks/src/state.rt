@@ -3,13 +3,17 @@ use flow_accounts::Accounts;
 use market_core::Market;
 use residual_account::ResidualAccount;
 use std::alloc::Global;
+use ticker_table::TickerTable;
 
-fn put_tickers(market: &Market, rows: &mut String) -> Option<()> {
+fn put_ticker(ticker: &[u8; 8], rows: &mut String) -> Option<()> {
+    let name = str::from_utf8(ticker).ok()?.trim_end();
+    write!(rows, " {name}").ok()
+}
+
+fn put_tickers(tickers: &TickerTable, rows: &mut String) -> Option<()> {
     rows.push_str("  tickers").ok()?;
-    for asset in 0..market.tickers().len() {
-        let ticker = market.tickers().ticker(asset)?;
-        let name = str::from_utf8(&ticker).ok()?;
-        write!(rows, " {}", name.trim_end()).ok()?;
+    for asset in 0..tickers.len() {
+        put_ticker(&tickers.ticker(asset)?, rows)?;
     }
     rows.push('\n').ok()
 }
@@ -53,7 +57,7 @@ fn put_orders(market: &Market, rows: &mut String) -> Option<()> {
 
 // Appends the rows of a market.
 pub(crate) fn put_market(alloc: Global, market: &Market, rows: &mut String) -> Option<()> {
-    put_tickers(market, rows)?;
+    put_tickers(market.tickers(), rows)?;
     put_prices(alloc, market, rows)?;
     for account in 0..market.accounts().count() {
         put_account(market.accounts(), account + 1, rows)?;
