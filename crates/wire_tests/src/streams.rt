@@ -10,13 +10,7 @@ use std::process::Abort;
 use std::test::Fail;
 
 // Whether all up to a limit is this, and whether there is more.
-fn reads<S: Source>(
-    alloc: Global,
-    source: &mut S,
-    limit: u64,
-    want: &[u8],
-    more: bool,
-) -> bool {
+fn reads<S: Source>(alloc: Global, source: &mut S, limit: u64, want: &[u8], more: bool) -> bool {
     match read_all(alloc, source, limit) {
         Ok(input) => input.bytes.as_slice() == want && input.more == more,
         Err(_) => false,
@@ -34,7 +28,10 @@ fn reads_both<S: Source>(
     left: &[u8],
 ) {
     assert!(rt; reads(alloc, source, limit, want, more), "up to {limit}");
-    assert!(rt; reads(alloc, source, 1000, left, false), "left after {limit}");
+    assert!(rt;
+        reads(alloc, source, 1000, left, false),
+        "left after {limit}"
+    );
 }
 
 // Ten bytes: the limit, how many come, whether there are more, and how many are then left.
