@@ -1,5 +1,5 @@
 //! Batches from orders and start prices to their outcomes.
-use crate::orders::{BUYER, FILLED, Placed, SELLER, STEEP, are_priced, orders_of};
+use crate::orders::{BUYER, FILLED, Placed, SELLER, STEEP, TOP, are_priced, are_starts, orders_of};
 use batch_certificate::Outcome;
 use batch_engine::clear;
 use flow_orders::Order;
@@ -9,13 +9,11 @@ use std::test::Fail;
 // Prices, rates, residuals and gap.
 type Cleared<'a> = (&'a [i64], &'a [u32], &'a [i64], i128);
 
-const TOP: i64 = 1 << 60;
-
 // The outcome, or None where a batch can't be of these orders and prices, or there is no memory.
 fn outcome(alloc: Global, orders: &[Order], start: &[i64], budget: u32) -> Option<Outcome> {
     if orders.len() > 16_384
         || start.len() > 64
-        || !start.iter().all(|price| -TOP <= *price && *price <= TOP)
+        || !are_starts(start)
         || !are_priced(orders, start)
         || budget == 0
         || budget > 65_536

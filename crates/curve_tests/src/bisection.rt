@@ -2,6 +2,7 @@
 ghost use Rattle.std.specs.Prelude.{int_le};
 
 use single_bisect::{Probe, greatest_true, least_true};
+use std::process::Abort;
 use std::test::Fail;
 
 /// Answers yes from `turn` on.
@@ -56,30 +57,43 @@ const CASES: [(i64, i64, i64, u64); 10] = [
     (END - 3, END, END - 2, 2),
 ];
 
+// Sees to it that a case can be, and that the least place with a yes is found.
+fn finds_least(rt: &impl Abort, case: (i64, i64, i64, u64)) {
+    let (low, high, before, asks) = case;
+    assert!(rt; low >= -END && low <= before && before < high && high <= END);
+    let mut probe = From {
+        turn: before + 1,
+        asks: 7,
+    };
+    assert_eq!(rt;
+        least_true(&mut probe, low, high),
+        before + 1,
+        "from {before}"
+    );
+    assert!(rt; probe.asks - 7 <= asks, "asks from {before}");
+}
+
+// The same for the greatest one.
+fn finds_greatest(rt: &impl Abort, case: (i64, i64, i64, u64)) {
+    let (low, high, before, asks) = case;
+    assert!(rt; low >= -END && low <= before && before < high && high <= END);
+    let mut probe = UpTo {
+        turn: before,
+        asks: 7,
+    };
+    assert_eq!(rt;
+        greatest_true(&mut probe, low, high),
+        before,
+        "up to {before}"
+    );
+    assert!(rt; probe.asks - 7 <= asks, "asks up to {before}");
+}
+
 #[test]
 fn finds_where_the_answer_turns(rt: HostRuntime) -> Result<(), Fail> {
-    for (low, high, before, asks) in CASES {
-        assert!(rt; low >= -END && low <= before && before < high && high <= END);
-        let mut probe = From {
-            turn: before + 1,
-            asks: 7,
-        };
-        assert_eq!(rt;
-            least_true(&mut probe, low, high),
-            before + 1,
-            "from {before}"
-        );
-        assert!(rt; probe.asks - 7 <= asks, "asks from {before}");
-        let mut probe = UpTo {
-            turn: before,
-            asks: 7,
-        };
-        assert_eq!(rt;
-            greatest_true(&mut probe, low, high),
-            before,
-            "up to {before}"
-        );
-        assert!(rt; probe.asks - 7 <= asks, "asks up to {before}");
+    for case in CASES {
+        finds_least(&rt, case);
+        finds_greatest(&rt, case);
     }
     Ok(())
 }

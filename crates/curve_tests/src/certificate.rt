@@ -6,7 +6,7 @@ ghost use Rattle.flow_orders.specs.Orders.{terms_of};
 ghost use Rattle.flow_orders.specs.Excess.{price_for};
 ghost use Rattle.flow_orders.specs.Trades.{trades};
 
-use crate::orders::{BASKET, BUYER, FILLED, SELLER, STEEP, are_priced, orders_of};
+use crate::orders::{BASKET, BUYER, FILLED, SELLER, STEEP, are_priced, are_prices, orders_of};
 use batch_certificate::{Cleared, PriceList, RateList, certify};
 use flow_orders::Order;
 use std::alloc::Global;
@@ -46,7 +46,7 @@ fn certified(alloc: Global, orders: &[Order], prices: &[i64], rates: &[u32]) -> 
     if orders.len() > 16_384
         || prices.len() > 64
         || rates.len() != orders.len()
-        || !prices.iter().all(|price| price.unsigned_abs() <= 1 << 62)
+        || !are_prices(prices)
         || !are_priced(orders, prices)
         || !are_roundings(orders, prices, rates)
     {

@@ -1,5 +1,5 @@
 //! The excess of assets, as prices move.
-use crate::orders::{Placed, SELLER, are_priced, orders_of};
+use crate::orders::{Placed, SELLER, are_priced, are_prices, orders_of};
 use excess_bounds::{Excess, Workspace};
 use flow_orders::Order;
 use std::alloc::Global;
@@ -9,7 +9,7 @@ use std::test::Fail;
 fn workspace<'a>(alloc: Global, orders: &'a [Order], prices: &[i64]) -> Option<Workspace<'a>> {
     if orders.len() > 16_384
         || prices.len() > 64
-        || !prices.iter().all(|price| price.unsigned_abs() <= 1 << 62)
+        || !are_prices(prices)
         || !are_priced(orders, prices)
     {
         return None;

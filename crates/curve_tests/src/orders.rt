@@ -1,6 +1,7 @@
 //! The orders that are placed, and whether prices may price them.
-ghost use Rattle.std.specs.Prelude.{◌≤◌, length, IsTrue, All};
+ghost use Rattle.std.specs.Prelude.{◌≤◌, ◌^◌, length, IsTrue, All};
 ghost use Rattle.weight_rows.specs.Rows.{IsPrice, IsPricedBy};
+ghost use Rattle.demand_curve.specs.Demand.{IsWithin};
 ghost use Rattle.flow_orders.specs.Orders.{most_orders};
 ghost use Rattle.flow_orders.specs.Residuals.{most_prices};
 
@@ -11,6 +12,9 @@ use weight_rows::{Entry, EntryList, WeightRow, row_fault};
 
 // Limits in ticks, rate and cap, how much is filled, and the assets with their weights.
 pub type Placed<'a> = ((i64, i64), (u32, u64), u32, &'a [(u16, i32)]);
+
+// The farthest price at which a search may begin, in grains.
+pub const TOP: i64 = 1 << 60;
 
 pub const BUYER: Placed<'static> = ((90, 110), (1000, 10_000), 0, &[(0, 1)]);
 
@@ -85,6 +89,20 @@ pub fn are_priced(orders: &[Order], prices: &[i64]) -> bool
     orders.iter().all(|order| is_priced(order, prices))
 }
 
+// Whether no price is more than 2^62 grains away from 0.
+pub fn are_prices(prices: &[i64]) -> bool
+    ensures { IsTrue result → All IsPrice prices.now }
+{
+    prices.iter().all(|price| price.unsigned_abs() <= 1 << 62)
+}
+
+// Whether a search may begin at these prices.
+pub fn are_starts(prices: &[i64]) -> bool
+    ensures { IsTrue result → All (IsWithin (2 ^ 60)) prices.now }
+{
+    prices.iter().all(|price| -TOP <= *price && *price <= TOP)
+}
+
 // Sees to it that these prices may price the orders.
 pub fn may_price(rt: &impl Abort, orders: &[Order], prices: &[i64])
     ensures few { length orders.now ≤ most_orders }
@@ -94,6 +112,6 @@ pub fn may_price(rt: &impl Abort, orders: &[Order], prices: &[i64])
 {
     assert!(rt; orders.len() <= 16_384);
     assert!(rt; prices.len() <= 64);
-    assert!(rt; prices.iter().all(|price| price.unsigned_abs() <= 1 << 62));
+    assert!(rt; are_prices(prices));
     assert!(rt; are_priced(orders, prices));
 }

@@ -1,6 +1,8 @@
-//! Rates of orders, each the demand rounded down, and those that are chosen.
+//! Rates of orders: demands rounded down, and roundings that are chosen.
 use crate::orders::{BASKET, BUYER, Placed, SELLER, may_price, orders_of};
 use rate_rounding::{chosen_rates, floor_rates};
+use std::alloc::Global;
+use std::process::Abort;
 use std::test::Fail;
 
 // A buyer and a seller of asset 0, a pair of the assets 0 and 3, and a buyer of asset 3 who may trade one unit.
@@ -31,8 +33,10 @@ fn rounds_demands_down(rt: HostRuntime) -> Result<(), Fail> {
     Ok(())
 }
 
-// A buyer who may trade one unit, and a seller.
-const LAST: [Placed<'static>; 2] = [((90, 110), (1000, 1), 0, &[(0, 1)]), SELLER];
+const PAIR: [Placed<'static>; 2] = [BUYER, SELLER];
+
+// A buyer who may trade one unit.
+const LAST_UNIT: [Placed<'static>; 2] = [((90, 110), (1000, 1), 0, &[(0, 1)]), SELLER];
 
 // A buyer and a seller of each of three assets, a pair and a basket.
 const DAY: [Placed<'static>; 8] = [
@@ -59,27 +63,37 @@ const TURNS: [Placed<'static>; 3] = [
     ((90, 110), (1, 10), 0, &[(0, 1)]),
 ];
 
+// Whether the orders are all there, and get these rates.
+fn get(
+    rt: &impl Abort,
+    alloc: Global,
+    placed: &[Placed<'_>],
+    prices: &[i64],
+    expected: &[u32],
+) -> Result<bool, Fail> {
+    let orders = orders_of(alloc, placed)?;
+    may_price(rt, orders.as_slice(), prices);
+    let rates = chosen_rates(alloc, orders.as_slice(), prices)?;
+    Ok(orders.len() == placed.len() && rates.as_slice() == expected)
+}
+
 #[test]
 fn chooses_roundings(rt: HostRuntime) -> Result<(), Fail> {
     let morning = [98_565_204_475_905, 176_089_364_168_705, 249_103_808_200_705];
     let afternoon = [98_672_578_658_305, 176_110_839_005_185, 249_168_232_710_145];
     let cases: [(&[Placed<'_>], &[i64], &[u32]); 9] = [
         (&[], &[], &[]),
-        (&[BUYER, SELLER], &[429_410_830_255], &[500, 500]),
-        (&[BUYER, SELLER], &[429_496_729_600], &[500, 500]),
-        (&LAST, &[386_804_754_677], &[1, 2]),
+        (&PAIR, &[429_410_830_255], &[500, 500]),
+        (&PAIR, &[429_496_729_600], &[500, 500]),
+        (&LAST_UNIT, &[386_804_754_677], &[1, 2]),
         (&BASKET, &[393_590_803_005, 393_161_306_276], &[79, 81, 78]),
         (&DAY[..6], &morning, &[100, 100, 100, 100, 100, 100]),
         (&DAY, &afternoon, &[75, 125, 95, 105, 85, 115, 20, 30]),
         (&TIE, &[429_496_729_600], &[1, 0]),
         (&TURNS, &[429_496_729_600], &[1, 1, 0]),
     ];
-    for (rows, prices, expected) in cases {
-        let orders = orders_of(rt.alloc(), rows)?;
-        assert!(rt; orders.len() == rows.len());
-        may_price(&rt, orders.as_slice(), prices);
-        let rates = chosen_rates(rt.alloc(), orders.as_slice(), prices)?;
-        assert!(rt; rates.as_slice() == expected);
+    for (placed, prices, expected) in cases {
+        assert!(rt; get(&rt, rt.alloc(), placed, prices, expected)?);
     }
     Ok(())
 }

@@ -4,15 +4,15 @@ ghost use Rattle.weight_rows.specs.Rows.{IsPricedBy};
 ghost use Rattle.demand_curve.specs.Demand.{IsWithin};
 ghost use Rattle.flow_orders.specs.Own.{are_single};
 
-use crate::orders::{BASKET, BUYER, FILLED, Placed, SELLER, STEEP, are_priced, orders_of};
+use crate::orders::{
+    BASKET, BUYER, FILLED, Placed, SELLER, STEEP, TOP, are_priced, are_starts, orders_of,
+};
 use coordinate_search::{Found, Retraced, retrace, search, settle_single, step};
 use excess_bounds::Workspace;
 use flow_orders::Order;
 use std::alloc::Global;
 use std::process::Abort;
 use std::test::Fail;
-
-const TOP: i64 = 1 << 60;
 
 // Whether each order names one asset.
 #[tactic(auto, using(coordinate_search::proofs::Settling::single_all))]
@@ -31,7 +31,7 @@ fn may_search(rt: &impl Abort, orders: &[Order], prices: &[i64])
 {
     assert!(rt; orders.len() <= 16_384);
     assert!(rt; prices.len() <= 64);
-    assert!(rt; prices.iter().all(|price| -TOP <= *price && *price <= TOP));
+    assert!(rt; are_starts(prices));
     assert!(rt; are_priced(orders, prices));
 }
 
@@ -70,9 +70,9 @@ fn a_book_of_one_asset_orders_settles(rt: HostRuntime) -> Result<(), Fail> {
         let orders = orders_of(rt.alloc(), placed)?;
         assert_eq!(rt; orders.len(), placed.len());
         may_settle(&rt, orders.as_slice(), start);
-        let mut work = Workspace::new(rt.alloc(), orders.as_slice(), start).map_err(
-            |_| "no memory",
-        )?;
+        let mut work = Workspace::new(rt.alloc(), orders.as_slice(), start)
+            .ok()
+            .ok_or("no memory")?;
         settle_single(&mut work);
         assert_eq!(rt; work.prices(), end);
     }
@@ -95,9 +95,9 @@ fn a_move_ends_at_its_reach_or_before(rt: HostRuntime) -> Result<(), Fail> {
         let start: [i64; 1] = [start];
         may_settle(&rt, orders.as_slice(), &start);
         assert!(rt; 1 <= reach && reach <= 1 << 61);
-        let mut work = Workspace::new(rt.alloc(), orders.as_slice(), &start).map_err(
-            |_| "no memory",
-        )?;
+        let mut work = Workspace::new(rt.alloc(), orders.as_slice(), &start)
+            .ok()
+            .ok_or("no memory")?;
         assert!(rt; !work.is_settled(0));
         step(&mut work, 0, reach);
         assert_eq!(rt; work.prices(), [end].as_slice());
@@ -129,7 +129,9 @@ fn see_search(
     may_search(rt, orders, start);
     assert!(rt; budget <= 65_536);
     let mut trace = Vec::with_capacity(alloc, budget as usize)?;
-    let mut work = Workspace::new(alloc, orders, start).map_err(|_| "no memory")?;
+    let mut work = Workspace::new(alloc, orders, start)
+        .ok()
+        .ok_or("no memory")?;
     assert!(rt; search(&mut work, budget, &mut trace) == found);
     assert_eq!(rt; trace.as_slice(), walk);
     assert_eq!(rt; work.prices(), end);
@@ -247,9 +249,9 @@ fn a_walk_is_made_again_as_far_as_it_is_legal(rt: HostRuntime) -> Result<(), Fai
     may_search(&rt, orders.as_slice(), &[0, 0]);
     for (walk, wanted, end) in cases {
         assert!(rt; walk.len() <= 65_536);
-        let mut work = Workspace::new(rt.alloc(), orders.as_slice(), &[0, 0]).map_err(
-            |_| "no memory",
-        )?;
+        let mut work = Workspace::new(rt.alloc(), orders.as_slice(), &[0, 0])
+            .ok()
+            .ok_or("no memory")?;
         assert!(rt; retrace(&mut work, walk) == wanted);
         assert_eq!(rt; work.prices(), end);
     }
