@@ -4,7 +4,7 @@ ghost use Rattle.std.specs.Prelude.{◌≡◌};
 use std::marker::Model;
 
 /// One price for each asset, in grains, by the assets' numbers.
-#[derive(Debug, Drop)]
+#[derive(Drop)]
 pub struct PriceList {
     items: Vec<i64>,
 }
@@ -34,7 +34,7 @@ impl PriceList {
 }
 
 /// One rate for each live order, in units of its portfolio per batch, by the orders' places.
-#[derive(Debug, Drop)]
+#[derive(Drop)]
 pub struct RateList {
     items: Vec<u32>,
 }
@@ -64,7 +64,7 @@ impl RateList {
 }
 
 /// One residual for each asset, in units, by the assets' numbers.
-#[derive(Debug, Drop)]
+#[derive(Drop)]
 pub struct ResidualList {
     items: Vec<i64>,
 }
@@ -94,7 +94,7 @@ impl ResidualList {
 }
 
 /// The assets that a search moved, by their numbers, one for each move.
-#[derive(Debug, Drop)]
+#[derive(Drop)]
 pub struct Trace {
     items: Vec<u8>,
 }

@@ -2,7 +2,7 @@
 use crate::lists::{PriceList, RateList, ResidualList, Trace};
 
 /// A batch that cleared: all live orders trade at one price for each asset.
-#[derive(Debug, Drop)]
+#[derive(Drop)]
 pub struct Cleared {
     /// The price of each asset, in grains.
     pub prices: PriceList,
@@ -15,7 +15,7 @@ pub struct Cleared {
 }
 
 /// A batch whose search used up its budget before all assets were settled. Nothing trades.
-#[derive(Debug, Drop)]
+#[derive(Drop)]
 pub struct Skipped {
     /// The assets that were moved, one for each move of the budget.
     pub trace: Trace,
@@ -26,7 +26,7 @@ pub struct Skipped {
 }
 
 /// How a batch ended.
-#[derive(Debug, Drop)]
+#[derive(Drop)]
 pub enum Outcome {
     /// It cleared.
     Cleared(Cleared),

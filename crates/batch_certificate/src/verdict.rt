@@ -1,7 +1,7 @@
 //! What a check of a published clearing says.
 
 /// Whether a published clearing is right, or else the first part of it that isn't.
-#[derive(Clone, Copy, Debug, PartialEq, Eq)]
+#[derive(Clone, Copy, PartialEq, Eq)]
 pub enum Verdict {
     /// All of it is right.
     Right,

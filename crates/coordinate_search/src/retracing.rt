@@ -9,7 +9,7 @@ use crate::searching::make_move;
 use excess_bounds::Workspace;
 
 /// What became of a walk that is made again.
-#[derive(Clone, Copy, Debug, PartialEq, Eq)]
+#[derive(Clone, Copy, PartialEq, Eq)]
 pub enum Retraced {
     /// All its moves are legal, and were made.
     Legal,

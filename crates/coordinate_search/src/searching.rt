@@ -19,7 +19,7 @@ use excess_bounds::Workspace;
 const REACH: i64 = 1 << 45;
 
 /// How a search ended.
-#[derive(Clone, Copy, Debug, PartialEq, Eq)]
+#[derive(Clone, Copy, PartialEq, Eq)]
 pub enum Found {
     /// All assets are settled, after at most as many moves as the budget.
     Settled,

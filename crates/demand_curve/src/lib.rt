@@ -26,7 +26,7 @@ pub use rounding::Roundings;
 ///
 /// Both limits are in -2^60 to 2^60 grains, the high one at least 2^32 and so at most 2^61 above the low one, and
 /// `1 <= room <= rate <= 2^24`. Every value keeps these limits.
-#[derive(Clone, Copy, Debug, PartialEq, Eq)]
+#[derive(Clone, Copy, PartialEq, Eq)]
 pub struct Curve {
     /// The low limit price, in grains: up to it the order asks for its whole room.
     pub low: i64,

@@ -5,7 +5,7 @@ ghost use Rattle.demand_curve.specs.Numbers.{rounded_down, rounded_up};
 
 /// Both roundings of one demand, in whole units per batch. They differ by at most 1, and are equal exactly where
 /// the demand is whole.
-#[derive(Clone, Copy, Debug, PartialEq, Eq)]
+#[derive(Clone, Copy, PartialEq, Eq)]
 pub struct Roundings {
     /// The demand rounded down.
     pub floor: u32,

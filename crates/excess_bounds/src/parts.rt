@@ -10,7 +10,7 @@ use flow_orders::Order;
 
 /// How much of an asset orders ask for, bought less sold, in whole units: at least the low bound and at most the high
 /// one. The low bound rounds purchases down and sales up, the high one the other way round.
-#[derive(Clone, Copy, Debug, PartialEq, Eq)]
+#[derive(Clone, Copy, PartialEq, Eq)]
 pub struct Excess {
     /// The low bound, in units.
     pub low: i64,

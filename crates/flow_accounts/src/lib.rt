@@ -60,7 +60,7 @@ const UNIT_LIMIT: i128 = 1 << 60;
 
 // What an account holds. Of the places for units as many are in use as there are assets; the others
 // are 0.
-#[derive(Clone, Copy, Debug)]
+#[derive(Clone, Copy)]
 struct Holding {
     money: i128,
     units: [i64; PLACES],
@@ -72,7 +72,7 @@ const _: () = prove!(size_of::<Holding>() == 528);
 ///
 /// Contracts see one value: a list of accounts, each with its money and a list of its units by
 /// asset; the total of money; and the list of the assets' totals.
-#[derive(Debug, Drop)]
+#[derive(Drop)]
 pub struct Accounts {
     accounts: Vec<Holding>,
     assets: u16,

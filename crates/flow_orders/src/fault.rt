@@ -13,7 +13,7 @@ const MOST_RATE: u32 = 1 << 24;
 const MOST_CAP: u64 = 1 << 40;
 
 /// Why numbers are those of no order.
-#[derive(Clone, Copy, Debug, PartialEq, Eq)]
+#[derive(Clone, Copy, PartialEq, Eq)]
 pub enum OrderFault {
     /// A limit price is more than 2^28 ticks away from 0, or the low one isn't below the high one.
     BadLimits,

@@ -21,7 +21,7 @@ pub(crate) const GRAINS_PER_TICK: i64 = 1 << 32;
 /// rate of 1 to 2^24, a cap of 1 to 2^40, and less filled than the cap.
 ///
 /// Contracts see an order with its limit prices in grains.
-#[derive(Debug, Drop)]
+#[derive(Drop)]
 pub struct Order {
     number: u64,
     cap: u64,

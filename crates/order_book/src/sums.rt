@@ -13,7 +13,7 @@ use std::alloc::{AllocError, Global};
 use weight_rows::Entry;
 
 /// What orders need of an account.
-#[derive(Clone, Copy, Debug, PartialEq, Eq, Hash)]
+#[derive(Clone, Copy, PartialEq, Eq, Hash)]
 pub(crate) enum Need {
     /// Its money, in grains.
     Money { account: u32 },

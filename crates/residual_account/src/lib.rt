@@ -30,7 +30,7 @@ const PLACES: usize = 64;
 /// What the exchange holds: its money in grains, and its units of each asset. Both may be negative.
 ///
 /// Contracts see an account, whose list of units has as many places as there are assets.
-#[derive(Debug, Drop)]
+#[derive(Drop)]
 pub struct ResidualAccount {
     money: i128,
     // Of the places as many are in use as there are assets; the others are 0.

@@ -3,7 +3,7 @@ ghost use Rattle.std.specs.Prelude.{◌≡◌};
 use std::marker::Model;
 
 /// One asset of a portfolio and how many units of it one unit of the portfolio buys.
-#[derive(Clone, Copy, Debug, PartialEq, Eq, Hash)]
+#[derive(Clone, Copy, PartialEq, Eq, Hash)]
 pub struct Entry {
     /// The asset's number, counted from 0.
     pub asset: u16,
@@ -12,7 +12,7 @@ pub struct Entry {
 }
 
 /// Entries in the order in which they were given, lawful as a row or not.
-#[derive(Debug, Drop)]
+#[derive(Drop)]
 pub struct EntryList {
     entries: Vec<Entry>,
 }

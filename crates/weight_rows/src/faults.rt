@@ -12,7 +12,7 @@ pub const MOST_ENTRIES: usize = 16;
 const MOST_WEIGHT: u32 = 4096;
 
 /// Why a list of entries is no row. Places are counted from 0, and a list names its first that has a fault.
-#[derive(Clone, Copy, Debug, PartialEq, Eq)]
+#[derive(Clone, Copy, PartialEq, Eq)]
 pub enum RowFault {
     /// There is no entry.
     Empty,

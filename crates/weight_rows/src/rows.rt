@@ -5,7 +5,7 @@ use crate::entries::{Entry, EntryList};
 use std::marker::Model;
 
 /// A lawful row: 1 to 16 entries with strictly ascending assets and absolute weights of 1 to 4,096.
-#[derive(Debug, Drop)]
+#[derive(Drop)]
 pub struct WeightRow {
     list: EntryList,
 }
