@@ -1,4 +1,4 @@
-pub mod Rows
+pub mod Rates
 pub mod Sums
 pub mod Bounds
 pub mod Places

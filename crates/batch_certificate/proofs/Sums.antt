@@ -19,7 +19,8 @@ use Rattle.flow_orders.specs.Orders.{Order, most_orders, terms_of}
 use Rattle.flow_orders.specs.Excess.{price_for}
 use Rattle.flow_orders.specs.Trades.{Trade, trades, received, residual, residual_cost}
 use Rattle.flow_orders.specs.Outcomes.{residuals_of, gap_of}
-use Rattle.batch_certificate.specs.Residuals.{most_prices, AreNear, HasEach, AreZeros, IsTradeAdded, cost_at}
+use Rattle.flow_orders.specs.Residuals.{most_prices, AreNear, HasEach, AreZeros, IsTradeAdded}
+use Rattle.batch_certificate.specs.Residuals.{cost_at}
 
 -- ---- sums as the code makes them
 pub fits : (z : ℤ) → unsigned_abs z ≤ 2 ^ 120 → FitsSigned w128 z

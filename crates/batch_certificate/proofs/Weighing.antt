@@ -13,7 +13,7 @@ use Rattle.weight_rows.specs.Rows.{most_weight, IsLawfulRow, weight_in}
 use Rattle.weight_rows.proofs.RowLawProofs.{weights_are_small}
 use Rattle.flow_orders.specs.Orders.{Order}
 use Rattle.batch_certificate.specs.Weighing.{count_in, AreSmall, HasCounts, HasGrownBy, square, weighed}
-use Rattle.batch_certificate.proofs.Rows.{AreApart, lawful_apart}
+use Rattle.flow_orders.proofs.AddedRows.{AreApart, lawful_apart}
 
 module _ (f : ℤ → ℕ) where
   -- what an entry gives to an asset

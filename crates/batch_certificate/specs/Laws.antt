@@ -5,7 +5,7 @@ use Rattle.flow_orders.specs.Orders.{Order, IsOrder, terms_of}
 use Rattle.flow_orders.specs.Excess.{price_for, residual_bound, is_unsettled}
 use Rattle.flow_orders.specs.Trades.{trades, residual}
 use Rattle.flow_orders.specs.Outcomes.{Clearing, IsRightClearing}
-use Rattle.batch_certificate.specs.Residuals.{residual_in}
+use Rattle.flow_orders.specs.Residuals.{residual_in}
 use Rattle.batch_certificate.specs.declared.verdict.Verdict.{Verdict}
 use Rattle.batch_certificate.specs.declared.verdict.Verdict.TheVariants.{Right}
 use Rattle.batch_certificate.specs.Verdicts.{IsVerdict}

@@ -6,7 +6,7 @@ use Rattle.flow_orders.specs.Orders.{Order, terms_of}
 use Rattle.flow_orders.specs.Excess.{price_for, residual_bound}
 use Rattle.flow_orders.specs.Trades.{residual}
 use Rattle.flow_orders.specs.Outcomes.{Fill, Clearing, IsUnnamed, trades_of, gap_of}
-use Rattle.batch_certificate.specs.Residuals.{residual_in}
+use Rattle.flow_orders.specs.Residuals.{residual_in}
 use Rattle.batch_certificate.specs.declared.verdict.Verdict.{Verdict}
 use Rattle.batch_certificate.specs.declared.verdict.Verdict.TheVariants.{Right, Count, Price, Rate, Residual, Gap}
 

@@ -6,7 +6,7 @@ use Rattle.weight_rows.specs.declared.entries.Entry.{Entry}
 use Rattle.weight_rows.specs.Rows.{IsPrice, weight_in, price_of}
 use Rattle.flow_orders.specs.Orders.{Order}
 use Rattle.flow_orders.specs.Outcomes.{Clearing}
-use Rattle.batch_certificate.specs.Residuals.{residual_in}
+use Rattle.flow_orders.specs.Residuals.{residual_in}
 
 -- the number of an asset in a list with one for each
 abbrev pub count_in : List ℕ → ℕ → ℕ

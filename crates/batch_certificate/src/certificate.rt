@@ -13,7 +13,8 @@ ghost use Rattle.flow_orders.specs.Welfare.{IsOptimalWithin};
 ghost use Rattle.batch_certificate.specs.GapBound.{gap_bound};
 ghost use Rattle.batch_certificate.specs.Laws.{AreBounded, AreBoundedWhereSettled};
 ghost use Rattle.batch_certificate.specs.Published.{clearing_of};
-ghost use Rattle.batch_certificate.specs.Residuals.{most_prices, AreZeros, AreNear, cost_at};
+ghost use Rattle.flow_orders.specs.Residuals.{most_prices, AreZeros, AreNear};
+ghost use Rattle.batch_certificate.specs.Residuals.{cost_at};
 
 use crate::lists::{PriceList, RateList, ResidualList};
 use crate::outcome::Cleared;

@@ -9,7 +9,7 @@ ghost use Rattle.flow_orders.specs.Excess.{price_for, residual_bound};
 ghost use Rattle.flow_orders.specs.Trades.{trades};
 ghost use Rattle.flow_orders.specs.Outcomes.{Clearing, residuals_of, gap_of, trades_of, IsRightClearing};
 ghost use Rattle.flow_orders.specs.Welfare.{IsOptimalWithin};
-ghost use Rattle.batch_certificate.specs.Residuals.{most_prices, residual_in, AreNear, AreZeros, IsTradeAdded};
+ghost use Rattle.flow_orders.specs.Residuals.{most_prices, residual_in, AreNear, AreZeros, IsTradeAdded};
 ghost use Rattle.batch_certificate.specs.GapBound.{gap_bound};
 ghost use Rattle.batch_certificate.specs.Verdicts.{HoldsBelow, IsFirstWrong, AreCounted, IsPriceRight, IsRateRight, IsResidualRight, IsGapRight, HasRightPrices, HasRightRates, HasRightResiduals, IsVerdict, numbers_in, rates_in};
 ghost use Rattle.batch_certificate.specs.Weighing.{count_in, AreSmall, HasCounts, IsKept, IsPriceKept, IsWithinBound, IsResidualWithin, square, weighed};

@@ -2,7 +2,7 @@
 ghost use Rattle.std.specs.Prelude.{◌≡◌, ◌<◌, length, slice_get, slice_index_or};
 ghost use Rattle.weight_rows.specs.Rows.{price_of};
 ghost use Rattle.flow_orders.specs.Outcomes.{Clearing};
-ghost use Rattle.batch_certificate.specs.Residuals.{residual_in};
+ghost use Rattle.flow_orders.specs.Residuals.{residual_in};
 ghost use Rattle.batch_certificate.specs.Verdicts.{numbers_in, rates_in};
 
 /// A published clearing whose numbers lie somewhere, in memory or in the bytes of a journal: one price and one residual

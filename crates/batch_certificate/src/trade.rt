@@ -1,13 +1,12 @@
 //! One order's part of the certificate.
-ghost use Rattle.std.specs.Prelude.{◌≡◌, ◌^◌, ◌<◌, ◌≤◌, pos, ◌+ℤ◌, ◌*ℤ◌, unsigned_abs, length, slice_set, All, IfSome, IfNone};
-ghost use Rattle.weight_rows.specs.Rows.{most_weight, IsPrice, IsPricedBy};
+ghost use Rattle.std.specs.Prelude.{◌≡◌, ◌^◌, ◌≤◌, pos, unsigned_abs, length, All, IfSome, IfNone};
+ghost use Rattle.weight_rows.specs.Rows.{IsPrice, IsPricedBy};
 ghost use Rattle.demand_curve.specs.Demand.{most_rate, IsRounding, loss};
 ghost use Rattle.flow_orders.specs.Orders.{IsOrder, terms_of};
 ghost use Rattle.flow_orders.specs.Excess.{price_for};
-ghost use Rattle.batch_certificate.specs.Residuals.{residual_in, AreNear, IsTradeAdded};
+ghost use Rattle.flow_orders.specs.Residuals.{AreNear, IsTradeAdded};
 
-use flow_orders::Order;
-use weight_rows::{Entry, WeightRow};
+use flow_orders::{Order, add_residuals};
 
 /// Adds what an order trades at this rate to the residuals of its assets, and answers what the rate loses.
 pub(crate) fn add_trade(order: &Order, rate: u32, prices: &[i64], residuals: &mut [i64]) -> i128
@@ -23,7 +22,7 @@ pub(crate) fn add_trade(order: &Order, rate: u32, prices: &[i64], residuals: &mu
     ensures order { IsOrder order.now }
 {
     let lost = loss_of(order, rate, prices);
-    add_row(order.row(), rate, residuals);
+    add_residuals(order.row(), rate, residuals);
     lost
 }
 
@@ -47,7 +46,7 @@ pub(crate) fn try_trade(
     ensures order { IsOrder order.now }
 {
     let lost = rounding_loss(order, rate, prices)?;
-    add_row(order.row(), rate, residuals);
+    add_residuals(order.row(), rate, residuals);
     Some(lost)
 }
 
@@ -82,38 +81,4 @@ fn loss_of(order: &Order, rate: u32, prices: &[i64]) -> i128
     ensures order { IsOrder order.now }
 {
     order.curve().loss(rate, order.row().price(prices))
-}
-
-// Adds a rate of a row's portfolio to the residuals of its assets.
-fn add_row(row: &WeightRow, rate: u32, residuals: &mut [i64])
-    requires priced { IsPricedBy row.now residuals.old }
-    requires rate { rate ≤ most_rate }
-    requires near { AreNear (2 ^ 50) residuals.old }
-    ensures { IsTradeAdded row.now rate residuals.old residuals.new }
-{
-    for entry in row.entries() {
-        add_entry(entry, rate, residuals);
-    }
-}
-
-// Adds what an entry trades at this rate to the residual of its asset.
-fn add_entry(entry: &Entry, rate: u32, residuals: &mut [i64])
-    requires priced { entry.now.asset < length residuals.old }
-    requires weight { unsigned_abs entry.now.weight ≤ most_weight }
-    requires rate { rate ≤ most_rate }
-    requires near { unsigned_abs (residual_in residuals.old entry.now.asset) ≤ 2 ^ 51 }
-    ensures { residuals.new ≡ slice_set residuals.old entry.now.asset
-        (residual_in residuals.old entry.now.asset +ℤ entry.now.weight *ℤ pos rate) }
-{
-    residuals[usize::from(entry.asset)] += units(entry.weight, rate);
-}
-
-// The units that a weight brings at a rate.
-fn units(weight: i32, rate: u32) -> i64
-    requires weight { unsigned_abs weight ≤ most_weight }
-    requires rate { rate ≤ most_rate }
-    ensures value { result ≡ weight *ℤ pos rate }
-    ensures small { unsigned_abs result ≤ 2 ^ 36 }
-{
-    i64::from(weight) * i64::from(rate)
 }

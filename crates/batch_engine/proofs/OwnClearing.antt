@@ -25,7 +25,7 @@ use Rattle.batch_certificate.specs.Published.{clearing_of, skipping_of, outcome_
 use Rattle.batch_engine.specs.Certified.{IsCertified}
 use Rattle.batch_engine.specs.Private.{IsClearedAt, IsClearedFrom, IsSkippedFrom, IsOutcomeFrom}
 use Rattle.batch_certificate.specs.Laws.{AreBounded}
-use Rattle.batch_certificate.specs.Residuals.{residual_in}
+use Rattle.flow_orders.specs.Residuals.{residual_in}
 
 -- what follows of each value holds of an answer
 pub on_ok : {T E : Type 0} {P Q : T → Type 0} → ((x : T) → P x → Q x) → (result : Result T E) → IfOk result P → IfOk result Q

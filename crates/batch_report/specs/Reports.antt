@@ -10,7 +10,7 @@ use Rattle.wire_records.specs.Refusals.{code_of}
 use Rattle.wire_records.specs.declared.reply.Reply.TheVariants.{Done, Asset, Account, Order, Refused}
 use Rattle.flow_orders.specs.Outcomes.{Fill, Clearing, Skipping, Outcome, Cleared, Skipped}
 use Rattle.weight_rows.specs.Rows.{price_of}
-use Rattle.batch_certificate.specs.Residuals.{residual_in}
+use Rattle.flow_orders.specs.Residuals.{residual_in}
 use Rattle.journal_records.specs.Replies.{SpellsAnswer}
 
 -- the name of a ticker: its bytes before the first space

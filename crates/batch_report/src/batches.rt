@@ -2,7 +2,7 @@
 ghost use Rattle.std.specs.Prelude.{◌≡◌, ◌<◌, ◌++◌, length, slice_index_or, pos, OnOk};
 ghost use Rattle.std.specs.List.{flat_map, range_with_len};
 ghost use Rattle.weight_rows.specs.Rows.{price_of};
-ghost use Rattle.batch_certificate.specs.Residuals.{residual_in};
+ghost use Rattle.flow_orders.specs.Residuals.{residual_in};
 ghost use Rattle.batch_report.specs.Reports.{price_line, rate_line, cleared_lines, skipped_line};
 ghost use Rattle.batch_report.specs.Private.{fill_at};
 

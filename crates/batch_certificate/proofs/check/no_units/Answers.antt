@@ -1,6 +1,6 @@
 use Rattle.std.proofs.Common.{refl, replicate, pos}
 use Rattle.std.proofs.lemmas.List.{get_or-replicate}
-use Rattle.batch_certificate.specs.Residuals.{AreZeros}
+use Rattle.flow_orders.specs.Residuals.{AreZeros}
 use Rattle.batch_certificate.proofs.check.no_units.Goals as goal
 
 zeros : AreZeros 64 (replicate 64 (pos 0))

@@ -1,4 +1,4 @@
-use Rattle.batch_certificate.proofs.Rows.{rate_is_small}
+use Rattle.batch_certificate.proofs.Rates.{rate_is_small}
 use Rattle.batch_certificate.proofs.trade.loss_of.Goals as goal
 
 pub returns-clause-rate : goal.returns-clause-rate

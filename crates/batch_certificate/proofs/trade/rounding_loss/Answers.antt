@@ -1,4 +1,4 @@
-use Rattle.batch_certificate.proofs.Rows.{rate_is_small}
+use Rattle.batch_certificate.proofs.Rates.{rate_is_small}
 use Rattle.batch_certificate.proofs.trade.rounding_loss.Goals as goal
 
 pub returns-then-is_rounded-clause-rate : goal.returns-then-is_rounded-clause-rate
