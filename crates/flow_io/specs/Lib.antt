@@ -5,3 +5,5 @@ pub mod Memory
 pub mod Fakes
 pub mod Whole
 pub mod Standard
+pub mod Windows
+pub mod Private

@@ -8,10 +8,14 @@
 //! or a pipe holds isn't known; but what is read came from the reader, and what is written arrives
 //! at the writer, each byte once and in its order.
 //!
+//! [`read_all`] takes all bytes of a source up to a limit, and a [`Window`] holds a part of them at a
+//! time.
+//!
 //! A read or a write costs as much as the bytes that it moves. Only [`read_all`] and the makers of
-//! the sinks in memory take memory.
+//! windows and of the sinks in memory take memory.
 #![tactic(auto)]
 
+mod block;
 mod calls;
 pub mod laws;
 mod memory_sink;
@@ -21,6 +25,7 @@ mod source;
 mod standard;
 mod steady;
 mod whole;
+mod window;
 
 pub use memory_sink::MemorySink;
 pub use memory_source::MemorySource;
@@ -29,3 +34,4 @@ pub use source::{ReadFailed, Source};
 pub use standard::{StdSink, StdSource};
 pub use steady::{Memory, SteadySink, SteadySource};
 pub use whole::{ReadAllFault, WholeInput, read_all};
+pub use window::{Filled, InputEnd, Window};

@@ -1,0 +1,174 @@
+ghost use Rattle.std.specs.Prelude.{◌≡◌, ◌≢◌, ◌+◌, ◌≤◌, ◌<◌, ◌^◌, ◌↔◌, [], Some, None, ◌⊎◌, length, drop, IfOk, IfSome, OnOk, OnErr, IsErr};
+ghost use Rattle.flow_io.specs.Faults.{Blames};
+ghost use Rattle.flow_io.specs.Windows.{Fills, IsWithin, empty_window};
+
+use crate::block::Block;
+use crate::{Memory, ReadFailed, Source};
+use std::alloc::Global;
+use std::marker::Model;
+
+/// What filling a window came to.
+#[derive(Clone, Copy, PartialEq, Eq)]
+pub enum Filled {
+    /// As many bytes are held as were wanted, or more.
+    Enough,
+    /// Fewer are held, and the source has no more.
+    Ended,
+    /// Fewer are held: they end at the limit, and the source has more.
+    Limited,
+}
+
+/// How the input of a window ends, once that was seen.
+#[derive(Clone, Copy, PartialEq, Eq)]
+pub enum InputEnd {
+    /// The source has no more bytes.
+    Source,
+    /// It has more than the limit.
+    Limit,
+}
+
+/// A part of a source's bytes, which are held in one block of memory: a front of them is given up, and more are read.
+///
+/// At most `room` bytes are held, and those given up and held are never more than `limit`.
+#[derive(Drop)]
+pub struct Window {
+    block: Block,
+    place: u64,
+    limit: u64,
+    over: Option<InputEnd>,
+}
+
+impl Model for Window {
+    ghost use Rattle.std.specs.Prelude.{length, vec_len};
+    ghost use Rattle.flow_io.specs.Windows.{WindowState, IsWithin};
+    ghost use Rattle.flow_io.specs.Private.{items};
+
+    ghost Value = { WindowState };
+
+    ghost view = { λ w. record {
+      held = items w.block;
+      place = w.place;
+      room = vec_len w.block.bytes;
+      limit = w.limit;
+      over = w.over;
+    } };
+
+    ghost invariant = { λ w. IsWithin w.place (length (items w.block)) w.limit w.over };
+}
+
+impl Window {
+    /// A window that holds nothing, at place 0. All its memory is taken here.
+    pub fn new(alloc: Global, room: usize, limit: u64) -> Result<Window, Memory>
+        requires some { 1 ≤ room }
+        requires few { room ≤ 2 ^ 20 }
+        ensures { IfOk result (λ window. window ≡ empty_window room limit) }
+    {
+        let block = Block::new(alloc, room)?;
+        Ok(Window {
+            block,
+            place: 0,
+            limit,
+            over: None,
+        })
+    }
+
+    /// The bytes that are held.
+    pub fn held(&self) -> &[u8]
+        ensures held { result.now ≡ self.now.held }
+        ensures few { length result.now ≤ self.now.room }
+        ensures within { IsWithin self.now.place (length self.now.held) self.now.limit self.now.over }
+    {
+        self.block.held()
+    }
+
+    /// How many bytes were given up before those that are held.
+    pub fn place(&self) -> u64
+        ensures { result ≡ self.now.place }
+    {
+        self.place
+    }
+
+    /// Gives up the first `count` of the held bytes.
+    pub fn advance(&mut self, count: usize)
+        requires { count ≤ length self.old.held }
+        ensures { self.new ≡ record self.old { held = drop count self.old.held; place = self.old.place + count } }
+    {
+        self.block.give_up(count);
+        self.place += count as u64;
+    }
+
+    // Looks whether the source has one byte more, and takes it.
+    fn look_past<S: Source>(&mut self, source: &mut S) -> Result<(), ReadFailed>
+        requires open { self.old.over ≡ None }
+        requires whole { self.old.place + length self.old.held ≡ self.old.limit }
+        ensures fills { Fills self.old self.new (S.rest source.old) (S.rest source.new) }
+        ensures seen { OnOk result (self.new.over ≢ None) }
+        ensures failed { OnErr result (self.new ≡ self.old) }
+        ensures ended { self.new.over ≡ Some InputEnd.Source → IfSome (S.rest source.new) (λ left. left ≡ []) }
+        ensures cause { Blames (IsErr result) (S.faults source.old) (S.faults source.new) }
+    {
+        let mut byte = [0u8; 1];
+        let count = source.read(&mut byte)?;
+        self.over = if count == 0 {
+            Some(InputEnd::Source)
+        } else {
+            Some(InputEnd::Limit)
+        };
+        Ok(())
+    }
+
+    // Reads once: some bytes join those that are held, or it is seen how the input ends.
+    fn read_more<S: Source>(&mut self, source: &mut S) -> Result<(), ReadFailed>
+        requires open { self.old.over ≡ None }
+        requires room { length self.old.held < self.old.room }
+        ensures fills { Fills self.old self.new (S.rest source.old) (S.rest source.new) }
+        ensures further { OnOk result ((self.new.over ≢ None) ⊎ (length self.old.held < length self.new.held)) }
+        ensures failed { OnErr result (self.new ≡ self.old) }
+        ensures ended { self.new.over ≡ Some InputEnd.Source → IfSome (S.rest source.new) (λ left. left ≡ []) }
+        ensures cause { Blames (IsErr result) (S.faults source.old) (S.faults source.new) }
+    {
+        let left = self.limit - self.place - self.block.len() as u64;
+        if left == 0 {
+            return self.look_past(source);
+        }
+        let room = self.block.room() - self.block.len();
+        let most = (room as u64).min(left) as usize;
+        let count = self.block.read(source, most)?;
+        if count == 0 {
+            self.over = Some(InputEnd::Source);
+        }
+        Ok(())
+    }
+
+    /// Reads until at least `want` bytes are held or the input ends: `Enough` comes exactly where so many are held then.
+    /// Each read asks for as many bytes as there is room for. `Limited` comes where the held bytes end at the limit and
+    /// the source has more, of which one byte is taken and let go; `Ended` in every other case. After either no further
+    /// call reads.
+    ///
+    /// `ReadFailed` comes only where the source's count of faults rose. The bytes that were taken before are held, fewer
+    /// than `want`.
+    pub fn fill<S: Source>(&mut self, source: &mut S, want: usize) -> Result<Filled, ReadFailed>
+        requires room { want ≤ self.old.room }
+        requires same { self.old.over ≡ Some InputEnd.Source → IfSome (S.rest source.old) (λ left. left ≡ []) }
+        ensures fills { Fills self.old self.new (S.rest source.old) (S.rest source.new) }
+        ensures enough { IfOk result (λ filled. (filled ≡ Filled.Enough) ↔ (want ≤ length self.new.held)) }
+        ensures limited { IfOk result (λ filled. (filled ≡ Filled.Limited)
+            ↔ ((length self.new.held < want) × (self.new.over ≡ Some InputEnd.Limit))) }
+        ensures ended { IfOk result (λ filled. (filled ≡ Filled.Ended)
+            ↔ ((length self.new.held < want) × (self.new.over ≡ Some InputEnd.Source))) }
+        ensures all { self.new.over ≡ Some InputEnd.Source → IfSome (S.rest source.new) (λ left. left ≡ []) }
+        ensures within { IsWithin self.new.place (length self.new.held) self.new.limit self.new.over }
+        ensures failed { OnErr result ((self.new.over ≡ None) × (length self.new.held < want)) }
+        ensures over { self.old.over ≢ None → (self.new ≡ self.old) × (source.new ≡ source.old) }
+        ensures cause { Blames (IsErr result) (S.faults source.old) (S.faults source.new) }
+    {
+        while self.block.len() < want {
+            match self.over {
+                Some(InputEnd::Source) => return Ok(Filled::Ended),
+                Some(InputEnd::Limit) => return Ok(Filled::Limited),
+                None => self.read_more(source)?,
+            }
+        }
+        Ok(Filled::Enough)
+    }
+}
