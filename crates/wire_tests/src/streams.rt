@@ -196,33 +196,17 @@ fn writes_a_writer(rt: HostRuntime) -> Result<(), Fail> {
     Ok(())
 }
 
-// Fills a window, and compares what that comes to and what is held then.
-fn fills<S: Source>(
-    rt: &impl Abort,
-    window: &mut Window,
-    source: &mut S,
-    filled: Filled,
-    held: &[u8],
-) {
-    assert!(rt; window.fill(source, 4) == Ok(filled));
-    assert!(rt; window.held() == held);
-}
-
 // Eight bytes: four are held at a time, and six are considered.
 #[test]
 fn a_window_ends_at_its_limit(rt: HostRuntime) -> Result<(), Fail> {
     let alloc = rt.alloc();
     let mut source = SteadySource::new(b"\x01\x02\x03\x04\x05\x06\x07\x08".to_vec(alloc)?);
     let mut window = Window::new(alloc, 4, 6)?;
-    fills(
-        &rt,
-        &mut window,
-        &mut source,
-        Filled::Enough,
-        b"\x01\x02\x03\x04",
-    );
+    assert!(rt; window.fill(&mut source, 4) == Ok(Filled::Enough));
+    assert!(rt; window.held() == b"\x01\x02\x03\x04".as_slice());
     window.advance(4);
-    fills(&rt, &mut window, &mut source, Filled::Limited, b"\x05\x06");
+    assert!(rt; window.fill(&mut source, 4) == Ok(Filled::Limited));
+    assert!(rt; window.held() == b"\x05\x06".as_slice());
     assert!(rt; window.place() == 4);
     assert!(rt; reads(alloc, &mut source, 8, b"\x08", false));
     Ok(())

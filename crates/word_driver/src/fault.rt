@@ -20,7 +20,7 @@ pub enum Fault<B> {
 }
 
 /// The reason to stop of a word that has none.
-#[derive(Clone, Copy, PartialEq, Eq)]
+#[derive(Clone, Copy)]
 pub enum Never {}
 
 /// Why a word goes no further at a unit, or at the end of its input.
