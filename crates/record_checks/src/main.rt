@@ -1,47 +1,115 @@
 //! Calls over records, pairs of records and lines of JSON: one on each line of standard input, and what it comes to on
-//! standard output. So a case more is a line more here and there, and no proof.
+//! standard output. A case more costs no proof.
 //!
-//! A line is a word and its fields, with a blank before each. One that begins with `#` is passed on as it is, and `not done`
-//! stands for one that is no case, or for which there is no memory.
+//! A line is a remark, a name for bytes, or a case, as `check_lines` says; remarks are passed on as they are. A case is a
+//! call, what it is called with, and bytes. What is told begins with what stands before the colon.
 //!
-//! | line | calls | told |
+//! | case | calls | told |
 //! |---|---|---|
-//! | `front LIMIT BYTES` | `next_record` | `whole TAG BODY RECORD TAKEN`, `end`, `too_large LENGTH` or `short` |
-//! | `command RECORD` | `RecordView::command` | the command, and of an order its row's fault; `unknown_tag` or `bad_body` |
-//! | `write OUT RECORD` | `write_command`, of the command that a record spells, copied | out |
-//! | `head TAG LENGTH` | `put_head` | out |
-//! | `code NUMBER` | `Refusal::of_code`, `code` | the refusal and its number, or `none` |
-//! | `magic BYTES` | `is_command_file`, `is_journal` | `commands`, `journal` or `neither` |
-//! | `plain OUT RECORD REPLY` | `reserve_plain`, `write_plain` | out |
-//! | `cleared OUT RECORD BATCH PRICES FILLS RESIDUALS GAP` | `write_cleared` | out |
-//! | `skipped OUT RECORD BATCH DUAL DUAL TRACE` | `write_skipped` | out |
-//! | `pair BYTES` | `next_pair`, `reply`, `is_overlong` | `whole TAKEN RECORD` and the reply, `end` or `broken`; `overlong` |
-//! | `reply RECORD` | `reply`, `to_cleared` | the reply, of a clearing twice, by its places `as` in a copy; or `none` |
-//! | `line TICKERS TEXT` | `read_line` | the command, `blank` or `no_command`; and how many tickers there are then |
-//! | `lines MORE TEXT` | `encode_lines` | `done`, or `no_command LINE`; and what was written |
+//! | `front LIMIT: BYTES` | `next_record` | `whole TAG TAKEN BODY RECORD`, `end`, `too_large LENGTH` or `short` |
+//! | `command: RECORD` | `RecordView::command` | the command, `unknown_tag` or `bad_body` |
+//! | `code NUMBER:` | `Refusal::of_code`, `code` | the refusal and its number, or `none` |
+//! | `magic: BYTES` | `is_command_file`, `is_journal` | `commands`, `journal` or `neither` |
+//! | `head TAG LENGTH:` | `put_head` | the bytes |
+//! | `pair: BYTES` | `next_pair`, `reply`, `is_overlong` | `whole TAKEN RECORD` and the reply, `end` or `broken`; then `overlong` |
+//! | `reply: RECORD` | `reply`, `to_cleared` | the reply, or `none` |
+//! | `line TICKERS: TEXT` | `read_line`, with the tickers of the lines before | the command, `blank` or `no_command`; then `of` how many tickers |
+//! | `lines: TEXT` | `encode_lines` | `done`, or `no_command` and the line's number. Then the records. With `lines more:` there is more of the text |
+//! | `write: RECORD` | `write_command` of the command that this spells, copied | |
+//! | `plain REPLY: RECORD` | `reserve_plain`, `write_plain` | |
+//! | `cleared BATCH GAP ASSETS FILLS: RECORD` | `write_cleared` | |
+//! | `skipped BATCH START END: RECORD MOVES` | `write_skipped` | |
 //!
-//! - BYTES, and so OUT, RECORD and TRACE, are pieces of hexadecimal digits between commas, each of which may have a count and
-//!   an `x` before it. OUT is what stands in out before, and RECORD is one whole record.
-//! - TEXT is the rest of the line, where `%0a` stands for the byte 10, and so on. MORE is `more` or `whole`.
-//! - A list has commas between its items: tickers, numbers, orders with their rates, as `1:500`. `-` stands for nothing: no
-//!   bytes, no text, an empty list. In what is told each item has a comma behind it, and `-` stands for what is answered behind
-//!   the last one.
-//! - REPLY is `done`, `asset NUMBER`, `account NUMBER`, `order NUMBER` or `refused CODE`, and told so too.
+//! The last four are called twice for one list of bytes, and its records are told, each in a row.
+//!
+//! - A command is told by its name and its fields, in the order of the format. Behind those of an order stand its entries, as
+//!   `0/1 1/-2 -`; and where it is read from a record, whether they are a `lawful` row, or why not.
+//! - A reply is `done`, `asset NUMBER`, `account NUMBER`, `order NUMBER` or `refused CODE`. Only told are `skipped BATCH START
+//!   END MOVES`, and `cleared BATCH GAP` with prices and residuals, as `99/-1 101/0 -`, and orders with their rates. A `copy`
+//!   follows: gap, prices, residuals, rates.
+//! - ASSETS and FILLS are such lists too, written as `99/-1,101/0`. In what is told `-` stands for what is answered behind the
+//!   last item. For an empty list, or no bytes, `-` stands everywhere.
 #![tactic(auto)]
 
-mod fields;
-mod journals;
-mod outcome;
+mod pairs;
 mod records;
+mod replies;
 mod telling;
 mod texts;
 
+use check_lines::{Line, Names, put_records};
+use std::alloc::Global;
 use std::io;
+use wire_records::{Framed, MOST_BODY, RecordView, next_record};
+
+// Appends what a call makes of a record.
+fn append(
+    alloc: Global,
+    words: (&str, &str),
+    record: &RecordView<'_>,
+    rest: &[u8],
+    out: &mut Vec<u8>,
+) -> Option<()> {
+    match words.0 {
+        "write" => records::append_again(alloc, record, out),
+        "plain" => pairs::append_plain(record, words.1, out),
+        "cleared" => pairs::append_cleared(alloc, record, words.1, out),
+        "skipped" => pairs::append_skipped(alloc, record, words.1, rest, out),
+        _ => None,
+    }
+}
+
+// Tells what a call that appends makes of the record at the front of the bytes.
+fn put_appended(alloc: Global, words: (&str, &str), bytes: &[u8], text: &mut String) -> Option<()> {
+    let Framed::Whole(record, taken) = next_record(bytes, MOST_BODY) else {
+        return None;
+    };
+    let rest = bytes.get(taken..)?;
+    let mut out = Vec::new(alloc);
+    append(alloc, words, &record, rest, &mut out)?;
+    append(alloc, words, &record, rest, &mut out)?;
+    text.push('\n').ok()?;
+    put_records(alloc, &out, out.len(), text)
+}
+
+// Tells what a call comes to, or answers `None` where it is none, or there is no memory.
+fn put_case(alloc: Global, words: (&str, &str), bytes: &[u8], text: &mut String) -> Option<()> {
+    match words.0 {
+        "front" => records::put_front(words.1.parse().ok()?, bytes, text)?,
+        "command" => records::put_read(alloc, &records::record_in(bytes)?, text)?,
+        "code" => records::put_code(words.1.parse().ok()?, text)?,
+        "magic" => records::put_magic(bytes, text)?,
+        "head" => records::put_head_of(alloc, words.1, text)?,
+        "pair" => replies::put_pair(alloc, bytes, text)?,
+        "reply" => replies::put_reply(alloc, &records::record_in(bytes)?, text)?,
+        "line" => texts::put_line(alloc, words.1, bytes, text)?,
+        "lines" => return texts::put_lines(alloc, bytes, words.1 == "more", text),
+        _ => return put_appended(alloc, words, bytes, text),
+    }
+    text.push('\n').ok()
+}
+
+fn told_of(alloc: Global, words: &str, bytes: &[u8]) -> Option<String> {
+    let mut text = format!(in alloc; "{words}:").ok()?;
+    let words = words.split_once(' ').unwrap_or((words, ""));
+    put_case(alloc, words, bytes, &mut text)?;
+    Some(text)
+}
+
+// What a line comes to, in the same way.
+fn told(alloc: Global, names: &mut Names, line: &str) -> Option<String> {
+    match names.read(line)? {
+        Line::Remark => format!(in alloc; "{line}\n").ok(),
+        Line::Named => Some(String::new(alloc)),
+        Line::Case(words, bytes) => told_of(alloc, words, &bytes),
+    }
+}
 
 fn main(rt: HostRuntime) -> io::Result<()> {
+    let mut names = Names::new(rt.alloc());
     for line in rt.lines(rt.alloc()) {
-        match outcome::told(rt.alloc(), line?.as_str()) {
-            Some(text) => println!(rt; "{text}")?,
+        match told(rt.alloc(), &mut names, line?.as_str()) {
+            Some(text) => print!(rt; "{text}")?,
             None => println!(rt; "not done")?,
         }
     }

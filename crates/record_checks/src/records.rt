@@ -1,16 +1,14 @@
-//! Cases of records of commands.
+//! Records of commands.
 ghost use Rattle.std.specs.Prelude.{IsTrue};
 ghost use Rattle.wire_records.specs.CommandRecords.{HasShortRow};
 ghost use Rattle.wire_records.specs.Views.{command_in};
 
-use crate::fields::bytes_of;
-use crate::telling::{put_bytes, put_command, put_entry};
+use crate::telling::{put, put_bytes, put_command, put_item};
 use journal_records::{MOST_REPLY_BODY, is_journal};
 use std::alloc::Global;
-use std::fmt::Write;
 use weight_rows::RowFault;
 use wire_records::{
-    BodyFault, Command, CommandView, Framed, MOST_ROW, PlaceView, RecordView, Refusal, RowView,
+    BodyFault, Command, CommandView, Framed, MOST_ROW, RecordView, Refusal, RowView,
     is_command_file, next_record, put_head, write_command,
 };
 
@@ -22,53 +20,34 @@ pub(crate) fn record_in(bytes: &[u8]) -> Option<RecordView<'_>> {
     }
 }
 
-fn put_front(front: Framed<'_>, text: &mut String) -> Option<()> {
-    match front {
+pub(crate) fn put_front(limit: u32, bytes: &[u8], text: &mut String) -> Option<()> {
+    match next_record(bytes, limit) {
         Framed::Whole(record, taken) => {
-            write!(text, "whole {} ", record.tag()).ok()?;
+            put("whole", &[record.tag().into(), taken as i128], text)?;
             put_bytes(record.body(), text)?;
-            text.push(' ').ok()?;
-            put_bytes(record.bytes(), text)?;
-            write!(text, " {taken}").ok()
+            put_bytes(record.bytes(), text)
         }
-        Framed::End => text.push_str("end").ok(),
-        Framed::TooLarge(length) => write!(text, "too_large {length}").ok(),
-        Framed::Short => text.push_str("short").ok(),
+        Framed::End => put("end", &[], text),
+        Framed::TooLarge(length) => put("too_large", &[length.into()], text),
+        Framed::Short => put("short", &[], text),
     }
 }
 
-pub(crate) fn front(alloc: Global, fields: &str, text: &mut String) -> Option<()> {
-    let (limit, bytes) = fields.split_once(' ')?;
-    let limit = limit.parse().ok()?;
-    let bytes = bytes_of(alloc, bytes)?;
-    put_front(next_record(&bytes, limit), text)
-}
-
+// Each entry by its place, up to the first that isn't there, and why they are no row.
 fn put_row(row: &RowView<'_>, text: &mut String) -> Option<()> {
     for place in 0..=row.len() {
-        put_entry(row.entry(place), text)?;
+        match row.entry(place) {
+            Some(entry) => put_item(entry.asset.into(), entry.weight.into(), text)?,
+            None => text.push_str(" -").ok()?,
+        }
     }
     match row.fault() {
-        None => text.push_str(" lawful").ok(),
-        Some(RowFault::Empty) => text.push_str(" empty").ok(),
-        Some(RowFault::TooMany) => text.push_str(" too_many").ok(),
-        Some(RowFault::Unordered(place)) => write!(text, " unordered {place}").ok(),
-        Some(RowFault::BadWeight(place)) => write!(text, " bad_weight {place}").ok(),
+        None => put("lawful", &[], text),
+        Some(RowFault::Empty) => put("empty", &[], text),
+        Some(RowFault::TooMany) => put("too_many", &[], text),
+        Some(RowFault::Unordered(place)) => put("unordered", &[place.into()], text),
+        Some(RowFault::BadWeight(place)) => put("bad_weight", &[place.into()], text),
     }
-}
-
-fn put_place(place: &PlaceView<'_>, text: &mut String) -> Option<()> {
-    write!(
-        text,
-        "place_order {} {} {} {} {} ",
-        place.account(),
-        place.low(),
-        place.high(),
-        place.rate(),
-        place.cap()
-    )
-    .ok()?;
-    put_row(&place.row(), text)
 }
 
 // The command in memory of its own.
@@ -113,17 +92,26 @@ fn owned(alloc: Global, command: CommandView<'_>) -> Option<Command> {
 
 fn put_view(alloc: Global, command: CommandView<'_>, text: &mut String) -> Option<()> {
     match command {
-        CommandView::PlaceOrder(place) => put_place(&place, text),
-        plain => put_command(&owned(alloc, plain)?, text),
+        CommandView::PlaceOrder(place) => {
+            let numbers = [
+                place.account().into(),
+                place.low().into(),
+                place.high().into(),
+                place.rate().into(),
+                place.cap().into(),
+            ];
+            put("place_order", &numbers, text)?;
+            put_row(&place.row(), text)
+        }
+        plain => put_command(owned(alloc, plain)?, text),
     }
 }
 
-pub(crate) fn command(alloc: Global, fields: &str, text: &mut String) -> Option<()> {
-    let bytes = bytes_of(alloc, fields)?;
-    match record_in(&bytes)?.command() {
+pub(crate) fn put_read(alloc: Global, record: &RecordView<'_>, text: &mut String) -> Option<()> {
+    match record.command() {
         Ok(command) => put_view(alloc, command, text),
-        Err(BodyFault::UnknownTag) => text.push_str("unknown_tag").ok(),
-        Err(BodyFault::BadBody) => text.push_str("bad_body").ok(),
+        Err(BodyFault::UnknownTag) => put("unknown_tag", &[], text),
+        Err(BodyFault::BadBody) => put("bad_body", &[], text),
     }
 }
 
@@ -137,47 +125,41 @@ fn has_short_row(command: &Command) -> bool
     }
 }
 
-fn append(command: &Command, out: &mut Vec<u8>) -> Option<()> {
-    if !has_short_row(command) {
+// Appends the record of the command that a record spells.
+pub(crate) fn append_again(
+    alloc: Global,
+    record: &RecordView<'_>,
+    out: &mut Vec<u8>,
+) -> Option<()> {
+    let command = owned(alloc, record.command().ok()?)?;
+    if !has_short_row(&command) {
         return None;
     }
-    write_command(command, out).ok()
+    write_command(&command, out).ok()
 }
 
-fn append_again(alloc: Global, record: &[u8], out: &mut Vec<u8>) -> Option<()> {
-    let command = record_in(record)?.command().ok()?;
-    append(&owned(alloc, command)?, out)
-}
-
-pub(crate) fn write(alloc: Global, fields: &str, text: &mut String) -> Option<()> {
-    let (out, record) = fields.split_once(' ')?;
-    let record = bytes_of(alloc, record)?;
-    let mut out = bytes_of(alloc, out)?;
-    append_again(alloc, &record, &mut out)?;
-    put_bytes(&out, text)
-}
-
-pub(crate) fn head(alloc: Global, fields: &str, text: &mut String) -> Option<()> {
-    let (tag, length) = fields.split_once(' ')?;
+pub(crate) fn put_head_of(alloc: Global, with: &str, text: &mut String) -> Option<()> {
+    let (tag, length) = with.split_once(' ')?;
+    let tag = tag.parse().ok()?;
+    let length = length.parse().ok()?;
     let mut out = Vec::with_capacity(alloc, 5).ok()?;
-    put_head(&mut out, tag.parse().ok()?, length.parse().ok()?);
+    put_head(&mut out, tag, length);
     put_bytes(&out, text)
 }
 
-pub(crate) fn code(fields: &str, text: &mut String) -> Option<()> {
-    match Refusal::of_code(fields.parse().ok()?) {
-        Some(refusal) => write!(text, "{refusal:?} {}", refusal.code()).ok(),
-        None => text.push_str("none").ok(),
+pub(crate) fn put_code(code: u8, text: &mut String) -> Option<()> {
+    match Refusal::of_code(code) {
+        Some(refusal) => write!(text, " {refusal:?} {}", refusal.code()).ok(),
+        None => put("none", &[], text),
     }
 }
 
-pub(crate) fn magic(alloc: Global, fields: &str, text: &mut String) -> Option<()> {
-    let bytes = bytes_of(alloc, fields)?;
-    text.push_str(match (is_command_file(&bytes), is_journal(&bytes)) {
+pub(crate) fn put_magic(bytes: &[u8], text: &mut String) -> Option<()> {
+    let found = match (is_command_file(bytes), is_journal(bytes)) {
         (true, false) => "commands",
         (false, true) => "journal",
         (false, false) => "neither",
         (true, true) => "both",
-    })
-    .ok()
+    };
+    put(found, &[], text)
 }

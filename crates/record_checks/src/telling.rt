@@ -1,10 +1,20 @@
 //! How values are told.
-use std::fmt::Write;
 use weight_rows::Entry;
 use wire_records::Command;
 
+// A word, and numbers behind it.
+pub(crate) fn put(word: &str, numbers: &[i128], text: &mut String) -> Option<()> {
+    text.push(' ').ok()?;
+    text.push_str(word).ok()?;
+    for number in numbers {
+        write!(text, " {number}").ok()?;
+    }
+    Some(())
+}
+
 // Bytes in hexadecimal digits.
 pub(crate) fn put_bytes(bytes: &[u8], text: &mut String) -> Option<()> {
+    text.push(' ').ok()?;
     if bytes.is_empty() {
         return text.push('-').ok();
     }
@@ -14,45 +24,48 @@ pub(crate) fn put_bytes(bytes: &[u8], text: &mut String) -> Option<()> {
     Some(())
 }
 
-// An item of a list, or its end.
-pub(crate) fn put_entry(entry: Option<Entry>, text: &mut String) -> Option<()> {
-    match entry {
-        Some(entry) => write!(text, "{}:{},", entry.asset, entry.weight).ok(),
-        None => text.push('-').ok(),
-    }
+// An item of a list.
+pub(crate) fn put_item(first: i128, second: i128, text: &mut String) -> Option<()> {
+    write!(text, " {first}/{second}").ok()
 }
 
 fn put_entries(entries: &[Entry], text: &mut String) -> Option<()> {
     for entry in entries {
-        put_entry(Some(*entry), text)?;
+        put_item(entry.asset.into(), entry.weight.into(), text)?;
     }
-    put_entry(None, text)
+    text.push_str(" -").ok()
 }
 
 // A command with its fields.
-pub(crate) fn put_command(command: &Command, text: &mut String) -> Option<()> {
+pub(crate) fn put_command(command: Command, text: &mut String) -> Option<()> {
     match command {
         Command::AddAsset { ticker } => {
-            text.push_str("add_asset ").ok()?;
-            put_bytes(ticker, text)
+            put("add_asset", &[], text)?;
+            put_bytes(&ticker, text)
         }
-        Command::OpenAccount => text.push_str("open_account").ok(),
+        Command::OpenAccount => put("open_account", &[], text),
         Command::DepositMoney { account, ticks } => {
-            write!(text, "deposit_money {account} {ticks}").ok()
+            put("deposit_money", &[account.into(), ticks.into()], text)
         }
         Command::DepositAsset {
             account,
             asset,
             units,
-        } => write!(text, "deposit_asset {account} {asset} {units}").ok(),
+        } => {
+            let numbers = [account.into(), asset.into(), units.into()];
+            put("deposit_asset", &numbers, text)
+        }
         Command::WithdrawMoney { account, ticks } => {
-            write!(text, "withdraw_money {account} {ticks}").ok()
+            put("withdraw_money", &[account.into(), ticks.into()], text)
         }
         Command::WithdrawAsset {
             account,
             asset,
             units,
-        } => write!(text, "withdraw_asset {account} {asset} {units}").ok(),
+        } => {
+            let numbers = [account.into(), asset.into(), units.into()];
+            put("withdraw_asset", &numbers, text)
+        }
         Command::PlaceOrder {
             account,
             low,
@@ -61,12 +74,19 @@ pub(crate) fn put_command(command: &Command, text: &mut String) -> Option<()> {
             cap,
             row,
         } => {
-            write!(text, "place_order {account} {low} {high} {rate} {cap} ").ok()?;
+            let numbers = [
+                account.into(),
+                low.into(),
+                high.into(),
+                rate.into(),
+                cap.into(),
+            ];
+            put("place_order", &numbers, text)?;
             put_entries(row.as_slice(), text)
         }
         Command::CancelOrder { account, order } => {
-            write!(text, "cancel_order {account} {order}").ok()
+            put("cancel_order", &[account.into(), order.into()], text)
         }
-        Command::RunBatch { budget } => write!(text, "run_batch {budget}").ok(),
+        Command::RunBatch { budget } => put("run_batch", &[budget.into()], text),
     }
 }

@@ -1,12 +1,14 @@
-//! Cases of lines of JSON.
-use crate::fields::text_of;
-use crate::telling::{put_bytes, put_command};
+//! Lines of JSON.
+use crate::telling::{put, put_command};
+use check_lines::put_records;
 use flow_io::SteadySink;
 use line_records::{EncodeFault, encode_lines};
 use order_text::{LineFault, LineRead, read_line};
 use std::alloc::Global;
-use std::fmt::Write;
 use ticker_table::TickerTable;
+
+// More bytes than lines of a case ask for.
+const MOST_OUT: usize = 4096;
 
 // A name, padded with spaces.
 fn padded(name: &str) -> Option<[u8; 8]> {
@@ -19,47 +21,28 @@ fn padded(name: &str) -> Option<[u8; 8]> {
     Some(ticker)
 }
 
-fn add_tickers(names: &str, tickers: &mut TickerTable) -> Option<()> {
-    if names == "-" {
-        return Some(());
-    }
-    for name in names.split(',') {
+pub(crate) fn put_line(alloc: Global, names: &str, line: &[u8], text: &mut String) -> Option<()> {
+    let mut tickers = TickerTable::new(alloc);
+    for name in names.split_whitespace() {
         tickers.add(padded(name)?).ok()?;
     }
-    Some(())
-}
-
-fn put_answer(answer: Result<LineRead, LineFault>, text: &mut String) -> Option<()> {
-    match answer {
-        Ok(LineRead::Blank) => text.push_str("blank").ok(),
-        Ok(LineRead::Asks(command)) => put_command(&command, text),
-        Err(LineFault::NoCommand) => text.push_str("no_command").ok(),
-        Err(LineFault::Memory) => text.push_str("memory").ok(),
+    match read_line(alloc, line, &mut tickers) {
+        Ok(LineRead::Blank) => put("blank", &[], text)?,
+        Ok(LineRead::Asks(command)) => put_command(command, text)?,
+        Err(LineFault::NoCommand) => put("no_command", &[], text)?,
+        Err(LineFault::Memory) => put("memory", &[], text)?,
     }
+    put("of", &[tickers.len().into()], text)
 }
 
-pub(crate) fn line(alloc: Global, fields: &str, text: &mut String) -> Option<()> {
-    let (names, line) = fields.split_once(' ')?;
-    let mut tickers = TickerTable::new(alloc);
-    add_tickers(names, &mut tickers)?;
-    let line = text_of(alloc, line)?;
-    put_answer(read_line(alloc, &line, &mut tickers), text)?;
-    write!(text, " {}", tickers.len()).ok()
-}
-
-fn put_encoded(encoded: Result<(), EncodeFault>, text: &mut String) -> Option<()> {
-    match encoded {
-        Ok(()) => text.push_str("done ").ok(),
-        Err(EncodeFault::NoCommand(line)) => write!(text, "no_command {line} ").ok(),
-        Err(EncodeFault::Write) => text.push_str("write ").ok(),
-        Err(EncodeFault::Memory) => text.push_str("memory ").ok(),
+pub(crate) fn put_lines(alloc: Global, lines: &[u8], more: bool, text: &mut String) -> Option<()> {
+    let mut out = SteadySink::new(alloc, MOST_OUT).ok()?;
+    match encode_lines(alloc, lines, more, &mut out) {
+        Ok(()) => put("done", &[], text)?,
+        Err(EncodeFault::NoCommand(line)) => put("no_command", &[line.into()], text)?,
+        Err(EncodeFault::Write) => put("write", &[], text)?,
+        Err(EncodeFault::Memory) => put("memory", &[], text)?,
     }
-}
-
-pub(crate) fn lines(alloc: Global, fields: &str, text: &mut String) -> Option<()> {
-    let (more, lines) = fields.split_once(' ')?;
-    let lines = text_of(alloc, lines)?;
-    let mut out = SteadySink::new(alloc, 4096).ok()?;
-    put_encoded(encode_lines(alloc, &lines, more == "more", &mut out), text)?;
-    put_bytes(out.bytes(), text)
+    text.push('\n').ok()?;
+    put_records(alloc, out.bytes(), MOST_OUT, text)
 }

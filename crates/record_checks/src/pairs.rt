@@ -1,0 +1,144 @@
+//! Pairs that are written.
+use batch_certificate::{Cleared, PriceList, RateList, ResidualList, Skipped, Trace};
+use flow_orders::{Order, order_fault};
+use journal_records::{reserve_plain, write_cleared, write_plain, write_skipped};
+use std::alloc::Global;
+use weight_rows::{Entry, EntryList, WeightRow, row_fault};
+use wire_records::{RecordView, Refusal, Reply};
+
+// The reply that words say.
+fn reply_of(words: &str) -> Option<Reply> {
+    let (word, number) = words.split_once(' ').unwrap_or((words, ""));
+    match word {
+        "done" => Some(Reply::Done),
+        "asset" => Some(Reply::Asset(number.parse().ok()?)),
+        "account" => Some(Reply::Account(number.parse().ok()?)),
+        "order" => Some(Reply::Order(number.parse().ok()?)),
+        "refused" => Some(Reply::Refused(Refusal::of_code(number.parse().ok()?)?)),
+        _ => None,
+    }
+}
+
+pub(crate) fn append_plain(asked: &RecordView<'_>, with: &str, out: &mut Vec<u8>) -> Option<()> {
+    let reply = reply_of(with)?;
+    reserve_plain(asked, out).ok()?;
+    if out.capacity() - out.len() < asked.bytes().len() + 13 {
+        return None;
+    }
+    write_plain(asked, &reply, out);
+    Some(())
+}
+
+// An order of this number that buys asset 0.
+fn order_of(alloc: Global, number: u64) -> Option<Order> {
+    let entry = Entry {
+        asset: 0,
+        weight: 1,
+    };
+    let entries = EntryList::new(Vec::from_slice(alloc, &[entry]).ok()?);
+    if row_fault(entries.as_slice()).is_some() || order_fault(90, 110, 1000, 10000).is_some() {
+        return None;
+    }
+    let row = WeightRow::new(entries);
+    Some(Order::new(number, 1, 90, 110, 1000, 10000, row))
+}
+
+// Appends the orders and the rates of a list.
+fn add_fills(
+    alloc: Global,
+    list: &str,
+    orders: &mut Vec<Order>,
+    rates: &mut Vec<u32>,
+) -> Option<()> {
+    for item in list.split(',') {
+        let (order, rate) = item.split_once('/')?;
+        rates.push(rate.parse().ok()?).ok()?;
+        orders.push(order_of(alloc, order.parse().ok()?)?).ok()?;
+    }
+    Some(())
+}
+
+// The same, of prices and residuals.
+fn add_assets(list: &str, prices: &mut Vec<i64>, residuals: &mut Vec<i64>) -> Option<()> {
+    for item in list.split(',') {
+        let (price, residual) = item.split_once('/')?;
+        prices.push(price.parse().ok()?).ok()?;
+        residuals.push(residual.parse().ok()?).ok()?;
+    }
+    Some(())
+}
+
+fn cleared_of(alloc: Global, gap: i128, list: &str, rates: Vec<u32>) -> Option<Cleared> {
+    let mut prices = Vec::new(alloc);
+    let mut residuals = Vec::new(alloc);
+    if list != "-" {
+        add_assets(list, &mut prices, &mut residuals)?;
+    }
+    Some(Cleared {
+        prices: PriceList::new(prices),
+        rates: RateList::new(rates),
+        residuals: ResidualList::new(residuals),
+        gap,
+    })
+}
+
+fn write_batch(
+    asked: &RecordView<'_>,
+    batch: u32,
+    orders: &[Order],
+    cleared: &Cleared,
+    out: &mut Vec<u8>,
+) -> Option<()> {
+    let assets = cleared.prices.as_slice().len();
+    if cleared.rates.as_slice().len() != orders.len()
+        || cleared.residuals.as_slice().len() != assets
+        || assets > 64
+        || orders.len() > 16_384
+    {
+        return None;
+    }
+    write_cleared(asked, batch, orders, cleared, out).ok()
+}
+
+pub(crate) fn append_cleared(
+    alloc: Global,
+    asked: &RecordView<'_>,
+    with: &str,
+    out: &mut Vec<u8>,
+) -> Option<()> {
+    let (batch, with) = with.split_once(' ')?;
+    let batch = batch.parse().ok()?;
+    let (gap, with) = with.split_once(' ')?;
+    let gap = gap.parse().ok()?;
+    let (assets, fills) = with.split_once(' ')?;
+    let mut orders = Vec::new(alloc);
+    let mut rates = Vec::new(alloc);
+    if fills != "-" {
+        add_fills(alloc, fills, &mut orders, &mut rates)?;
+    }
+    let cleared = cleared_of(alloc, gap, assets, rates)?;
+    write_batch(asked, batch, &orders, &cleared, out)
+}
+
+pub(crate) fn append_skipped(
+    alloc: Global,
+    asked: &RecordView<'_>,
+    with: &str,
+    moves: &[u8],
+    out: &mut Vec<u8>,
+) -> Option<()> {
+    let (batch, duals) = with.split_once(' ')?;
+    let batch = batch.parse().ok()?;
+    let (start_dual, end_dual) = duals.split_once(' ')?;
+    let start_dual = start_dual.parse().ok()?;
+    let end_dual = end_dual.parse().ok()?;
+    if moves.len() > 65_536 {
+        return None;
+    }
+    let skipped = Skipped {
+        trace: Trace::new(Vec::from_slice(alloc, moves).ok()?),
+        start_dual,
+        end_dual,
+    };
+    write_skipped(asked, batch, &skipped, out).ok()
+}
