@@ -1,2 +1,3 @@
 mod Taking
 pub mod Endings
+mod Gone
