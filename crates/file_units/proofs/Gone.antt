@@ -2,7 +2,7 @@
 use Rattle.std.proofs.Common.{◌≡◌, ◌≢◌, ◌+◌, ◌-◌, ◌<◌, ◌≤◌, ℕ, List, [], ◌∷◌, ◌++◌, IsTrue, false, Option, Some, None, IfSome, Result, Ok, Err, length, take, drop, refl, sym, ap, subst, ◌∙◌, inl, inr, append_assoc, append-nil, length-append, arith, rules}
 use Rattle.std.specs.Prelude.{All}
 use Rattle.std.proofs.Math.Seq.{take-append-add}
-use Rattle.std.proofs.lemmas.List.{flat_map_more, take-append-le}
+use Rattle.std.proofs.lemmas.List.{flat_map_more, take_at}
 use Rattle.std.proofs.lemmas.List.Elements.{All-push, All-nil}
 use Rattle.flow_io.specs.Streams.{Takes}
 use Rattle.flow_io.specs.Windows.{WindowState, IsPast, IsWithin, Fills}
@@ -183,6 +183,14 @@ module _ {V U S O : Type 0} (format : Format V U) (Steps : S → U → S → O �
             ∙ ap (λ xs. xs ++ more) so.whole ∙ append_assoc (spell_all format.units so.units) now.held more,
           )
 
+      -- what was seen is the front of it
+      front_seen : (after : Option (List ℕ)) → take (length (first.held ++ so.taken)) (take (first.limit - first.place) (first.held ++ known so.taken after)) ≡ spell_all format.units so.units ++ now.held
+      front_seen after =
+          let bytes = considered_from after in
+          let size : length (first.held ++ so.taken) ≡ length (spell_all format.units so.units ++ now.held) = ap length so.whole in
+          ap (take (length (first.held ++ so.taken))) (bytes.1 ∙ sym (append_assoc (spell_all format.units so.units) now.held bytes.0))
+          ∙ take_at (spell_all format.units so.units ++ now.held) bytes.0 (length (first.held ++ so.taken)) (sym size)
+
       -- the unit that is held states too much
       pub gone_overlong : HasLongest format first.room → (new : S) (after : O) → new ≡ middle → after ≡ between → format.IsOverlong now.held → GoesFrom format Steps Breaks first (rest from) (rest source) (Ok (Torn now.place)) old new before after
       gone_overlong longest new after state output over =
@@ -254,7 +262,7 @@ module _ {V U S O : Type 0} (format : Format V U) (Steps : S → U → S → O �
               few = few_taken;
               goes = record {
                 units = so.units;
-                reads = record { rest = now.held; whole = so.whole; each = so.each; none = none; ends = (short, tt) };
+                reads = record { rest = now.held; whole = front_seen (rest now_source); each = so.each; none = none; ends = (short, tt) };
                 leads = rw (state, output) so.leads;
               };
             }

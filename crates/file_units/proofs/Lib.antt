@@ -1,3 +1,3 @@
 mod Taking
 pub mod Endings
-mod Gone
+pub mod Gone

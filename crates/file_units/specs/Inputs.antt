@@ -29,7 +29,7 @@ module _ {V U S O F : Type 0} (format : Format V U) (Steps : S → U → S → O
   abbrev pub GoesBy : (limit place room : ℕ) → List ℕ → Option (List ℕ) → List ℕ → Result Ending (TakeFault F) → S → S → O → O → Type 0
   GoesBy limit place room seen after all (Ok ending) old new before now =
       GoesToEnd format Steps place (limit < length all) (take limit all) (ending_of ending) old new before now × (ending ≡ End → IfSome after (λ left. left ≡ []))
-  GoesBy limit place room seen after all (Err Read) old new before now = GoesToEnd format Steps place (Unit {0}) seen reading.TooLong old new before now
+  GoesBy limit place room seen after all (Err Read) old new before now = GoesToEnd format Steps place (Unit {0}) (take (length seen) (take limit all)) reading.TooLong old new before now
   GoesBy limit place room seen after all (Err (Broken fault)) old new before now =
       (goes : GoesToBreak format Steps Breaks (take limit all) fault old before now) × (length seen ≤ length (spell_all format.units goes.units) + (room + 1))
 
