@@ -2,6 +2,7 @@
 use Rattle.std.proofs.Common.{◌≡◌, ◌≢◌, ◌+◌, ◌-◌, ◌<◌, ◌≤◌, ℕ, List, [], ◌∷◌, ◌++◌, IsTrue, false, Option, Some, None, IfSome, Result, Ok, Err, length, take, drop, refl, sym, ap, subst, ◌∙◌, inl, inr, append_assoc, append-nil, length-append, arith, rules}
 use Rattle.std.specs.Prelude.{All}
 use Rattle.std.proofs.Math.Seq.{take-append-add}
+use Rattle.std.proofs.lemmas.Bool.{cases_lt}
 use Rattle.std.proofs.lemmas.List.{flat_map_more, take_at}
 use Rattle.std.proofs.lemmas.List.Elements.{All-push, All-nil}
 use Rattle.flow_io.specs.Streams.{Takes}
@@ -9,6 +10,7 @@ use Rattle.flow_io.specs.Windows.{WindowState, IsPast, IsWithin, Fills}
 use Rattle.flow_io.specs.declared.window.InputEnd.{InputEnd}
 use Rattle.flow_io.specs.declared.window.InputEnd.TheVariants.{Source, Limit}
 use Rattle.flow_io.proofs.Reading.{Takes-more}
+use Rattle.wire_records.specs.Records.{AreBytes}
 use Rattle.wire_records.specs.Grammars.{BeginsWithNone, spell_all}
 use Rattle.wire_records.specs.Reading.{Format, EndsAs, ReadsOn}
 use Rattle.wire_records.specs.Reading as reading
@@ -27,6 +29,14 @@ went_well e = absurd cc
 Takes-nothing : (told : Option (List ℕ)) → Takes told told []
 Takes-nothing None = tt
 Takes-nothing (Some left) = refl
+
+-- where no unit is seen, nor that one states too much, fewer bytes are held than the longest has
+pub fewer_than_room : {V U : Type 0} (format : Format V U) (room : ℕ) (held : List ℕ) → HasLongest format room → AreBytes held → BeginsWithNone format.units held → (¬ format.IsOverlong held) → length held < room
+fewer_than_room format room held longest bytes none short =
+    elim (cases_lt (length held) room) [
+      | inl fewer ↦ fewer
+      | inr not ↦ absurd (short (longest.seen held bytes (omega (arith, not)) none))
+    ]
 
 -- what is held stands within the limit
 pub within_limit : (place held limit : ℕ) (over : Option InputEnd) → IsWithin place held limit over → place + held ≤ limit

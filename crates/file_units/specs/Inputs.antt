@@ -2,6 +2,7 @@
 use Rattle.std.specs.Prelude.{◌≡◌, ◌+◌, ◌-◌, ◌<◌, ◌≤◌, ℕ, List, [], ◌++◌, length, take, Option, Some, None, IfSome, Result, Ok, Err}
 use Rattle.flow_io.specs.Streams.{Takes}
 use Rattle.flow_io.specs.Windows.{WindowState}
+use Rattle.wire_records.specs.Records.{AreBytes}
 use Rattle.wire_records.specs.Grammars.{BeginsWithNone, spell_all}
 use Rattle.wire_records.specs.Reading.{Format}
 use Rattle.wire_records.specs.Reading as reading
@@ -14,7 +15,7 @@ use Rattle.file_units.specs.Units.{ending_of, GoesToEnd, GoesToBreak}
 -- In so many bytes it is seen whether a unit stands at the front or states too much. What states too much does so whatever follows,
 -- and is no unit.
 pub record HasLongest {V U : Type 0} (format : Format V U) (most : ℕ) : Type 0 where
-  pub seen : (bytes : List ℕ) → most ≤ length bytes → BeginsWithNone format.units bytes → format.IsOverlong bytes
+  pub seen : (bytes : List ℕ) → AreBytes bytes → most ≤ length bytes → BeginsWithNone format.units bytes → format.IsOverlong bytes
   pub stays : (bytes more : List ℕ) → format.IsOverlong bytes → format.IsOverlong (bytes ++ more)
   pub none : (bytes : List ℕ) → format.IsOverlong bytes → BeginsWithNone format.units bytes
 

@@ -3,6 +3,7 @@ ghost use Rattle.std.specs.Prelude.{◌≡◌, ◌-◌, ◌<◌, Some, None, [],
 ghost use Rattle.flow_io.specs.Faults.{Blames};
 ghost use Rattle.flow_io.specs.Windows.{Fills, IsWithin};
 ghost use Rattle.flow_io.specs.declared.window.InputEnd.TheVariants.{Source as source_end, Limit as limit_end};
+ghost use Rattle.wire_records.specs.Records.{AreBytes};
 ghost use Rattle.file_units.specs.Inputs.{HasLongest, GoesFrom};
 
 use crate::walk::{Ending, Front, TakesUnits};
@@ -15,6 +16,14 @@ pub enum TakeFault<F> {
     Read,
     /// Taking a unit broke off.
     Broken(F),
+}
+
+// The bytes that a window holds, with what their type says of them as a clause.
+fn bytes_of(held: &[u8]) -> &[u8]
+    ensures value { result.now ≡ held.now }
+    ensures bytes { AreBytes held.now }
+{
+    held
 }
 
 // Reads once more behind the held bytes, of which there are fewer than the room.
@@ -54,7 +63,7 @@ pub fn take_from<S: Source, O, T: TakesUnits<O>>(
     ensures cause { Blames (result ≡ Err TakeFault.Read) (S.faults source.old) (S.faults source.new) }
 {
     'units: loop {
-        let front = match taker.take(window.held(), out) {
+        let front = match taker.take(bytes_of(window.held()), out) {
             Ok(front) => front,
             Err(fault) => return Err(TakeFault::Broken(fault)),
         };
