@@ -18,10 +18,9 @@ use word_driver::{Halt, Memory, ServesWord};
 // As many bytes has the longest pair: 5 and 1,024 of the command record, 5 and 262,144 of the reply's.
 const MOST_PAIR: usize = 263_178;
 
-// Whether a journal stands there; its pairs can be numbered.
+// Whether a journal stands there.
 fn begins(bytes: &[u8]) -> bool
-    ensures journal { IsTrue result ↔ ((body : List ℕ) × BeginsWith journals.magics bytes.now One body) }
-    ensures fits { length bytes.now < 2 ^ 64 }
+    ensures { IsTrue result ↔ ((body : List ℕ) × BeginsWith journals.magics bytes.now One body) }
 {
     is_journal(bytes)
 }

@@ -48,6 +48,12 @@ module _ {B : Type 0} (t : Task B) (limit : ℕ) where
   keeps_up_at_once (Some bytes) None taken before now takes few = absurd takes
   keeps_up_at_once (Some bytes) (Some left) taken before now takes few = (8, length taken, count_taken bytes left taken takes, few, inl refl)
 
+  -- nor more than in all, where so many may be
+  pub keeps_up_within : (told after : Option (List ℕ)) (taken : List ℕ) (before now : Option (List ℕ)) → Takes told after taken → TakesAtMost told after (t.most_taken limit) → t.most_taken limit ≤ 8 + t.ahead limit → IfSome told (λ bytes. KeepsUp t limit bytes after before now)
+  keeps_up_within None after taken before now takes most few = tt
+  keeps_up_within (Some bytes) None taken before now takes most few = absurd takes
+  keeps_up_within (Some bytes) (Some left) taken before now takes most few = (8, length taken, count_taken bytes left taken takes, omega (arith, few, most, ap length takes, length-append taken left), inl refl)
+
   -- a read failed, and nothing was written
   not_read : ((bytes : List ℕ) (n : ℕ) → t.Begins limit bytes n []) → (told after : Option (List ℕ)) (taken : List ℕ) (held : Option (List ℕ)) → Takes told after taken → IfSome told (λ bytes. Meets t limit bytes after (Err Read) held held)
   not_read none None after taken held takes = tt
@@ -68,8 +74,8 @@ module _ {B : Type 0} (t : Task B) (limit : ℕ) where
   no_memory none None after held = tt
   no_memory none (Some bytes) after held = ([], none bytes, Grows-nothing held)
 
-  pub does_not_fit : ((bytes : List ℕ) → t.Lacks limit bytes []) → (source : Change) (taken : List ℕ) (held : Option (List ℕ)) (faults : ℕ) → Takes source.before source.after taken → length taken ≤ 8 + t.ahead limit → TakesAtMost source.before source.after (t.most_taken limit) → source.faults_after ≡ source.faults
+  pub does_not_fit : ((bytes : List ℕ) → t.Lacks limit bytes []) → (source : Change) (held : Option (List ℕ)) (faults : ℕ) → IfSome source.before (λ bytes. KeepsUp t limit bytes source.after held held) → TakesAtMost source.before source.after (t.most_taken limit) → source.faults_after ≡ source.faults
       → Does t limit (Err Memory) source (record { before = held; after = held; faults = faults; faults_after = faults })
-  does_not_fit none source taken held faults takes few most quiet =
-      does (Err Memory) source (record { before = held; after = held; faults = faults; faults_after = faults }) (no_memory none source.before source.after held) (λ why. keeps_up_at_once source.before source.after taken held held takes few) most tt
+  does_not_fit none source held faults keeps_up most quiet =
+      does (Err Memory) source (record { before = held; after = held; faults = faults; faults_after = faults }) (no_memory none source.before source.after held) (λ why. keeps_up) most tt
       (record { later = omega (arith, quiet); rose = λ e. absurd cc; quiet = λ _. quiet }) (record { later = omega arith; rose = λ e. absurd cc; quiet = λ _. refl })
