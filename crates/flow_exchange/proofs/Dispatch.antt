@@ -14,11 +14,11 @@ use Rattle.flow_exchange.specs.Running.{KeepsPace}
 use Rattle.flow_exchange.proofs.Outcomes.{one_form, completes}
 
 -- where no count rose and memory was there, a form came to what the bytes determine
-pub completes_form : (form : Form) (told : Option (List ℕ)) (limit : ℕ) (status : Status) (before after : Option (List ℕ)) (reads reads_now writes writes_now : ℕ)
-    → IfSome told (λ bytes. Meets form limit bytes status before after) → Blames (status ≡ answer.ReadFault) reads reads_now → Blames (status ≡ answer.WriteFault) writes writes_now
+pub completes_form : (form : Form) (told left : Option (List ℕ)) (limit : ℕ) (status : Status) (before after : Option (List ℕ)) (reads reads_now writes writes_now : ℕ)
+    → IfSome told (λ bytes. Meets form limit bytes left status before after) → Blames (status ≡ answer.ReadFault) reads reads_now → Blames (status ≡ answer.WriteFault) writes writes_now
     → (¬ Rose reads reads_now) → (¬ Rose writes writes_now) → status ≢ answer.NoMemory → IfSome told (λ bytes. Determines form limit bytes status before after)
-completes_form form told limit status before after reads reads_now writes writes_now meets read written no_read no_write memory =
-    completes told form limit status before after meets (λ e. no_read (read.rose e)) (λ e. no_write (written.rose e)) memory
+completes_form form told left limit status before after reads reads_now writes writes_now meets read written no_read no_write memory =
+    completes told left form limit status before after meets (λ e. no_read (read.rose e)) (λ e. no_write (written.rose e)) memory
 
 -- the words are a form, which was done
 pub serves_form : (limit : ℕ) (words : List (List ℕ)) (form : Form) (status : Status) (source out notes : Change) → Asks words form → status ≢ answer.Usage → Does form limit status source out → (form ≡ Run → KeepsPace limit status source out) → ((¬ Rose notes.faults notes.faults_after) → Grows notes.before notes.after (line_of status)) → GrowsByFront notes.before notes.after (line_of status) → Serves limit words status source out notes

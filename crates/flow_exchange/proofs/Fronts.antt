@@ -2,10 +2,12 @@
 use Rattle.std.proofs.Common.{◌≡◌, ◌+◌, ◌<◌, ℕ, List, [], ◌∷◌, ◌++◌, All, map, length, take, inl, inr, append-nil, append_assoc, refl, sym, ap, subst, ◌∙◌}
 use Rattle.std.specs.List.{flat_map}
 use Rattle.std.proofs.lemmas.Grind.{flat_map-append}
-use Rattle.std.proofs.lemmas.List.Elements.{All-head, All-tail}
+use Rattle.std.proofs.lemmas.List.Elements.{All-head, All-tail, All-take}
+use Rattle.std.proofs.lemmas.List.{flat_map_more, take_at}
 use Rattle.wire_records.specs.Records.{Record, command_magic, spelling}
 use Rattle.wire_records.specs.Commands.{Pair}
 use Rattle.wire_records.specs.CommandRecords.{record_of, IsReadAs}
+use Rattle.wire_records.specs.Grammars.{spell_all}
 use Rattle.wire_records.specs.Reading.{Reading, NotFlow, File, Reads, StartsWith}
 use Rattle.wire_records.specs.Formats.{Version, commands}
 use Rattle.wire_records.proofs.Readings.{reading_unique}
@@ -29,8 +31,8 @@ use Rattle.line_records.proofs.OneReadings.{first_is_a_front}
 use Rattle.exchange_session.specs.Journals.{Journals}
 use Rattle.flow_exchange.specs.declared.form.Form.TheVariants.{Run, Audit, Report, Encode}
 use Rattle.flow_exchange.specs.declared.status.Status.{Status}
-use Rattle.flow_exchange.specs.Running.{WritesOf, RunsTo, RunsInto, RunsOut}
-use Rattle.flow_exchange.specs.Reporting.{AreReported, ReportsTo, ReportsInto}
+use Rattle.flow_exchange.specs.Running.{WritesOf, RunsTo, RunsInto, RunsShort}
+use Rattle.flow_exchange.specs.Reporting.{AreReported, ReportsTo, ReportsInto, ReportsShort}
 use Rattle.flow_exchange.specs.Laws.{BegunIsAFront}
 
 -- a text begins with another
@@ -101,9 +103,8 @@ run_begins limit bytes status text begun all first =
     reading_begins limit bytes first.version first.records first.records [] first.market text begun all.reading all.reads all.writes first.starts (sym (append-nil first.records)) first.writes
 
 -- where memory ran out
-run_begins-out : (limit : ℕ) (bytes : List ℕ) (status : Status) (text begun : List ℕ) → RunsTo limit bytes status text → RunsOut limit bytes begun → Begins text begun
-run_begins-out limit bytes status text begun all (inl none) = begins-nothing text begun none
-run_begins-out limit bytes status text begun all (inr short) =
+run_begins-out : (limit : ℕ) (bytes : List ℕ) (status : Status) (text begun : List ℕ) → RunsTo limit bytes status text → RunsShort limit bytes begun → Begins text begun
+run_begins-out limit bytes status text begun all short =
     reading_begins limit bytes short.version (short.records ++ short.next ∷ []) short.records (short.next ∷ []) short.market text begun all.reading all.reads all.writes short.starts refl short.writes
 
 -- ---- report
@@ -142,16 +143,34 @@ report_begins-file limit bytes status text begun (inr all) first =
     let on = starts_first journals journals_readable limit bytes first.version audits.version (map records_of first.legal) audits.units all.ending first.starts audits.reads in
     report_begins empty_market 1 all.legal first.legal all.behind on.1 all.market first.market text begun (sym audits.judged.parts ∙ on.2) audits.judged.journal.each first.fits audits.judged.stops all.writes first.writes
 
+-- up to a pair that may want memory
+report_begun : (limit : ℕ) (bytes begun : List ℕ) → ReportsShort limit bytes begun → ReportsInto limit bytes begun
+report_begun limit bytes begun (legal, market, next, at, wants, told) =
+    let units = map records_of legal in
+    record {
+      version = at.version;
+      legal = legal;
+      market = market;
+      starts = record {
+        body = at.starts.body;
+        rest = journals.units.spell next ++ at.starts.rest;
+        magic = at.starts.magic;
+        whole = at.starts.whole ∙ ap (λ xs. xs ++ at.starts.rest) (sym (flat_map_more journals.units.spell [] units next)) ∙ append_assoc (spell_all journals.units units) (journals.units.spell next) at.starts.rest;
+        each = subst (All journals.units.IsLawful) (take_at units (next ∷ []) (length units) refl) (All-take journals.units.IsLawful (length units) (units ++ next ∷ []) at.starts.each);
+      };
+      fits = at.journal.each;
+      writes = told;
+    }
+
 -- ---- all forms
 
 pub begun_is_a_front : BegunIsAFront
 begun_is_a_front Run limit bytes status text begun comes (inl gets) = run_begins limit bytes status text begun comes gets
 begun_is_a_front Run limit bytes status text begun comes (inr lacks) = run_begins-out limit bytes status text begun comes lacks
 begun_is_a_front Audit limit bytes status text begun comes (inl gets) = absurd gets
-begun_is_a_front Audit limit bytes status text begun comes (inr lacks) = begins-nothing text begun lacks
+begun_is_a_front Audit limit bytes status text begun comes (inr (legal, market, next, at, wants, nothing)) = begins-nothing text begun nothing
 begun_is_a_front Report limit bytes status text begun comes (inl gets) = report_begins-file limit bytes status text begun comes gets
-begun_is_a_front Report limit bytes status text begun comes (inr (inl none)) = begins-nothing text begun none
-begun_is_a_front Report limit bytes status text begun comes (inr (inr gets)) = report_begins-file limit bytes status text begun comes gets
+begun_is_a_front Report limit bytes status text begun comes (inr short) = report_begins-file limit bytes status text begun comes (report_begun limit bytes begun short)
 begun_is_a_front Encode limit bytes status text begun comes (inl gets) = encode_begins limit bytes comes.0 text begun comes.1 gets
 begun_is_a_front Encode limit bytes status text begun comes (inr (inl none)) = begins-nothing text begun none
 begun_is_a_front Encode limit bytes status text begun comes (inr (inr gets)) = encode_begins limit bytes comes.0 text begun comes.1 gets

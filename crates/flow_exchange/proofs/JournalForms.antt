@@ -1,9 +1,9 @@
 -- An audit and a report do what the clauses of the program say: what their words come to are audits and texts of legal pairs.
 use Rattle.std.proofs.Common.{◌≡◌, ◌⊎◌, ◌<◌, ◌+◌, ℕ, List, [], ◌∷◌, ◌++◌, All, map, Ok, Err, length, take, drop, refl, sym, ap, ◌∙◌, subst, inl, inr, append-nil, append_assoc, arith}
 use Rattle.std.proofs.lemmas.Bool.{cases_lt}
-use Rattle.std.proofs.lemmas.List.{take-append-drop}
+use Rattle.std.proofs.lemmas.List.{take-append-drop, flat_map_more}
 use Rattle.std.proofs.lemmas.List.Sums.{sum_by-cons}
-use Rattle.std.proofs.lemmas.List.Elements.{All-nil, All-cons, All-head, All-tail}
+use Rattle.std.proofs.lemmas.List.Elements.{All-nil, All-cons, All-head, All-tail, All-push}
 use Rattle.wire_records.specs.Records.{Record}
 use Rattle.wire_records.specs.Commands.{Answer, Pair}
 use Rattle.wire_records.specs.CommandRecords.{IsReadAs}
@@ -17,7 +17,7 @@ use Rattle.journal_records.specs.Formats.{journals, records_of}
 use Rattle.journal_records.proofs.Spelled.{answer_unique}
 use Rattle.market_core.specs.Market.{Market, empty_market}
 use Rattle.market_core.specs.Journal.{Follows}
-use Rattle.batch_audit.specs.Legal.{IsIllegalPair}
+use Rattle.batch_audit.specs.Legal.{IsIllegalPair, IsLegalJournal}
 use Rattle.batch_report.specs.Reports.{IsReport}
 use Rattle.journal_replay.specs.Audits.{Audits, cleared_by, skipped_by, cleared_in, skipped_in}
 use Rattle.journal_replay.proofs.Judged.{read_more}
@@ -32,8 +32,8 @@ use Rattle.flow_exchange.specs.declared.form.Form.TheVariants.{Audit, Report}
 use Rattle.flow_exchange.specs.declared.status.Status.TheVariants as answer
 use Rattle.flow_exchange.specs.Statuses.{ended_status}
 use Rattle.flow_exchange.specs.Private.{rejected}
-use Rattle.flow_exchange.specs.Auditing.{legal_line, audit_status, AuditsFile, AuditsTo}
-use Rattle.flow_exchange.specs.Reporting.{AreReported, ReportsTo, ReportsInto}
+use Rattle.flow_exchange.specs.Auditing.{legal_line, audit_status, AuditsFile, AuditsTo, IsAtPair, AuditsShort}
+use Rattle.flow_exchange.specs.Reporting.{AreReported, ReportsTo, ReportsInto, ReportsShort}
 use Rattle.flow_exchange.proofs.FileOf.{file_of}
 use Rattle.flow_exchange.proofs.Words.{IsForm}
 
@@ -227,18 +227,42 @@ audit_into limit bytes n text (ended, inr (version, body, behind, magic, is, on)
     let are = are_counted (audit_start version) way.state way.units way.so_far way.passes.each way.passes.goes in
     inl (behind_only text behind way.so_far way.last is way.writes are.nothing ∙ audit_last _ way.rest way.state ended way.last way.halts)
 
-audit_out : (limit : ℕ) (bytes : List ℕ) (text : List ℕ) → (task audit audit_start).Lacks limit bytes text → text ≡ []
-audit_out limit bytes text (inl none) = none
-audit_out limit bytes text (inr (version, body, behind, magic, is, on)) =
-    let way = on.0 in
-    is ∙ (are_counted (audit_start version) way.state way.units behind way.passes.each way.passes.goes).nothing
+-- the units that were passed are legal pairs, and then comes another one
+at_pair : (limit : ℕ) (bytes body : List ℕ) (version : Version) (magic : BeginsWith journals.magics (take limit bytes) version body) (units : List (Record × Record)) (rest more : List ℕ) (next : Record × Record) (legal : List (Pair Record Outcome)) (market : Market)
+    → body ≡ spell_all journals.units units ++ rest → All journals.units.IsLawful units → BeginsWith journals.units rest next more → units ≡ map records_of legal → IsLegalJournal legal market → IsAtPair limit bytes legal market next
+at_pair limit bytes body version magic units rest more next legal market whole each front parts journal = record {
+  version = version;
+  starts = record {
+    body = body;
+    rest = more;
+    magic = magic;
+    whole = whole ∙ ap (λ xs. spell_all journals.units units ++ xs) front.1 ∙ sym (append_assoc (spell_all journals.units units) (journals.units.spell next) more)
+        ∙ ap (λ xs. xs ++ more) (flat_map_more journals.units.spell [] units next) ∙ ap (λ (us : List (Record × Record)). spell_all journals.units (us ++ next ∷ []) ++ more) parts;
+    each = subst (λ (us : List (Record × Record)). All journals.units.IsLawful (us ++ next ∷ [])) parts (All-push journals.units.IsLawful units next each front.0);
+  };
+  journal = journal;
+}
+
+audit_out : (limit : ℕ) (bytes : List ℕ) (text : List ℕ) → (task audit audit_start).Lacks limit bytes text → AuditsShort limit bytes text
+audit_out limit bytes text (version, body, behind, magic, is, (way, keeps)) =
+    let are = are_counted (audit_start version) way.state way.units behind way.passes.each way.passes.goes in
+    let journal : IsLegalJournal are.legal way.state.market = record { each = are.each; steps = are.steps } in
+    elim way.wants [
+      | inl (next, more, front, wants) ↦
+          let at = at_pair limit bytes body version magic way.units way.rest more next are.legal way.state.market way.passes.whole way.passes.each front are.parts journal in
+          elim wants [
+            | inl want ↦ (are.legal, way.state.market, next, at, want, is ∙ are.nothing)
+            | inr other ↦ elim other [ inl seen ↦ absurd seen.2 | inr not_legal ↦ absurd not_legal.1 ]
+          ]
+      | inr end ↦ absurd end.1
+    ]
 
 pub audit_form : (limit : ℕ) → IsForm (task audit audit_start) Audit limit rejected
 audit_form limit = record {
   to = audit_to limit;
   into = audit_into limit;
   out = audit_out limit;
-  met = λ bytes why before after determines. determines;
+  met = λ bytes left why before after determines. determines;
   not_done = λ why e. absurd cc;
   not_read = λ why e. absurd cc;
   not_write = λ why e. absurd cc;
@@ -358,18 +382,27 @@ report_into limit bytes n text (ended, inr (version, body, behind, magic, is, on
     inr (first_pairs limit bytes body more behind version way.units way.rest way.state text way.so_far way.last
     (sym (take-append-drop n (take limit bytes)) ∙ ap (λ xs. xs ++ more) magic.1 ∙ append_assoc (journals.magics.spell version) body more) way.passes is way.writes (report_last _ way.rest way.state ended way.last way.halts))
 
-report_out : (limit : ℕ) (bytes : List ℕ) (text : List ℕ) → (task report report_start).Lacks limit bytes text → (text ≡ []) ⊎ ReportsInto limit bytes text
-report_out limit bytes text (inl none) = inl none
-report_out limit bytes text (inr (version, body, behind, magic, is, on)) =
-    let way = on.0 in
-    inr (first_pairs limit bytes body [] behind version way.units way.rest way.state text behind [] (magic.1 ∙ ap (λ xs. journals.magics.spell version ++ xs) (sym (append-nil body))) way.passes is (sym (append-nil behind)) refl)
+report_out : (limit : ℕ) (bytes : List ℕ) (text : List ℕ) → (task report report_start).Lacks limit bytes text → ReportsShort limit bytes text
+report_out limit bytes text (version, body, behind, magic, is, (way, keeps)) =
+    let are = are_told (report_start version) way.state way.units behind way.passes.each way.passes.goes in
+    let journal : IsLegalJournal are.legal way.state.market = record { each = are.each; steps = are.steps } in
+    let told = subst (λ (x : List ℕ). AreReported empty_market 1 are.legal way.state.market x) (sym is) are.told in
+    elim way.wants [
+      | inl (next, more, front, wants) ↦
+          let at = at_pair limit bytes body version magic way.units way.rest more next are.legal way.state.market way.passes.whole way.passes.each front are.parts journal in
+          elim wants [
+            | inl want ↦ (are.legal, way.state.market, next, at, inl want, told)
+            | inr other ↦ elim other [ inl seen ↦ (are.legal, way.state.market, next, at, inr (seen.0, seen.1), told) | inr not_legal ↦ absurd not_legal.1 ]
+          ]
+      | inr end ↦ absurd end.1
+    ]
 
 pub report_form : (limit : ℕ) → IsForm (task report report_start) Report limit rejected
 report_form limit = record {
   to = report_to limit;
   into = report_into limit;
   out = report_out limit;
-  met = λ bytes why before after determines. determines;
+  met = λ bytes left why before after determines. determines;
   not_done = λ why e. absurd cc;
   not_read = λ why e. absurd cc;
   not_write = λ why e. absurd cc;

@@ -131,21 +131,21 @@ one_outcome Report limit bytes s t x y a b = reports_one limit bytes s t x y a b
 one_outcome Encode limit bytes s t x y a b = lines_one limit bytes s t x y a b
 
 -- what a form comes to, where its status is none that a fault or want of memory has
-determined : (form : Form) (limit : ℕ) (bytes : List ℕ) (status : Status) (before after : Option (List ℕ)) → Meets form limit bytes status before after
+determined : (form : Form) (limit : ℕ) (bytes : List ℕ) (left : Option (List ℕ)) (status : Status) (before after : Option (List ℕ)) → Meets form limit bytes left status before after
     → status ≢ answer.ReadFault → status ≢ answer.WriteFault → status ≢ answer.NoMemory → Determines form limit bytes status before after
-determined form limit bytes answer.Usage before after meets r w m = absurd meets
-determined form limit bytes answer.ReadFault before after meets r w m = absurd (r refl)
-determined form limit bytes answer.WriteFault before after meets r w m = absurd (w refl)
-determined form limit bytes answer.NoMemory before after meets r w m = absurd (m refl)
-determined form limit bytes answer.Done before after meets r w m = meets
-determined form limit bytes answer.NotFlow before after meets r w m = meets
-determined form limit bytes (answer.Torn n) before after meets r w m = meets
-determined form limit bytes (answer.Rejected n) before after meets r w m = meets
-determined form limit bytes (answer.TooLong n) before after meets r w m = meets
-determined form limit bytes (answer.BadText n) before after meets r w m = meets
+determined form limit bytes left answer.Usage before after meets r w m = absurd meets
+determined form limit bytes left answer.ReadFault before after meets r w m = absurd (r refl)
+determined form limit bytes left answer.WriteFault before after meets r w m = absurd (w refl)
+determined form limit bytes left answer.NoMemory before after meets r w m = absurd (m refl)
+determined form limit bytes left answer.Done before after meets r w m = meets
+determined form limit bytes left answer.NotFlow before after meets r w m = meets
+determined form limit bytes left (answer.Torn n) before after meets r w m = meets
+determined form limit bytes left (answer.Rejected n) before after meets r w m = meets
+determined form limit bytes left (answer.TooLong n) before after meets r w m = meets
+determined form limit bytes left (answer.BadText n) before after meets r w m = meets
 
 -- over what a source tells
-pub completes : (told : Option (List ℕ)) (form : Form) (limit : ℕ) (status : Status) (before after : Option (List ℕ)) → IfSome told (λ bytes. Meets form limit bytes status before after)
+pub completes : (told left : Option (List ℕ)) (form : Form) (limit : ℕ) (status : Status) (before after : Option (List ℕ)) → IfSome told (λ bytes. Meets form limit bytes left status before after)
     → status ≢ answer.ReadFault → status ≢ answer.WriteFault → status ≢ answer.NoMemory → IfSome told (λ bytes. Determines form limit bytes status before after)
-completes None form limit status before after meets r w m = tt
-completes (Some bytes) form limit status before after meets r w m = determined form limit bytes status before after meets r w m
+completes None left form limit status before after meets r w m = tt
+completes (Some bytes) left form limit status before after meets r w m = determined form limit bytes left status before after meets r w m

@@ -20,7 +20,7 @@ use Rattle.exchange_session.specs.Journals.{Journals}
 use Rattle.flow_exchange.specs.declared.form.Form.TheVariants.{Run}
 use Rattle.flow_exchange.specs.Statuses.{ended_status}
 use Rattle.flow_exchange.specs.Private.{no_reason}
-use Rattle.flow_exchange.specs.Running.{RunsTo, RunsInto, RunsOut}
+use Rattle.flow_exchange.specs.Running.{RunsTo, RunsInto, RunsShort}
 use Rattle.flow_exchange.proofs.Words.{IsForm}
 
 abbrev pub start : Version → Market
@@ -96,12 +96,11 @@ runs_into limit bytes n text (ended, inr (version, body, behind, magic, is, on))
       writes = journals way.units way.state way.so_far text version on.1 (ends_there version text behind way.so_far way.last is way.writes (last_is_none (Unit {0}) (length (commands.magics.spell version)) body empty_market ended behind way));
     })
 
-pub runs_out : (limit : ℕ) (bytes : List ℕ) (text : List ℕ) → (task run start).Lacks limit bytes text → RunsOut limit bytes text
-runs_out limit bytes text (inl none) = inl none
-runs_out limit bytes text (inr (version, body, behind, magic, is, on)) =
+pub runs_out : (limit : ℕ) (bytes : List ℕ) (text : List ℕ) → (task run start).Lacks limit bytes text → RunsShort limit bytes text
+runs_out limit bytes text (version, body, behind, magic, is, on) =
     let way = on.0 in
     elim way.wants [
-      | inl (next, more, front, wants) ↦ inr (record {
+      | inl (next, more, front, wants) ↦ record {
         version = version;
         records = way.units;
         next = next;
@@ -116,7 +115,7 @@ runs_out limit bytes text (inr (version, body, behind, magic, is, on)) =
         };
         writes = journals way.units way.state behind text version on.1 is;
         wants = wants;
-      })
+      }
       | inr at ↦ absurd at.1
     ]
 
@@ -126,7 +125,7 @@ run_form limit = record {
   to = runs_to limit;
   into = runs_into limit;
   out = runs_out limit;
-  met = λ bytes never. elim never [ ];
+  met = λ bytes left never. elim never [ ];
   not_done = λ never. elim never [ ];
   not_read = λ never. elim never [ ];
   not_write = λ never. elim never [ ];

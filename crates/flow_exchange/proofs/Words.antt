@@ -27,7 +27,7 @@ pub record IsForm {B : Type 0} (t : Task B) (form : Form) (limit : ℕ) (own : B
   pub to : (bytes : List ℕ) (ended : Ended B) (text : List ℕ) → t.Comes limit bytes ended text → ComesTo form limit bytes (ended_status limit own ended) text
   pub into : (bytes : List ℕ) (n : ℕ) (text : List ℕ) → t.Begins limit bytes n text → (text ≡ []) ⊎ GetsTo form limit bytes text
   pub out : (bytes : List ℕ) (text : List ℕ) → t.Lacks limit bytes text → LacksAt form limit bytes text
-  pub met : (bytes : List ℕ) (why : B) (before after : Option (List ℕ)) → Determines form limit bytes (own why) before after → Meets form limit bytes (own why) before after
+  pub met : (bytes : List ℕ) (left : Option (List ℕ)) (why : B) (before after : Option (List ℕ)) → Determines form limit bytes (own why) before after → Meets form limit bytes left (own why) before after
   pub not_done : (why : B) → own why ≢ answer.Done
   pub not_read : (why : B) → own why ≢ answer.ReadFault
   pub not_write : (why : B) → own why ≢ answer.WriteFault
@@ -42,12 +42,12 @@ module _ {B : Type 0} (t : Task B) (form : Form) (limit : ℕ) (own : B → Stat
       let here = is.to bytes ended text comes in
       (text, here, written, λ other words also. one_outcome form limit bytes other (ended_status limit own ended) words text also here)
 
-  meets : (bytes : List ℕ) (left : Option (List ℕ)) (ended : Ended B) (before after : Option (List ℕ)) → driver.Meets t limit bytes left ended before after → Meets form limit bytes (ended_status limit own ended) before after
+  meets : (bytes : List ℕ) (left : Option (List ℕ)) (ended : Ended B) (before after : Option (List ℕ)) → driver.Meets t limit bytes left ended before after → Meets form limit bytes left (ended_status limit own ended) before after
   meets bytes left (Ok done) before after met = determines bytes (Ok done) before after met
   meets bytes left (Err word.NotFlow) before after met = determines bytes (Err word.NotFlow) before after met
   meets bytes left (Err (word.Torn n)) before after met = determines bytes (Err (word.Torn n)) before after met
   meets bytes left (Err word.TooLong) before after met = determines bytes (Err word.TooLong) before after met
-  meets bytes left (Err (word.Stopped why)) before after met = is.met bytes why before after (determines bytes (Err (word.Stopped why)) before after met)
+  meets bytes left (Err (word.Stopped why)) before after met = is.met bytes left why before after (determines bytes (Err (word.Stopped why)) before after met)
   meets bytes left (Err word.Read) before after (n, taken, text, begins, written) =
       elim (is.into bytes n text begins) [
         | inl none ↦ inl (subst (λ (x : List ℕ). Grows before after x) none written)
@@ -59,9 +59,10 @@ module _ {B : Type 0} (t : Task B) (form : Form) (limit : ℕ) (own : B → Stat
         | inr into ↦ inr (text, inl into, written)
       ]
   meets bytes left (Err word.Write) before after (text, inr (ended, comes), written) = inr (text, inr (ended_status limit own ended, is.to bytes ended text comes), written)
-  meets bytes left (Err word.Memory) before after (text, lacks, written) = (text, is.out bytes text lacks, written)
+  meets bytes left (Err word.Memory) before after (text, inl none, written) = (text, inl none, written)
+  meets bytes left (Err word.Memory) before after (text, inr lacks, written) = (text, inr (is.out bytes text lacks), written)
 
-  meets_told : (told left : Option (List ℕ)) (ended : Ended B) (before after : Option (List ℕ)) → IfSome told (λ bytes. driver.Meets t limit bytes left ended before after) → IfSome told (λ bytes. Meets form limit bytes (ended_status limit own ended) before after)
+  meets_told : (told left : Option (List ℕ)) (ended : Ended B) (before after : Option (List ℕ)) → IfSome told (λ bytes. driver.Meets t limit bytes left ended before after) → IfSome told (λ bytes. Meets form limit bytes left (ended_status limit own ended) before after)
   meets_told None left ended before after met = tt
   meets_told (Some bytes) left ended before after met = meets bytes left ended before after met
 
@@ -134,7 +135,7 @@ module _ {B : Type 0} (t : Task B) (form : Form) (limit : ℕ) (own : B → Stat
       } in
       record {
         meets = met;
-        complete = completes_form form source.before limit (ended_status limit own ended) out.before out.after source.faults source.faults_after out.faults out.faults_after met reads writes;
+        complete = completes_form form source.before source.after limit (ended_status limit own ended) out.before out.after source.faults source.faults_after out.faults out.faults_after met reads writes;
         taken = subst (λ (most : ℕ). TakesAtMost source.before source.after most) is.most done.taken;
         left = left_back source.before source.after ended done.left;
         reads = reads;

@@ -1,15 +1,18 @@
 -- What `flow audit` makes of the bytes of its source.
-use Rattle.std.specs.Prelude.{◌≡◌, ◌⊎◌, ◌+◌, ℕ, List, [], ◌∷◌, length}
+use Rattle.std.specs.Prelude.{◌≡◌, ◌⊎◌, ◌+◌, ℕ, List, [], ◌∷◌, ◌++◌, length, map}
 use Rattle.wire_records.specs.Records.{Record}
 use Rattle.wire_records.specs.Commands.{Pair}
 use Rattle.wire_records.specs.CommandRecords.{IsReadAs}
-use Rattle.wire_records.specs.Reading.{Ending, Reads}
+use Rattle.wire_records.specs.Reading.{Ending, Reads, StartsWith}
 use Rattle.wire_records.specs.Reading as reading
 use Rattle.flow_orders.specs.Outcomes.{Outcome}
-use Rattle.journal_records.specs.Formats.{journals}
+use Rattle.wire_records.specs.Formats.{Version}
+use Rattle.journal_records.specs.Formats.{journals, records_of}
 use Rattle.market_core.specs.Market.{Market}
 use Rattle.market_core.specs.Journal.{HoldsDeposits}
 use Rattle.market_core.specs.Promises.{KeepsPromises}
+use Rattle.market_core.specs.Wanting.{RecordMayWant}
+use Rattle.batch_audit.specs.Legal.{IsLegalJournal}
 use Rattle.journal_replay.specs.Audits.{Audits, cleared_in, skipped_in}
 use Rattle.journal_words.specs.Line.{counted_line}
 use Rattle.flow_exchange.specs.declared.status.Status.{Status}
@@ -50,6 +53,17 @@ pub record AuditsFile (limit : ℕ) (bytes : List ℕ) (status : Status) (text :
   pub keeps : KeepsPromises IsReadAs legal
   pub ends : status ≡ audit_status limit ending legal behind
   pub writes : text ≡ audit_text status legal
+
+-- The pairs of the journal are first these legal ones, which lead to this market, and then another one.
+pub record IsAtPair (limit : ℕ) (bytes : List ℕ) (legal : List (Pair Record Outcome)) (market : Market) (next : Record × Record) : Type 0 where
+  pub version : Version
+  pub starts : StartsWith journals limit bytes version (map records_of legal ++ next ∷ [])
+  pub journal : IsLegalJournal legal market
+
+-- where memory may run out: at a pair whose command may want some
+abbrev pub AuditsShort : ℕ → List ℕ → List ℕ → Type 0
+AuditsShort limit bytes text =
+    (legal : List (Pair Record Outcome)) × (market : Market) × (next : Record × Record) × IsAtPair limit bytes legal market next × RecordMayWant market next.0 × (text ≡ [])
 
 -- the status and the text that the first `limit` bytes come to
 abbrev pub AuditsTo : ℕ → List ℕ → Status → List ℕ → Type 0

@@ -4,6 +4,7 @@ use Rattle.flow_io.specs.Faults.{Rose, Blames}
 use Rattle.flow_io.specs.Streams.{Grows, GrowsByFront, TakesAtMost}
 use Rattle.flow_io.specs.Changes.{Change}
 use Rattle.word_driver.specs.Ended.{Ended}
+use Rattle.word_driver.specs.Does.{IsTaken}
 use Rattle.line_records.specs.Encoding.{EncodesTo, EncodesInto}
 use Rattle.flow_exchange.specs.declared.form.Form.{Form}
 use Rattle.flow_exchange.specs.declared.form.Form.TheVariants.{Run, Audit, Report, Encode}
@@ -11,9 +12,9 @@ use Rattle.flow_exchange.specs.declared.status.Status.{Status}
 use Rattle.flow_exchange.specs.declared.status.Status.TheVariants.{Done, Usage, NotFlow, Torn, ReadFault, WriteFault, NoMemory, Rejected, TooLong, BadText}
 use Rattle.flow_exchange.specs.Forms.{Asks, AsksNothing}
 use Rattle.flow_exchange.specs.Statuses.{line_of, ended_status, bad_text}
-use Rattle.flow_exchange.specs.Running.{RunsTo, RunsInto, RunsOut, KeepsPace}
-use Rattle.flow_exchange.specs.Auditing.{AuditsTo}
-use Rattle.flow_exchange.specs.Reporting.{ReportsTo, ReportsInto}
+use Rattle.flow_exchange.specs.Running.{RunsTo, RunsInto, RunsShort, KeepsPace}
+use Rattle.flow_exchange.specs.Auditing.{AuditsTo, AuditsShort}
+use Rattle.flow_exchange.specs.Reporting.{ReportsTo, ReportsInto, ReportsShort}
 
 -- ---- a row for each form
 
@@ -31,11 +32,11 @@ GetsTo Audit limit bytes text = ⊥
 GetsTo Report limit bytes text = ReportsInto limit bytes text
 GetsTo Encode limit bytes text = EncodesInto limit bytes text
 
--- what may stand in out where memory ran out
+-- what may stand in out where memory ran out once something was read
 abbrev pub LacksAt : Form → ℕ → List ℕ → List ℕ → Type 0
-LacksAt Run limit bytes text = RunsOut limit bytes text
-LacksAt Audit limit bytes text = text ≡ []
-LacksAt Report limit bytes text = (text ≡ []) ⊎ ReportsInto limit bytes text
+LacksAt Run limit bytes text = RunsShort limit bytes text
+LacksAt Audit limit bytes text = AuditsShort limit bytes text
+LacksAt Report limit bytes text = ReportsShort limit bytes text
 LacksAt Encode limit bytes text = (text ≡ []) ⊎ EncodesInto limit bytes text
 
 -- how many bytes of the source are taken at most
@@ -71,23 +72,28 @@ BreaksOff form limit bytes before after =
     Grows before after []
     ⊎ ((text : List ℕ) × (GetsTo form limit bytes text ⊎ ((status : Status) × ComesTo form limit bytes status text)) × GrowsByFront before after text)
 
--- what stands in out, by the status
-abbrev pub Meets : Form → ℕ → List ℕ → Status → Option (List ℕ) → Option (List ℕ) → Type 0
-Meets form limit bytes Usage before after = ⊥
-Meets form limit bytes ReadFault before after = StopsWhole form limit bytes before after
-Meets form limit bytes WriteFault before after = BreaksOff form limit bytes before after
-Meets form limit bytes NoMemory before after = (text : List ℕ) × LacksAt form limit bytes text × Grows before after text
-Meets form limit bytes Done before after = Determines form limit bytes Done before after
-Meets form limit bytes NotFlow before after = Determines form limit bytes NotFlow before after
-Meets form limit bytes (Torn place) before after = Determines form limit bytes (Torn place) before after
-Meets form limit bytes (Rejected number) before after = Determines form limit bytes (Rejected number) before after
-Meets form limit bytes (TooLong most) before after = Determines form limit bytes (TooLong most) before after
-Meets form limit bytes (BadText number) before after = Determines form limit bytes (BadText number) before after
+-- where memory ran out: nothing was read or written, or it may run out there
+abbrev pub RunsOut : Form → ℕ → List ℕ → Option (List ℕ) → Option (List ℕ) → Option (List ℕ) → Type 0
+RunsOut form limit bytes left before after =
+    (text : List ℕ) × ((IsTaken bytes left 0 × (text ≡ [])) ⊎ LacksAt form limit bytes text) × Grows before after text
+
+-- what stands in out, by what is left of the source, and by the status
+abbrev pub Meets : Form → ℕ → List ℕ → Option (List ℕ) → Status → Option (List ℕ) → Option (List ℕ) → Type 0
+Meets form limit bytes left Usage before after = ⊥
+Meets form limit bytes left ReadFault before after = StopsWhole form limit bytes before after
+Meets form limit bytes left WriteFault before after = BreaksOff form limit bytes before after
+Meets form limit bytes left NoMemory before after = RunsOut form limit bytes left before after
+Meets form limit bytes left Done before after = Determines form limit bytes Done before after
+Meets form limit bytes left NotFlow before after = Determines form limit bytes NotFlow before after
+Meets form limit bytes left (Torn place) before after = Determines form limit bytes (Torn place) before after
+Meets form limit bytes left (Rejected number) before after = Determines form limit bytes (Rejected number) before after
+Meets form limit bytes left (TooLong most) before after = Determines form limit bytes (TooLong most) before after
+Meets form limit bytes left (BadText number) before after = Determines form limit bytes (BadText number) before after
 
 -- What a form does to source and out.
 pub record Does (form : Form) (limit : ℕ) (status : Status) (source out : Change) : Type 0 where
   -- Which status comes, and what out grew by.
-  pub meets : IfSome source.before (λ bytes. Meets form limit bytes status out.before out.after)
+  pub meets : IfSome source.before (λ bytes. Meets form limit bytes source.after status out.before out.after)
   -- Where neither count rose, the status is want of memory or the one that the bytes determine, and so is what was written.
   pub complete : (¬ Rose source.faults source.faults_after) → (¬ Rose out.faults out.faults_after) → status ≢ NoMemory
       → IfSome source.before (λ bytes. Determines form limit bytes status out.before out.after)

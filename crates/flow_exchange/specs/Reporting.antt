@@ -11,11 +11,13 @@ use Rattle.journal_records.specs.Pairs.{IsPair}
 use Rattle.journal_records.specs.Formats.{journals, records_of}
 use Rattle.market_core.specs.Market.{Market, empty_market}
 use Rattle.market_core.specs.Journal.{Step}
+use Rattle.market_core.specs.Wanting.{RecordMayWant}
+use Rattle.batch_audit.specs.Legal.{IsLegalPair}
 use Rattle.journal_replay.specs.Audits.{Audits}
 use Rattle.batch_report.specs.Reports.{IsReport}
 use Rattle.flow_exchange.specs.declared.status.Status.{Status}
 use Rattle.flow_exchange.specs.declared.status.Status.TheVariants.{NotFlow}
-use Rattle.flow_exchange.specs.Auditing.{audit_status}
+use Rattle.flow_exchange.specs.Auditing.{audit_status, IsAtPair}
 
 -- the pairs are steps from a market on to another, and the text is their lines, one pair behind the other, numbered from here on
 abbrev pub AreReported : Market → ℕ → List (Pair Record Outcome) → Market → List ℕ → Type 0
@@ -47,3 +49,9 @@ pub record ReportsInto (limit : ℕ) (bytes : List ℕ) (text : List ℕ) : Type
   pub starts : StartsWith journals limit bytes version (map records_of legal)
   pub fits : All IsPair legal
   pub writes : AreReported empty_market 1 legal market text
+
+-- where memory may run out: at a pair whose command may want some, or at a legal one, for its text
+abbrev pub ReportsShort : ℕ → List ℕ → List ℕ → Type 0
+ReportsShort limit bytes text =
+    (legal : List (Pair Record Outcome)) × (market : Market) × (next : Record × Record) × IsAtPair limit bytes legal market next
+    × (RecordMayWant market next.0 ⊎ ((new : Market) × IsLegalPair market next new)) × AreReported empty_market 1 legal market text

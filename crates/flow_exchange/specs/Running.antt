@@ -43,10 +43,6 @@ pub record RunsShort (limit : ℕ) (bytes : List ℕ) (text : List ℕ) : Type 0
   pub writes : Journals records market text
   pub wants : RecordMayWant market next
 
--- what stands in out where memory ran out: nothing, or the journal up to a record that may want some
-abbrev pub RunsOut : ℕ → List ℕ → List ℕ → Type 0
-RunsOut limit bytes text = (text ≡ []) ⊎ RunsShort limit bytes text
-
 -- so many of these bytes were taken, where the source tells those that it had and those that are left
 abbrev pub WhereTaken : Option (List ℕ) → Option (List ℕ) → (List ℕ → ℕ → Type 0) → Type 0
 WhereTaken before after Holds = IfSome before (λ bytes. IfSome after (λ left. (n : ℕ) × (n + length left ≡ length bytes) × Holds bytes n))
