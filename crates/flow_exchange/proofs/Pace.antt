@@ -72,7 +72,7 @@ module _ (limit : ℕ) where
   read_told (Some bytes) None before after met = tt
   read_told (Some bytes) (Some left) before after (n, taken, text, (ended, comes), written) =
       let runs = runs_through n (take limit bytes) ended text comes in
-      (n, taken, runs.0, text, runs.1, written)
+      (n, taken, (runs.0, text, runs.1, written))
 
   near_told : (told left : Option (List ℕ)) (before after : Option (List ℕ)) → IfSome told (λ bytes. KeepsUp (task run start) limit bytes left before after) → WhereTaken told left (λ bytes taken. (taken ≤ 8 + 1030) ⊎ IsNearPairs limit before after bytes taken)
   near_told None left before after kept = tt
