@@ -35,7 +35,7 @@ mod skipped_view;
 
 pub use cleared::write_cleared;
 pub use cleared_view::ClearedView;
-pub use file::{JOURNAL_MAGIC, MOST_REPLY_BODY, is_journal};
+pub use file::{JOURNAL_MAGIC, JOURNAL_MAGIC_2, MOST_REPLY_BODY, is_journal};
 pub use pair::{PairFramed, PairView, is_overlong, next_pair};
 pub use plain::{reserve_plain, write_plain};
 pub use reply_view::{ReplyView, reply};

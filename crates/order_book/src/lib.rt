@@ -12,7 +12,7 @@
 //! their block. What an account needs is one look-up. Filling goes once over the entries of all orders.
 //!
 //! Nothing but [`Book::reserve_one`] takes memory. Most of its calls take none; the others move all orders, or all
-//! sums, to a block of about twice the size. An order takes 64 bytes beside its row. The room that an order had stays
+//! sums, to a block of about twice the size. An order takes 72 bytes beside its row. The room that an order had stays
 //! for later ones.
 #![tactic(auto)]
 

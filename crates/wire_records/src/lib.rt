@@ -13,11 +13,15 @@ pub mod laws;
 mod place;
 mod record;
 mod reply;
+mod version;
 mod write;
 
 pub use command::{BodyFault, Command, CommandView};
-pub use file::{COMMAND_MAGIC, MOST_BODY, MOST_ROW, is_command_file};
+pub use file::{
+    COMMAND_MAGIC, COMMAND_MAGIC_2, MOST_BODY, MOST_ROW, MOST_ROW_UNTIL, is_command_file,
+};
 pub use place::{PlaceView, RowView};
 pub use record::{Framed, RecordView, next_record};
 pub use reply::{Refusal, Reply};
+pub use version::Version;
 pub use write::{Memory, put_head, write_command};
