@@ -1,5 +1,5 @@
 -- What the live orders of a sound market need is covered by their accounts.
-use Rattle.std.proofs.Common.{◌≡◌, ℕ, List, ℤ, pos, ◌-ℤ◌, ◌≤ℤ◌, FitsSigned, to_z, of_z, true, false, Option, Some, None, true≢false, sym, subst, arith}
+use Rattle.std.proofs.Common.{◌≡◌, ℕ, List, ◌^◌, ◌≤◌, ℤ, pos, ◌+ℤ◌, ◌-ℤ◌, ◌≤ℤ◌, FitsSigned, to_z, of_z, true, false, Option, Some, None, true≢false, sym, subst, arith}
 use Rattle.std.specs.Int.{w128}
 use Rattle.std.specs.Prelude.{SomeIff, is_some}
 use Rattle.std.proofs.lemmas.Int.{ints, fits_signed_from_abs, to_z-of_z}
@@ -21,9 +21,9 @@ needed_money_not_negative orders account = own_not_negative money_need account o
 pub needed_units_not_negative : (orders : List Order) (account asset : ℕ) → pos 0 ≤ℤ needed_units orders account asset
 needed_units_not_negative orders account asset = own_not_negative (unit_need asset) account orders
 
--- a balance less what is needed of it fits
-pub free_fits : (held needed : ℤ) → pos 0 ≤ℤ needed → needed ≤ℤ held → FitsSigned w128 held → FitsSigned w128 (held -ℤ needed)
-free_fits held needed some covered bound = fits_signed_from_abs w128 (held -ℤ needed) (omega (arith, ints, some, covered, bound))
+-- a balance less what is needed of it fits, where a credit covers the rest
+pub free_fits : (held needed : ℤ) (credit : ℕ) → pos 0 ≤ℤ needed → needed ≤ℤ (held +ℤ pos credit) → credit ≤ 2 ^ 72 → FitsSigned w128 held → FitsSigned w128 (held -ℤ needed)
+free_fits held needed credit some covered few bound = fits_signed_from_abs w128 (held -ℤ needed) (omega (arith, ints, some, covered, few, bound))
 
 -- there is a value exactly where the claim holds
 pub none_where : {T : Type 0} (o : Option T) (P : Type 0) (v : T) → SomeIff o P v → is_some o ≡ false → P → ⊥

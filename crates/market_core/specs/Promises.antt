@@ -1,8 +1,11 @@
 -- What a journal promises of its batches, and of the fills of its orders.
-use Rattle.std.specs.Prelude.{◌≡◌, ℕ, ◌+◌, ◌≤◌, pos, ◌≤ℤ◌, true, List, ◌∷◌, ◌++◌, map, length, Result}
+use Rattle.std.specs.Prelude.{◌≡◌, ◌⊎◌, ℕ, ◌+◌, ◌<◌, ◌≤◌, pos, ◌≤ℤ◌, true, List, ◌∷◌, ◌++◌, map, length, All, Result}
 use Rattle.wire_records.specs.Commands.{Command, Batch, Pair}
 use Rattle.wire_records.specs.declared.command.BodyFault.{BodyFault}
+use Rattle.wire_records.specs.declared.version.Version.{Version}
 use Rattle.flow_accounts.specs.Balances.{IsAsset}
+use Rattle.flow_orders.specs.Orders.{Order}
+use Rattle.flow_orders.specs.Trades.{going_on}
 use Rattle.flow_orders.specs.Outcomes.{Fill, Clearing, Skipping, Outcome, Cleared, Skipped, IsRightOutcome, IsRightClearing, IsRightSkip}
 use Rattle.flow_orders.specs.Own.{are_single, ClearsNear}
 use Rattle.flow_orders.specs.Welfare.{IsOptimalWithin}
@@ -16,7 +19,7 @@ pub record HoldTheSame (old new : Market) : Type 0 where
   pub money : held_money new ≡ held_money old
   pub units : (asset : ℕ) → IsAsset old.balances asset → held_units new asset ≡ held_units old asset
 
-module _ {R : Type 0} (Reads : R → Result Command BodyFault → Type 0) where
+module _ {R : Type 0} (Reads : Version → R → Result Command BodyFault → Type 0) (version : Version) where
   -- One of the pairs tells of a batch: it leads from the market that the pairs before it lead to.
   pub record HoldsBatch (pairs : List (Pair R Outcome)) (old : Market) (outcome : Outcome) (new : Market) : Type 0 where
     pub before : List (Pair R Outcome)
@@ -24,7 +27,7 @@ module _ {R : Type 0} (Reads : R → Result Command BodyFault → Type 0) where
     pub asked : R
     pub number : ℕ
     pub stands : pairs ≡ before ++ record { asked = asked; answer = Batch number outcome } ∷ after
-    pub led : Follows Reads IsRightOutcome empty_market before old
+    pub led : Follows Reads IsRightOutcome (empty_market version) before old
     pub made : Step Reads IsRightOutcome old asked (Batch number outcome) new
 
   -- The pairs keep the promises of the exchange, whoever wrote them.
@@ -43,13 +46,16 @@ module _ {R : Type 0} (Reads : R → Result Command BodyFault → Type 0) where
     -- Its walk lowers the exact dual by at least its movement, a grain at least for each move, and so its dual floors differ by
     -- more than its movement less the number of orders.
     pub progress : (old new : Market) (s : Skipping) → HoldsBatch pairs old (Skipped s) new → LowersTheDual old.orders (start_prices old) s
-    -- It is counted, and changes nothing else.
-    pub stays : (old new : Market) (s : Skipping) → HoldsBatch pairs old (Skipped s) new → new ≡ record old { batches = old.batches + 1 }
+    -- It is counted, the orders leave whose last batch it was, and nothing else changes.
+    pub stays : (old new : Market) (s : Skipping) → HoldsBatch pairs old (Skipped s) new → new ≡ record old { orders = going_on (old.batches + 1) old.orders; batches = old.batches + 1 }
+    -- No order trades after its last batch, nor stays after it, whether it cleared or was skipped.
+    pub lasts : (old new : Market) (outcome : Outcome) → HoldsBatch pairs old outcome new
+        → All (λ (o : Order). (o.last ≡ 0) ⊎ (new.batches ≤ o.last)) old.orders × All (λ (o : Order). (o.last ≡ 0) ⊎ (new.batches < o.last)) new.orders
     -- No batch changes what is held in total.
     pub totals : (old new : Market) (outcome : Outcome) → HoldsBatch pairs old outcome new → HoldTheSame old new
     -- No order's fills pass the cap that it was placed with.
     pub fills : (before after : List (Pair R Outcome)) (pair : Pair R Outcome) (number cap : ℕ)
-        → pairs ≡ before ++ pair ∷ after → Places Reads number cap pair → fills_of number pairs ≤ cap
+        → pairs ≡ before ++ pair ∷ after → Places (Reads version) number cap pair → fills_of number pairs ≤ cap
 
   -- What batches of the program's own rule promise besides: where each live order names one asset, the batch cleared, at prices
   -- within 2^60, and an asset that was settled kept its price.

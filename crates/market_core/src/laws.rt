@@ -1,7 +1,7 @@
 //! What holds of steps, journals and markets, whatever code there is. Each law is the contract of a function that
 //! does nothing.
 ghost use Rattle.market_core.specs.Laws.{MarketIsDetermined, JournalsDetermineTheMarket, OneRefusal, PlainCommandsHaveOneAnswer, PlainCommandsNeedNoRule, EveryCommandIsServed, OneOwnJournal};
-ghost use Rattle.market_core.specs.Laws.{OwnJournalsAreLegal, StepsKeepSoundness, HeldIsDeposited, BatchesKeepTotals, SkipsChangeNothing, FillsKeepCaps};
+ghost use Rattle.market_core.specs.Laws.{OwnJournalsAreLegal, StepsKeepSoundness, HeldIsDeposited, BatchesKeepTotals, SkipsOnlyEndOrders, OrdersEndInTime, VersionOneIsAsBefore, BatchesOfVersionOne, OrdersMayLeave, FillsKeepCaps};
 ghost use Rattle.market_core.specs.Laws.{ClearedBatchesAreOptimal, SkipsLowerTheDual, LargeBudgetsClear, SequencesCompose, LimitsAgree, JournalsHoldDeposits, StepsNumberOne, LegalStepsNumberOne, LegalJournalsKeepPromises, OwnJournalsClearNear};
 
 /// Old market, record and answer determine the new market.
@@ -65,9 +65,30 @@ pub fn batches_keep_totals()
     ensures { BatchesKeepTotals }
 {}
 
-/// A skipped batch is counted, and changes nothing else.
-pub fn skips_change_nothing()
-    ensures { SkipsChangeNothing }
+/// A skipped batch is counted, the orders leave whose last batch it was, and nothing else changes.
+pub fn skips_only_end_orders()
+    ensures { SkipsOnlyEndOrders }
+{}
+
+/// The batch of an order's last number is the last in which it trades, and the order leaves with it, whether the batch
+/// cleared or was skipped.
+pub fn orders_end_in_time()
+    ensures { OrdersEndInTime }
+{}
+
+/// In a sound market of version One no order has a last batch and no account has credit.
+pub fn version_one_is_as_before()
+    ensures { VersionOneIsAsBefore }
+{}
+
+/// A batch of version One ends no order but one that is filled to its cap.
+pub fn batches_of_version_one()
+    ensures { BatchesOfVersionOne }
+{}
+
+/// Accounts that cover what orders need cover what those need that are left, whichever leave.
+pub fn orders_may_leave()
+    ensures { OrdersMayLeave }
 {}
 
 /// No order's fills pass its cap, over a whole journal.

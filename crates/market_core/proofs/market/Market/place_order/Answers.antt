@@ -6,7 +6,7 @@ use Rattle.wire_records.specs.declared.reply.Reply.TheVariants.{Order as OrderPl
 use Rattle.flow_orders.specs.Own.{IsOwnOutcome}
 use Rattle.market_core.specs.Step.{FirstRefusal, Serves, placed}
 use Rattle.market_core.specs.Kept.{market_in}
-use Rattle.market_core.proofs.Fitting.{sound-served}
+use Rattle.market_core.proofs.Fitting.{sound-served, of_each}
 use Rattle.market_core.proofs.Placing.{accepted_is_few, serves-place}
 use Rattle.market_core.proofs.market.Market.place_order.Goals as goal
 

@@ -4,7 +4,7 @@ use Rattle.std.proofs.lemmas.Int.{to_z-of_z}
 use Rattle.flow_accounts.specs.Balances.{units_of}
 use Rattle.flow_orders.specs.Orders.{needed_units}
 use Rattle.market_core.proofs.Reserving.{value_of, same_number, needed_units_not_negative, free_fits}
-use Rattle.market_core.proofs.market.Market.free_units.Goals as goal
+use Rattle.market_core.proofs.market.Market.usable_units.Goals as goal
 
 held : (c : goal.After-units_needed) → c.from.result ≡ units_of c.self.inside.accounts c.args.account c.args.asset
 held c = c.from.ensures ∙ to_z-of_z w64 c.unwrap.result (record { sfits = c.unwrap.type_inv }) ∙ value_of c.units.result _ _ _ c.units.ensures c.unwrap.ensures

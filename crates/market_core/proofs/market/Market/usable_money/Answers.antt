@@ -4,7 +4,7 @@ use Rattle.std.proofs.lemmas.Int.{to_z-of_z}
 use Rattle.flow_accounts.specs.Balances.{money_of}
 use Rattle.flow_orders.specs.Orders.{needed_money}
 use Rattle.market_core.proofs.Reserving.{value_of, same_number, needed_money_not_negative, free_fits}
-use Rattle.market_core.proofs.market.Market.free_money.Goals as goal
+use Rattle.market_core.proofs.market.Market.usable_money.Goals as goal
 
 held : (c : goal.After-money_needed) → c.unwrap.result ≡ money_of c.self.inside.accounts c.args.account
 held c = value_of c.money.result _ _ _ c.money.ensures c.unwrap.ensures
