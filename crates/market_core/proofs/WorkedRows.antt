@@ -166,30 +166,31 @@ traded =
 
 -- the markets in between
 abbrev with_asset_0 : Market
-with_asset_0 = record { tickers = aapl ∷ []; balances = record { accounts = []; total_money = pos 0; total_units = pos 0 ∷ [] }; exchange = holds (pos 0) (pos 0); orders = []; next_order = 1; batches = 0; last_prices = pos 0 ∷ [] }
+with_asset_0 = record { version = One; tickers = aapl ∷ []; balances = record { accounts = []; credits = []; total_money = pos 0; total_units = pos 0 ∷ [] }; exchange = holds (pos 0) (pos 0); orders = []; next_order = 1; batches = 0; last_prices = pos 0 ∷ [] }
 
 abbrev with_account_1 : Market
-with_account_1 = record with_asset_0 { balances = record { accounts = holds (pos 0) (pos 0) ∷ []; total_money = pos 0; total_units = pos 0 ∷ [] } }
+with_account_1 = record with_asset_0 { balances = record { accounts = holds (pos 0) (pos 0) ∷ []; credits = no_credit ∷ []; total_money = pos 0; total_units = pos 0 ∷ [] } }
 
 abbrev with_account_2 : Market
-with_account_2 = record with_asset_0 { balances = record { accounts = holds (pos 0) (pos 0) ∷ holds (pos 0) (pos 0) ∷ []; total_money = pos 0; total_units = pos 0 ∷ [] } }
+with_account_2 = record with_asset_0 { balances = record { accounts = holds (pos 0) (pos 0) ∷ holds (pos 0) (pos 0) ∷ []; credits = no_credit ∷ no_credit ∷ []; total_money = pos 0; total_units = pos 0 ∷ [] } }
 
 abbrev with_money : Market
-with_money = record with_asset_0 { balances = record { accounts = holds (pos 4724464025600000) (pos 0) ∷ holds (pos 0) (pos 0) ∷ []; total_money = pos 4724464025600000; total_units = pos 0 ∷ [] } }
+with_money = record with_asset_0 { balances = record { accounts = holds (pos 4724464025600000) (pos 0) ∷ holds (pos 0) (pos 0) ∷ []; credits = no_credit ∷ no_credit ∷ []; total_money = pos 4724464025600000; total_units = pos 0 ∷ [] } }
 
 abbrev with_buyer : Market
-with_buyer = record enough { orders = placed enough buys ∷ []; next_order = 2 }
+with_buyer = record enough { orders = placed enough 0 buys ∷ []; next_order = 2 }
 
 abbrev with_seller : Market
-with_seller = record enough { orders = placed enough buys ∷ placed with_buyer sells ∷ []; next_order = 3 }
+with_seller = record enough { orders = placed enough 0 buys ∷ placed with_buyer 0 sells ∷ []; next_order = 3 }
 
 -- after the batch: the buyer paid for 500 units, the seller was paid for as many, and the exchange holds nothing
 abbrev after_trade : Market
 after_trade = record {
+  version = One;
   tickers = aapl ∷ [];
-  balances = record { accounts = holds (pos 4509758610472500) (pos 500) ∷ holds (pos 214705415127500) (pos 9500) ∷ []; total_money = pos 4724464025600000; total_units = pos 10000 ∷ [] };
+  balances = record { accounts = holds (pos 4509758610472500) (pos 500) ∷ holds (pos 214705415127500) (pos 9500) ∷ []; credits = no_credit ∷ no_credit ∷ []; total_money = pos 4724464025600000; total_units = pos 10000 ∷ [] };
   exchange = holds (pos 0) (pos 0);
-  orders = record (placed enough buys) { filled = 500 } ∷ record (placed with_buyer sells) { filled = 500 } ∷ [];
+  orders = record (placed enough 0 buys) { filled = 500 } ∷ record (placed with_buyer 0 sells) { filled = 500 } ∷ [];
   next_order = 3;
   batches = 1;
   last_prices = pos 429410830255 ∷ [];
@@ -605,8 +606,9 @@ order_16385 orders count =
 
 abbrev with_msft : Market
 with_msft = record {
+  version = One;
   tickers = aapl ∷ codes "MSFT    " ∷ [];
-  balances = record { accounts = record { money = pos 4509758610472500; units = pos 500 ∷ pos 0 ∷ [] } ∷ record { money = pos 214705415127500; units = pos 9500 ∷ pos 0 ∷ [] } ∷ []; total_money = pos 4724464025600000; total_units = pos 10000 ∷ pos 0 ∷ [] };
+  balances = record { accounts = record { money = pos 4509758610472500; units = pos 500 ∷ pos 0 ∷ [] } ∷ record { money = pos 214705415127500; units = pos 9500 ∷ pos 0 ∷ [] } ∷ []; credits = no_credit_of_two ∷ no_credit_of_two ∷ []; total_money = pos 4724464025600000; total_units = pos 10000 ∷ pos 0 ∷ [] };
   exchange = record { money = pos 0; units = pos 0 ∷ pos 0 ∷ [] };
   orders = after_trade.orders;
   next_order = 3;
@@ -620,10 +622,10 @@ adds_msft = (refl, refl)
 -- ---- a batch of two assets, whose residuals the exchange takes with the other sign
 
 abbrev before_wide : Balances
-before_wide = record { accounts = record { money = pos (500000 * 2 ^ 32); units = pos 0 ∷ pos 0 ∷ [] } ∷ record { money = pos 0; units = pos 10000 ∷ pos 10000 ∷ [] } ∷ []; total_money = pos (500000 * 2 ^ 32); total_units = pos 10000 ∷ pos 10000 ∷ [] }
+before_wide = record { accounts = record { money = pos (500000 * 2 ^ 32); units = pos 0 ∷ pos 0 ∷ [] } ∷ record { money = pos 0; units = pos 10000 ∷ pos 10000 ∷ [] } ∷ []; credits = no_credit_of_two ∷ no_credit_of_two ∷ []; total_money = pos (500000 * 2 ^ 32); total_units = pos 10000 ∷ pos 10000 ∷ [] }
 
 wide_balances : settled_balances batches.at_3 (trades batches.wide_book (79 ∷ 81 ∷ 78 ∷ [])) before_wide
-    ≡ record { accounts = record { money = pos (500000 * 2 ^ 32 - 62153416633199); units = pos 79 ∷ pos 79 ∷ [] } ∷ record { money = pos 62547436932933; units = pos 9919 ∷ pos 9922 ∷ [] } ∷ []; total_money = pos (500000 * 2 ^ 32); total_units = pos 10000 ∷ pos 10000 ∷ [] }
+    ≡ record { accounts = record { money = pos (500000 * 2 ^ 32 - 62153416633199); units = pos 79 ∷ pos 79 ∷ [] } ∷ record { money = pos 62547436932933; units = pos 9919 ∷ pos 9922 ∷ [] } ∷ []; credits = no_credit_of_two ∷ no_credit_of_two ∷ []; total_money = pos (500000 * 2 ^ 32); total_units = pos 10000 ∷ pos 10000 ∷ [] }
 unfolding settled_account weight_in portfolio_price
 wide_balances = refl
 
