@@ -1,9 +1,12 @@
 -- What is held over a journal: deposits less withdrawals; a batch changes no held total.
 use Rattle.std.proofs.Common.{◌≡◌, ℕ, cond, eqb, ℤ, pos, ◌+ℤ◌, List, [], ◌∷◌, Option, Some, None, Result, Ok, Err, refl, ap, sym, subst, ◌∙◌, ⊎_elim, arith}
-use Rattle.std.specs.Prelude.{neg_ℤ}
+use Rattle.std.specs.Prelude.{neg_ℤ, ◌-ℤ◌, slice_index_or}
 use Rattle.std.proofs.lemmas.Int.{ints}
+use Rattle.std.proofs.lemmas.Bool.{cases_lt}
 use Rattle.std.proofs.lemmas.Bool.Decides.{eqb_tells}
-use Rattle.flow_accounts.specs.Balances.{IsAccount, IsAsset, total_units_of, change_units}
+use Rattle.std.proofs.lemmas.List.{get_or_past}
+use Rattle.list_sums.proofs.SumLemmas.{int_sum_by-zeros}
+use Rattle.flow_accounts.specs.Balances.{Account, IsAccount, IsAsset, asset_count, units_in, total_units_of, change_units}
 use Rattle.flow_accounts.proofs.Moves.{units_change, assets_start_at_zero}
 use Rattle.flow_orders.specs.Orders.{Order}
 use Rattle.flow_orders.specs.Outcomes.{Outcome, Cleared, Skipped, IsRightOutcome}
@@ -26,6 +29,19 @@ money_total m = m.balances.total_money
 -- and of an asset
 abbrev units_total : ℕ → Market → ℤ
 units_total asset m = total_units_of m.balances asset
+
+-- what is held of an asset is its total; of one that isn't there both are nothing
+held_is_total : (m : Market) → IsSound m → (asset : ℕ) → held_units m asset ≡ units_total asset m
+held_is_total m sound asset =
+    ⊎_elim
+    (λ there. sound.totals.units asset there)
+    (λ past.
+    let none = int_sum_by-zeros (λ (a : Account). units_in a asset) m.balances.accounts
+    (λ k d inside. let count = sound.one_each.accounts k d inside in get_or_past (slice_index_or m.balances.accounts k d).units asset (pos 0) (omega (arith, past, count))) in
+    let exchange = get_or_past m.exchange.units asset (pos 0) (omega (arith, past, sound.one_each.exchange)) in
+    let total = get_or_past m.balances.total_units asset (pos 0) past in
+    omega (arith, ints, none, exchange, total))
+    (cases_lt asset (asset_count m.balances))
 
 -- a total that nothing was added to
 same : (x y z : ℤ) → y ≡ x → z ≡ pos 0 → y ≡ x +ℤ z
@@ -134,6 +150,24 @@ module _ {R : Type 0} (Reads : Version → R → Result Command BodyFault → Ty
       let all = totals_change (units_added asset) (units_total asset) (λ m read a n sound serves. read_units IsRightOutcome asset m read a n sound serves) old pairs new sound follows in
       let after = sound_follows Reads own old pairs new sound follows in
       (all.0, all.1, change_of (held_units old asset) (held_units new asset) (units_total asset old) (units_total asset new) all.0 (sound.totals.units asset is_asset) (after.totals.units asset is_asset_after) all.2)
+
+  more_is : (x y z : ℤ) → x ≡ y +ℤ z → z ≡ x -ℤ y
+  more_is x y z e = omega (arith, ints, e)
+
+  -- (e) what is held more than at the start is what the pairs add
+  pub more_money : (start : Market) (pairs : List (Pair R Outcome)) (m : Market) → IsSound start → Follows Reads IsRightOutcome start pairs m
+      → AddTogether (Reads start.version) money_added pairs (held_money m -ℤ held_money start)
+  more_money start pairs m sound follows =
+      let all = held_money_changes start pairs m sound follows in
+      subst (AddTogether (Reads start.version) money_added pairs) (more_is _ _ _ all.2) all.1
+
+  pub more_units : (start : Market) (pairs : List (Pair R Outcome)) (m : Market) (asset : ℕ) → IsSound start → Follows Reads IsRightOutcome start pairs m
+      → AddTogether (Reads start.version) (units_added asset) pairs (held_units m asset -ℤ held_units start asset)
+  more_units start pairs m asset sound follows =
+      let all = totals_change (units_added asset) (units_total asset) (λ m read a n sound serves. read_units IsRightOutcome asset m read a n sound serves) start pairs m sound follows in
+      let after = sound_follows Reads own start pairs m sound follows in
+      let change = change_of (held_units start asset) (held_units m asset) (units_total asset start) (units_total asset m) all.0 (held_is_total start sound asset) (held_is_total m after asset) all.2 in
+      subst (AddTogether (Reads start.version) (units_added asset) pairs) (more_is _ _ _ change) all.1
 
   nothing_before : (x y : ℤ) → x ≡ pos 0 +ℤ y → x ≡ y
   nothing_before x y e = omega (arith, ints, e)

@@ -6,9 +6,8 @@ use Rattle.flow_accounts.proofs.Bounds.{no_balance_is_below_its_credit}
 use Rattle.flow_orders.specs.Orders.{Order, IsOrder}
 use Rattle.flow_orders.specs.Trades.{trades, after_fill, is_live, staying}
 use Rattle.flow_orders.proofs.TradeFacts.{All-trades}
-use Rattle.market_core.specs.Journal.{AddTogether, money_added, units_added}
 use Rattle.market_core.proofs.Ending.{all_go_on, goes_on}
-use Rattle.market_core.proofs.Versions.{not_both, step_version, follows_version}
+use Rattle.market_core.proofs.Versions.{not_both, step_version}
 use Rattle.market_core.proofs.Lawful.{sound_is_lawful}
 use Rattle.market_core.proofs.OwnNeeds.{needs-filter}
 use Rattle.flow_orders.specs.Duals.{movement_of}
@@ -17,7 +16,7 @@ use Rattle.wire_records.specs.Commands.{Command, AddAsset, OpenAccount, DepositM
 use Rattle.wire_records.specs.declared.reply.Refusal.{Refusal}
 use Rattle.wire_records.specs.declared.reply.Reply.{Reply}
 use Rattle.wire_records.specs.declared.reply.Reply.TheVariants.{Done, Asset as AssetAdded, Account as AccountOpened, Order as OrderPlaced, Refused}
-use Rattle.market_core.specs.Market.{Market, IsSound, IsInTime, IsNoCredit, empty_market, start_prices, held_money, held_units}
+use Rattle.market_core.specs.Market.{Market, IsSound, IsInTime, IsNoCredit, start_prices}
 use Rattle.wire_records.specs.declared.command.BodyFault.{BodyFault}
 use Rattle.flow_orders.specs.Own.{IsOwnOutcome}
 use Rattle.market_core.specs.Step.{FirstRefusal, Accepts, Answers, Serves, ServesRead, after_batch}
@@ -30,7 +29,7 @@ use Rattle.std.specs.Prelude.{All, Contains, slice_index_or, ◌<ℤ◌}
 use Rattle.market_core.proofs.OneStep.{HasOneOutcome, one_first, one_service}
 use Rattle.market_core.proofs.OneJournal.{step_market, journal_market, one_own_journal as one_journal, follows-append, follows-parts}
 use Rattle.market_core.proofs.Soundness.{sound_served, sound_step, sound_follows, sound-empty}
-use Rattle.market_core.proofs.HeldTotals.{batch_keeps_held, held_money_is, held_units_are, held_money_changes, held_units_change}
+use Rattle.market_core.proofs.HeldTotals.{batch_keeps_held, held_money_is, held_units_are, held_money_changes, held_units_change, more_money, more_units}
 use Rattle.market_core.proofs.Fills.{fills_within_cap, live_fills_within_cap}
 use Rattle.market_core.proofs.Exists.{own_journal_is_there, served_is_there}
 use Rattle.wire_records.specs.Records.{AreBytes}
@@ -302,12 +301,11 @@ held_is_deposited = record {
 }
 
 pub journals_hold_deposits : JournalsHoldDeposits
-journals_hold_deposits version records pairs m journal =
-    let kept : m.version ≡ version = follows_version IsRightOutcome IsReadAs (empty_market version) pairs m journal.steps in
+journals_hold_deposits start pairs m sound follows =
     record {
-      sound = sound_follows IsReadAs read_own (empty_market version) pairs m (sound-empty version) journal.steps;
-      money = subst (λ v. AddTogether (IsReadAs v) money_added pairs (held_money m)) (sym kept) (held_money_is IsReadAs read_own version pairs m journal.steps);
-      units = λ asset is. subst (λ v. AddTogether (IsReadAs v) (units_added asset) pairs (held_units m asset)) (sym kept) (held_units_are IsReadAs read_own version pairs m asset is journal.steps);
+      sound = sound_follows IsReadAs read_own start pairs m sound follows;
+      money = more_money IsReadAs read_own start pairs m sound follows;
+      units = λ asset _. more_units IsReadAs read_own start pairs m asset sound follows;
     }
 
 pub fills_keep_caps : FillsKeepCaps

@@ -1,5 +1,5 @@
 -- Sequences of steps, legal journals, totals and fills.
-use Rattle.std.specs.Prelude.{◌≡◌, ◌⊎◌, ℕ, ◌==◌, if◌then◌else◌, ℤ, pos, neg_ℤ, ◌+ℤ◌, List, [], ◌∷◌, map, Result, Ok, Err}
+use Rattle.std.specs.Prelude.{◌≡◌, ◌⊎◌, ℕ, ◌==◌, if◌then◌else◌, ℤ, pos, neg_ℤ, ◌+ℤ◌, ◌-ℤ◌, List, [], ◌∷◌, map, Result, Ok, Err}
 use Rattle.std.specs.List.{sum_by}
 use Rattle.wire_records.specs.Commands.{Request, Command, AddAsset, OpenAccount, DepositMoney, DepositAsset, WithdrawMoney, WithdrawAsset, PlaceOrder, CancelOrder, RunBatch, PlaceUntil, SetMoneyCredit, SetUnitCredit, Answer, Plain, Batch, Pair}
 use Rattle.wire_records.specs.declared.version.Version.{Version}
@@ -111,10 +111,12 @@ module _ {R : Type 0} (Reads : R → Result Command BodyFault → Type 0) where
     pub answered : pair.answer ≡ Plain (reply.Order number)
     pub cap_is : request.cap ≡ cap
 
-module _ {R : Type 0} (Reads : Version → R → Result Command BodyFault → Type 0) where
-  -- The market is sound, and what it holds is the accepted deposits of the pairs less the accepted withdrawals, of money and
-  -- of each asset.
+-- records that are read by the version, and the market where the pairs begin: where a file begins, the empty one of its version
+module _ {R : Type 0} (Reads : Version → R → Result Command BodyFault → Type 0) (start : Market) where
+  -- The market is sound, and what it holds more than at the start is the accepted deposits of the pairs less the accepted
+  -- withdrawals, of money and of each asset.
   pub record HoldsDeposits (pairs : List (Pair R Outcome)) (market : Market) : Type 0 where
     pub sound : IsSound market
-    pub money : AddTogether (Reads market.version) money_added pairs (held_money market)
-    pub units : (asset : ℕ) → IsAsset market.balances asset → AddTogether (Reads market.version) (units_added asset) pairs (held_units market asset)
+    pub money : AddTogether (Reads start.version) money_added pairs (held_money market -ℤ held_money start)
+    pub units : (asset : ℕ) → IsAsset market.balances asset
+        → AddTogether (Reads start.version) (units_added asset) pairs (held_units market asset -ℤ held_units start asset)

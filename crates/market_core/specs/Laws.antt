@@ -86,10 +86,10 @@ pub record HeldIsDeposited : Type 0 where
   pub all_units : (version : Version) (pairs : List (Pair Record Outcome)) (m : Market) (asset : ℕ) → IsAsset m.balances asset → Leads (empty_market version) pairs m
       → AddTogether (IsReadAs version) (units_added asset) pairs (held_units m asset)
 
--- the market of a legal journal is sound, and what it holds is the accepted deposits less the accepted withdrawals
+-- from a sound market on steps lead to a sound one, and what it holds more is the accepted deposits less the accepted withdrawals
 abbrev pub JournalsHoldDeposits : Type 0
-JournalsHoldDeposits = (version : Version) (records : List Record) (pairs : List (Pair Record Outcome)) (m : Market)
-    → IsJournal IsReadAs IsRightOutcome version records pairs m → HoldsDeposits IsReadAs pairs m
+JournalsHoldDeposits = (start : Market) (pairs : List (Pair Record Outcome)) (m : Market)
+    → IsSound start → Leads start pairs m → HoldsDeposits IsReadAs start pairs m
 
 -- a batch changes nothing that is held in total
 abbrev pub BatchesKeepTotals : Type 0
@@ -183,14 +183,15 @@ abbrev pub LegalStepsNumberOne : Type 0
 LegalStepsNumberOne = (old : Market) (asked : Record) (answer : Answer Outcome) (new : Market)
     → Step IsReadAs IsRightOutcome old asked answer new → new.next_order ≤ old.next_order + 1
 
--- every legal journal keeps the promises of the exchange
+-- from a sound market on steps keep the promises of the exchange, and so every legal journal does
 abbrev pub LegalJournalsKeepPromises : Type 0
-LegalJournalsKeepPromises = (version : Version) (pairs : List (Pair Record Outcome)) (m : Market) → Leads (empty_market version) pairs m → KeepsPromises IsReadAs version pairs
+LegalJournalsKeepPromises = (start : Market) (pairs : List (Pair Record Outcome)) (m : Market)
+    → IsSound start → Leads start pairs m → KeepsPromises IsReadAs start pairs
 
--- the journal that the program's own rule makes of records keeps what the rule promises of books of one-asset orders
+-- from a sound market on steps by the program's own rule keep what the rule promises of books of one-asset orders
 abbrev pub OwnJournalsClearNear : Type 0
-OwnJournalsClearNear = (version : Version) (records : List Record) (pairs : List (Pair Record Outcome)) (m : Market)
-    → IsJournal IsReadAs IsOwnOutcome version records pairs m → ClearNear IsReadAs version pairs
+OwnJournalsClearNear = (start : Market) (pairs : List (Pair Record Outcome)) (m : Market)
+    → IsSound start → Follows IsReadAs IsOwnOutcome start pairs m → ClearNear IsReadAs start pairs
 
 -- settling keeps what live orders need covered, whichever orders leave: what each account holds, with its credit, is at least what
 -- its orders need that are still live

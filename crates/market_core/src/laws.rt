@@ -55,7 +55,8 @@ pub fn held_is_deposited()
     ensures { HeldIsDeposited }
 {}
 
-/// The market of a legal journal is sound, and holds the accepted deposits less the accepted withdrawals.
+/// Steps from a sound market lead to a sound one, which holds as much more as the accepted deposits less the accepted
+/// withdrawals.
 pub fn journals_hold_deposits()
     ensures { JournalsHoldDeposits }
 {}
@@ -131,13 +132,14 @@ pub fn legal_steps_number_one()
     ensures { LegalStepsNumberOne }
 {}
 
-/// Every legal journal keeps the promises of the exchange, whoever wrote it and whatever right outcomes its batches have.
+/// Steps from a sound market, and so every legal journal, keep the promises of the exchange, whoever wrote them and whatever
+/// right outcomes their batches have.
 pub fn legal_journals_keep_promises()
     ensures { LegalJournalsKeepPromises }
 {}
 
-/// In the journal that the program makes of command records each batch of one-asset orders clears, at prices within 2^60
-/// grains, and an asset that was settled keeps its price.
+/// In steps by the program's own rule from a sound market each batch of one-asset orders clears, at prices within 2^60 grains,
+/// and an asset that was settled keeps its price.
 pub fn own_journals_clear_near()
     ensures { OwnJournalsClearNear }
 {}
