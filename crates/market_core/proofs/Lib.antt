@@ -27,4 +27,3 @@ pub mod WorkedRows
 pub mod Ending
 pub mod Versions
 pub mod VersionRows
-pub mod Leaving

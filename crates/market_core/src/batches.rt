@@ -4,7 +4,6 @@ ghost use Rattle.demand_curve.specs.Demand.{IsWithin};
 ghost use Rattle.wire_records.specs.Commands.{RunBatch};
 ghost use Rattle.batch_certificate.specs.Published.{clearing_of, outcome_of};
 ghost use Rattle.flow_orders.specs.Outcomes.{Cleared as ClearedBatch};
-ghost use Rattle.flow_orders.specs.Trades.{going_on};
 ghost use Rattle.market_core.specs.Market.{IsSound, most_batches, start_prices, cut_price};
 ghost use Rattle.market_core.specs.Step.{FirstRefusal, after_batch};
 ghost use Rattle.market_core.specs.Settling.{MaySettle, MaySettleAt};
@@ -12,7 +11,6 @@ ghost use Rattle.market_core.specs.Settling.{MaySettle, MaySettleAt};
 use crate::Market;
 use batch_certificate::{Cleared, Outcome, PriceList};
 use fill_caps::settle;
-use order_book::Book;
 use residual_account::ResidualAccount;
 use std::alloc::Global;
 use wire_records::{Memory, Refusal};
@@ -84,11 +82,12 @@ impl Market {
 
     /// Counts a batch that ended so. Where it cleared it is settled: each account pays for its orders' rates and
     /// receives their units, the exchange takes the other side of the residuals, each order is filled by its rate and
-    /// leaves once it is filled to its cap, and the prices are the last ones. Either way the orders leave
-    /// whose last batch it was; a batch that was skipped changes nothing else.
+    /// leaves once it is filled to its cap, and the prices are the last ones. Either way the orders leave whose last batch
+    /// it was; a batch that was skipped changes nothing else.
     ///
     /// The outcome is right for the live orders and the start prices, and fewer than 2^24 batches were held. It takes no
-    /// memory and can't fail. It costs two passes over the entries of the live orders, however many accounts there are.
+    /// memory and can't fail. It costs two passes over the entries of the live orders, however many accounts there are, and
+    /// one over the orders and the entries of those that leave.
     pub fn settle(&mut self, outcome: &Outcome)
         requires right { MaySettle self.old outcome.now }
         requires more { self.old.batches < most_batches }
@@ -98,7 +97,7 @@ impl Market {
             Outcome::Cleared(cleared) => self.settle_cleared(cleared),
             Outcome::Skipped(_) => {
                 let batch = self.batches + 1;
-                end_orders(&mut self.book, batch);
+                self.book.end(batch);
                 self.batches = batch;
             }
         }
@@ -120,24 +119,8 @@ impl Market {
         );
         self.book.fill(rates);
         let batch = self.batches + 1;
-        end_orders(&mut self.book, batch);
+        self.book.end(batch);
         self.last_prices.set(prices);
         self.batches = batch;
-    }
-}
-
-// Takes out the orders whose last batch this one was, from the end of the book on.
-fn end_orders(book: &mut Book, batch: u32)
-    ensures { book.new.orders ≡ going_on batch book.old.orders }
-{
-    let mut place = book.orders().len();
-    while place > 0 {
-        place -= 1;
-        let order = &book.orders()[place];
-        if order.last() == batch {
-            let account = order.account();
-            let number = order.number();
-            book.cancel(account, number);
-        }
     }
 }

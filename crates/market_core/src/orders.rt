@@ -2,7 +2,7 @@
 ghost use Rattle.std.specs.Prelude.{◌≡◌, ◌+◌, ◌*◌, ◌<◌, ◌≤◌, ◌^◌, ◌↔◌, ◌≤ℤ◌, pos, IsTrue, IfOk, IfSome, IfNone, Some, OnErr, All};
 ghost use Rattle.demand_curve.specs.Numbers.{or_zero};
 ghost use Rattle.weight_rows.specs.Rows.{IsLawfulRow, IsLawfulWeight};
-ghost use Rattle.flow_accounts.specs.Balances.{IsAccount, IsAsset};
+ghost use Rattle.flow_accounts.specs.Balances.{IsAccount, IsAsset, money_with_credit, units_with_credit};
 ghost use Rattle.flow_orders.specs.Orders.{AreLimits, IsFrom1To, most_cap, price_of_ticks, sold};
 ghost use Rattle.flow_orders.specs.Own.{IsOwnOutcome};
 ghost use Rattle.wire_records.specs.Commands.{PlaceOrder, PlaceUntil, CancelOrder, Plain};
@@ -245,9 +245,16 @@ impl Market {
         ensures value { result ≡ usable_money self.now account }
         ensures sound { IsSound self.now }
     {
-        let credit = self.accounts.money_credit(account).unwrap();
-        self.accounts.money(account).unwrap() - self.book.money_needed(account)
-            + i128::from(credit) * GRAINS_PER_TICK
+        self.money_with_credit(account) - self.book.money_needed(account)
+    }
+
+    // The money of an account and its credit, in grains.
+    fn money_with_credit(&self, account: u32) -> i128
+        requires { IsAccount self.now.balances account }
+        ensures { result ≡ money_with_credit self.now.balances account }
+    {
+        let credit = i128::from(self.accounts.money_credit(account).unwrap()) * GRAINS_PER_TICK;
+        self.accounts.money(account).unwrap() + credit
     }
 
     // The units of an asset in an account that its orders may still use.
@@ -256,9 +263,16 @@ impl Market {
         requires asset { IsAsset self.now.balances asset }
         ensures { result ≡ usable_units self.now account asset }
     {
-        let credit = self.accounts.unit_credit(account, asset).unwrap();
-        i128::from(self.accounts.units(account, asset).unwrap())
-            - self.book.units_needed(account, asset)
-            + i128::from(credit)
+        self.units_with_credit(account, asset) - self.book.units_needed(account, asset)
+    }
+
+    // The units of an asset in an account and its credit.
+    fn units_with_credit(&self, account: u32, asset: u16) -> i128
+        requires account { IsAccount self.now.balances account }
+        requires asset { IsAsset self.now.balances asset }
+        ensures { result ≡ units_with_credit self.now.balances account asset }
+    {
+        let credit = i128::from(self.accounts.unit_credit(account, asset).unwrap());
+        i128::from(self.accounts.units(account, asset).unwrap()) + credit
     }
 }
