@@ -28,7 +28,7 @@ module _ (m : Market) (sound : IsSound m) where
       omega (arith, most, sound.few_batches)
 
   -- the credit line of an account is within its limits
-  credit_line : (account : ℕ) → IsAccount m.balances account → IsLawfulCredit (asset_count m.balances) (credit_of m.balances account)
+  pub credit_line : (account : ℕ) → IsAccount m.balances account → IsLawfulCredit (asset_count m.balances) (credit_of m.balances account)
   credit_line account there = sound.credit.lawful (account - 1) (no_credit 0) (omega (arith, there.0, there.1, sound.one_each.credits))
 
   pub owes_little : OweLittle m.balances
@@ -36,13 +36,13 @@ module _ (m : Market) (sound : IsSound m) where
       (λ account there. (credit_line account there).ticks)
       (λ account asset there is_asset. let c = credit_line account there in c.units asset 0 (subst (λ n. asset < n) (sym c.one_each) is_asset))
 
-  money_of_each : (account : ℕ) → IsAccount m.balances account → IsMoneyBalance (money_of m.balances account)
+  pub money_of_each : (account : ℕ) → IsAccount m.balances account → IsMoneyBalance (money_of m.balances account)
   money_of_each = money_fits m.balances owes_little m.exchange.money m.exchange.money m.balances.total_money sound.totals.money sound.widths.total_money exchange_money (omega (arith, ints))
 
   total_at : (asset : ℕ) → IsAsset m.balances asset → total_units_of m.balances asset ≤ℤ pos (2 ^ 60)
   total_at asset is_asset = sound.widths.total_units asset (pos 0) is_asset
 
-  units_of_each : (asset : ℕ) → IsAsset m.balances asset → (account : ℕ) → IsAccount m.balances account → IsUnitBalance (units_of m.balances account asset)
+  pub units_of_each : (asset : ℕ) → IsAsset m.balances asset → (account : ℕ) → IsAccount m.balances account → IsUnitBalance (units_of m.balances account asset)
   units_of_each asset is_asset =
       units_fit m.balances owes_little asset is_asset (units_in m.exchange asset) (units_in m.exchange asset) (total_units_of m.balances asset)
       (sound.totals.units asset is_asset) (total_at asset is_asset) (exchange_units asset is_asset) (omega (arith, ints))

@@ -2,7 +2,7 @@
 ghost use Rattle.std.specs.Prelude.{◌≡◌, ◌+◌, ◌*◌, ◌<◌, ◌≤◌, ◌^◌, ◌↔◌, ◌≤ℤ◌, pos, IsTrue, IfOk, IfSome, IfNone, Some, OnErr, All};
 ghost use Rattle.demand_curve.specs.Numbers.{or_zero};
 ghost use Rattle.weight_rows.specs.Rows.{IsLawfulRow, IsLawfulWeight};
-ghost use Rattle.flow_accounts.specs.Balances.{IsAccount, IsAsset, money_with_credit, units_with_credit};
+ghost use Rattle.flow_accounts.specs.Balances.{IsAccount, IsAsset, grains, money_with_credit, units_with_credit};
 ghost use Rattle.flow_orders.specs.Orders.{AreLimits, IsFrom1To, most_cap, price_of_ticks, sold};
 ghost use Rattle.flow_orders.specs.Own.{IsOwnOutcome};
 ghost use Rattle.wire_records.specs.Commands.{PlaceOrder, PlaceUntil, CancelOrder, Plain};
@@ -23,6 +23,13 @@ const GRAINS_PER_TICK: i128 = 1 << 32;
 
 // No more orders are live.
 const MOST_ORDERS: usize = 16_384;
+
+// Ticks in grains.
+fn grains_of(ticks: u64) -> i128
+    ensures { result ≡ grains ticks }
+{
+    i128::from(ticks) * GRAINS_PER_TICK
+}
 
 // The reply to a cancel, by whether the order is there.
 pub(crate) fn cancel_reply(there: bool) -> Reply
@@ -253,8 +260,9 @@ impl Market {
         requires { IsAccount self.now.balances account }
         ensures { result ≡ money_with_credit self.now.balances account }
     {
-        let credit = i128::from(self.accounts.money_credit(account).unwrap()) * GRAINS_PER_TICK;
-        self.accounts.money(account).unwrap() + credit
+        let held = self.accounts.money(account).unwrap();
+        let credit = grains_of(self.accounts.money_credit(account).unwrap());
+        held + credit
     }
 
     // The units of an asset in an account that its orders may still use.
@@ -272,7 +280,8 @@ impl Market {
         requires asset { IsAsset self.now.balances asset }
         ensures { result ≡ units_with_credit self.now.balances account asset }
     {
+        let held = i128::from(self.accounts.units(account, asset).unwrap());
         let credit = i128::from(self.accounts.unit_credit(account, asset).unwrap());
-        i128::from(self.accounts.units(account, asset).unwrap()) + credit
+        held + credit
     }
 }

@@ -1,4 +1,4 @@
-use Rattle.order_book.proofs.Ended.{IsEndedTo}
+use Rattle.order_book.proofs.Ending.{IsEndedTo}
 use Rattle.order_book.proofs.ended.lower_ended.Given as goal
 
 abbrev pub invariant-loop-order : goal.invariant-loop-order

@@ -1,5 +1,5 @@
 use Rattle.order_book.specs.Book.{AreLive}
-use Rattle.order_book.proofs.Ended.{AreLive-going_on}
+use Rattle.order_book.proofs.Ending.{AreLive-going_on}
 use Rattle.order_book.proofs.book.Book.end.Goals as goal
 
 live : (c : goal.After-end_orders) → AreLive c.end_orders.new.orders.items
