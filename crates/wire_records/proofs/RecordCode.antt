@@ -152,7 +152,7 @@ same_front : (a b x y : List ℕ) → length b ≡ length a → a ++ x ≡ b ++ 
 same_front a b x y alike e = sym (take_at a x (length a) refl) ∙ ap (take (length a)) e ∙ take_at b y (length a) alike
 
 -- one magic stands at the front of bytes
-one_magic : (magic_of : Version → List ℕ) → AreMagics magic_of → (v w : Version) (x y : List ℕ) → magic_of v ++ x ≡ magic_of w ++ y → (v ≡ w) × (x ≡ y)
+pub one_magic : (magic_of : Version → List ℕ) → AreMagics magic_of → (v w : Version) (x y : List ℕ) → magic_of v ++ x ≡ magic_of w ++ y → (v ≡ w) × (x ≡ y)
 one_magic magic_of are One One x y e = (refl, append_cancel_left (magic_of One) x y e)
 one_magic magic_of are One Two x y e = absurd (are.other (same_front (magic_of One) (magic_of Two) x y are.alike e))
 one_magic magic_of are Two One x y e = absurd (are.other (sym (same_front (magic_of Two) (magic_of One) x y (sym are.alike) e)))
@@ -191,10 +191,14 @@ magic_code magic_of are = record {
   told = magic_told magic_of;
 }
 
+-- the magics of command files
+pub command_magics : AreMagics command_magic_of
+command_magics = record { some = omega arith; alike = refl; other = λ e. let last : 49 ≡ 50 = ap (λ (l : List ℕ). get_or l 7 0) e in omega (arith, last) }
+
 -- command files can be read
 pub commands_readable : IsReadable commands
 commands_readable = record {
-  magics = magic_code command_magic_of (record { some = omega arith; alike = refl; other = λ e. let last : 49 ≡ 50 = ap (λ (l : List ℕ). get_or l 7 0) e in omega (arith, last) });
+  magics = magic_code command_magic_of command_magics;
   units = record_code 1024 (omega arith);
   overlong = over_told 1024;
 }

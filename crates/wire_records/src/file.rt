@@ -1,8 +1,11 @@
 //! Command files: how they begin, and the limit of their records.
-ghost use Rattle.std.specs.Prelude.{ℕ, List, ◌↔◌, IsTrue};
-ghost use Rattle.wire_records.specs.Grammars.{BeginsWith};
+ghost use Rattle.std.specs.Prelude.{◌≡◌, ℕ, List, ◌↔◌, Some, IfNone, IsTrue};
+ghost use Rattle.wire_records.specs.Grammars.{BeginsWith, BeginsWithNone};
+ghost use Rattle.wire_records.specs.declared.version.Version.{Version};
 ghost use Rattle.wire_records.specs.declared.version.Version.TheVariants.{One};
 ghost use Rattle.wire_records.specs.Formats.{commands};
+
+use crate::Version;
 
 /// The first 8 bytes of a command file of version One.
 pub const COMMAND_MAGIC: [u8; 8] = *b"FLOWCMD1";
@@ -24,4 +27,20 @@ pub fn is_command_file(bytes: &[u8]) -> bool
     ensures { IsTrue result ↔ ((body : List ℕ) × BeginsWith commands.magics bytes.now One body) }
 {
     bytes.starts_with(&COMMAND_MAGIC)
+}
+
+/// The version of which the bytes begin as a command file, so that its records stand behind the first 8; `None` exactly
+/// where they begin with no version's magic. Constant cost.
+pub fn command_version(bytes: &[u8]) -> Option<Version>
+    ensures exact { (version : Version) → (result ≡ Some version)
+        ↔ ((body : List ℕ) × BeginsWith commands.magics bytes.now version body) }
+    ensures none { IfNone result (BeginsWithNone commands.magics bytes.now) }
+{
+    if bytes.starts_with(&COMMAND_MAGIC) {
+        Some(Version::One)
+    } else if bytes.starts_with(&COMMAND_MAGIC_2) {
+        Some(Version::Two)
+    } else {
+        None
+    }
 }
