@@ -96,9 +96,8 @@ impl Market {
         match outcome {
             Outcome::Cleared(cleared) => self.settle_cleared(cleared),
             Outcome::Skipped(_) => {
-                let batch = self.batches + 1;
-                self.book.end(batch);
-                self.batches = batch;
+                self.book.end(self.batches + 1);
+                self.batches += 1;
             }
         }
     }

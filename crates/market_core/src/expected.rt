@@ -160,10 +160,10 @@ impl Market {
     fn expected_until(&self, last: u32, place: &PlaceView<'_>) -> Reply
         ensures { IsExpected self.now (PlaceUntil last place.now) result }
     {
-        match self.until_refusal(last, place) {
-            Some(refusal) => Reply::Refused(refusal),
-            None => Reply::Order(self.next_order),
+        if let Some(first) = self.until_refusal(last, place) {
+            return Reply::Refused(first);
         }
+        Reply::Order(self.next_order)
     }
 
     fn expected_money_credit(&self, account: u32, ticks: u64) -> Reply

@@ -253,18 +253,18 @@ impl Market {
         requires { IsOfVersion self.old.version (SetMoneyCredit account ticks) }
         ensures { Serves IsOwnOutcome self.old (SetMoneyCredit account ticks) (Plain result) self.new }
     {
-        let reserved = self.book.money_needed(account);
-        reply_to(self.accounts.set_money_credit(account, ticks, reserved))
+        let needed = self.book.money_needed(account);
+        reply_to(self.accounts.set_money_credit(account, ticks, needed))
     }
 
     fn set_unit_credit(&mut self, account: u32, asset: u16, units: u64) -> Reply
         requires { IsOfVersion self.old.version (SetUnitCredit account asset units) }
         ensures { Serves IsOwnOutcome self.old (SetUnitCredit account asset units) (Plain result) self.new }
     {
-        let reserved = self.book.units_needed(account, asset);
+        let needed = self.book.units_needed(account, asset);
         reply_to(
             self.accounts
-                .set_unit_credit(account, asset, units, reserved),
+                .set_unit_credit(account, asset, units, needed),
         )
     }
 

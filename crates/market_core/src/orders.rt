@@ -84,18 +84,18 @@ impl Market {
         ensures stays { OnErr result (self.new ≡ self.old) }
         ensures wanted { OnErr result (MayWant self.old (PlaceUntil last place.now)) }
     {
-        if let Some(refusal) = self.until_refusal(last, place) {
-            return Ok(Reply::Refused(refusal));
+        if let Some(first) = self.until_refusal(last, place) {
+            return Ok(Reply::Refused(first));
         }
         match self.book.reserve_one() {
             Ok(()) => {}
             Err(_) => return Err(Memory),
         }
         let row = WeightRow::new(place.row().to_list(self.alloc)?);
-        let number = self.next_order;
-        self.next_order = number + 1;
+        let next = self.next_order;
+        self.next_order = next + 1;
         self.book.add(Order::until(
-            number,
+            next,
             place.account(),
             place.low(),
             place.high(),
@@ -104,7 +104,7 @@ impl Market {
             last,
             row,
         ));
-        Ok(Reply::Order(number))
+        Ok(Reply::Order(next))
     }
 
     pub(crate) fn cancel_order(&mut self, account: u32, number: u64) -> Reply

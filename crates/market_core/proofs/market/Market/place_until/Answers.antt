@@ -30,7 +30,7 @@ pub invariant_of-self-2 : goal.invariant_of-self-2
 invariant_of-self-2 c = sound-served (market_in c.self.inside) _ _ _ (rw (← c.self.view_is) at c.requires.version) c.self.invariant (served c)
 
 pub returns-in-Some-clause-served : goal.returns-in-Some-clause-served
-returns-in-Some-clause-served c = record { first = Some c.in-Some.refusal; refused = c.in-Some.ensures; answered = (refl, refl) }
+returns-in-Some-clause-served c = record { first = Some c.in-Some.first; refused = c.in-Some.ensures; answered = (refl, refl) }
 
 pub returns-clause-served : goal.returns-clause-served
 returns-clause-served c = rw (← c.self.view_is) (served c)

@@ -10,17 +10,17 @@ use Rattle.market_core.proofs.market.Market.set_money_credit.Goals as goal
 
 pub set_money_credit-requires-clause-not_negative : goal.set_money_credit-requires-clause-not_negative
 set_money_credit-requires-clause-not_negative c =
-    rw (same_number c.money_needed-reserved.result (record { sfits = c.money_needed-reserved.type_inv }), c.money_needed-reserved.ensures.value)
+    rw (same_number c.money_needed-needed.result (record { sfits = c.money_needed-needed.type_inv }), c.money_needed-needed.ensures.value)
     (needed_money_not_negative c.self.inside.book.orders c.args.account)
 
 pub set_money_credit-requires-clause-covered : goal.set_money_credit-requires-clause-covered
 set_money_credit-requires-clause-covered c =
-    rw (same_number c.money_needed-reserved.result (record { sfits = c.money_needed-reserved.type_inv }), c.money_needed-reserved.ensures.value)
+    rw (same_number c.money_needed-needed.result (record { sfits = c.money_needed-needed.type_inv }), c.money_needed-needed.ensures.value)
     (c.self.invariant.covered.money c.args.account)
 
 served : (c : goal.After-reply_to) → Serves IsOwnOutcome (market_in c.self.inside) (SetMoneyCredit c.args.account c.args.ticks) (Plain c.reply_to.result) (record (market_in c.self.inside) { balances = c.set_money_credit.new.self })
 served c =
-    let answers = rw (same_number c.money_needed-reserved.result (record { sfits = c.money_needed-reserved.type_inv }), c.money_needed-reserved.ensures.value) at c.set_money_credit.ensures in
+    let answers = rw (same_number c.money_needed-needed.result (record { sfits = c.money_needed-needed.type_inv }), c.money_needed-needed.ensures.value) at c.set_money_credit.ensures in
     serves-set_money_credit IsOwnOutcome (market_in c.self.inside) c.set_money_credit.new.self c.args.account c.args.ticks c.set_money_credit.result c.reply_to.result
     answers.accepted answers.refused answers.ok answers.err c.reply_to.ensures
 
