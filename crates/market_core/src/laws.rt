@@ -132,14 +132,14 @@ pub fn legal_steps_number_one()
     ensures { LegalStepsNumberOne }
 {}
 
-/// Steps from a sound market, and so every legal journal, keep the promises of the exchange, whoever wrote them and whatever
-/// right outcomes their batches have.
+/// Steps from a sound market, and so every legal journal, keep the promises of the exchange, whoever wrote them and
+/// whatever right outcomes their batches have.
 pub fn legal_journals_keep_promises()
     ensures { LegalJournalsKeepPromises }
 {}
 
-/// In steps by the program's own rule from a sound market each batch of one-asset orders clears, at prices within 2^60 grains,
-/// and an asset that was settled keeps its price.
+/// In steps by the program's own rule from a sound market each batch of one-asset orders clears, at prices within 2^60
+/// grains, and an asset that was settled keeps its price.
 pub fn own_journals_clear_near()
     ensures { OwnJournalsClearNear }
 {}

@@ -18,8 +18,8 @@ use std::marker::Model;
 use ticker_table::{TickerFault, TickerTable};
 use wire_records::{CommandView, Memory, Refusal, Reply, Version};
 
-/// The version, the assets by their tickers, all balances, the exchange's own account, the live orders, the number that the next order
-/// gets, how many batches were held, and the last cleared prices.
+/// The version, the assets by their tickers, all balances, the exchange's own account, the live orders, the number that
+/// the next order gets, how many batches were held, and the last cleared prices.
 #[derive(Drop)]
 pub struct Market {
     pub(crate) version: Version,
@@ -118,8 +118,8 @@ impl Market {
         }
     }
 
-    /// Serves one command of the market's version that holds no batch, and answers its reply. Only a new asset, account or order may want memory; then
-    /// nothing is changed. The number that the next order gets is below 2^64 - 1.
+    /// Serves one command of the market's version that holds no batch, and answers its reply. Only a new asset, account
+    /// or order may want memory; then nothing is changed. The number that the next order gets is below 2^64 - 1.
     ///
     /// The cost is that of the command's own fields, however many accounts and orders there are; a cancelled order
     /// leaves a gap among the live ones that is closed by a move.
@@ -262,10 +262,7 @@ impl Market {
         ensures { Serves IsOwnOutcome self.old (SetUnitCredit account asset units) (Plain result) self.new }
     {
         let needed = self.book.units_needed(account, asset);
-        reply_to(
-            self.accounts
-                .set_unit_credit(account, asset, units, needed),
-        )
+        reply_to(self.accounts.set_unit_credit(account, asset, units, needed))
     }
 
     fn withdraw_money(&mut self, account: u32, ticks: u64) -> Reply

@@ -72,11 +72,7 @@ impl Market {
         Ok(Reply::Order(number))
     }
 
-    pub(crate) fn place_until(
-        &mut self,
-        last: u32,
-        place: &PlaceView<'_>,
-    ) -> Result<Reply, Memory>
+    pub(crate) fn place_until(&mut self, last: u32, place: &PlaceView<'_>) -> Result<Reply, Memory>
         requires command { IsCommand (PlaceUntil last place.now) }
         requires version { IsOfVersion self.old.version (PlaceUntil last place.now) }
         requires next { self.old.next_order + 1 < 2 ^ 64 }
@@ -246,7 +242,7 @@ impl Market {
         i128::from(unit_need(entry.weight, cap)) <= self.usable_units(account, entry.asset)
     }
 
-    // The money of an account that its orders may still use, in grains: its balance and its credit, less what is needed.
+    // The money of an account that its orders may still use, in grains: its balance and credit, less what they need.
     fn usable_money(&self, account: u32) -> i128
         requires { IsAccount self.now.balances account }
         ensures value { result ≡ usable_money self.now account }
