@@ -19,7 +19,7 @@ use Rattle.flow_orders.specs.Outcomes.{Outcome, Cleared}
 use Rattle.flow_orders.specs.Trades.{trades}
 use Rattle.flow_orders.specs.Own.{IsOwnOutcome}
 use Rattle.flow_orders.proofs.WorkedRows as batches
-use Rattle.market_core.specs.Market.{Market, empty_market, start_prices, held_money, held_units, free_money, free_units, usable_units}
+use Rattle.market_core.specs.Market.{Market, empty_market, start_prices, held_money, held_units, free_money, usable_units}
 use Rattle.fill_caps.specs.Settlement.{settled_account, settled_balances, settled_exchange}
 use Rattle.market_core.specs.Step.{FirstRefusal, Accepts, Answers, Serves, IsAffordable, placed}
 use Rattle.order_book.specs.Book.{HasOrder}

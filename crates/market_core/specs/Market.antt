@@ -16,8 +16,9 @@ use Rattle.fill_caps.specs.Covers.{CoversNeeds}
 abbrev pub most_batches : ℕ
 most_batches = 2 ^ 24
 
--- the version; tickers in the order of their numbers; balances, credits and totals; the exchange's own account; the live orders, ascending; the number
--- that the next order gets; how many batches were held; and the last cleared price of each asset, 0 where there is none
+-- the version; tickers in the order of their numbers; balances, credits and totals; the exchange's own account; the live orders,
+-- ascending; the number that the next order gets; how many batches were held; and the last cleared price of each asset, 0 where
+-- there is none
 pub record Market : Type 0 where
   pub version : Version
   pub tickers : List (List ℕ)

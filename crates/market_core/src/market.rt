@@ -173,6 +173,13 @@ impl Market {
         self.version
     }
 
+    /// The allocator of its collections.
+    pub fn alloc(&self) -> Global
+        ensures sound { IsSound self.now }
+    {
+        self.alloc
+    }
+
     /// The tickers of the assets, by the assets' numbers.
     pub fn tickers(&self) -> &TickerTable
         ensures value { result.now ≡ self.now.tickers }

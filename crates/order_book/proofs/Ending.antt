@@ -1,5 +1,5 @@
 -- Going through the orders of a book, of which those leave whose last batch was held.
-use Rattle.std.proofs.Common.{◌≡◌, ◌≢◌, ℕ, ◌+◌, ◌<◌, ◌≤◌, Bool, true, not, eqb, filter, List, [], ◌∷◌, ◌++◌, take, drop, length, get_or, refl, sym, ap, ⊎_elim, ◌∙◌, arith}
+use Rattle.std.proofs.Common.{◌≡◌, ◌≢◌, ℕ, ◌+◌, ◌<◌, ◌≤◌, Bool, not, eqb, List, [], ◌∷◌, ◌++◌, take, drop, length, get_or, refl, sym, ap, ◌∙◌, arith}
 use Rattle.std.proofs.lemmas.Bool.{eq-eqb, ne_eqb}
 use Rattle.std.proofs.lemmas.List.{take_all, take_more, drop_all, drop_more}
 use Rattle.std.proofs.lemmas.List.Elements.{All-filter, filter-append}

@@ -1,5 +1,4 @@
 use Rattle.wire_records.specs.Commands.{SetMoneyCredit, Plain}
-use Rattle.flow_orders.specs.Orders.{needed_money}
 use Rattle.flow_orders.specs.Own.{IsOwnOutcome}
 use Rattle.market_core.specs.Step.{Serves}
 use Rattle.market_core.specs.Kept.{market_in}
