@@ -21,7 +21,8 @@ impl Accounts {
 
     /// An account's credit in an asset, in units, or `None` exactly where the account or the asset isn't there.
     pub fn unit_credit(&self, account: u32, asset: u16) -> Option<u64>
-        ensures { SomeIff result (IsAccount self.now account × IsAsset self.now asset) (unit_credit_of self.now account asset) }
+        ensures { SomeIff result (IsAccount self.now account × IsAsset self.now asset)
+            (unit_credit_of self.now account asset) }
     {
         if self.has_account(account) && self.has_asset(asset) {
             Some(self.unit_credit_held(account, asset))

@@ -5,10 +5,11 @@
 //! ticks, and moved in grains when a batch is settled. Assets are kept in whole units. Accounts are
 //! numbered from 1, assets from 0.
 //!
-//! An account may get credit, in money and in each asset, for what its orders need: a balance may then fall to minus its
-//! credit, and never below. A withdrawal doesn't use credit. A total may be negative: what an account gained in a settlement it may
-//! withdraw, though nobody deposited it. Whoever settles only among the accounts keeps each total
-//! equal to the sum of its balances, by the [`laws`].
+//! An account may get credit, in money and in each asset, for what its orders need: a balance may
+//! then fall to minus its credit, and never below. A withdrawal doesn't use credit. A total may be
+//! negative: what an account gained in a settlement it may withdraw, though nobody deposited it.
+//! Whoever settles only among the accounts keeps each total equal to the sum of its balances, by
+//! the [`laws`].
 //!
 //! # Limits
 //!

@@ -108,7 +108,7 @@ impl Accounts {
     }
 
     /// The units that [`Accounts::withdraw_units`] would add, which are negative, or the fault that it would
-    /// answer. `reserved` is as there, in units: from 0 to the balance. Nothing changes.
+    /// answer. `reserved` is as there, in units: from 0 to the balance and the credit. Nothing changes.
     pub fn unit_withdrawal(
         &self,
         account: u32,

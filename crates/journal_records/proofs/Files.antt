@@ -12,7 +12,7 @@ use Rattle.wire_records.specs.Formats.{records, EitherStatesOver}
 use Rattle.wire_records.proofs.Fronts.{states_none-from_few}
 use Rattle.wire_records.proofs.CodeLaws.{both_code}
 use Rattle.wire_records.proofs.ReadingLaws.{IsReadable, none_in_none, file_read, reads_one}
-use Rattle.wire_records.proofs.RecordCode.{record_code, magic_code, either_over_told}
+use Rattle.wire_records.proofs.RecordCode.{AreMagics, record_code, magic_code, either_over_told}
 use Rattle.flow_orders.specs.Outcomes.{Outcome}
 use Rattle.journal_records.specs.Replies.{most_reply_body}
 use Rattle.journal_records.specs.Pairs.{IsPair, pair_spelling}
@@ -20,10 +20,14 @@ use Rattle.journal_records.specs.Formats.{journal_magic_of, journals, journal_in
 use Rattle.journal_records.specs.Laws.{JournalIsFile, JournalIsRead, OneJournal}
 use Rattle.journal_records.proofs.Spelled.{answer_unique}
 
+-- the magics of journals
+pub journal_magics : AreMagics journal_magic_of
+journal_magics = record { some = omega arith; alike = refl; other = λ e. let last : 49 ≡ 50 = ap (λ (l : List ℕ). get_or l 7 0) e in omega (arith, last) }
+
 -- journals can be read
 pub journals_readable : IsReadable journals
 journals_readable = record {
-  magics = magic_code journal_magic_of (record { some = omega arith; alike = refl; other = λ e. let last : 49 ≡ 50 = ap (λ (l : List ℕ). get_or l 7 0) e in omega (arith, last) });
+  magics = magic_code journal_magic_of journal_magics;
   units = both_code (records most_body) (records most_reply_body) (record_code most_body (omega arith)) (record_code most_reply_body (omega arith));
   overlong = either_over_told most_body most_reply_body (omega arith);
 }

@@ -8,8 +8,8 @@ use journal_records::{MOST_REPLY_BODY, journal_version};
 use std::alloc::Global;
 use weight_rows::RowFault;
 use wire_records::{
-    BodyFault, Command, CommandView, Framed, MOST_ROW, MOST_ROW_UNTIL, RecordView, Refusal, RowView,
-    Version, command_version, next_record, put_head, write_command,
+    BodyFault, Command, CommandView, Framed, MOST_ROW, MOST_ROW_UNTIL, RecordView, Refusal,
+    RowView, Version, command_version, next_record, put_head, write_command,
 };
 
 // The one record that these bytes are.

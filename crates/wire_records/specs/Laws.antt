@@ -3,7 +3,7 @@ use Rattle.std.specs.Prelude.{◌≡◌, ◌<◌, ◌≤◌, ◌^◌, ℕ, List,
 use Rattle.wire_records.specs.Records.{Record, AreBytes, IsRecord, spelling, most_body}
 use Rattle.wire_records.specs.Framing.{IsFront}
 use Rattle.wire_records.specs.Commands.{Command}
-use Rattle.wire_records.specs.CommandRecords.{tag_of, record_of, IsCommand, HasShortRow, Spells, IsRead}
+use Rattle.wire_records.specs.CommandRecords.{record_of, IsCommand, HasShortRow, Spells, IsRead}
 use Rattle.wire_records.specs.declared.version.Version.{Version}
 use Rattle.wire_records.specs.declared.version.Version.TheVariants.{Two}
 use Rattle.wire_records.specs.Versions.{IsOfVersion, IsReadAs}

@@ -104,7 +104,8 @@ fn put_request(
     requires room { vec_len out.old + (33 + 6 * length row.now) ≤ vec_capacity out.old }
     ensures written { out.new.items ≡ out.old.items ++ request_spelling
         (record { account = account; low = low; high = high; rate = rate; cap = cap; row = row.now }) }
-    ensures fits { IsRequest (record { account = account; low = low; high = high; rate = rate; cap = cap; row = row.now }) }
+    ensures fits { IsRequest
+        (record { account = account; low = low; high = high; rate = rate; cap = cap; row = row.now }) }
 {
     put_u32(out, account);
     put_i64(out, low);
@@ -132,7 +133,8 @@ fn put_order(
       body = request_spelling
           (record { account = account; low = low; high = high; rate = rate; cap = cap; row = row.now });
     }) }
-    ensures fits { IsRequest (record { account = account; low = low; high = high; rate = rate; cap = cap; row = row.now }) }
+    ensures fits { IsRequest
+        (record { account = account; low = low; high = high; rate = rate; cap = cap; row = row.now }) }
 {
     put_head(out, 7, 33 + 6 * row.len() as u32);
     put_request(out, account, low, high, rate, cap, row);
@@ -156,7 +158,8 @@ fn put_until(
       body = unsigned 4 last ++ request_spelling
           (record { account = account; low = low; high = high; rate = rate; cap = cap; row = row.now });
     }) }
-    ensures fits { IsRequest (record { account = account; low = low; high = high; rate = rate; cap = cap; row = row.now }) }
+    ensures fits { IsRequest
+        (record { account = account; low = low; high = high; rate = rate; cap = cap; row = row.now }) }
 {
     put_head(out, 10, 37 + 6 * row.len() as u32);
     put_u32(out, last);

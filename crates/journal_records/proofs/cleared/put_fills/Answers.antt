@@ -1,13 +1,57 @@
-use Rattle.std.proofs.Common.{◌≡◌, ◌+◌, ◌<◌, ◌≤◌, ◌^◌, [], ◌∷◌, ◌++◌, length, rules, ap, ◌∙◌, arith}
+use Rattle.std.proofs.Common.{◌≡◌, ℕ, ◌+◌, ◌<◌, ◌^◌, [], ◌∷◌, ◌++◌, length, get_or, refl, sym, ap, ◌∙◌, arith}
+use Rattle.std.specs.Iterator.Adapters.{zip_first, zip_second}
+use Rattle.std.specs.Slice.Iter.{iter_rest}
 use Rattle.std.proofs.lemmas.Slice.Zip.{zip_turn, zip_end}
-use Rattle.std.proofs.lemmas.List.{length_push}
+use Rattle.std.proofs.lemmas.List.{length_push, append-nil}
+use Rattle.std.proofs.lemmas.List.Elements.{All-nil}
 use Rattle.wire_fields.specs.Numbers.{unsigned}
+use Rattle.flow_orders.specs.Orders.{Order}
+use Rattle.journal_records.specs.Replies.{IsFill}
 use Rattle.journal_records.proofs.Fills.{one_more, all_written}
+use Rattle.journal_records.proofs.cleared.put_fills.Goals.{In-Some, In-None}
 use Rattle.journal_records.proofs.cleared.put_fills.Goals as goal
+
+-- the order and the rate of a turn stand at one place of their lists
+turn : (c : In-Some) → (length c.loop-order.yielded < length c.args.orders.now) × (length c.loop-order.yielded < length c.args.rates.now)
+    × ((d : Order) → c.in-Some.order.now ≡ get_or c.args.orders.now (length c.loop-order.yielded) d)
+    × ((d : ℕ) → c.in-Some.rate.now ≡ get_or c.args.rates.now (length c.loop-order.yielded) d)
+turn c =
+    let same = c.into_iter-order-iterator.ensures.into_iter_gives in
+    zip_turn c.args.orders.now c.args.rates.now c.loop-order.yielded c.into_iter-order-iterator.result c.loop-order.order-iterator c.next.new.self c.next.result
+    (ap (λ z. iter_rest (zip_first z)) same ∙ ap iter_rest c.zip-order-items.ensures.first ∙ c.iter.ensures.rest)
+    (ap (λ z. iter_rest (zip_second z)) same ∙ c.zip-order-items.ensures.second.0)
+    c.loop-order.yielded_by _ c.in-Some.is c.next.ensures.steps
+
+-- at the end there was a turn for each order
+ended : (c : In-None) → length c.loop-order.yielded ≡ length c.args.orders.now
+ended c =
+    let same = c.into_iter-order-iterator.ensures.into_iter_gives in
+    let count = zip_end c.args.orders.now c.args.rates.now c.loop-order.yielded c.into_iter-order-iterator.result c.loop-order.order-iterator c.next.new.self c.next.result
+    (ap (λ z. iter_rest (zip_first z)) same ∙ ap iter_rest c.zip-order-items.ensures.first ∙ c.iter.ensures.rest)
+    (ap (λ z. iter_rest (zip_second z)) same ∙ c.zip-order-items.ensures.second.0)
+    c.loop-order.yielded_by c.in-None.is c.next.ensures.steps in
+    omega (arith, count, c.requires.count)
+
+pub loop-order-init : goal.loop-order-init
+loop-order-init c = record {
+  written = record { written = sym (append-nil c.args.out.now.items); fit = All-nil IsFill };
+  len = omega arith;
+  capacity = refl;
+}
+
+pub put_u64-requires : goal.put_u64-requires
+put_u64-requires c =
+    let at = turn (goal.at.put_u64-requires c).In-Some in
+    omega (arith, at.0, c.requires.room, c.loop-order.invariant.len, c.loop-order.invariant.capacity)
+
+pub put_u32-requires : goal.put_u32-requires
+put_u32-requires c =
+    let at = turn (goal.at.put_u32-requires c).In-Some in
+    omega (arith, at.0, c.requires.room, c.loop-order.invariant.len, c.loop-order.invariant.capacity, c.put_u64.ensures.len, c.put_u64.ensures.capacity)
 
 pub loop-order-preserved : goal.loop-order-preserved
 loop-order-preserved c =
-    let at = zip_turn c.args.orders.now c.args.rates.now c.loop-order.yielded c.into_iter-order-iterator.result c.loop-order.order-iterator c.next.new.self c.next.result (search rules) (search rules) c.loop-order.yielded_by _ c.in-Some.is c.next.ensures.steps in
+    let at = turn (goal.at.loop-order-preserved c).In-Some in
     let o = c.in-Some.order.now in
     let x = c.in-Some.rate.now in
     let i = length c.loop-order.yielded in
@@ -24,14 +68,16 @@ loop-order-preserved c =
 
 pub returns-clause-written : goal.returns-clause-written
 returns-clause-written c =
-    let count = zip_end c.args.orders.now c.args.rates.now c.loop-order.yielded c.into_iter-order-iterator.result c.loop-order.order-iterator c.next.new.self c.next.result (search rules) (search rules) c.loop-order.yielded_by c.in-None.is c.next.ensures.steps in
-    let all : length c.args.orders.now ≤ length c.loop-order.yielded = omega (arith, count, c.requires.count) in
-    let written = all_written c.args.orders.now c.args.rates.now c.args.out.now.items c.loop-order.out.items (length c.loop-order.yielded) c.requires.count all c.loop-order.invariant.written in
+    let written = all_written c.args.orders.now c.args.rates.now c.args.out.now.items c.loop-order.out.items (length c.loop-order.yielded) c.requires.count (omega (arith, ended c)) c.loop-order.invariant.written in
     written.0
+
+pub returns-clause-len : goal.returns-clause-len
+returns-clause-len c = omega (arith, ended c, c.loop-order.invariant.len)
+
+pub returns-clause-capacity : goal.returns-clause-capacity
+returns-clause-capacity c = c.loop-order.invariant.capacity
 
 pub returns-clause-fit : goal.returns-clause-fit
 returns-clause-fit c =
-    let count = zip_end c.args.orders.now c.args.rates.now c.loop-order.yielded c.into_iter-order-iterator.result c.loop-order.order-iterator c.next.new.self c.next.result (search rules) (search rules) c.loop-order.yielded_by c.in-None.is c.next.ensures.steps in
-    let all : length c.args.orders.now ≤ length c.loop-order.yielded = omega (arith, count, c.requires.count) in
-    let written = all_written c.args.orders.now c.args.rates.now c.args.out.now.items c.loop-order.out.items (length c.loop-order.yielded) c.requires.count all c.loop-order.invariant.written in
+    let written = all_written c.args.orders.now c.args.rates.now c.args.out.now.items c.loop-order.out.items (length c.loop-order.yielded) c.requires.count (omega (arith, ended c)) c.loop-order.invariant.written in
     written.1
