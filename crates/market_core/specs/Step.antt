@@ -117,8 +117,8 @@ FirstRefusal m (SetUnitCredit account asset units) =
 
 -- ---- accepted commands
 
--- the market after a batch: a cleared one is settled at its prices, a skipped one is only counted; and either way the orders
--- leave whose last batch it was
+-- the market after a batch: a cleared one is settled at its prices; and either way the orders leave whose last batch it was, and
+-- the batch is counted
 abbrev pub after_batch : Market → Outcome → Market
 after_batch m (Cleared c) = record m {
   balances = settled_balances c.prices (trades_of m.orders c.fills) m.balances;
