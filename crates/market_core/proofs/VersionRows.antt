@@ -17,11 +17,14 @@ use Rattle.wire_records.specs.declared.reply.Reply.TheVariants as reply
 use Rattle.flow_accounts.specs.Balances.{Account, Credit, Balances, IsAccount, IsAsset}
 use Rattle.flow_orders.specs.Orders.{Order, AreLimits, IsFrom1To, most_cap, unit_need, terms_of}
 use Rattle.flow_orders.specs.Excess.{price_for, residual_bound, steepness, is_unsettled}
-use Rattle.flow_orders.specs.Moves.{moved, walk_reach}
+use Rattle.flow_orders.specs.Moves.{moved, walk_reach, single_reach}
+use Rattle.flow_orders.specs.Own.{IsOwnOutcome}
+use Rattle.flow_orders.specs.Turns.{visits, IsInTurnFrom, Settles}
+use Rattle.flow_orders.specs.Walks.{first_that}
 use Rattle.flow_orders.specs.Trades.{Trade, residual}
-use Rattle.flow_orders.specs.Outcomes.{Clearing, Skipping, Cleared, Skipped, trades_of, dual_of, IsUnnamed, IsRightClearing, IsRightOutcome}
+use Rattle.flow_orders.specs.Outcomes.{Clearing, Skipping, Cleared, Skipped, trades_of, dual_of, step_of, IsUnnamed, IsRightClearing, IsRightOutcome}
 use Rattle.flow_orders.proofs.Book.{IsSound as IsSoundOrder}
-use Rattle.flow_orders.proofs.Exactly.{rises_to}
+use Rattle.flow_orders.proofs.Exactly.{rises_to, falls_to}
 use Rattle.fill_caps.specs.Settlement.{settled_account}
 use Rattle.order_book.specs.Book.{HasOrder}
 use Rattle.market_core.specs.Market.{Market, usable_units}
@@ -161,6 +164,31 @@ pair_clears last = record {
     within zero inside = omega arith
     within (suc asset) inside = absurd (omega (arith, inside))
 
+-- and it is the program's own
+pair_is_sound : (last : ℕ) → All IsSoundOrder (pair_until last)
+pair_is_sound last =
+    All-from_recursion IsSoundOrder (pair_until last) (
+      record {
+        limits = record { low_in_range = (omega (arith, ints), omega (arith, ints)); high_in_range = (omega (arith, ints), omega (arith, ints)); span_least = omega (arith, ints); room_least = omega arith; room_most = omega arith; rate_most = omega arith };
+        lawful = row_of_one 0 (pos 1) (omega arith, omega arith);
+      },
+      (
+        record {
+          limits = record { low_in_range = (omega (arith, ints), omega (arith, ints)); high_in_range = (omega (arith, ints), omega (arith, ints)); span_least = omega (arith, ints); room_least = omega arith; room_most = omega arith; rate_most = omega arith };
+          lawful = row_of_one 0 (neg_ℤ (pos 1)) (omega arith, omega arith);
+        },
+        tt,
+      ),
+    )
+
+pair_moves : (last : ℕ) → moved (pair_until last) single_reach (pos 0 ∷ []) 0 ≡ pos 429410830255 ∷ []
+unfolding steepness weight_in portfolio_price floor_rate ceil_rate scaled_demand line span distance
+pair_moves last = (rises_to (pair_until last) single_reach (pos 0 ∷ []) 0 429410830254 (pair_is_sound last) (omega arith) (omega arith) refl refl refl).0
+
+pair_is_own : (last : ℕ) → IsOwnOutcome (pair_until last) (pos 0 ∷ []) 10 (Cleared even_clearing)
+unfolding is_unsettled steepness weight_in portfolio_price floor_rate ceil_rate scaled_demand loss line span distance
+pair_is_own last = (sym (pair_moves last), refl)
+
 -- after it the buyer's order has left, and the seller's stays
 abbrev after_first : Market
 after_first = record {
@@ -224,6 +252,25 @@ seller_clears = record {
     within : (asset : ℕ) → asset < 1 → unsigned_abs (residual (trades_of (seller_left ∷ []) lone_clearing.fills) asset) ≤ residual_bound (seller_left ∷ []) asset
     within zero inside = omega arith
     within (suc asset) inside = absurd (omega (arith, inside))
+
+-- and this one is the program's own too
+seller_is_sound : All IsSoundOrder (seller_left ∷ [])
+seller_is_sound =
+    All-from_recursion IsSoundOrder (seller_left ∷ []) (
+      record {
+        limits = record { low_in_range = (omega (arith, ints), omega (arith, ints)); high_in_range = (omega (arith, ints), omega (arith, ints)); span_least = omega (arith, ints); room_least = omega arith; room_most = omega arith; rate_most = omega arith };
+        lawful = row_of_one 0 (neg_ℤ (pos 1)) (omega arith, omega arith);
+      },
+      tt,
+    )
+
+seller_moves : moved (seller_left ∷ []) single_reach (pos 429410830255 ∷ []) 0 ≡ pos 386718855331 ∷ []
+unfolding steepness weight_in portfolio_price floor_rate ceil_rate scaled_demand line span distance
+seller_moves = (falls_to (seller_left ∷ []) single_reach (pos 429410830255 ∷ []) 0 42691974923 seller_is_sound (omega arith) (omega arith) refl refl refl refl).0
+
+seller_is_own : IsOwnOutcome (seller_left ∷ []) (pos 429410830255 ∷ []) 10 (Cleared lone_clearing)
+unfolding is_unsettled steepness weight_in portfolio_price floor_rate ceil_rate scaled_demand loss line span distance
+seller_is_own = (sym seller_moves, refl)
 
 abbrev after_second : Market
 after_second = record after_first {
@@ -462,6 +509,33 @@ skip_is_right = record {
   unsettled = λ settles. false≢true (sym (subst (λ p. is_unsettled wide_until p 1 ≡ false) move (settles 1 (omega arith))) ∙ unsettled_facts.1);
   duals = duals ∙ ap (λ p. record { trace = 0 ∷ []; start_dual = pos (dual_of wide_until (pos 0 ∷ pos 0 ∷ [])); end_dual = pos (dual_of wide_until p) }) (sym move);
 }
+
+-- the walk is the program's own: the first asset is moved first, and no walk in turn of one move settles both
+first_turn : first_that (is_unsettled wide_until (pos 0 ∷ pos 0 ∷ [])) (visits 2 0) ≡ Some 0
+unfolding is_unsettled steepness weight_in portfolio_price floor_rate ceil_rate scaled_demand line span distance
+first_turn = refl
+
+same_asset : (a c : ℕ) → Some a ≡ Some c → a ≡ c
+same_asset a c e = cc
+
+skip_is_own : IsOwnOutcome wide_until (pos 0 ∷ pos 0 ∷ []) 1 (Skipped skipped)
+skip_is_own = (
+  refl,
+  record {
+    in_turn = (first_turn, tt);
+    whole = refl;
+    none = λ end own. unsettled_within own.0 own.1.in_turn own.1.settles own.1.within;
+  },
+  skip_is_right.duals,
+)
+  where
+    unsettled_within : (walk : List ℕ) → IsInTurnFrom 2 (is_unsettled wide_until) (step_of wide_until) 0 (pos 0 ∷ pos 0 ∷ []) walk → Settles 2 (is_unsettled wide_until) (step_of wide_until) (pos 0 ∷ pos 0 ∷ []) walk → length walk ≤ 1 → ⊥
+    unsettled_within [] in_turn settles few = false≢true (sym (settles 0 (omega arith)) ∙ unsettled_facts.0)
+    unsettled_within (a ∷ []) in_turn settles few =
+        let first = same_asset a 0 (sym in_turn.0 ∙ first_turn) in
+        let moves = subst (λ b. Settles 2 (is_unsettled wide_until) (step_of wide_until) (pos 0 ∷ pos 0 ∷ []) (b ∷ [])) first settles in
+        false≢true (sym (subst (λ p. is_unsettled wide_until p 1 ≡ false) move (moves 1 (omega arith))) ∙ unsettled_facts.1)
+    unsettled_within (a ∷ c ∷ walk) in_turn settles few = absurd (omega (arith, few))
 
 abbrev after_skip : Market
 after_skip = record three_live { orders = order_of 1 0 basket_bought ∷ order_of 3 0 (sold 1) ∷ []; batches = 1 }
