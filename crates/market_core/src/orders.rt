@@ -153,7 +153,8 @@ impl Market {
         }
     }
 
-    // The first refusal of an order with right numbers: for its row, for a full book, or for what it needs.
+    // The first refusal of an order with right numbers, whatever its last batch is: for its row, for a full book, or for
+    // what it needs.
     fn row_refusal(&self, place: &PlaceView<'_>) -> Option<Refusal>
         requires { HasRightNumbers self.now place.now }
         ensures { RefusesRow self.now (placed self.now 0 place.now) result }
