@@ -7,7 +7,7 @@ use Rattle.weight_rows.specs.declared.entries.Entry.{Entry}
 use Rattle.weight_rows.specs.Rows.{weight_in, portfolio_price}
 use Rattle.demand_curve.specs.Demand.{IsRounding, span, line, scaled_demand}
 use Rattle.demand_curve.specs.Numbers.{distance}
-use Rattle.flow_accounts.specs.Balances.{Balances, IsAccount, IsAsset, money_of, units_of}
+use Rattle.flow_accounts.specs.Balances.{Balances, IsAccount, IsAsset, no_credit, money_with_credit, units_with_credit}
 use Rattle.flow_orders.specs.Orders.{Order, price_of_ticks, terms_of, needed_money, needed_units}
 use Rattle.flow_orders.specs.Excess.{price_for}
 use Rattle.flow_orders.specs.Trades.{Trade, trades}
@@ -17,17 +17,17 @@ abbrev entry : ℕ → ℤ → Entry
 entry asset weight = record { asset = asset; weight = weight }
 
 abbrev pub buyer : Order
-buyer = record { number = 1; account = 1; low = price_of_ticks (pos 90); high = price_of_ticks (pos 110); rate = 1000; cap = 10000; filled = 0; row = entry 0 (pos 1) ∷ [] }
+buyer = record { number = 1; account = 1; low = price_of_ticks (pos 90); high = price_of_ticks (pos 110); rate = 1000; cap = 10000; filled = 0; row = entry 0 (pos 1) ∷ []; last = 0 }
 
 abbrev pub seller : ℕ → ℕ → Order
-seller number asset = record { number = number; account = 2; low = price_of_ticks (neg_ℤ (pos 110)); high = price_of_ticks (neg_ℤ (pos 90)); rate = 1000; cap = 10000; filled = 0; row = entry asset (neg_ℤ (pos 1)) ∷ [] }
+seller number asset = record { number = number; account = 2; low = price_of_ticks (neg_ℤ (pos 110)); high = price_of_ticks (neg_ℤ (pos 90)); rate = 1000; cap = 10000; filled = 0; row = entry asset (neg_ℤ (pos 1)) ∷ []; last = 0 }
 
 abbrev pub basket : Order
-basket = record { number = 1; account = 1; low = price_of_ticks (pos 100); high = price_of_ticks (pos 500); rate = 100; cap = 1000; filled = 0; row = entry 0 (pos 1) ∷ entry 1 (pos 1) ∷ [] }
+basket = record { number = 1; account = 1; low = price_of_ticks (pos 100); high = price_of_ticks (pos 500); rate = 100; cap = 1000; filled = 0; row = entry 0 (pos 1) ∷ entry 1 (pos 1) ∷ []; last = 0 }
 
 -- ---- a buyer and a seller
 abbrev pub one_asset : Balances
-one_asset = record { accounts = record { money = pos 4724464025600000; units = pos 0 ∷ [] } ∷ record { money = pos 0; units = pos 10000 ∷ [] } ∷ []; total_money = pos 4724464025600000; total_units = pos 10000 ∷ [] }
+one_asset = record { accounts = record { money = pos 4724464025600000; units = pos 0 ∷ [] } ∷ record { money = pos 0; units = pos 10000 ∷ [] } ∷ []; credits = no_credit 1 ∷ no_credit 1 ∷ []; total_money = pos 4724464025600000; total_units = pos 10000 ∷ [] }
 
 abbrev pair : List Order
 pair = buyer ∷ seller 2 0 ∷ []
@@ -45,13 +45,13 @@ pair_roundings one other one_is other_is =
     subst (λ o. AreRounded (pos 429410830255 ∷ []) (trades (o ∷ other ∷ []) (500 ∷ 499 ∷ []))) (sym one_is)
     (subst (λ o. AreRounded (pos 429410830255 ∷ []) (trades (buyer ∷ o ∷ []) (500 ∷ 499 ∷ []))) (sym other_is) pair_rounded)
 
-pair_money : (account : ℕ) → IsAccount one_asset account → needed_money pair account ≤ℤ money_of one_asset account
+pair_money : (account : ℕ) → IsAccount one_asset account → needed_money pair account ≤ℤ money_with_credit one_asset account
 pair_money zero there = absurd (omega (arith, there.0))
 pair_money (suc zero) there = omega (arith, ints)
 pair_money (suc (suc zero)) there = omega (arith, ints)
 pair_money (suc (suc (suc n))) there = absurd (omega (arith, there.1))
 
-pair_units : (account asset : ℕ) → IsAccount one_asset account → IsAsset one_asset asset → needed_units pair account asset ≤ℤ units_of one_asset account asset
+pair_units : (account asset : ℕ) → IsAccount one_asset account → IsAsset one_asset asset → needed_units pair account asset ≤ℤ units_with_credit one_asset account asset
 unfolding weight_in
 pair_units account (suc asset) there is_asset = absurd (omega (arith, is_asset))
 pair_units zero zero there is_asset = absurd (omega (arith, there.0))
@@ -64,7 +64,7 @@ pair_covered held one other held_is one_is other_is = rw (held_is, one_is, other
 
 -- ---- a basket and two sellers
 abbrev pub two_assets : Balances
-two_assets = record { accounts = record { money = pos 2147483648000000; units = pos 0 ∷ pos 0 ∷ [] } ∷ record { money = pos 0; units = pos 10000 ∷ pos 10000 ∷ [] } ∷ []; total_money = pos 2147483648000000; total_units = pos 10000 ∷ pos 10000 ∷ [] }
+two_assets = record { accounts = record { money = pos 2147483648000000; units = pos 0 ∷ pos 0 ∷ [] } ∷ record { money = pos 0; units = pos 10000 ∷ pos 10000 ∷ [] } ∷ []; credits = no_credit 2 ∷ no_credit 2 ∷ []; total_money = pos 2147483648000000; total_units = pos 10000 ∷ pos 10000 ∷ [] }
 
 abbrev three : List Order
 three = basket ∷ seller 2 0 ∷ seller 3 1 ∷ []
@@ -79,13 +79,13 @@ three_rounded = All-from_recursion (λ (t : Trade). IsRounding (terms_of t.order
   (record { less_than_one_above = omega arith; less_than_one_below = omega arith }, (record { less_than_one_above = omega arith; less_than_one_below = omega arith }, tt)),
 )
 
-three_money : (account : ℕ) → IsAccount two_assets account → needed_money three account ≤ℤ money_of two_assets account
+three_money : (account : ℕ) → IsAccount two_assets account → needed_money three account ≤ℤ money_with_credit two_assets account
 three_money zero there = absurd (omega (arith, there.0))
 three_money (suc zero) there = omega (arith, ints)
 three_money (suc (suc zero)) there = omega (arith, ints)
 three_money (suc (suc (suc n))) there = absurd (omega (arith, there.1))
 
-three_units : (account asset : ℕ) → IsAccount two_assets account → IsAsset two_assets asset → needed_units three account asset ≤ℤ units_of two_assets account asset
+three_units : (account asset : ℕ) → IsAccount two_assets account → IsAsset two_assets asset → needed_units three account asset ≤ℤ units_with_credit two_assets account asset
 unfolding weight_in
 three_units account (suc (suc asset)) there is_asset = absurd (omega (arith, is_asset))
 three_units zero asset there is_asset = absurd (omega (arith, there.0))

@@ -1,8 +1,13 @@
 //! Accounts: deposits, withdrawals, what a settlement leaves, and how many there may be.
-use crate::market::Call::{Deposit, DepositUnits, Withdraw, WithdrawUnits};
-use crate::market::{add_asset, deposit, deposit_often, deposit_units, open, serve_all};
-use flow_accounts::AccountFault::{Full, NoAccount, NoAsset, NotFree, TotalLimit, Zero};
-use flow_accounts::{Accounts, MOST_ACCOUNTS, MOST_ASSETS, laws};
+use crate::market::Call::{Credit, Deposit, DepositUnits, UnitCredit, Withdraw, WithdrawUnits};
+use crate::market::{
+    add_asset, covers, covers_units, deposit, deposit_often, deposit_units, give_credit,
+    give_unit_credit, open, serve_all,
+};
+use flow_accounts::AccountFault::{
+    CreditLimit, Full, InUse, NoAccount, NoAsset, NotFree, TotalLimit, Zero,
+};
+use flow_accounts::{AccountFault, Accounts, MOST_ACCOUNTS, MOST_ASSETS, laws};
 use std::process::Abort;
 use std::test::Fail;
 
@@ -124,7 +129,8 @@ fn deposits_and_withdrawals_of_units(rt: HostRuntime) -> Result<(), Fail> {
 // Settlement changes the money of an account, and answers what it has then.
 fn pay(rt: &impl Abort, accounts: &mut Accounts, account: u32, grains: i128) -> Option<i128> {
     let money = accounts.money(account)?.checked_add(grains)?;
-    assert!(rt; 0 <= money && money < 1 << 124);
+    let credit = i128::from(accounts.money_credit(account)?) * (1 << 32);
+    assert!(rt; -credit <= money && money < 1 << 124);
     accounts.add_money(account, grains);
     accounts.money(account)
 }
@@ -138,7 +144,8 @@ fn give(
     amount: i64,
 ) -> Option<i64> {
     let units = accounts.units(account, asset)?.checked_add(amount)?;
-    assert!(rt; 0 <= units && units < 1 << 62);
+    let credit = i128::from(accounts.unit_credit(account, asset)?);
+    assert!(rt; -credit <= i128::from(units) && units < 1 << 62);
     accounts.add_units(account, asset, amount);
     accounts.units(account, asset)
 }
@@ -162,6 +169,101 @@ fn what_a_settlement_leaves(rt: HostRuntime) -> Result<(), Fail> {
     assert_eq!(rt; give(&rt, &mut accounts, 2, 0, -499), Some(9_501));
     assert_eq!(rt; accounts.total_money(), 4_724_464_025_600_000);
     assert_eq!(rt; accounts.total_units(0), Some(10_000));
+    Ok(())
+}
+
+#[test]
+fn credit_that_is_given(rt: HostRuntime) -> Result<(), Fail> {
+    let mut accounts = Accounts::new(rt.alloc());
+    laws::totals_stay_sums();
+    add_asset(&rt, &mut accounts);
+    open(&mut accounts)?;
+    open(&mut accounts)?;
+    let rows = [
+        (Credit(0, u64::MAX, 0), Err(NoAccount)),
+        (Credit(3, u64::MAX, 0), Err(NoAccount)),
+        (UnitCredit(3, 1, u64::MAX, 0), Err(NoAccount)),
+        (UnitCredit(2, 1, u64::MAX, 0), Err(NoAsset)),
+        (Credit(1, 1_099_511_627_777, 0), Err(CreditLimit)),
+        (UnitCredit(2, 0, 1_099_511_627_777, 0), Err(CreditLimit)),
+        (Credit(1, 1_099_511_627_776, 0), Ok(())),
+        (UnitCredit(2, 0, 1_099_511_627_776, 0), Ok(())),
+        (Withdraw(1, 1, 0), Err(NotFree(0))),
+        (WithdrawUnits(2, 0, 1, 0), Err(NotFree(0))),
+        (Credit(1, 1_100_000, 0), Ok(())),
+        (UnitCredit(2, 0, 10_000, 0), Ok(())),
+    ];
+    serve_all(&rt, &mut accounts, &rows);
+    assert_eq!(rt; accounts.money_credit(1), Some(1_100_000));
+    assert_eq!(rt; accounts.unit_credit(2, 0), Some(10_000));
+    assert_eq!(rt; accounts.total_money(), 0);
+    Ok(())
+}
+
+// What a withdrawal of money would be answered.
+fn take(
+    rt: &impl Abort,
+    accounts: &Accounts,
+    account: u32,
+    ticks: u64,
+    reserved: i128,
+) -> Result<i128, AccountFault> {
+    assert!(rt; reserved >= 0);
+    assert!(rt; covers(accounts, account, reserved));
+    accounts.money_withdrawal(account, ticks, reserved)
+}
+
+// The same of units.
+fn take_units(
+    rt: &impl Abort,
+    accounts: &Accounts,
+    account: u32,
+    units: u64,
+    reserved: i128,
+) -> Result<i64, AccountFault> {
+    assert!(rt; reserved >= 0);
+    assert!(rt; covers_units(accounts, account, 0, reserved));
+    accounts.unit_withdrawal(account, 0, units, reserved)
+}
+
+// Account 1 pays for 500 units with credit, and account 2 gives them with credit. What their orders may still need is
+// 4,488,240,824,320,000 grains and 9,500 units.
+#[test]
+fn credit_that_is_in_use(rt: HostRuntime) -> Result<(), Fail> {
+    let mut accounts = Accounts::new(rt.alloc());
+    laws::totals_stay_sums();
+    add_asset(&rt, &mut accounts);
+    open(&mut accounts)?;
+    open(&mut accounts)?;
+    give_credit(&rt, &mut accounts, 1, 1_100_000, 0)?;
+    give_unit_credit(&rt, &mut accounts, 2, 0, 10_000, 0)?;
+    let paid = pay(&rt, &mut accounts, 1, -214_705_415_127_500);
+    assert_eq!(rt; paid, Some(-214_705_415_127_500));
+    let received = pay(&rt, &mut accounts, 2, 214_705_415_127_500);
+    assert_eq!(rt; received, Some(214_705_415_127_500));
+    assert_eq!(rt; give(&rt, &mut accounts, 1, 0, 500), Some(500));
+    assert_eq!(rt; give(&rt, &mut accounts, 2, 0, -500), Some(-500));
+
+    let needed = 4_488_240_824_320_000;
+    let taken = take(&rt, &accounts, 1, 1, needed);
+    assert_eq!(rt; taken, Err(NotFree(-4_702_946_239_447_500)));
+    let taken = take(&rt, &accounts, 2, 49_990, 0);
+    assert_eq!(rt; taken, Ok(-214_705_415_127_040));
+    let taken = take_units(&rt, &accounts, 2, 1, 9_500);
+    assert_eq!(rt; taken, Err(NotFree(-10_000)));
+    for (ticks, given) in [
+        (1_094_990, Err(InUse(4_702_946_239_447_500))),
+        (1_094_991, Ok(())),
+        (1_099_511_627_777, Err(CreditLimit)),
+    ] {
+        assert_eq!(rt; give_credit(&rt, &mut accounts, 1, ticks, needed), given);
+    }
+    for (units, given) in [(9_999, Err(InUse(10_000))), (10_000, Ok(()))] {
+        let answer = give_unit_credit(&rt, &mut accounts, 2, 0, units, 9_500);
+        assert_eq!(rt; answer, given);
+    }
+    assert_eq!(rt; accounts.money_credit(1), Some(1_094_991));
+    assert_eq!(rt; accounts.unit_credit(2, 0), Some(10_000));
     Ok(())
 }
 

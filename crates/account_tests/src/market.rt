@@ -1,5 +1,7 @@
 //! A market that settles nothing: each total stays the sum of all balances, and by that every call
 //! may be made.
+ghost use Rattle.std.specs.Prelude.{IsTrue, pos, ◌≤ℤ◌};
+ghost use Rattle.flow_accounts.specs.Balances.{IsAccount, IsAsset, money_with_credit, units_with_credit};
 ghost use Rattle.flow_accounts.specs.Sums.{TotalsAreSums};
 
 use flow_accounts::{AccountFault, Accounts, MOST_ASSETS, laws};
@@ -13,7 +15,12 @@ pub enum Call {
     DepositUnits(u32, u16, u64),
     Withdraw(u32, u64, i128),
     WithdrawUnits(u32, u16, u64, i128),
+    Credit(u32, u64, i128),
+    UnitCredit(u32, u16, u64, i128),
 }
+
+// One tick in grains.
+const GRAINS_PER_TICK: i128 = 1 << 32;
 
 pub fn open(accounts: &mut Accounts) -> Result<u32, AccountFault>
     requires { TotalsAreSums accounts.old }
@@ -75,6 +82,35 @@ pub fn deposit_units(
     Ok(())
 }
 
+// Whether an account that is there covers what is reserved, with its credit.
+pub fn covers(accounts: &Accounts, account: u32, reserved: i128) -> bool
+    requires { pos 0 ≤ℤ reserved }
+    ensures { IsTrue result → IsAccount accounts.now account → reserved ≤ℤ money_with_credit accounts.now account }
+{
+    match accounts.money(account) {
+        Some(money) => match accounts.money_credit(account) {
+            Some(credit) => reserved - i128::from(credit) * GRAINS_PER_TICK <= money,
+            None => true,
+        },
+        None => true,
+    }
+}
+
+// The same of the units of an asset.
+pub fn covers_units(accounts: &Accounts, account: u32, asset: u16, reserved: i128) -> bool
+    requires { pos 0 ≤ℤ reserved }
+    ensures { IsTrue result → IsAccount accounts.now account → IsAsset accounts.now asset →
+        reserved ≤ℤ units_with_credit accounts.now account asset }
+{
+    match accounts.units(account, asset) {
+        Some(units) => match accounts.unit_credit(account, asset) {
+            Some(credit) => reserved - i128::from(credit) <= i128::from(units),
+            None => true,
+        },
+        None => true,
+    }
+}
+
 fn withdraw(
     rt: &impl Abort,
     accounts: &mut Accounts,
@@ -89,9 +125,7 @@ fn withdraw(
     laws::totals_stay_sums();
     let _count = accounts.count();
     assert!(rt; reserved >= 0);
-    if let Some(money) = accounts.money(account) {
-        assert!(rt; reserved <= money);
-    }
+    assert!(rt; covers(accounts, account, reserved));
     accounts.withdraw_money(account, ticks, reserved)?;
     Ok(())
 }
@@ -111,11 +145,38 @@ fn withdraw_units(
     laws::totals_stay_sums();
     let _count = accounts.count();
     assert!(rt; reserved >= 0);
-    if let Some(held) = accounts.units(account, asset) {
-        assert!(rt; reserved <= i128::from(held));
-    }
+    assert!(rt; covers_units(accounts, account, asset, reserved));
     accounts.withdraw_units(account, asset, units, reserved)?;
     Ok(())
+}
+
+pub fn give_credit(
+    rt: &impl Abort,
+    accounts: &mut Accounts,
+    account: u32,
+    ticks: u64,
+    reserved: i128,
+) -> Result<(), AccountFault>
+    ensures { TotalsAreSums accounts.old → TotalsAreSums accounts.new }
+{
+    assert!(rt; reserved >= 0);
+    assert!(rt; covers(accounts, account, reserved));
+    accounts.set_money_credit(account, ticks, reserved)
+}
+
+pub fn give_unit_credit(
+    rt: &impl Abort,
+    accounts: &mut Accounts,
+    account: u32,
+    asset: u16,
+    units: u64,
+    reserved: i128,
+) -> Result<(), AccountFault>
+    ensures { TotalsAreSums accounts.old → TotalsAreSums accounts.new }
+{
+    assert!(rt; reserved >= 0);
+    assert!(rt; covers_units(accounts, account, asset, reserved));
+    accounts.set_unit_credit(account, asset, units, reserved)
 }
 
 fn serve(rt: &impl Abort, accounts: &mut Accounts, call: Call) -> Result<(), AccountFault>
@@ -132,6 +193,12 @@ fn serve(rt: &impl Abort, accounts: &mut Accounts, call: Call) -> Result<(), Acc
         }
         Call::WithdrawUnits(account, asset, units, reserved) => {
             withdraw_units(rt, accounts, account, asset, units, reserved)
+        }
+        Call::Credit(account, ticks, reserved) => {
+            give_credit(rt, accounts, account, ticks, reserved)
+        }
+        Call::UnitCredit(account, asset, units, reserved) => {
+            give_unit_credit(rt, accounts, account, asset, units, reserved)
         }
     }
 }

@@ -2,6 +2,7 @@
 ghost use Rattle.std.specs.Prelude.{◌≡◌, ◌≤◌, [], ◌∷◌, pos, neg_ℤ, IfOk};
 ghost use Rattle.weight_rows.specs.Rows.{IsLawfulRow};
 ghost use Rattle.demand_curve.specs.Demand.{most_rate};
+ghost use Rattle.flow_accounts.specs.Balances.{no_credit};
 ghost use Rattle.flow_orders.specs.Orders.{AreLimits, IsFrom1To, most_cap, price_of_ticks};
 
 use fill_caps::settle;
@@ -33,6 +34,7 @@ fn order_of(
       cap = amounts.1;
       filled = 0;
       row = entries.now;
+      last = 0;
     }) }
 {
     let row = WeightRow::new(EntryList::new(Vec::from_slice(alloc, entries)?));
@@ -52,6 +54,7 @@ fn buyer(alloc: Global) -> Result<Order, AllocError>
       cap = 10000;
       filled = 0;
       row = record { asset = 0; weight = pos 1 } ∷ [];
+      last = 0;
     }) }
 {
     let row = [Entry {
@@ -72,6 +75,7 @@ fn basket(alloc: Global) -> Result<Order, AllocError>
       cap = 1000;
       filled = 0;
       row = record { asset = 0; weight = pos 1 } ∷ record { asset = 1; weight = pos 1 } ∷ [];
+      last = 0;
     }) }
 {
     let row = [
@@ -98,6 +102,7 @@ fn seller(alloc: Global, number: u64, asset: u16) -> Result<Order, AllocError>
       cap = 10000;
       filled = 0;
       row = record { asset = asset; weight = neg_ℤ (pos 1) } ∷ [];
+      last = 0;
     }) }
 {
     let row = [Entry { asset, weight: -1 }];
@@ -109,6 +114,7 @@ fn one_asset(alloc: Global) -> Result<Accounts, AccountFault>
     ensures { IfOk result (λ accounts. accounts ≡ record {
       accounts = record { money = pos 4724464025600000; units = pos 0 ∷ [] }
           ∷ record { money = pos 0; units = pos 10000 ∷ [] } ∷ [];
+      credits = no_credit 1 ∷ no_credit 1 ∷ [];
       total_money = pos 4724464025600000;
       total_units = pos 10000 ∷ [];
     }) }
@@ -127,6 +133,7 @@ fn two_assets(alloc: Global) -> Result<Accounts, AccountFault>
     ensures { IfOk result (λ accounts. accounts ≡ record {
       accounts = record { money = pos 2147483648000000; units = pos 0 ∷ pos 0 ∷ [] }
           ∷ record { money = pos 0; units = pos 10000 ∷ pos 10000 ∷ [] } ∷ [];
+      credits = no_credit 2 ∷ no_credit 2 ∷ [];
       total_money = pos 2147483648000000;
       total_units = pos 10000 ∷ pos 10000 ∷ [];
     }) }

@@ -14,8 +14,8 @@ use Rattle.flow_orders.specs.Welfare.{welfare}
 -- a buyer and a seller of one asset, each with limits of 90 and 110 ticks
 buyer_and_seller : List Order
 buyer_and_seller =
-    record { number = 1; account = 1; low = pos 386547056640; high = pos 472446402560; rate = 1000; cap = 10000; filled = 0; row = record { asset = 0; weight = pos 1 } ∷ [] }
-    ∷ record { number = 2; account = 2; low = neg_ℤ (pos 472446402560); high = neg_ℤ (pos 386547056640); rate = 1000; cap = 10000; filled = 0; row = record { asset = 0; weight = neg_ℤ (pos 1) } ∷ [] }
+    record { number = 1; account = 1; low = pos 386547056640; high = pos 472446402560; rate = 1000; cap = 10000; filled = 0; row = record { asset = 0; weight = pos 1 } ∷ []; last = 0 }
+    ∷ record { number = 2; account = 2; low = neg_ℤ (pos 472446402560); high = neg_ℤ (pos 386547056640); rate = 1000; cap = 10000; filled = 0; row = record { asset = 0; weight = neg_ℤ (pos 1) } ∷ []; last = 0 }
     ∷ []
 
 -- a number that twice the rate of both divides

@@ -1,6 +1,6 @@
 -- Settling trades one after the other settles them all, and every step stays within the limits of balances.
-use Rattle.std.proofs.Common.{◌≡◌, ℕ, suc, zero, ◌+◌, ◌*◌, ◌^◌, ◌≤◌, ◌<◌, ℤ, pos, ◌+ℤ◌, ◌-ℤ◌, ◌*ℤ◌, ◌≤ℤ◌, ◌<ℤ◌, List, [], ◌∷◌, ◌++◌, length, cond, eqb, ◌≢◌, ap, refl, sym, subst, ⊎_elim, ◌∙◌, arith}
-use Rattle.std.specs.Prelude.{All, slice_index_or, unsigned_abs}
+use Rattle.std.proofs.Common.{◌≡◌, ℕ, suc, zero, ◌+◌, ◌*◌, ◌^◌, ◌≤◌, ◌<◌, ℤ, pos, ◌+ℤ◌, ◌-ℤ◌, ◌*ℤ◌, ◌≤ℤ◌, List, [], ◌∷◌, ◌++◌, length, cond, eqb, ◌≢◌, ap, refl, sym, subst, ⊎_elim, ◌∙◌, arith}
+use Rattle.std.specs.Prelude.{All, slice_index_or, unsigned_abs, neg_ℤ}
 use Rattle.std.specs.List.{range_with_len, zip}
 use Rattle.std.proofs.lemmas.Int.{ints}
 use Rattle.std.proofs.lemmas.Bool.{cases_lt}
@@ -13,7 +13,8 @@ use Rattle.list_sums.proofs.Products.{*ℤ-add, unsigned_abs-mul_le}
 use Rattle.list_sums.proofs.SumLemmas.{int_sum_by-add, int_sum_by-same, int_sum_by-append, int_sum_by-zeros, unsigned_abs-int_sum_by}
 use Rattle.weight_rows.proofs.RowLemmas.{price_is_bounded}
 use Rattle.weight_rows.proofs.RowLawProofs.{weights_are_small}
-use Rattle.flow_accounts.specs.Balances.{Account, Balances, IsAccount, IsAsset, account_count, money_of, units_of, units_in}
+use Rattle.flow_accounts.specs.Balances.{Account, Balances, IsAccount, IsAsset, account_count, money_of, units_of, money_credit_of, unit_credit_of, units_in}
+use Rattle.flow_accounts.specs.Lawful.{most_credit, IsMoneyBalance, IsUnitBalance}
 use Rattle.flow_accounts.specs.Sums.{money_of_all, units_of_all}
 use Rattle.flow_orders.specs.Orders.{Order, own_sum, money_need, unit_need}
 use Rattle.flow_orders.specs.Trades.{Trade, trades, paid, received, trader, residual, residual_cost}
@@ -44,6 +45,7 @@ residual_cost-append prices ts us =
 pub settles_none : (prices : List ℤ) (b : Balances) (exchange : Account) → Settles prices [] b b exchange exchange
 settles_none prices b exchange = record {
   accounts = refl;
+  credits = refl;
   total_money = refl;
   total_units = refl;
   money = λ account there. omega (arith, ints);
@@ -57,7 +59,7 @@ own_of_one whose f account x = omega (arith, ints)
 
 -- one trade: its account pays and receives, no other account changes, and the exchange takes the other side
 pub settles_one : (prices : List ℤ) (t : Trade) (old new : Balances) (exchange_old exchange_new : Account) → IsLawfulRow t.order.row → IsPricedBy t.order.row prices
-    → account_count new ≡ account_count old → new.total_money ≡ old.total_money → new.total_units ≡ old.total_units
+    → account_count new ≡ account_count old → new.credits ≡ old.credits → new.total_money ≡ old.total_money → new.total_units ≡ old.total_units
     → money_of new (trader t) ≡ money_of old (trader t) -ℤ paid prices t
     → ((other : ℕ) → IsAccount old other → other ≢ trader t → money_of new other ≡ money_of old other)
     → ((asset : ℕ) → IsAsset old asset → units_of new (trader t) asset ≡ units_of old (trader t) asset +ℤ received asset t)
@@ -65,8 +67,9 @@ pub settles_one : (prices : List ℤ) (t : Trade) (old new : Balances) (exchange
     → exchange_new.money ≡ exchange_old.money +ℤ paid prices t
     → ((asset : ℕ) → IsAsset old asset → units_in exchange_new asset ≡ units_in exchange_old asset -ℤ received asset t)
     → Settles prices (t ∷ []) old new exchange_old exchange_new
-settles_one prices t old new exchange_old exchange_new lawful priced accounts total_money total_units money money_others units units_others exchange_money exchange_units = record {
+settles_one prices t old new exchange_old exchange_new lawful priced accounts credits total_money total_units money money_others units units_others exchange_money exchange_units = record {
   accounts = accounts;
+  credits = credits;
   total_money = total_money;
   total_units = total_units;
   money = λ account there.
@@ -100,6 +103,7 @@ pub settles_more : (prices : List ℤ) (ts us : List Trade) (old now new : Balan
     → Settles prices ts old now exchange_old exchange_now → Settles prices us now new exchange_now exchange_new → Settles prices (ts ++ us) old new exchange_old exchange_new
 settles_more prices ts us old now new exchange_old exchange_now exchange_new first second = record {
   accounts = second.accounts ∙ first.accounts;
+  credits = second.credits ∙ first.credits;
   total_money = second.total_money ∙ first.total_money;
   total_units = second.total_units ∙ first.total_units;
   money = λ account there.
@@ -132,49 +136,60 @@ module _ (prices : List ℤ) (ts : List Trade) (few : length ts ≤ 16384) (lawf
       let all = unsigned_abs-int_sum_by (received asset) (4096 * 2 ^ 24) ts each in
       omega (arith, all, few)
 
-module _ (g : ℕ → ℤ) where
-  not_negative-range : (a n : ℕ) → ((k : ℕ) → a ≤ k → k < a + n → pos 0 ≤ℤ g k) → pos 0 ≤ℤ int_sum_by g (range_with_len a n)
-  not_negative-range a zero each = omega (arith, ints)
-  not_negative-range a (suc n) each =
-      omega (arith, ints, each a (omega arith) (omega arith), not_negative-range (a + 1) n (λ k least most. each k (omega (arith, least)) (omega (arith, most))))
+-- terms that aren't below minus c
+module _ (g : ℕ → ℤ) (c : ℕ) where
+  pub range_least : (a n : ℕ) → ((k : ℕ) → a ≤ k → k < a + n → neg_ℤ (pos c) ≤ℤ g k) → neg_ℤ (pos (c * n)) ≤ℤ int_sum_by g (range_with_len a n)
+  range_least a zero each = omega (arith, ints)
+  range_least a (suc n) each =
+      omega (arith, ints, each a (omega arith) (omega arith), range_least (a + 1) n (λ k least most. each k (omega (arith, least)) (omega (arith, most))))
 
-  -- one of several terms that aren't negative is at most their sum
-  pub le-range_sum : (a n m : ℕ) → a ≤ m → m < a + n → ((k : ℕ) → a ≤ k → k < a + n → pos 0 ≤ℤ g k) → g m ≤ℤ int_sum_by g (range_with_len a n)
+  -- one of several such terms is at most their sum and c for each
+  pub le-range_sum : (a n m : ℕ) → a ≤ m → m < a + n → ((k : ℕ) → a ≤ k → k < a + n → neg_ℤ (pos c) ≤ℤ g k) → g m ≤ℤ (int_sum_by g (range_with_len a n) +ℤ pos (c * n))
   le-range_sum a zero m least most each = absurd (omega (arith, least, most))
   le-range_sum a (suc n) m least most each =
-      let rest : (k : ℕ) → a + 1 ≤ k → k < a + 1 + n → pos 0 ≤ℤ g k = λ k low high. each k (omega (arith, low)) (omega (arith, high)) in
+      let rest : (k : ℕ) → a + 1 ≤ k → k < a + 1 + n → neg_ℤ (pos c) ≤ℤ g k = λ k low high. each k (omega (arith, low)) (omega (arith, high)) in
       ⊎_elim
       (λ later. omega (arith, ints, each a (omega arith) (omega arith), le-range_sum (a + 1) n m (omega (arith, later)) (omega (arith, most)) rest))
-      (λ here. let same : m ≡ a = omega (arith, here, least) in subst (λ k. g k ≤ℤ int_sum_by g (range_with_len a (suc n))) (sym same) (omega (arith, ints, not_negative-range (a + 1) n rest)))
+      (λ here. let same : m ≡ a = omega (arith, here, least) in subst (λ k. g k ≤ℤ (int_sum_by g (range_with_len a (suc n)) +ℤ pos (c * suc n))) (sym same) (omega (arith, ints, range_least (a + 1) n rest)))
       (cases_lt a m)
 
-module _ (b : Balances) (orders : List Order) (covers : CoversNeeds b orders) where
-  money_not_negative : (k : ℕ) → IsAccount b k → pos 0 ≤ℤ money_of b k
-  money_not_negative k there = omega (arith, ints, own_not_negative money_need k orders, covers.money k there)
+-- no account owes more than the highest credits
+pub record OweLittle (b : Balances) : Type 0 where
+  pub few : account_count b ≤ 65536
+  pub money : (account : ℕ) → IsAccount b account → neg_ℤ (pos (2 ^ 72)) ≤ℤ money_of b account
+  pub units : (account asset : ℕ) → IsAccount b account → IsAsset b asset → neg_ℤ (pos (2 ^ 40)) ≤ℤ units_of b account asset
 
-  units_not_negative : (asset k : ℕ) → IsAsset b asset → IsAccount b k → pos 0 ≤ℤ units_of b k asset
-  units_not_negative asset k is_asset there = omega (arith, ints, own_not_negative (unit_need asset) k orders, covers.units k asset there is_asset)
+-- as where the needs of orders are covered, and no credit is above the highest
+pub owe_little : (b : Balances) (orders : List Order) → CoversNeeds b orders → account_count b ≤ 65536
+    → ((account : ℕ) → IsAccount b account → money_credit_of b account ≤ most_credit)
+    → ((account asset : ℕ) → IsAccount b account → IsAsset b asset → unit_credit_of b account asset ≤ most_credit) → OweLittle b
+owe_little b orders covers few money units = record {
+  few = few;
+  money = λ account there. omega (arith, ints, own_not_negative money_need account orders, covers.money account there, money account there);
+  units = λ account asset there is_asset. omega (arith, ints, own_not_negative (unit_need asset) account orders, covers.units account asset there is_asset, units account asset there is_asset);
+}
 
-  -- where accounts cover their needs, one has no more money than all together, which is the total less what the exchange has
-  pub money_is_bounded : (exchange total : ℤ) → money_of_all b +ℤ exchange ≡ total → (account : ℕ) → IsAccount b account → money_of b account ≤ℤ (total -ℤ exchange)
+module _ (b : Balances) (owe : OweLittle b) where
+  -- one account has no more money than all together and all that they owe, which is the total less what the exchange has and what they owe
+  pub money_is_bounded : (exchange total : ℤ) → money_of_all b +ℤ exchange ≡ total → (account : ℕ) → IsAccount b account → money_of b account ≤ℤ (total -ℤ exchange +ℤ pos (2 ^ 88))
   money_is_bounded exchange total sums account there =
-      let most = le-range_sum (λ k. money_of b k) 1 (account_count b) account there.0 (omega (arith, there.1)) (λ k low high. money_not_negative k (low, omega (arith, high))) in
-      omega (arith, ints, most, sums, money_by_account b)
+      let most = le-range_sum (λ k. money_of b k) (2 ^ 72) 1 (account_count b) account there.0 (omega (arith, there.1)) (λ k low high. owe.money k (low, omega (arith, high))) in
+      omega (arith, ints, most, sums, money_by_account b, owe.few)
 
   -- nor more units of an asset
-  pub units_are_bounded : (asset : ℕ) → IsAsset b asset → (exchange total : ℤ) → units_of_all b asset +ℤ exchange ≡ total → (account : ℕ) → IsAccount b account → units_of b account asset ≤ℤ (total -ℤ exchange)
+  pub units_are_bounded : (asset : ℕ) → IsAsset b asset → (exchange total : ℤ) → units_of_all b asset +ℤ exchange ≡ total → (account : ℕ) → IsAccount b account → units_of b account asset ≤ℤ (total -ℤ exchange +ℤ pos (2 ^ 56))
   units_are_bounded asset is_asset exchange total sums account there =
-      let most = le-range_sum (λ k. units_of b k asset) 1 (account_count b) account there.0 (omega (arith, there.1)) (λ k low high. units_not_negative asset k is_asset (low, omega (arith, high))) in
-      omega (arith, ints, most, sums, units_by_account b asset)
+      let most = le-range_sum (λ k. units_of b k asset) (2 ^ 40) 1 (account_count b) account there.0 (omega (arith, there.1)) (λ k low high. owe.units k asset (low, omega (arith, high)) is_asset) in
+      omega (arith, ints, most, sums, units_by_account b asset, owe.few)
 
   -- so balances fit while the exchange is within 2^123 grains and 2^55 units, and a part of a batch moved it
-  pub money_fits : (before now total : ℤ) → money_of_all b +ℤ now ≡ total → total ≤ℤ pos (2 ^ 100) → unsigned_abs before ≤ 2 ^ 123 → unsigned_abs (now -ℤ before) ≤ 2 ^ 116 → (account : ℕ) → IsAccount b account → (pos 0 ≤ℤ money_of b account) × (money_of b account <ℤ pos (2 ^ 124))
+  pub money_fits : (before now total : ℤ) → money_of_all b +ℤ now ≡ total → total ≤ℤ pos (2 ^ 100) → unsigned_abs before ≤ 2 ^ 123 → unsigned_abs (now -ℤ before) ≤ 2 ^ 116 → (account : ℕ) → IsAccount b account → IsMoneyBalance (money_of b account)
   money_fits before now total sums limited near moved account there =
-      (money_not_negative account there, omega (arith, ints, money_is_bounded now total sums account there, limited, near, moved))
+      (owe.money account there, omega (arith, ints, money_is_bounded now total sums account there, limited, near, moved))
 
-  pub units_fit : (asset : ℕ) → IsAsset b asset → (before now total : ℤ) → units_of_all b asset +ℤ now ≡ total → total ≤ℤ pos (2 ^ 60) → unsigned_abs before ≤ 2 ^ 55 → unsigned_abs (now -ℤ before) ≤ 2 ^ 50 → (account : ℕ) → IsAccount b account → (pos 0 ≤ℤ units_of b account asset) × (units_of b account asset <ℤ pos (2 ^ 62))
+  pub units_fit : (asset : ℕ) → IsAsset b asset → (before now total : ℤ) → units_of_all b asset +ℤ now ≡ total → total ≤ℤ pos (2 ^ 60) → unsigned_abs before ≤ 2 ^ 55 → unsigned_abs (now -ℤ before) ≤ 2 ^ 50 → (account : ℕ) → IsAccount b account → IsUnitBalance (units_of b account asset)
   units_fit asset is_asset before now total sums limited near moved account there =
-      (units_not_negative asset account is_asset there, omega (arith, ints, units_are_bounded asset is_asset now total sums account there, limited, near, moved))
+      (owe.units account asset there is_asset, omega (arith, ints, units_are_bounded asset is_asset now total sums account there, limited, near, moved))
 
 -- the residuals of orders with one rate each, in the words of the chosen rates
 pub residual-trades : (orders : List Order) (rates : List ℕ) (asset : ℕ) → residual (trades orders rates) asset ≡ int_sum_by (λ pair. weight_in pair.0.row asset *ℤ pos pair.1) (zip orders rates)

@@ -1,4 +1,4 @@
--- After a batch is settled each account still holds what its orders need.
+-- After a batch is settled each account still covers what its orders need.
 use Rattle.std.proofs.Common.{◌≡◌, ℕ, suc, zero, ◌+◌, ◌-◌, ◌*◌, ◌≤◌, ◌<◌, Bool, true, false, cond, eqb, ℤ, pos, negsuc, ◌+ℤ◌, ◌-ℤ◌, ◌*ℤ◌, ◌≤ℤ◌, ◌<ℤ◌, List, [], ◌∷◌, ◌++◌, map, length, ap, refl, ⊎_elim, arith}
 use Rattle.std.specs.Prelude.{All, slice_index_or}
 use Rattle.std.specs.List.{filter}
@@ -12,7 +12,7 @@ use Rattle.weight_rows.specs.Rows.{weight_in, portfolio_price}
 use Rattle.demand_curve.specs.Demand.{IsWithinLimits, IsRounding}
 use Rattle.demand_curve.specs.Numbers.{or_zero}
 use Rattle.demand_curve.proofs.RoundingLaws.{rounding_is_within_room, rounding_is_exact_at_cuts}
-use Rattle.flow_accounts.specs.Balances.{Account, Balances, IsAccount, IsAsset, money_of, units_of}
+use Rattle.flow_accounts.specs.Balances.{Account, Credit, Balances, IsAccount, IsAsset, no_credit, credit_in}
 use Rattle.flow_orders.specs.Orders.{Order, left_of, terms_of, money_need, sold, unit_need, own_sum}
 use Rattle.flow_orders.specs.Trades.{Trade, paid, received, trader, after_fill, is_live, staying}
 use Rattle.fill_caps.specs.Settles.{Settles}
@@ -85,7 +85,14 @@ own_of_map : (need : Order → ℤ) (g : Trade → Order) → ((t : Trade) → (
 own_of_map need g same account [] = refl
 own_of_map need g same account (t ∷ ts) = rw (same t) (omega (arith, ints, own_of_map need g same account ts))
 
--- after any first part of the trades is settled, accounts hold what those need after and the others before their fills
+-- the credits of an account among all credit lines
+abbrev money_credit_at : List Credit → ℕ → ℕ
+money_credit_at credits account = (slice_index_or credits (account - 1) (no_credit 0)).ticks
+
+abbrev unit_credit_at : List Credit → ℕ → ℕ → ℕ
+unit_credit_at credits account asset = credit_in (slice_index_or credits (account - 1) (no_credit 0)) asset
+
+-- after any first part of the trades is settled, accounts cover what those need after and the others before their fills
 pub needs_kept : (prices : List ℤ) (ts : List Trade) (others : List Order) (old new : Balances) (exchange_old exchange_new : Account) → Settles prices ts old new exchange_old exchange_new → All (IsAllowed prices) ts → CoversNeeds old (before_fills ts ++ others) → CoversNeeds new (after_fills ts ++ others)
 needs_kept prices ts others old new exchange_old exchange_new settles allowed covers = record {
   money = λ account there.
@@ -99,6 +106,7 @@ needs_kept prices ts others old new exchange_old exchange_new settles allowed co
         falls,
         before,
         settles.money account there_before,
+        ap (λ (l : List Credit). money_credit_at l account) settles.credits,
         own_sum-append (λ (o : Order). o.account) need account (before_fills ts) others,
         own_sum-append (λ (o : Order). o.account) need account (after_fills ts) others,
         own_of_map need (λ t. t.order) (λ t. refl) account ts,
@@ -116,6 +124,7 @@ needs_kept prices ts others old new exchange_old exchange_new settles allowed co
         falls,
         before,
         settles.units account asset there_before asset_before,
+        ap (λ (l : List Credit). unit_credit_at l account asset) settles.credits,
         own_sum-append (λ (o : Order). o.account) need account (before_fills ts) others,
         own_sum-append (λ (o : Order). o.account) need account (after_fills ts) others,
         own_of_map need (λ t. t.order) (λ t. refl) account ts,
@@ -140,7 +149,7 @@ needs_of_live b orders covers = record {
   units = λ account asset there is_asset. rw (int_sum_by-filter (λ o. cond (eqb (o.account) account) (pos (unit_need asset o)) (pos 0)) is_live orders (λ o full. full_needs_nothing account (sold (weight_in o.row asset)) o full)) (covers.units account asset there is_asset);
 }
 
--- after the batch, accounts hold what the orders that stay need
+-- after the batch, accounts cover what the orders that stay need
 pub needs_kept_by_batch : (prices : List ℤ) (ts : List Trade) (old new : Balances) (exchange_old exchange_new : Account) → Settles prices ts old new exchange_old exchange_new → All (IsAllowed prices) ts → CoversNeeds old (before_fills ts) → CoversNeeds new (staying ts)
 needs_kept_by_batch prices ts old new exchange_old exchange_new settles allowed covers =
     needs_of_live new (after_fills ts) (rw append-nil at (needs_kept prices ts [] old new exchange_old exchange_new settles allowed (rw append-nil covers)))
@@ -153,10 +162,3 @@ own_not_negative need account (o ∷ orders) =
     (λ own. rw own (omega (arith, ints, own_not_negative need account orders)))
     (λ other. rw other (omega (arith, ints, own_not_negative need account orders)))
     (cases_Bool (eqb (o.account) account))
-
--- an account that covers needs has no negative balance
-pub covered_is_not_negative : (b : Balances) (orders : List Order) → CoversNeeds b orders → (account asset : ℕ) → IsAccount b account → IsAsset b asset → (pos 0 ≤ℤ money_of b account) × (pos 0 ≤ℤ units_of b account asset)
-covered_is_not_negative b orders covers account asset there is_asset = (
-  omega (arith, ints, own_not_negative money_need account orders, covers.money account there),
-  omega (arith, ints, own_not_negative (unit_need asset) account orders, covers.units account asset there is_asset),
-)

@@ -1,5 +1,5 @@
 -- One order is settled: what its calls want, and what it comes to.
-use Rattle.std.proofs.Common.{◌≡◌, ℕ, ◌+◌, ◌^◌, ◌≤◌, ℤ, pos, ◌+ℤ◌, ◌-ℤ◌, ◌*ℤ◌, ◌≤ℤ◌, List, [], ◌∷◌, ap, subst, ◌∙◌, FitsSigned, to_z, of_z, to_z-of_z, arith}
+use Rattle.std.proofs.Common.{◌≡◌, ℕ, ◌+◌, ◌^◌, ◌≤◌, ℤ, pos, ◌+ℤ◌, ◌-ℤ◌, ◌*ℤ◌, ◌≤ℤ◌, ◌<ℤ◌, List, [], ◌∷◌, ap, subst, ◌∙◌, FitsSigned, to_z, of_z, to_z-of_z, arith}
 use Rattle.std.specs.Prelude.{All, unsigned_abs}
 use Rattle.std.specs.Int.{w128}
 use Rattle.std.proofs.lemmas.Int.{ints}
@@ -10,14 +10,14 @@ use Rattle.weight_rows.proofs.RowLemmas.{price_is_bounded}
 use Rattle.weight_rows.proofs.RowLawProofs.{weights_are_small}
 use Rattle.demand_curve.specs.Demand.{IsRounding}
 use Rattle.demand_curve.proofs.RoundingLaws.{rounding_is_within_room}
-use Rattle.flow_accounts.specs.Balances.{Account, Balances, IsAccount, IsAsset, units_of, move_money}
-use Rattle.flow_accounts.specs.Lawful.{IsMoneyBalance, IsUnitBalance}
+use Rattle.flow_accounts.specs.Balances.{Account, Balances, IsAccount, IsAsset, grains, units_of, unit_credit_of, units_with_credit, move_money}
 use Rattle.flow_accounts.proofs.Moves.{money_moves}
 use Rattle.flow_orders.specs.Orders.{Order, IsOrder, terms_of, money_need, unit_need}
 use Rattle.flow_orders.specs.Excess.{price_for}
 use Rattle.flow_orders.specs.Trades.{Trade, paid, received, trader}
 use Rattle.flow_orders.proofs.TradeFacts.{IsAllowed}
 use Rattle.fill_caps.specs.Moves.{MovesRow}
+use Rattle.fill_caps.specs.Room.{MayChangeUnits}
 use Rattle.fill_caps.specs.Settles.{Settles}
 use Rattle.fill_caps.proofs.Amounts.{turned, turned_is, taken_away}
 use Rattle.fill_caps.proofs.Joined.{settles_one}
@@ -36,9 +36,10 @@ module _ (prices : List ℤ) (o : Order) (x : ℕ) (is : IsOrder o) (rounding : 
       let room = rounding_is_within_room (terms_of o) is.terms (price_for prices o) x rounding in
       omega (arith, room, is.terms.room_most, is.terms.rate_most)
 
-  -- an account that holds what the order needs can pay
-  pub money_stays : All IsPrice prices → (held cost : ℤ) → pos (money_need o) ≤ℤ held → held ≤ℤ pos (2 ^ 123 + 2 ^ 117) → FitsSigned w128 cost → cost ≡ paid prices trade → IsMoneyBalance (held +ℤ turned w128 cost)
-  money_stays range held cost covered most fits cost_is =
+  -- an account that covers what the order needs can pay
+  pub money_stays : All IsPrice prices → (held : ℤ) (credit : ℕ) (cost : ℤ) → pos (money_need o) ≤ℤ (held +ℤ grains credit) → held ≤ℤ pos (2 ^ 123 + 2 ^ 117) → FitsSigned w128 cost → cost ≡ paid prices trade
+      → (pos 0 ≤ℤ (held +ℤ grains credit +ℤ turned w128 cost)) × ((held +ℤ turned w128 cost) <ℤ pos (2 ^ 124))
+  money_stays range held credit cost covered most fits cost_is =
       let falls = money_need_falls prices trade is_allowed in
       let small = unsigned_abs-mul_le (pos x) (price_for prices o) (2 ^ 24) (2 ^ 78) rate_is_small (price_is_bounded o.row prices is.row range) in
       let less = taken_away w128 held cost (paid prices trade) fits (omega (arith, ints, small, cost_is)) cost_is in (
@@ -47,8 +48,9 @@ module _ (prices : List ℤ) (o : Order) (x : ℕ) (is : IsOrder o) (rounding : 
       )
 
   -- and can give
-  pub units_stay : (asset : ℕ) (held : ℤ) → pos (unit_need asset o) ≤ℤ held → held ≤ℤ pos (2 ^ 61) → IsUnitBalance (held +ℤ received asset trade)
-  units_stay asset held covered most =
+  pub units_stay : (asset : ℕ) (held : ℤ) (credit : ℕ) → pos (unit_need asset o) ≤ℤ (held +ℤ pos credit) → held ≤ℤ pos (2 ^ 61)
+      → (pos 0 ≤ℤ (held +ℤ pos credit +ℤ received asset trade)) × ((held +ℤ received asset trade) <ℤ pos (2 ^ 62))
+  units_stay asset held credit covered most =
       let falls = unit_need_falls prices asset trade is_allowed in
       let small = unsigned_abs-mul_le (weight_in o.row asset) (pos x) 4096 (2 ^ 24) (weights_are_small o.row asset is.row) rate_is_small in (
         omega (arith, ints, falls, covered),
@@ -62,13 +64,15 @@ module _ (prices : List ℤ) (o : Order) (x : ℕ) (is : IsOrder o) (rounding : 
 
   -- after the account paid it still can give
   pub units_stay_after : (old mid : Balances) (amount : ℤ) (row : List Entry) (account : ℕ) → row ≡ o.row → account ≡ o.account → IsAccount old o.account → mid ≡ move_money old account amount
-      → ((asset : ℕ) → IsAsset old asset → pos (unit_need asset o) ≤ℤ units_of old o.account asset) → ((asset : ℕ) → IsAsset old asset → units_of old o.account asset ≤ℤ pos (2 ^ 61))
-      → (asset : ℕ) → IsAsset mid asset → IsUnitBalance (units_of mid account asset +ℤ weight_in row asset *ℤ pos x)
+      → ((asset : ℕ) → IsAsset old asset → pos (unit_need asset o) ≤ℤ units_with_credit old o.account asset) → ((asset : ℕ) → IsAsset old asset → units_of old o.account asset ≤ℤ pos (2 ^ 61))
+      → (asset : ℕ) → IsAsset mid asset → MayChangeUnits mid account asset (weight_in row asset *ℤ pos x)
   units_stay_after old mid amount row account row_is account_is there mid_is covered most asset is_asset =
       let paid : mid ≡ move_money old o.account amount = mid_is ∙ ap (λ k. move_money old k amount) account_is in
       let asset_before : IsAsset old asset = subst (λ (b : Balances). IsAsset b asset) paid is_asset in
       let kept : units_of mid o.account asset ≡ units_of old o.account asset = ap (λ (b : Balances). units_of b o.account asset) paid ∙ (money_moves old o.account amount there).units o.account asset in
-      rw (account_is, row_is, kept) (units_stay asset (units_of old o.account asset) (covered asset asset_before) (most asset asset_before))
+      let credit_kept : unit_credit_of mid o.account asset ≡ unit_credit_of old o.account asset = ap (λ (b : Balances). unit_credit_of b o.account asset) paid in
+      let stays = units_stay asset (units_of old o.account asset) (unit_credit_of old o.account asset) (covered asset asset_before) (most asset asset_before) in
+      rw (account_is, row_is) (omega (arith, ints, stays.0, kept, credit_kept), omega (arith, ints, stays.1, kept))
 
 module _ (prices : List ℤ) (t : Trade) (old new : Balances) (amount : ℤ) (exchange_old exchange_new : Account) (lawful : IsLawfulRow t.order.row) (priced : IsPricedBy t.order.row prices)
     (there : IsAccount old (trader t)) (amount_is : amount ≡ pos 0 -ℤ paid prices t) (moves : MovesRow prices (trader t) t.traded t.order.row (move_money old (trader t) amount) new exchange_old exchange_new) where
@@ -76,7 +80,7 @@ module _ (prices : List ℤ) (t : Trade) (old new : Balances) (amount : ℤ) (ex
   pays_and_moves : Settles prices (t ∷ []) old new exchange_old exchange_new
   pays_and_moves =
       let pays = money_moves old (trader t) amount there in
-      settles_one prices t old new exchange_old exchange_new lawful priced (moves.accounts ∙ pays.accounts) moves.total_money moves.total_units
+      settles_one prices t old new exchange_old exchange_new lawful priced (moves.accounts ∙ pays.accounts) moves.credits moves.total_money moves.total_units
       (omega (arith, ints, moves.money (trader t), pays.money, amount_is))
       (λ other other_there differs. moves.money other ∙ pays.others other other_there differs)
       (λ asset is_asset. omega (arith, ints, moves.units asset, pays.units (trader t) asset))

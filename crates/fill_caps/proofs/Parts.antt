@@ -8,10 +8,10 @@ use Rattle.std.proofs.lemmas.List.Elements.{All-take, All-append, All-cons, All-
 use Rattle.weight_rows.specs.Rows.{IsLawfulRow, IsPricedBy, IsPrice}
 use Rattle.demand_curve.specs.Demand.{IsRounding}
 use Rattle.demand_curve.proofs.RoundingLaws.{rounding_is_within_room}
-use Rattle.flow_accounts.specs.Balances.{Account, Balances, IsAccount, IsAsset, asset_count, money_of, units_of, units_in, total_units_of}
+use Rattle.flow_accounts.specs.Balances.{Account, Balances, IsAccount, IsAsset, asset_count, money_of, units_of, money_with_credit, units_with_credit, units_in, total_units_of}
 use Rattle.flow_accounts.specs.Lawful.{AreLawful}
 use Rattle.flow_accounts.specs.Sums.{money_of_all, units_of_all}
-use Rattle.flow_accounts.proofs.Balance.{unit_total}
+use Rattle.flow_accounts.proofs.Balance.{unit_total, money_balance, unit_balance}
 use Rattle.flow_orders.specs.Orders.{Order, IsOrder, terms_of, money_need, unit_need, own_sum}
 use Rattle.flow_orders.specs.Excess.{price_for}
 use Rattle.flow_orders.specs.Trades.{Trade, trades, trader, staying}
@@ -21,7 +21,7 @@ use Rattle.fill_caps.specs.Covers.{CoversNeeds}
 use Rattle.fill_caps.specs.Settlement.{settled_balances, settled_exchange}
 use Rattle.fill_caps.specs.Room.{HasRoom}
 use Rattle.fill_caps.specs.Settles.{Settles}
-use Rattle.fill_caps.proofs.Joined.{settles_none, settles_more, cost_is_paid, part_money_is_small, part_units_are_small, money_is_bounded, units_are_bounded}
+use Rattle.fill_caps.proofs.Joined.{OweLittle, settles_none, settles_more, cost_is_paid, part_money_is_small, part_units_are_small, money_is_bounded, units_are_bounded}
 use Rattle.fill_caps.proofs.Needs.{rounding_is_allowed, needs_kept, needs_kept_by_batch, own_not_negative}
 use Rattle.fill_caps.proofs.Settled.{settled_balances_are_one, settled_exchange_is_one}
 use Rattle.fill_caps.proofs.SettledBalances.{settles, settled_units_count, exchange_units_count}
@@ -178,23 +178,30 @@ module _ (prices : List ℤ) (orders : List Order) (rates : List ℕ) (old : Bal
       asset_old : (asset : ℕ) → IsAsset now asset → IsAsset old asset
       asset_old asset is_asset = omega (arith, is_asset, ap length before.settled.total_units)
 
-      money_covered : pos (money_need o) ≤ℤ money_of now o.account
+      money_covered : pos (money_need o) ≤ℤ money_with_credit now o.account
       money_covered = omega (arith, ints, one_of_needs money_need (after_fills part) (before_fills (drop (i + 1) ts)) o, covers_next.money o.account account_there)
 
-      units_covered : (asset : ℕ) → IsAsset now asset → pos (unit_need asset o) ≤ℤ units_of now o.account asset
+      units_covered : (asset : ℕ) → IsAsset now asset → pos (unit_need asset o) ≤ℤ units_with_credit now o.account asset
       units_covered asset is_asset = omega (arith, ints, one_of_needs (unit_need asset) (after_fills part) (before_fills (drop (i + 1) ts)) o, covers_next.units o.account asset account_there is_asset)
+
+      owe : OweLittle now
+      owe = record {
+        few = before.lawful.few_accounts;
+        money = λ account there_now. (money_balance now account before.lawful there_now).0;
+        units = λ account asset there_now is_asset. (unit_balance now account asset before.lawful there_now is_asset).0;
+      }
 
       money_most : money_of now o.account ≤ℤ pos (2 ^ 123 + 2 ^ 117)
       money_most =
           let sums : money_of_all now +ℤ exchange_now.money ≡ now.total_money = omega (arith, ints, money_held, ready.total_money, before.settled.total_money) in
-          omega (arith, ints, money_is_bounded now (after_fills part ++ o ∷ before_fills (drop (i + 1) ts)) covers_next exchange_now.money now.total_money sums o.account account_there, exchange_money_near, before.lawful.total_money.1)
+          omega (arith, ints, money_is_bounded now owe exchange_now.money now.total_money sums o.account account_there, exchange_money_near, before.lawful.total_money.1)
 
       units_most : (asset : ℕ) → IsAsset now asset → units_of now o.account asset ≤ℤ pos (2 ^ 61)
       units_most asset is_asset =
           let was = asset_old asset is_asset in
           let same : total_units_of now asset ≡ total_units_of old asset = ap (λ l. slice_index_or l asset (pos 0)) before.settled.total_units in
           let sums : units_of_all now asset +ℤ units_in exchange_now asset ≡ total_units_of now asset = omega (arith, ints, units_held asset was, ready.total_units asset was, same) in
-          omega (arith, ints, units_are_bounded now (after_fills part ++ o ∷ before_fills (drop (i + 1) ts)) covers_next asset is_asset (units_in exchange_now asset) (total_units_of now asset) sums o.account account_there, exchange_units_near asset was, (unit_total now asset before.lawful is_asset).1)
+          omega (arith, ints, units_are_bounded now owe asset is_asset (units_in exchange_now asset) (total_units_of now asset) sums o.account account_there, exchange_units_near asset was, (unit_total now asset before.lawful is_asset).1)
 
       -- so there is room for it
       pub has_room : HasRoom o now exchange_now

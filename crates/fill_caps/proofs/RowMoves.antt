@@ -1,5 +1,5 @@
 -- The entries of a row are settled one after the other.
-use Rattle.std.proofs.Common.{◌≡◌, ◌≢◌, ℕ, suc, ◌+◌, ◌*◌, ◌^◌, ◌≤◌, ◌<◌, ℤ, pos, ◌+ℤ◌, ◌-ℤ◌, ◌*ℤ◌, List, [], ◌∷◌, drop, length, get_or, set, refl, ap, sym, subst, ◌∙◌, ⊎_elim, FitsSigned, ne_eqb, arith}
+use Rattle.std.proofs.Common.{◌≡◌, ◌≢◌, ℕ, suc, ◌+◌, ◌-◌, ◌*◌, ◌^◌, ◌≤◌, ◌<◌, ℤ, pos, ◌+ℤ◌, ◌-ℤ◌, ◌*ℤ◌, List, [], ◌∷◌, drop, length, get_or, set, refl, ap, sym, subst, ◌∙◌, ⊎_elim, FitsSigned, ne_eqb, arith}
 use Rattle.std.specs.Prelude.{All, unsigned_abs}
 use Rattle.std.specs.Int.{w64, w128}
 use Rattle.std.proofs.Math.IntN.{*ℤ_comm, *ℤ-zero, zero-*ℤ}
@@ -14,10 +14,11 @@ use Rattle.weight_rows.specs.declared.entries.Entry.{Entry}
 use Rattle.weight_rows.specs.Rows.{assets_of, IsLawfulRow, IsLawfulWeight, IsPrice, weight_in, price_of, portfolio_price}
 use Rattle.weight_rows.proofs.RowLemmas.{weight_in-here, weight_in-later, weight_in-none, asset_at, length-assets_of, price_is_bounded}
 use Rattle.weight_rows.proofs.RowLawProofs.{weights_are_small}
-use Rattle.flow_accounts.specs.Balances.{Account, Balances, IsAccount, IsAsset, account_count, asset_count, money_of, units_of, units_in, move_units}
-use Rattle.flow_accounts.specs.Lawful.{AreLawful, IsUnitBalance}
+use Rattle.flow_accounts.specs.Balances.{Account, Credit, Balances, IsAccount, IsAsset, account_count, asset_count, money_of, units_of, units_in, no_credit, credit_in, unit_credit_of, move_units}
+use Rattle.flow_accounts.specs.Lawful.{AreLawful}
 use Rattle.flow_accounts.proofs.Moves.{units_move}
 use Rattle.fill_caps.specs.Moves.{MovesRow}
+use Rattle.fill_caps.specs.Room.{MayChangeUnits}
 
 -- ---- what is left of a row
 -- no later entry names the asset of an earlier one
@@ -74,6 +75,7 @@ module _ (row : List Entry) (i : ℕ) (d : Entry) (lawful : IsLawfulRow row) (in
 pub record IsMovedTo (prices : List ℤ) (account rate : ℕ) (row : List Entry) (old now : Balances) (exchange_old exchange_now : Account) (i : ℕ) : Type 0 where
   pub lawful : AreLawful now
   pub accounts : account_count now ≡ account_count old
+  pub credits : now.credits ≡ old.credits
   pub total_money : now.total_money ≡ old.total_money
   pub total_units : now.total_units ≡ old.total_units
   pub money : (any : ℕ) → money_of now any ≡ money_of old any
@@ -87,6 +89,7 @@ pub IsMovedTo-none : (prices : List ℤ) (account rate : ℕ) (row : List Entry)
 IsMovedTo-none prices account rate row old exchange lawful = record {
   lawful = lawful;
   accounts = refl;
+  credits = refl;
   total_money = refl;
   total_units = refl;
   money = λ any. refl;
@@ -105,6 +108,7 @@ IsMovedTo-all prices account rate row old new exchange_old exchange_new i all mo
     record {
       lawful = moved.lawful;
       accounts = moved.accounts;
+      credits = moved.credits;
       total_money = moved.total_money;
       total_units = moved.total_units;
       money = moved.money;
@@ -145,8 +149,10 @@ module _ (prices : List ℤ) (account rate : ℕ) (row : List Entry) (old now : 
   exchange_money_then = omega (arith, ints, cost_splits, before.exchange_money)
 
   -- what the entry's calls want
-  pub units_stay : IsUnitBalance (units_of old account turn.asset +ℤ weight_in row turn.asset *ℤ pos rate) → IsUnitBalance (units_of now account turn.asset +ℤ amount)
-  units_stay balance = subst IsUnitBalance (sym units_then) balance
+  pub units_stay : MayChangeUnits old account turn.asset (weight_in row turn.asset *ℤ pos rate) → MayChangeUnits now account turn.asset amount
+  units_stay may =
+      let credit : unit_credit_of now account turn.asset ≡ unit_credit_of old account turn.asset = ap (λ (l : List Credit). credit_in (get_or l (account - 1) (no_credit 0)) turn.asset) before.credits in
+      (omega (arith, ints, may.0, credit, units_then), omega (arith, ints, may.1, units_then))
 
   pub exchange_units_fit : rate ≤ 2 ^ 24 → unsigned_abs (units_in exchange_old turn.asset) ≤ 2 ^ 56 → FitsSigned w64 (units_in exchange_now turn.asset -ℤ amount)
   exchange_units_fit slow near =
@@ -176,6 +182,7 @@ module _ (prices : List ℤ) (account rate : ℕ) (row : List Entry) (old now : 
       rw (moved, exchange_moved) record {
         lawful = subst AreLawful moved lawful_new;
         accounts = changes.accounts ∙ before.accounts;
+        credits = before.credits;
         total_money = before.total_money;
         total_units = before.total_units;
         money = λ any. changes.money any ∙ before.money any;

@@ -30,6 +30,7 @@ module _ (prices : List ℤ) (ts : List Trade) (b : Balances) (exchange : Accoun
   pub settles : Settles prices ts b (settled_balances prices ts b) exchange (settled_exchange prices ts b exchange)
   settles = record {
     accounts = length-map (range_with_len 1 (account_count b)) (settled_account prices ts b) ∙ length-range_with_len 1 (account_count b);
+    credits = refl;
     total_money = refl;
     total_units = refl;
     money = λ account there. ap (λ (a : Account). a.money) (settled_at account there) ∙ money_at account;

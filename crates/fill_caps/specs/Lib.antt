@@ -3,3 +3,4 @@ pub mod Moves
 pub mod Room
 pub mod Settlement
 pub mod Settles
+pub mod Laws

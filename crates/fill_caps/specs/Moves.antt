@@ -9,6 +9,7 @@ use Rattle.flow_accounts.specs.Lawful.{AreLawful}
 pub record MovesRow (prices : List ℤ) (account rate : ℕ) (row : List Entry) (old new : Balances) (exchange_old exchange_new : Account) : Type 0 where
   pub lawful : AreLawful new
   pub accounts : account_count new ≡ account_count old
+  pub credits : new.credits ≡ old.credits
   pub total_money : new.total_money ≡ old.total_money
   pub total_units : new.total_units ≡ old.total_units
   pub money : (any : ℕ) → money_of new any ≡ money_of old any

@@ -12,7 +12,7 @@ settled_account prices ts b account = record (account_of b account) {
   units = map (λ asset. units_of b account asset +ℤ own_sum trader account (received asset) ts) (range_with_len 0 (asset_count b));
 }
 
--- all balances after the batch; no total changes
+-- all balances after the batch; no credit and no total changes
 abbrev pub settled_balances : List ℤ → List Trade → Balances → Balances
 settled_balances prices ts b = record b { accounts = map (settled_account prices ts b) (range_with_len 1 (account_count b)) }
 

@@ -4,9 +4,10 @@ use Rattle.flow_accounts.specs.Balances.{Account, Balances, IsAccount, IsAsset, 
 use Rattle.flow_orders.specs.Orders.{own_sum}
 use Rattle.flow_orders.specs.Trades.{Trade, trader, paid, received, residual, residual_cost}
 
--- each account pays for its own trades and receives their units; the exchange takes the other side of the residuals; no total changes
+-- each account pays for its own trades and receives their units; the exchange takes the other side of the residuals; no credit and no total changes
 pub record Settles (prices : List ℤ) (ts : List Trade) (old new : Balances) (exchange_old exchange_new : Account) : Type 0 where
   pub accounts : account_count new ≡ account_count old
+  pub credits : new.credits ≡ old.credits
   pub total_money : new.total_money ≡ old.total_money
   pub total_units : new.total_units ≡ old.total_units
   pub money : (account : ℕ) → IsAccount old account → money_of new account ≡ money_of old account -ℤ own_sum trader account (paid prices) ts

@@ -3,9 +3,10 @@ ghost use Rattle.std.specs.Prelude.{◌≡◌, ℕ, ◌<◌, ◌≤◌, ◌^◌,
 ghost use Rattle.std.specs.Int.{w64, w128};
 ghost use Rattle.weight_rows.specs.Rows.{IsLawfulRow, IsLawfulWeight, IsPrice, price_of, weight_in};
 ghost use Rattle.demand_curve.specs.Demand.{most_rate};
-ghost use Rattle.flow_accounts.specs.Balances.{IsAccount, IsAsset, asset_count, move_units, units_in, units_of};
-ghost use Rattle.flow_accounts.specs.Lawful.{AreLawful, IsUnitBalance};
+ghost use Rattle.flow_accounts.specs.Balances.{IsAccount, IsAsset, asset_count, move_units, units_in};
+ghost use Rattle.flow_accounts.specs.Lawful.{AreLawful};
 ghost use Rattle.fill_caps.specs.Moves.{MovesRow};
+ghost use Rattle.fill_caps.specs.Room.{MayChangeUnits};
 
 use flow_accounts::Accounts;
 use residual_account::ResidualAccount;
@@ -29,7 +30,7 @@ pub(crate) fn settle_entries(
     requires exchange_each { length exchange.old.units ≡ asset_count accounts.old }
     requires rate { rate ≤ most_rate }
     requires units { (asset : ℕ) → IsAsset accounts.old asset →
-        IsUnitBalance (units_of accounts.old account asset +ℤ weight_in entries.now asset *ℤ pos rate) }
+        MayChangeUnits accounts.old account asset (weight_in entries.now asset *ℤ pos rate) }
     requires exchange_money { unsigned_abs exchange.old.money ≤ 2 ^ 124 }
     requires exchange_units { (asset : ℕ) → IsAsset accounts.old asset →
         unsigned_abs (units_in exchange.old asset) ≤ 2 ^ 56 }
@@ -54,7 +55,7 @@ fn settle_entry(
     requires weight { IsLawfulWeight entry.weight }
     requires price { IsPrice (price_of prices.now entry.asset) }
     requires rate { rate ≤ most_rate }
-    requires units { IsUnitBalance (units_of accounts.old account entry.asset +ℤ entry.weight *ℤ pos rate) }
+    requires units { MayChangeUnits accounts.old account entry.asset (entry.weight *ℤ pos rate) }
     requires exchange_asset { entry.asset < length exchange.old.units }
     requires exchange_money { FitsSigned w128
         (exchange.old.money +ℤ entry.weight *ℤ pos rate *ℤ price_of prices.now entry.asset) }

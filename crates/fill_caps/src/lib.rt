@@ -8,8 +8,8 @@
 //!
 //! Money and prices are in grains, and 2^32 grains are a tick. Assets and rates are in whole units.
 //!
-//! An account that covers what its orders need to their caps still covers what those need that stay. No balance is
-//! below 0 at any time: an order costs at most what was reserved for it.
+//! An account whose balances and credits cover what its orders need to their caps still covers what those need that
+//! stay. No account owes more than its credit at any time: an order costs at most what was reserved for it.
 //!
 //! # Costs
 //!
@@ -17,6 +17,7 @@
 #![tactic(auto)]
 
 mod entries;
+pub mod laws;
 mod settlement;
 
 pub use settlement::settle;

@@ -22,9 +22,9 @@ use residual_account::ResidualAccount;
 /// is left over or lacking of each asset.
 ///
 /// There is one price for each asset, in grains and within 2^62 of 0, and one rate for each order, in units, less than
-/// 1 apart from the order's demand at the prices. All orders' accounts and assets are there, and the accounts cover what
-/// the orders need. Accounts and exchange together hold the totals. The exchange's account isn't far from 0: within
-/// 2^123 - 2^99 grains, and 2^55 - 2^31 units of each asset.
+/// 1 apart from the order's demand at the prices. All orders' accounts and assets are there, and what each account holds,
+/// with its credit, covers what its orders need. Accounts and exchange together hold the totals. The exchange's account
+/// isn't far from 0: within 2^123 - 2^99 grains, and 2^55 - 2^31 units of each asset.
 ///
 /// The orders themselves stay as they are. It costs one pass over the entries of all orders.
 pub fn settle(

@@ -1,31 +1,50 @@
 -- Sums bound balances, and so changes that are accepted fit.
-use Rattle.std.proofs.Common.{ℕ, ◌-◌, ◌<◌, pos, ◌≤ℤ◌, sym, subst, arith}
+use Rattle.std.proofs.Common.{ℕ, zero, suc, ◌-◌, ◌*◌, ◌^◌, ◌<◌, ℤ, pos, ◌+ℤ◌, ◌≤ℤ◌, List, [], ◌∷◌, length, get_or, sym, subst, arith}
+use Rattle.std.specs.Prelude.{neg_ℤ}
+use Rattle.std.specs.List.{AllByRecursion}
+use Rattle.list_sums.specs.Sums.{int_sum_by}
 use Rattle.std.proofs.lemmas.Int.{ints}
 use Rattle.std.proofs.lemmas.List.Elements.{recursion_from_All}
 use Rattle.flow_accounts.specs.Balances.{Account, asset_count, empty_account, units_in}
-use Rattle.flow_accounts.specs.Lawful.{IsLawfulAccount}
-use Rattle.flow_accounts.specs.Laws.{NoBalanceIsNegative, SumsBoundBalances, ChangesFitNearSums, ChangesFitAtSums}
+use Rattle.flow_accounts.specs.Lawful.{IsLawfulAccount, most_credit}
+use Rattle.flow_accounts.specs.Laws.{NoBalanceIsBelowItsCredit, SumsBoundBalances, ChangesFitNearSums, ChangesFitAtSums}
 use Rattle.flow_accounts.proofs.Balance.{money_balance, unit_balance, unit_total}
-use Rattle.list_sums.proofs.SumLemmas.{le-int_sum_by}
 
--- a lawful account has no negative number of units
-units_positive : (assets asset : ℕ) (a : Account) → IsLawfulAccount assets a → asset < assets → pos 0 ≤ℤ units_in a asset
-units_positive assets asset a lawful is_asset = (lawful.units asset (pos 0) (subst (λ n. asset < n) (sym lawful.one_each) is_asset)).0
+-- terms that aren't below minus c
+module _ {X : Type 0} (f : X → ℤ) (c : ℕ) where
+  -- their sum isn't below minus c for each
+  sum_least : (xs : List X) → AllByRecursion (λ x. neg_ℤ (pos c) ≤ℤ f x) xs → neg_ℤ (pos (c * length xs)) ≤ℤ int_sum_by f xs
+  sum_least [] all = omega (arith, ints)
+  sum_least (x ∷ xs) all = omega (arith, ints, all.0, sum_least xs all.1)
 
-pub no_balance_is_negative : NoBalanceIsNegative
-no_balance_is_negative = record {
-  money = λ b account lawful there. (money_balance b account lawful there).0;
-  units = λ b account asset lawful there is_asset. (unit_balance b account asset lawful there is_asset).0;
+  -- one of them is at most their sum and c for each
+  pub at_most_sum : (xs : List X) (i : ℕ) (d : X) → AllByRecursion (λ x. neg_ℤ (pos c) ≤ℤ f x) xs → i < length xs → f (get_or xs i d) ≤ℤ (int_sum_by f xs +ℤ pos (c * length xs))
+  at_most_sum [] i d all within = absurd (omega arith)
+  at_most_sum (x ∷ xs) zero d all within = omega (arith, ints, sum_least xs all.1)
+  at_most_sum (x ∷ xs) (suc i) d all within = omega (arith, ints, all.0, at_most_sum xs i d all.1 (omega arith))
+
+-- a lawful account owes no more units of an asset than the highest credit
+units_least : (assets asset : ℕ) (a : Account) → IsLawfulAccount assets a → asset < assets → neg_ℤ (pos most_credit) ≤ℤ units_in a asset
+units_least assets asset a lawful is_asset = (lawful.units asset (pos 0) (subst (λ n. asset < n) (sym lawful.one_each) is_asset)).0
+
+pub no_balance_is_below_its_credit : NoBalanceIsBelowItsCredit
+no_balance_is_below_its_credit = record {
+  money = λ b account lawful there. let within = lawful.within_credit.money account there in omega (arith, ints, within);
+  units = λ b account asset lawful there is_asset. let within = lawful.within_credit.units account asset there is_asset in omega (arith, ints, within);
+  no_money_credit = λ b account lawful there none. let within = lawful.within_credit.money account there in omega (arith, ints, within, none);
+  no_unit_credit = λ b account asset lawful there is_asset none. let within = lawful.within_credit.units account asset there is_asset in omega (arith, ints, within, none);
 }
 
 pub sums_bound_balances : SumsBoundBalances
 sums_bound_balances = record {
   money = λ b account lawful there.
-      le-int_sum_by (λ (a : Account). a.money) b.accounts (account - 1) (empty_account 0)
-      (recursion_from_All (λ (a : Account). pos 0 ≤ℤ a.money) b.accounts (λ k d within. (lawful.accounts k d within).money.0)) (omega arith);
+      let most = at_most_sum (λ (a : Account). a.money) (2 ^ 72) b.accounts (account - 1) (empty_account 0)
+      (recursion_from_All (λ (a : Account). neg_ℤ (pos (2 ^ 72)) ≤ℤ a.money) b.accounts (λ k d within. let least = (lawful.accounts k d within).money.0 in omega (arith, ints, least))) (omega arith) in
+      omega (arith, ints, most, lawful.few_accounts);
   units = λ b account asset lawful there is_asset.
-      le-int_sum_by (λ (a : Account). units_in a asset) b.accounts (account - 1) (empty_account 0)
-      (recursion_from_All (λ (a : Account). pos 0 ≤ℤ units_in a asset) b.accounts (λ k d within. units_positive (asset_count b) asset _ (lawful.accounts k d within) is_asset)) (omega arith);
+      let most = at_most_sum (λ (a : Account). units_in a asset) (2 ^ 40) b.accounts (account - 1) (empty_account 0)
+      (recursion_from_All (λ (a : Account). neg_ℤ (pos (2 ^ 40)) ≤ℤ units_in a asset) b.accounts (λ k d within. units_least (asset_count b) asset _ (lawful.accounts k d within) is_asset)) (omega arith) in
+      omega (arith, ints, most, lawful.few_accounts);
 }
 
 pub changes_fit_near_sums : ChangesFitNearSums

@@ -1,14 +1,18 @@
 -- What the fields of an `Accounts` stand for while one account is written.
-use Rattle.std.proofs.Common.{◌≡◌, ◌≢◌, ℕ, ◌-◌, ◌<◌, ℤ, pos, ◌+ℤ◌, length, take, get_or, set, refl, ap, sym, subst, ◌∙◌, arith}
-use Rattle.std.proofs.Math.Seq.{take-set-lt}
+use Rattle.std.proofs.Common.{◌≡◌, ◌≢◌, ℕ, ◌-◌, ◌^◌, ◌<◌, ℤ, pos, ◌+ℤ◌, ◌≤ℤ◌, ◌<ℤ◌, length, map, take, get_or, set, refl, ap, sym, subst, ◌∙◌, arith}
+use Rattle.std.proofs.lemmas.Int.{ints}
+use Rattle.std.proofs.Math.Seq.{take-set-lt, map-set_same}
 use Rattle.std.proofs.lemmas.List.{map-set, get_or-map, get_or-take, get_or-set_other, length-set, length-map}
 use Rattle.std.proofs.lemmas.List.Elements.{All-set}
 use Rattle.std.specs.Vec.{with_item}
 use Rattle.flow_accounts.specs.declared.Holding.{Holding}
 use Rattle.flow_accounts.specs.declared.Accounts.TheInside.{Inside}
-use Rattle.flow_accounts.specs.Balances.{Account, Balances, IsAccount, IsAsset, asset_count, account_of, empty_account, money_of, units_of, move_money, move_units}
-use Rattle.flow_accounts.specs.Lawful.{IsLawfulAccount, IsMoneyBalance, IsUnitBalance}
-use Rattle.flow_accounts.specs.Places.{account_in, balances_in, HasSpare, AreKept}
+use Rattle.flow_accounts.specs.Balances.{Account, Credit, Balances, IsAccount, IsAsset, asset_count, account_of, credit_of, credit_in, empty_account, no_credit, money_of, units_of, money_credit_of, unit_credit_of, money_with_credit, units_with_credit, move_money, move_units, set_money_credit, set_unit_credit}
+use Rattle.flow_accounts.specs.Answers.{AcceptsMoneyCredit, AcceptsUnitCredit}
+use Rattle.flow_accounts.specs.Lawful.{AreLawful, IsLawfulAccount, IsMoneyBalance, IsUnitBalance}
+use Rattle.flow_accounts.specs.Places.{account_in, credit_line_in, balances_in, HasSpare, HasSpareCredit, AreKept}
+use Rattle.flow_accounts.proofs.Balance.{money_balance, unit_balance, money_credit_most, unit_credit_most}
+use Rattle.flow_accounts.proofs.Credits.{money_after, units_after, lawful-move_money, lawful-move_units, credits_keep_law}
 use Rattle.flow_accounts.proofs.Standing.{StandsFor, asset_count-in}
 
 -- an account that is there has its place
@@ -30,30 +34,38 @@ module _ (a : Inside) (account : ℕ) (h : Holding) (kept : AreKept a) (there : 
   spare_read : HasSpare a.assets h.units
   spare_read = subst (λ (x : Holding). HasSpare a.assets x.units) (sym read) (kept.accounts (account - 1) h (place_within a account there))
 
-  -- a lawful account takes its place
-  kept_written : (new : Holding) → HasSpare a.assets new.units → IsLawfulAccount (asset_count (balances_in a)) (account_in a.assets new) → AreKept (written a account new)
-  kept_written new spare lawful = record {
-    lawful = record {
-      few_accounts = simp (length-map, length-set) (simp length-map at kept.lawful.few_accounts);
-      few_assets = kept.lawful.few_assets;
-      accounts = rw map-set (All-set (IsLawfulAccount (asset_count (balances_in a))) _ (account - 1) _ lawful kept.lawful.accounts);
-      total_money = kept.lawful.total_money;
-      total_units = kept.lawful.total_units;
+  spare_credit_read : HasSpareCredit a.assets h.unit_credits
+  spare_credit_read = subst (λ (x : Holding). HasSpareCredit a.assets x.unit_credits) (sym read) (kept.credits (account - 1) h (place_within a account there))
+
+  -- what was read is the credit line
+  credit_of-in : credit_of (balances_in a) account ≡ credit_line_in a.assets h
+  credit_of-in = get_or-map (credit_line_in a.assets) a.accounts.items (account - 1) h (no_credit 0) (place_within a account there) ∙ ap (credit_line_in a.assets) (sym read)
+
+  -- a holding takes its place, and what is shown then is lawful
+  kept_written : (new : Holding) (b : Balances) → HasSpare a.assets new.units → HasSpareCredit a.assets new.unit_credits → balances_in (written a account new) ≡ b → AreLawful b → StandsFor (written a account new) b
+  kept_written new b spare spare_credit shown lawful = record {
+    kept = record {
+      lawful = subst AreLawful (sym shown) lawful;
+      few_assets = kept.few_assets;
+      totals = kept.totals;
+      accounts = All-set (λ x. HasSpare a.assets x.units) a.accounts.items (account - 1) new spare kept.accounts;
+      credits = All-set (λ x. HasSpareCredit a.assets x.unit_credits) a.accounts.items (account - 1) new spare_credit kept.credits;
     };
-    few_assets = kept.few_assets;
-    totals = kept.totals;
-    accounts = All-set (λ x. HasSpare a.assets x.units) a.accounts.items (account - 1) new spare kept.accounts;
+    shown = shown;
   }
 
+  -- a holding with the same credit line leaves all credit lines as they were
+  credits_same : (new : Holding) → new.money_credit ≡ h.money_credit → new.unit_credits ≡ h.unit_credits → map (credit_line_in a.assets) (set a.accounts.items (account - 1) new) ≡ map (credit_line_in a.assets) a.accounts.items
+  credits_same new money units = map-set_same (credit_line_in a.assets) a.accounts.items (account - 1) new h (rw (money, units) (ap (credit_line_in a.assets) read))
+
   -- its money is changed, where the code computes z
-  money_moved : (x z : ℤ) → IsMoneyBalance (money_of (balances_in a) account +ℤ x) → (IsMoneyBalance h.money → IsMoneyBalance (h.money +ℤ x) → z ≡ h.money +ℤ x) → StandsFor (written a account (record h { money = z })) (move_money (balances_in a) account x)
-  money_moved x z balance computed =
-      let after : IsMoneyBalance (h.money +ℤ x) = subst (λ (o : Account). IsMoneyBalance (o.money +ℤ x)) account_of-in balance in
+  money_moved : (x z : ℤ) → pos 0 ≤ℤ (money_with_credit (balances_in a) account +ℤ x) → (money_of (balances_in a) account +ℤ x) <ℤ pos (2 ^ 124) → (IsMoneyBalance h.money → IsMoneyBalance (h.money +ℤ x) → z ≡ h.money +ℤ x) → StandsFor (written a account (record h { money = z })) (move_money (balances_in a) account x)
+  money_moved x z within fits computed =
+      let after : IsMoneyBalance (h.money +ℤ x) = subst (λ (o : Account). IsMoneyBalance (o.money +ℤ x)) account_of-in (money_after (balances_in a) account x kept.lawful there within fits) in
       let is : z ≡ h.money +ℤ x = computed lawful_read.money after in
-      record {
-        kept = kept_written (record h { money = z }) spare_read (record { money = subst IsMoneyBalance (sym is) after; one_each = lawful_read.one_each; units = lawful_read.units });
-        shown = rw (map-set, account_of-in, is) refl;
-      }
+      kept_written (record h { money = z }) (move_money (balances_in a) account x) spare_read spare_credit_read
+      (rw (credits_same (record h { money = z }) refl refl, map-set, account_of-in, is) refl)
+      (lawful-move_money (balances_in a) account x kept.lawful there within fits)
 
   unit_before : (asset : ℕ) → IsAsset (balances_in a) asset → IsUnitBalance (get_or h.units asset (pos 0))
   unit_before asset is_asset =
@@ -61,19 +73,38 @@ module _ (a : Inside) (account : ℕ) (h : Holding) (kept : AreKept a) (there : 
       rw get_or-take at (lawful_read.units asset (pos 0) (subst (λ n. asset < n) (sym lawful_read.one_each) is_asset))
 
   -- its units of an asset are changed, where the code computes z
-  units_moved : (asset : ℕ) (x z : ℤ) → IsAsset (balances_in a) asset → IsUnitBalance (units_of (balances_in a) account asset +ℤ x) → (IsUnitBalance (get_or h.units asset (pos 0)) → IsUnitBalance (get_or h.units asset (pos 0) +ℤ x) → z ≡ get_or h.units asset (pos 0) +ℤ x) → StandsFor (written a account (record h { units = set h.units asset z })) (move_units (balances_in a) account asset x)
-  units_moved asset x z is_asset balance computed =
+  units_moved : (asset : ℕ) (x z : ℤ) → IsAsset (balances_in a) asset → pos 0 ≤ℤ (units_with_credit (balances_in a) account asset +ℤ x) → (units_of (balances_in a) account asset +ℤ x) <ℤ pos (2 ^ 62)
+      → (IsUnitBalance (get_or h.units asset (pos 0)) → IsUnitBalance (get_or h.units asset (pos 0) +ℤ x) → z ≡ get_or h.units asset (pos 0) +ℤ x) → StandsFor (written a account (record h { units = set h.units asset z })) (move_units (balances_in a) account asset x)
+  units_moved asset x z is_asset within fits computed =
       let in_use : asset < a.assets = subst (λ n. asset < n) (asset_count-in a kept) is_asset in
       let before = unit_before asset is_asset in
-      let shown : IsUnitBalance (get_or (take a.assets h.units) asset (pos 0) +ℤ x) = subst (λ (o : Account). IsUnitBalance (get_or o.units asset (pos 0) +ℤ x)) account_of-in balance in
+      let shown : IsUnitBalance (get_or (take a.assets h.units) asset (pos 0) +ℤ x) = subst (λ (o : Account). IsUnitBalance (get_or o.units asset (pos 0) +ℤ x)) account_of-in (units_after (balances_in a) account asset x kept.lawful there is_asset within fits) in
       let after : IsUnitBalance (get_or h.units asset (pos 0) +ℤ x) = rw get_or-take at shown in
       let is : z ≡ get_or h.units asset (pos 0) +ℤ x = computed before after in
-      record {
-        kept = kept_written (record h { units = set h.units asset z })
-            (record { places_made = length-set h.units asset z ∙ spare_read.places_made; zero_beyond = λ k beyond. let other : k ≢ asset = omega arith in rw get_or-set_other (spare_read.zero_beyond k beyond) })
-            (record { money = lawful_read.money; one_each = rw (take-set-lt, length-set) lawful_read.one_each; units = rw take-set-lt (All-set IsUnitBalance (take a.assets h.units) asset z (subst IsUnitBalance (sym is) after) lawful_read.units) });
-        shown = rw (map-set, account_of-in, take-set-lt, get_or-take, is) refl;
-      }
+      kept_written (record h { units = set h.units asset z }) (move_units (balances_in a) account asset x)
+      (record { places_made = length-set h.units asset z ∙ spare_read.places_made; zero_beyond = λ k beyond. let other : k ≢ asset = omega arith in rw get_or-set_other (spare_read.zero_beyond k beyond) }) spare_credit_read
+      (rw (credits_same (record h { units = set h.units asset z }) refl refl, map-set, account_of-in, take-set-lt, get_or-take, is) refl)
+      (lawful-move_units (balances_in a) account asset x kept.lawful there is_asset within fits)
+
+  accounts_same : (new : Holding) → new.money ≡ h.money → new.units ≡ h.units → map (account_in a.assets) (set a.accounts.items (account - 1) new) ≡ map (account_in a.assets) a.accounts.items
+  accounts_same new money units = map-set_same (account_in a.assets) a.accounts.items (account - 1) new h (rw (money, units) (ap (account_in a.assets) read))
+
+  -- its credit in money is given
+  money_credit_given : (ticks : ℕ) (reserved : ℤ) → pos 0 ≤ℤ reserved → AcceptsMoneyCredit (balances_in a) account ticks reserved → StandsFor (written a account (record h { money_credit = ticks })) (set_money_credit (balances_in a) account ticks)
+  money_credit_given ticks reserved positive accepted =
+      kept_written (record h { money_credit = ticks }) (set_money_credit (balances_in a) account ticks) spare_read spare_credit_read
+      (rw (accounts_same (record h { money_credit = ticks }) refl refl, map-set, credit_of-in) refl)
+      (credits_keep_law.money (balances_in a) account ticks reserved positive kept.lawful accepted)
+
+  -- its credit in an asset is given
+  unit_credit_given : (asset units : ℕ) (reserved : ℤ) → pos 0 ≤ℤ reserved → AcceptsUnitCredit (balances_in a) account asset units reserved
+      → StandsFor (written a account (record h { unit_credits = set h.unit_credits asset units })) (set_unit_credit (balances_in a) account asset units)
+  unit_credit_given asset units reserved positive accepted =
+      let in_use : asset < a.assets = subst (λ n. asset < n) (asset_count-in a kept) accepted.asset_there in
+      kept_written (record h { unit_credits = set h.unit_credits asset units }) (set_unit_credit (balances_in a) account asset units) spare_read
+      (record { places_made = length-set h.unit_credits asset units ∙ spare_credit_read.places_made; zero_beyond = λ k beyond. let other : k ≢ asset = omega arith in rw get_or-set_other (spare_credit_read.zero_beyond k beyond) })
+      (rw (accounts_same (record h { unit_credits = set h.unit_credits asset units }) refl refl, map-set, credit_of-in, take-set-lt) refl)
+      (credits_keep_law.units (balances_in a) account asset units reserved positive kept.lawful accepted)
 
 module _ (a : Inside) (b : Balances) (account : ℕ) (h : Holding) (kept : AreKept a) (view_is : balances_in a ≡ b) (there : IsAccount b account) (read : h ≡ get_or a.accounts.items (account - 1) h) where
   pub read_lawful : IsLawfulAccount (asset_count (balances_in a)) (account_in a.assets h)
@@ -82,12 +113,70 @@ module _ (a : Inside) (b : Balances) (account : ℕ) (h : Holding) (kept : AreKe
   pub unit_read : (asset : ℕ) → IsAsset b asset → IsUnitBalance (get_or h.units asset (pos 0))
   unit_read asset is_asset = unit_before a account h kept (subst (λ (b : Balances). IsAccount b account) (sym view_is) there) read asset (subst (λ (b : Balances). IsAsset b asset) (sym view_is) is_asset)
 
-  pub moved_money : (x z : ℤ) → IsMoneyBalance (money_of b account +ℤ x) → (IsMoneyBalance h.money → IsMoneyBalance (h.money +ℤ x) → z ≡ h.money +ℤ x) → StandsFor (written a account (record h { money = z })) (move_money b account x)
-  moved_money x z balance computed =
-      let P : Balances → Type 0 = λ b. IsAccount b account → IsMoneyBalance (money_of b account +ℤ x) → StandsFor (written a account (record h { money = z })) (move_money b account x) in
-      subst P view_is (λ there balance. money_moved a account h kept there read x z balance computed) there balance
+  pub moved_money : (x z : ℤ) → pos 0 ≤ℤ (money_with_credit b account +ℤ x) → (money_of b account +ℤ x) <ℤ pos (2 ^ 124) → (IsMoneyBalance h.money → IsMoneyBalance (h.money +ℤ x) → z ≡ h.money +ℤ x) → StandsFor (written a account (record h { money = z })) (move_money b account x)
+  moved_money x z within fits computed =
+      let P : Balances → Type 0 = λ b. IsAccount b account → pos 0 ≤ℤ (money_with_credit b account +ℤ x) → (money_of b account +ℤ x) <ℤ pos (2 ^ 124) → StandsFor (written a account (record h { money = z })) (move_money b account x) in
+      subst P view_is (λ there within fits. money_moved a account h kept there read x z within fits computed) there within fits
 
-  pub moved_units : (asset : ℕ) (x z : ℤ) → IsAsset b asset → IsUnitBalance (units_of b account asset +ℤ x) → (IsUnitBalance (get_or h.units asset (pos 0)) → IsUnitBalance (get_or h.units asset (pos 0) +ℤ x) → z ≡ get_or h.units asset (pos 0) +ℤ x) → StandsFor (written a account (record h { units = set h.units asset z })) (move_units b account asset x)
-  moved_units asset x z is_asset balance computed =
-      let P : Balances → Type 0 = λ b. IsAccount b account → IsAsset b asset → IsUnitBalance (units_of b account asset +ℤ x) → StandsFor (written a account (record h { units = set h.units asset z })) (move_units b account asset x) in
-      subst P view_is (λ there is_asset balance. units_moved a account h kept there read asset x z is_asset balance computed) there is_asset balance
+  pub moved_units : (asset : ℕ) (x z : ℤ) → IsAsset b asset → pos 0 ≤ℤ (units_with_credit b account asset +ℤ x) → (units_of b account asset +ℤ x) <ℤ pos (2 ^ 62)
+      → (IsUnitBalance (get_or h.units asset (pos 0)) → IsUnitBalance (get_or h.units asset (pos 0) +ℤ x) → z ≡ get_or h.units asset (pos 0) +ℤ x) → StandsFor (written a account (record h { units = set h.units asset z })) (move_units b account asset x)
+  moved_units asset x z is_asset within fits computed =
+      let P : Balances → Type 0 = λ b. IsAccount b account → IsAsset b asset → pos 0 ≤ℤ (units_with_credit b account asset +ℤ x) → (units_of b account asset +ℤ x) <ℤ pos (2 ^ 62) → StandsFor (written a account (record h { units = set h.units asset z })) (move_units b account asset x) in
+      subst P view_is (λ there is_asset within fits. units_moved a account h kept there read asset x z is_asset within fits computed) there is_asset within fits
+
+  pub given_money_credit : (ticks : ℕ) (reserved : ℤ) → pos 0 ≤ℤ reserved → AcceptsMoneyCredit b account ticks reserved → StandsFor (written a account (record h { money_credit = ticks })) (set_money_credit b account ticks)
+  given_money_credit ticks reserved positive accepted =
+      let P : Balances → Type 0 = λ b. IsAccount b account → AcceptsMoneyCredit b account ticks reserved → StandsFor (written a account (record h { money_credit = ticks })) (set_money_credit b account ticks) in
+      subst P view_is (λ there accepted. money_credit_given a account h kept there read ticks reserved positive accepted) there accepted
+
+  pub given_unit_credit : (asset units : ℕ) (reserved : ℤ) → pos 0 ≤ℤ reserved → AcceptsUnitCredit b account asset units reserved
+      → StandsFor (written a account (record h { unit_credits = set h.unit_credits asset units })) (set_unit_credit b account asset units)
+  given_unit_credit asset units reserved positive accepted =
+      let P : Balances → Type 0 = λ b. IsAccount b account → AcceptsUnitCredit b account asset units reserved → StandsFor (written a account (record h { unit_credits = set h.unit_credits asset units })) (set_unit_credit b account asset units) in
+      subst P view_is (λ there accepted. unit_credit_given a account h kept there read asset units reserved positive accepted) there accepted
+
+  -- its money before and after a change that is allowed
+  pub money_changed : (x : ℤ) → pos 0 ≤ℤ (money_with_credit b account +ℤ x) → (money_of b account +ℤ x) <ℤ pos (2 ^ 124) → IsMoneyBalance h.money × IsMoneyBalance (h.money +ℤ x)
+  money_changed x within fits =
+      let P : Balances → Type 0 = λ b. IsAccount b account → pos 0 ≤ℤ (money_with_credit b account +ℤ x) → (money_of b account +ℤ x) <ℤ pos (2 ^ 124) → IsMoneyBalance h.money × IsMoneyBalance (h.money +ℤ x) in
+      subst P view_is (λ there within fits. (
+        (lawful_read a account h kept there read).money,
+        subst (λ (o : Account). IsMoneyBalance (o.money +ℤ x)) (account_of-in a account h kept there read) (money_after (balances_in a) account x kept.lawful there within fits),
+      )) there within fits
+
+  -- and its units
+  pub units_changed : (asset : ℕ) (x : ℤ) → IsAsset b asset → pos 0 ≤ℤ (units_with_credit b account asset +ℤ x) → (units_of b account asset +ℤ x) <ℤ pos (2 ^ 62)
+      → IsUnitBalance (get_or h.units asset (pos 0)) × IsUnitBalance (get_or h.units asset (pos 0) +ℤ x)
+  units_changed asset x is_asset within fits =
+      let P : Balances → Type 0 = λ b. IsAccount b account → IsAsset b asset → pos 0 ≤ℤ (units_with_credit b account asset +ℤ x) → (units_of b account asset +ℤ x) <ℤ pos (2 ^ 62) → IsUnitBalance (get_or h.units asset (pos 0)) × IsUnitBalance (get_or h.units asset (pos 0) +ℤ x) in
+      subst P view_is (λ there is_asset within fits.
+      let in_use : asset < a.assets = subst (λ n. asset < n) (asset_count-in a kept) is_asset in
+      let shown : IsUnitBalance (get_or (take a.assets h.units) asset (pos 0) +ℤ x) = subst (λ (o : Account). IsUnitBalance (get_or o.units asset (pos 0) +ℤ x)) (account_of-in a account h kept there read) (units_after (balances_in a) account asset x kept.lawful there is_asset within fits) in
+      (unit_before a account h kept there read asset is_asset, rw get_or-take at shown)) there is_asset within fits
+
+  -- the credit that was read
+  pub credit_read : (asset : ℕ) → IsAsset b asset → get_or h.unit_credits asset 0 ≡ unit_credit_of b account asset
+  credit_read asset is_asset =
+      let P : Balances → Type 0 = λ b. IsAccount b account → IsAsset b asset → get_or h.unit_credits asset 0 ≡ unit_credit_of b account asset in
+      subst P view_is
+      (λ there is_asset.
+      let in_use : asset < a.assets = subst (λ n. asset < n) (asset_count-in a kept) is_asset in
+      sym (ap (λ (c : Credit). credit_in c asset) (credit_of-in a account h kept there read) ∙ get_or-take a.assets h.unit_credits asset 0 in_use)) there is_asset
+
+  pub money_credit_read : h.money_credit ≡ money_credit_of b account
+  money_credit_read =
+      let P : Balances → Type 0 = λ b. IsAccount b account → h.money_credit ≡ money_credit_of b account in
+      subst P view_is (λ there. sym (ap (λ (c : Credit). c.ticks) (credit_of-in a account h kept there read))) there
+
+-- no balance and its credit are more than so much together
+pub money_reach : (a : Inside) (b : Balances) (account : ℕ) → AreKept a → balances_in a ≡ b → IsAccount b account → money_with_credit b account ≤ℤ pos (2 ^ 125)
+money_reach a b account kept view_is there =
+    let lawful = subst AreLawful view_is kept.lawful in
+    let balance = money_balance b account lawful there in
+    omega (arith, ints, balance.1, money_credit_most b account lawful there)
+
+pub units_reach : (a : Inside) (b : Balances) (account asset : ℕ) → AreKept a → balances_in a ≡ b → IsAccount b account → IsAsset b asset → units_with_credit b account asset ≤ℤ pos (2 ^ 63)
+units_reach a b account asset kept view_is there is_asset =
+    let lawful = subst AreLawful view_is kept.lawful in
+    let balance = unit_balance b account asset lawful there is_asset in
+    omega (arith, ints, balance.1, unit_credit_most b account asset lawful there is_asset)

@@ -1,7 +1,9 @@
 pub mod Added
 pub mod Balance
 pub mod Bounds
+pub mod Credits
 pub mod Holdings
+pub mod Grown
 pub mod Moves
 pub mod Standing
 pub mod ListLemmas

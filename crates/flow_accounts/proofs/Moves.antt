@@ -1,13 +1,14 @@
 -- What each operation on balances changes.
-use Rattle.std.proofs.Common.{◌≡◌, ◌≢◌, ℕ, ◌+◌, ◌-◌, ◌<◌, ℤ, pos, ◌+ℤ◌, length, get_or, set, refl, ap, sym, subst, ◌∙◌, arith}
+use Rattle.std.proofs.Common.{◌≡◌, ◌≢◌, ℕ, ◌+◌, ◌-◌, ◌<◌, ◌≤◌, ℤ, pos, ◌+ℤ◌, List, [], ◌∷◌, ◌++◌, replicate, length, get_or, set, refl, ap, sym, subst, ⊎_elim, ◌∙◌, arith}
+use Rattle.std.proofs.lemmas.Bool.{cases_lt}
 use Rattle.std.proofs.lemmas.Int.{ints}
-use Rattle.std.proofs.lemmas.List.{get_or-set_same, get_or-set_other, get_or_push, get_or_past, length-set, length-map, length_push}
+use Rattle.std.proofs.lemmas.List.{get_or-set_same, get_or-set_other, get_or_push, get_or_past, get_or-replicate, length-replicate, length-set, length-map, length_push}
 use Rattle.std.specs.List.{All}
-use Rattle.flow_accounts.specs.Balances.{Account, Balances, IsAccount, IsAsset, account_count, asset_count, empty_account, with_asset, account_of, units_in, total_units_of, open_account, add_asset}
+use Rattle.flow_accounts.specs.Balances.{Account, Credit, Balances, IsAccount, IsAsset, account_count, asset_count, empty_account, no_credit, with_asset, with_credit_place, account_of, credit_of, credit_in, units_in, total_units_of, open_account, add_asset}
 use Rattle.flow_accounts.specs.Changes.{KeepsBalances}
-use Rattle.flow_accounts.specs.Lawful.{AreLawful, IsLawfulAccount}
+use Rattle.flow_accounts.specs.Lawful.{AreLawful, IsLawfulAccount, IsLawfulCredit}
 use Rattle.flow_accounts.specs.Laws.{AccountsOpenEmpty, AssetsStartAtZero, MoneyMoves, UnitsMove, MoneyChanges, UnitsChange}
-use Rattle.flow_accounts.proofs.Balance.{lawful_account}
+use Rattle.flow_accounts.proofs.Balance.{lawful_account, lawful_credit}
 use Rattle.list_sums.proofs.SumLemmas.{int_sum_by-push, int_sum_by-set, int_sum_by-set_same, int_sum_by-map_same, int_sum_by-zeros}
 use Rattle.flow_accounts.proofs.ListLemmas.{get_or-push_same, get_or-map_same, get_or-set_kept, zero_at, zero_pushed}
 
@@ -28,6 +29,7 @@ money_moves b account amount there =
     let a = account_of b account in
     let new : Account = record a { money = a.money +ℤ amount } in
     record {
+      credits = refl;
       accounts = length-set b.accounts (account - 1) new;
       assets = refl;
       money = ap (λ (x : Account). x.money) (account_of-set b account new there);
@@ -42,6 +44,7 @@ pub money_changes : MoneyChanges
 money_changes b account amount there =
     let moves = money_moves b account amount there in
     record {
+      credits = refl;
       accounts = moves.accounts;
       assets = moves.assets;
       money = moves.money;
@@ -63,6 +66,7 @@ units_move b account asset amount lawful there is_asset =
     let changed : units_in new asset ≡ units_in a asset +ℤ amount = get_or-set_same a.units asset after (pos 0) (unit_place b account asset lawful there is_asset) in
     let kept : (s : ℕ) → s ≢ asset → units_in new s ≡ units_in a s = λ s differs. get_or-set_other a.units asset s after (pos 0) differs in
     record {
+      credits = refl;
       accounts = length-set b.accounts (account - 1) new;
       assets = refl;
       units = ap (λ (x : Account). units_in x asset) (account_of-set b account new there) ∙ changed;
@@ -79,6 +83,7 @@ units_change b account asset amount lawful there is_asset =
     let moves = units_move b account asset amount lawful there is_asset in
     let after : ℤ = total_units_of b asset +ℤ amount in (
       record {
+        credits = refl;
         accounts = moves.accounts;
         assets = length-set b.total_units asset after;
         units = moves.units;
@@ -96,34 +101,63 @@ units_change b account asset amount lawful there is_asset =
       },
     )
 
-pub accounts_open_empty : AccountsOpenEmpty
-accounts_open_empty b =
+-- no credits at each place, and past their end
+pub none_at : (n k : ℕ) → ◌≡◌ {A = ℕ} (get_or (replicate n 0) k 0) 0
+none_at n k =
+    let none : ℕ = 0 in
+    ⊎_elim (λ below. get_or-replicate n k none none below) (λ past. get_or_past (replicate n none) k none (subst (λ m. m ≤ k) (sym (length-replicate n none)) past)) (cases_lt k n)
+
+-- an account opened changes no balance and no credit
+pub opened_kept : (b : Balances) → KeepsBalances b (open_account b)
+opened_kept b =
     let new = empty_account (asset_count b) in
+    record {
+      money = λ account. get_or-push_same (λ (x : Account). x.money) b.accounts new (empty_account 0) (account - 1) refl;
+      units = λ account asset. get_or-push_same (λ (x : Account). units_in x asset) b.accounts new (empty_account 0) (account - 1) (zero_at (asset_count b) asset);
+      money_credits = λ account. get_or-push_same (λ (c : Credit). c.ticks) b.credits (no_credit (asset_count b)) (no_credit 0) (account - 1) refl;
+      unit_credits = λ account asset. get_or-push_same (λ (c : Credit). credit_in c asset) b.credits (no_credit (asset_count b)) (no_credit 0) (account - 1) (none_at (asset_count b) asset);
+      money_sum = omega (arith, ints, int_sum_by-push (λ (x : Account). x.money) b.accounts new);
+      unit_sums = λ asset. omega (arith, ints, int_sum_by-push (λ (x : Account). units_in x asset) b.accounts new, zero_at (asset_count b) asset);
+    }
+
+pub accounts_open_empty : AccountsOpenEmpty
+accounts_open_empty b lawful =
+    let new = empty_account (asset_count b) in
+    let fresh = no_credit (asset_count b) in
     let grown : account_count (open_account b) ≡ account_count b + 1 = length_push b.accounts new in
     let last : account_of (open_account b) (account_count (open_account b)) ≡ new = get_or_push b.accounts new (empty_account 0) (account_count (open_account b) - 1) (omega arith) in
+    let last_credit : credit_of (open_account b) (account_count (open_account b)) ≡ fresh = get_or_push b.credits fresh (no_credit 0) (account_count (open_account b) - 1) (omega (arith, grown, lawful.one_credit_each)) in
     record {
-      kept = record {
-        money = λ account. get_or-push_same (λ (x : Account). x.money) b.accounts new (empty_account 0) (account - 1) refl;
-        units = λ account asset. get_or-push_same (λ (x : Account). units_in x asset) b.accounts new (empty_account 0) (account - 1) (zero_at (asset_count b) asset);
-        money_sum = omega (arith, ints, int_sum_by-push (λ (x : Account). x.money) b.accounts new);
-        unit_sums = λ asset. omega (arith, ints, int_sum_by-push (λ (x : Account). units_in x asset) b.accounts new, zero_at (asset_count b) asset);
-      };
+      kept = opened_kept b;
       accounts = grown;
       assets = refl;
       money = ap (λ (x : Account). x.money) last;
       units = λ asset. ap (λ (x : Account). units_in x asset) last ∙ zero_at (asset_count b) asset;
+      money_credit = ap (λ (c : Credit). c.ticks) last_credit;
+      unit_credits = λ asset. ap (λ (c : Credit). credit_in c asset) last_credit ∙ none_at (asset_count b) asset;
     }
 
--- an asset added changes no balance
+-- a place for no credit at the end changes no credit
+none_pushed : (xs : List ℕ) (k : ℕ) → get_or (xs ++ 0 ∷ []) k 0 ≡ get_or xs k 0
+none_pushed xs k = get_or-push_same (λ (u : ℕ). u) xs 0 0 k refl
+
+-- an asset added changes no balance and no credit
 pub asset_kept : (b : Balances) → KeepsBalances b (add_asset b)
 asset_kept b =
     let same : (s : ℕ) (a : Account) → units_in (with_asset a) s ≡ units_in a s = λ s a. zero_pushed a.units s in
+    let same_credit : (s : ℕ) (c : Credit) → credit_in (with_credit_place c) s ≡ credit_in c s = λ s c. none_pushed c.units s in
     record {
       money = λ account. get_or-map_same (λ (x : Account). x.money) with_asset (λ a. refl) b.accounts (empty_account 0) (account - 1);
       units = λ account s. get_or-map_same (λ (x : Account). units_in x s) with_asset (same s) b.accounts (empty_account 0) (account - 1);
+      money_credits = λ account. get_or-map_same (λ (c : Credit). c.ticks) with_credit_place (λ c. refl) b.credits (no_credit 0) (account - 1);
+      unit_credits = λ account s. get_or-map_same (λ (c : Credit). credit_in c s) with_credit_place (same_credit s) b.credits (no_credit 0) (account - 1);
       money_sum = int_sum_by-map_same (λ (x : Account). x.money) with_asset (λ a. refl) b.accounts;
       unit_sums = λ s. int_sum_by-map_same (λ (x : Account). units_in x s) with_asset (same s) b.accounts;
     }
+
+-- a lawful credit line has no credit past its assets
+no_credit_past : (assets : ℕ) (c : Credit) → IsLawfulCredit assets c → credit_in c assets ≡ 0
+no_credit_past assets c lawful = let one_each = lawful.one_each in get_or_past c.units assets 0 (omega arith)
 
 -- a lawful account has no units past its assets
 none_past : (assets : ℕ) (a : Account) → IsLawfulAccount assets a → units_in a assets ≡ pos 0
@@ -138,6 +172,7 @@ assets_start_at_zero b lawful =
       accounts = length-map b.accounts with_asset;
       assets = length_push b.total_units (pos 0);
       units = λ account there. kept.units account (asset_count b) ∙ none_past (asset_count b) (account_of b account) (lawful_account b account lawful there);
+      unit_credits = λ account there. kept.unit_credits account (asset_count b) ∙ no_credit_past (asset_count b) (credit_of b account) (lawful_credit b account lawful there);
       unit_sum = kept.unit_sums (asset_count b) ∙ int_sum_by-zeros (λ (x : Account). units_in x (asset_count b)) b.accounts none;
       total = get_or_push b.total_units (pos 0) (pos 0) (asset_count b) refl;
       totals = zero_pushed b.total_units;

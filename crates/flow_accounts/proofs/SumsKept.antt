@@ -5,14 +5,14 @@ use Rattle.std.proofs.lemmas.Int.{ints}
 use Rattle.flow_accounts.specs.Balances.{total_units_of, change_units}
 use Rattle.flow_accounts.specs.Laws.{TotalsStaySums}
 use Rattle.flow_accounts.specs.Sums.{units_of_all}
-use Rattle.flow_accounts.proofs.Moves.{accounts_open_empty, asset_kept, money_changes, units_change}
+use Rattle.flow_accounts.proofs.Moves.{opened_kept, asset_kept, money_changes, units_change}
 use Rattle.flow_accounts.proofs.ListLemmas.{zero_pushed}
 
 pub totals_stay_sums : TotalsStaySums
 totals_stay_sums = record {
   none = record { money = refl; units = λ asset. refl };
   opened = λ b sums.
-      let kept = (accounts_open_empty b).kept in
+      let kept = opened_kept b in
       record { money = sums.money ∙ sym kept.money_sum; units = λ asset. sums.units asset ∙ sym (kept.unit_sums asset) };
   asset = λ b sums.
       let kept = asset_kept b in

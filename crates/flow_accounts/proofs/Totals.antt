@@ -15,6 +15,9 @@ lawful-total b asset z lawful total = record {
   few_accounts = lawful.few_accounts;
   few_assets = rw length-set lawful.few_assets;
   accounts = rw length-set lawful.accounts;
+  one_credit_each = lawful.one_credit_each;
+  credits = rw length-set lawful.credits;
+  within_credit = record { money = lawful.within_credit.money; units = λ k s there is_asset. lawful.within_credit.units k s there (rw length-set at is_asset) };
   total_money = lawful.total_money;
   total_units = All-set IsUnitTotal b.total_units asset z total lawful.total_units;
 }
@@ -32,6 +35,7 @@ total_shown a asset z kept is_asset total =
           zero_beyond = λ k beyond. let other : k ≢ asset = omega arith in rw get_or-set_other (kept.totals.zero_beyond k beyond);
         };
         accounts = kept.accounts;
+        credits = kept.credits;
       };
       shown = shown;
     }

@@ -1,10 +1,10 @@
 -- Which answer a call gets. The causes of a call's faults and of its acceptance exclude one
 -- another, and one of them always holds: so each answer comes exactly where its cause holds.
-use Rattle.std.specs.Prelude.{◌≡◌, ℕ, ◌<◌, ℤ, pos, ◌+ℤ◌, ◌-ℤ◌, ◌≤ℤ◌, ◌<ℤ◌}
+use Rattle.std.specs.Prelude.{◌≡◌, ℕ, ◌<◌, ◌≤◌, ℤ, pos, ◌+ℤ◌, ◌-ℤ◌, ◌≤ℤ◌, ◌<ℤ◌}
 use Rattle.flow_accounts.specs.declared.fault.AccountFault.{AccountFault}
-use Rattle.flow_accounts.specs.declared.fault.AccountFault.TheVariants.{NoAccount, NoAsset, Zero, TotalLimit, Full, NotFree, Memory}
+use Rattle.flow_accounts.specs.declared.fault.AccountFault.TheVariants.{NoAccount, NoAsset, Zero, TotalLimit, Full, NotFree, CreditLimit, InUse, Memory}
 use Rattle.flow_accounts.specs.Balances.{Balances, IsAccount, IsAsset, account_count, grains, money_of, units_of, total_units_of}
-use Rattle.flow_accounts.specs.Lawful.{most_accounts, money_limit, unit_limit}
+use Rattle.flow_accounts.specs.Lawful.{most_accounts, most_credit, money_limit, unit_limit}
 
 -- why no account is opened: as many as there may be are there, or else there is no memory
 abbrev pub RefusesAccount : Balances → AccountFault → Type 0
@@ -79,3 +79,34 @@ RefusesUnitWithdrawal b account asset units reserved (NotFree free) =
     IsAccount b account × IsAsset b asset × (0 < units) ×
     (free ≡ units_of b account asset -ℤ reserved) × (free <ℤ pos units)
 RefusesUnitWithdrawal b account asset units reserved _ = ⊥
+
+-- a credit in money is given: its account is there, it isn't above its limit, and with the balance it covers what is reserved
+pub record AcceptsMoneyCredit (b : Balances) (account ticks : ℕ) (reserved : ℤ) : Type 0 where
+  pub account_there : IsAccount b account
+  pub within_limit : ticks ≤ most_credit
+  pub covers : reserved ≤ℤ (money_of b account +ℤ grains ticks)
+
+-- why a credit in money isn't given
+abbrev pub RefusesMoneyCredit : Balances → ℕ → ℕ → ℤ → AccountFault → Type 0
+RefusesMoneyCredit b account ticks reserved NoAccount = ¬ IsAccount b account
+RefusesMoneyCredit b account ticks reserved CreditLimit = IsAccount b account × (most_credit < ticks)
+RefusesMoneyCredit b account ticks reserved (InUse used) =
+    IsAccount b account × (ticks ≤ most_credit) × (used ≡ reserved -ℤ money_of b account) × (grains ticks <ℤ used)
+RefusesMoneyCredit b account ticks reserved _ = ⊥
+
+-- a credit in an asset is given
+pub record AcceptsUnitCredit (b : Balances) (account asset units : ℕ) (reserved : ℤ) : Type 0 where
+  pub account_there : IsAccount b account
+  pub asset_there : IsAsset b asset
+  pub within_limit : units ≤ most_credit
+  pub covers : reserved ≤ℤ (units_of b account asset +ℤ pos units)
+
+-- why a credit in an asset isn't given
+abbrev pub RefusesUnitCredit : Balances → ℕ → ℕ → ℕ → ℤ → AccountFault → Type 0
+RefusesUnitCredit b account asset units reserved NoAccount = ¬ IsAccount b account
+RefusesUnitCredit b account asset units reserved NoAsset = IsAccount b account × (¬ IsAsset b asset)
+RefusesUnitCredit b account asset units reserved CreditLimit = IsAccount b account × IsAsset b asset × (most_credit < units)
+RefusesUnitCredit b account asset units reserved (InUse used) =
+    IsAccount b account × IsAsset b asset × (units ≤ most_credit) ×
+    (used ≡ reserved -ℤ units_of b account asset) × (pos units <ℤ used)
+RefusesUnitCredit b account asset units reserved _ = ⊥

@@ -6,16 +6,22 @@ pub record Account : Type 0 where
   pub money : ℤ
   pub units : List ℤ
 
--- all accounts, and the totals of deposits less withdrawals: of money in grains, of each asset in
--- units
+-- a credit line: how many ticks, and how many units of each asset, an account may owe for its orders
+pub record Credit : Type 0 where
+  pub ticks : ℕ
+  pub units : List ℕ
+
+-- all accounts, the credit line of each, and the totals of deposits less withdrawals: of money in
+-- grains, of each asset in units
 pub record Balances : Type 0 where
   pub accounts : List Account
+  pub credits : List Credit
   pub total_money : ℤ
   pub total_units : List ℤ
 
 -- no account and no asset
 abbrev pub no_balances : Balances
-no_balances = record { accounts = []; total_money = pos 0; total_units = [] }
+no_balances = record { accounts = []; credits = []; total_money = pos 0; total_units = [] }
 
 -- how many accounts there are
 abbrev pub account_count : Balances → ℕ
@@ -57,22 +63,58 @@ units_in a asset = slice_index_or a.units asset (pos 0)
 abbrev pub units_of : Balances → ℕ → ℕ → ℤ
 units_of b account asset = units_in (account_of b account) asset
 
+-- a credit line of zeros
+abbrev pub no_credit : ℕ → Credit
+no_credit assets = record { ticks = 0; units = replicate assets 0 }
+
+-- the credit line of an account
+abbrev pub credit_of : Balances → ℕ → Credit
+credit_of b account = slice_index_or b.credits (account - 1) (no_credit 0)
+
+-- an account's credit in money, in ticks
+abbrev pub money_credit_of : Balances → ℕ → ℕ
+money_credit_of b account = (credit_of b account).ticks
+
+-- the units of an asset in a credit line
+abbrev pub credit_in : Credit → ℕ → ℕ
+credit_in c asset = slice_index_or c.units asset 0
+
+-- an account's credit in an asset, in units
+abbrev pub unit_credit_of : Balances → ℕ → ℕ → ℕ
+unit_credit_of b account asset = credit_in (credit_of b account) asset
+
+-- the money that an account may use for its orders: what it holds, and its credit
+abbrev pub money_with_credit : Balances → ℕ → ℤ
+money_with_credit b account = money_of b account +ℤ grains (money_credit_of b account)
+
+-- the units of an asset that an account may use for its orders
+abbrev pub units_with_credit : Balances → ℕ → ℕ → ℤ
+units_with_credit b account asset = units_of b account asset +ℤ pos (unit_credit_of b account asset)
+
 -- the total of an asset, in units
 abbrev pub total_units_of : Balances → ℕ → ℤ
 total_units_of b asset = slice_index_or b.total_units asset (pos 0)
 
--- an account of zeros is appended
+-- an account of zeros is appended, its credit line included
 abbrev pub open_account : Balances → Balances
-open_account b = record b { accounts = b.accounts ++ empty_account (asset_count b) ∷ [] }
+open_account b = record b {
+  accounts = b.accounts ++ empty_account (asset_count b) ∷ [];
+  credits = b.credits ++ no_credit (asset_count b) ∷ [];
+}
 
 -- an account after an asset was appended
 abbrev pub with_asset : Account → Account
 with_asset a = record a { units = a.units ++ pos 0 ∷ [] }
 
--- an asset is appended, of which all balances and the total are 0
+-- a credit line after an asset was appended
+abbrev pub with_credit_place : Credit → Credit
+with_credit_place c = record c { units = c.units ++ 0 ∷ [] }
+
+-- an asset is appended, of which all balances, all credits and the total are 0
 abbrev pub add_asset : Balances → Balances
 add_asset b = record {
   accounts = map with_asset b.accounts;
+  credits = map with_credit_place b.credits;
   total_money = b.total_money;
   total_units = b.total_units ++ pos 0 ∷ [];
 }
@@ -101,3 +143,14 @@ change_units b account asset amount =
     record (move_units b account asset amount) {
       total_units = slice_set b.total_units asset (total_units_of b asset +ℤ amount);
     }
+
+-- an account's credit in money is this many ticks
+abbrev pub set_money_credit : Balances → ℕ → ℕ → Balances
+set_money_credit b account ticks =
+    record b { credits = slice_set b.credits (account - 1) (record (credit_of b account) { ticks = ticks }) }
+
+-- an account's credit in an asset is this many units
+abbrev pub set_unit_credit : Balances → ℕ → ℕ → ℕ → Balances
+set_unit_credit b account asset units =
+    let c = credit_of b account in
+    record b { credits = slice_set b.credits (account - 1) (record c { units = slice_set c.units asset units }) }

@@ -1,18 +1,21 @@
 -- What an operation on the balances changes, and what it leaves.
 use Rattle.std.specs.Prelude.{◌≡◌, ◌≢◌, ℕ, ◌+◌, ℤ, pos, ◌+ℤ◌}
-use Rattle.flow_accounts.specs.Balances.{Balances, IsAccount, account_count, asset_count, money_of, units_of, total_units_of}
+use Rattle.flow_accounts.specs.Balances.{Balances, IsAccount, account_count, asset_count, money_of, units_of, money_credit_of, unit_credit_of, total_units_of}
 use Rattle.flow_accounts.specs.Sums.{money_of_all, units_of_all}
 
--- no balance and no sum over the accounts changes
+-- no balance, no credit and no sum over the accounts changes
 pub record KeepsBalances (old new : Balances) : Type 0 where
   pub money : (account : ℕ) → money_of new account ≡ money_of old account
   pub units : (account asset : ℕ) → units_of new account asset ≡ units_of old account asset
+  pub money_credits : (account : ℕ) → money_credit_of new account ≡ money_credit_of old account
+  pub unit_credits : (account asset : ℕ) → unit_credit_of new account asset ≡ unit_credit_of old account asset
   pub money_sum : money_of_all new ≡ money_of_all old
   pub unit_sums : (asset : ℕ) → units_of_all new asset ≡ units_of_all old asset
 
 -- one account has the amount of money more, so all accounts together have it more, and no other
--- balance changes
+-- balance and no credit changes
 pub record ChangesMoneyOf (account : ℕ) (amount : ℤ) (old new : Balances) : Type 0 where
+  pub credits : new.credits ≡ old.credits
   pub accounts : account_count new ≡ account_count old
   pub assets : asset_count new ≡ asset_count old
   pub money : money_of new account ≡ money_of old account +ℤ amount
@@ -23,8 +26,9 @@ pub record ChangesMoneyOf (account : ℕ) (amount : ℤ) (old new : Balances) : 
   pub unit_sums : (asset : ℕ) → units_of_all new asset ≡ units_of_all old asset
 
 -- one account has the amount of units of one asset more, so all accounts together have it more, and
--- no other balance changes
+-- no other balance and no credit changes
 pub record ChangesUnitsOf (account asset : ℕ) (amount : ℤ) (old new : Balances) : Type 0 where
+  pub credits : new.credits ≡ old.credits
   pub accounts : account_count new ≡ account_count old
   pub assets : asset_count new ≡ asset_count old
   pub units : units_of new account asset ≡ units_of old account asset +ℤ amount
@@ -42,20 +46,42 @@ pub record ChangesTotalOf (asset : ℕ) (amount : ℤ) (old new : Balances) : Ty
   pub others : (s : ℕ) → s ≢ asset → total_units_of new s ≡ total_units_of old s
   pub money : new.total_money ≡ old.total_money
 
--- one more account is there, which holds nothing
+-- one more account is there, which holds nothing and has no credit
 pub record OpensAccount (old new : Balances) : Type 0 where
   pub kept : KeepsBalances old new
   pub accounts : account_count new ≡ account_count old + 1
   pub assets : asset_count new ≡ asset_count old
   pub money : money_of new (account_count new) ≡ pos 0
   pub units : (asset : ℕ) → units_of new (account_count new) asset ≡ pos 0
+  pub money_credit : money_credit_of new (account_count new) ≡ 0
+  pub unit_credits : (asset : ℕ) → unit_credit_of new (account_count new) asset ≡ 0
 
--- one more asset is there, of which nobody holds a unit
+-- one more asset is there, of which nobody holds a unit or has credit
 pub record AddsAsset (old new : Balances) : Type 0 where
   pub kept : KeepsBalances old new
   pub accounts : account_count new ≡ account_count old
   pub assets : asset_count new ≡ asset_count old + 1
   pub units : (account : ℕ) → IsAccount old account → units_of new account (asset_count old) ≡ pos 0
+  pub unit_credits : (account : ℕ) → IsAccount old account → unit_credit_of new account (asset_count old) ≡ 0
   pub unit_sum : units_of_all new (asset_count old) ≡ pos 0
   pub total : total_units_of new (asset_count old) ≡ pos 0
   pub totals : (asset : ℕ) → total_units_of new asset ≡ total_units_of old asset
+
+-- one account has this credit in money, and nothing else changes
+pub record SetsMoneyCreditOf (account ticks : ℕ) (old new : Balances) : Type 0 where
+  pub accounts : new.accounts ≡ old.accounts
+  pub total_money : new.total_money ≡ old.total_money
+  pub total_units : new.total_units ≡ old.total_units
+  pub credit : money_credit_of new account ≡ ticks
+  pub others : (other : ℕ) → IsAccount old other → other ≢ account → money_credit_of new other ≡ money_credit_of old other
+  pub unit_credits : (any asset : ℕ) → unit_credit_of new any asset ≡ unit_credit_of old any asset
+
+-- one account has this credit in one asset, and nothing else changes
+pub record SetsUnitCreditOf (account asset units : ℕ) (old new : Balances) : Type 0 where
+  pub accounts : new.accounts ≡ old.accounts
+  pub total_money : new.total_money ≡ old.total_money
+  pub total_units : new.total_units ≡ old.total_units
+  pub credit : unit_credit_of new account asset ≡ units
+  pub other_assets : (s : ℕ) → s ≢ asset → unit_credit_of new account s ≡ unit_credit_of old account s
+  pub others : (other s : ℕ) → IsAccount old other → other ≢ account → unit_credit_of new other s ≡ unit_credit_of old other s
+  pub money_credits : (any : ℕ) → money_credit_of new any ≡ money_credit_of old any

@@ -1,16 +1,17 @@
 -- What holds of the operations on balances. The module `laws` has a function for each of these.
-use Rattle.std.specs.Prelude.{ℕ, ℤ, pos, ◌≤ℤ◌}
-use Rattle.flow_accounts.specs.Balances.{Balances, IsAccount, IsAsset, money_of, units_of, no_balances, open_account, add_asset, move_money, move_units, change_money, change_units}
-use Rattle.flow_accounts.specs.Changes.{OpensAccount, AddsAsset, ChangesMoneyOf, ChangesUnitsOf, ChangesTotalOf}
+use Rattle.std.specs.Prelude.{◌≡◌, ℕ, ◌^◌, ℤ, pos, neg_ℤ, ◌+ℤ◌, ◌≤ℤ◌}
+use Rattle.flow_accounts.specs.Balances.{Balances, IsAccount, IsAsset, grains, money_of, units_of, money_credit_of, unit_credit_of, no_balances, open_account, add_asset, move_money, move_units, change_money, change_units, set_money_credit, set_unit_credit}
+use Rattle.flow_accounts.specs.Changes.{OpensAccount, AddsAsset, ChangesMoneyOf, ChangesUnitsOf, ChangesTotalOf, SetsMoneyCreditOf, SetsUnitCreditOf}
+use Rattle.flow_accounts.specs.Answers.{AcceptsMoneyCredit, AcceptsUnitCredit}
 use Rattle.flow_accounts.specs.Fits.{AcceptedChangesFit, SumsAreNearTotals}
 use Rattle.flow_accounts.specs.Lawful.{AreLawful}
 use Rattle.flow_accounts.specs.Sums.{TotalsAreSums, money_of_all, units_of_all}
 
--- an account that is opened holds nothing, and no balance or sum changes
+-- an account that is opened holds nothing and has no credit, and no balance, credit or sum changes
 abbrev pub AccountsOpenEmpty : Type 0
-AccountsOpenEmpty = (b : Balances) → OpensAccount b (open_account b)
+AccountsOpenEmpty = (b : Balances) → AreLawful b → OpensAccount b (open_account b)
 
--- of an asset that is added nobody holds a unit, and no balance or sum changes
+-- of an asset that is added nobody holds a unit or has credit, and no balance, credit or sum changes
 abbrev pub AssetsStartAtZero : Type 0
 AssetsStartAtZero = (b : Balances) → AreLawful b → AddsAsset b (add_asset b)
 
@@ -48,19 +49,40 @@ pub record TotalsStaySums : Type 0 where
       AreLawful b → IsAccount b account → IsAsset b asset →
       TotalsAreSums b → TotalsAreSums (change_units b account asset amount)
 
--- no account has less than nothing
-pub record NoBalanceIsNegative : Type 0 where
+-- a credit in money that is given changes nothing else
+abbrev pub MoneyCreditIsSet : Type 0
+MoneyCreditIsSet = (b : Balances) (account ticks : ℕ) → AreLawful b → IsAccount b account →
+    SetsMoneyCreditOf account ticks b (set_money_credit b account ticks)
+
+-- a credit in an asset that is given changes nothing else
+abbrev pub UnitCreditIsSet : Type 0
+UnitCreditIsSet = (b : Balances) (account asset units : ℕ) → AreLawful b → IsAccount b account → IsAsset b asset →
+    SetsUnitCreditOf account asset units b (set_unit_credit b account asset units)
+
+-- a credit that is accepted keeps balances lawful
+pub record CreditsKeepLaw : Type 0 where
+  pub money : (b : Balances) (account ticks : ℕ) (reserved : ℤ) → pos 0 ≤ℤ reserved →
+      AreLawful b → AcceptsMoneyCredit b account ticks reserved → AreLawful (set_money_credit b account ticks)
+  pub units : (b : Balances) (account asset units : ℕ) (reserved : ℤ) → pos 0 ≤ℤ reserved →
+      AreLawful b → AcceptsUnitCredit b account asset units reserved → AreLawful (set_unit_credit b account asset units)
+
+-- no account owes more than its credit, and so one without credit has nothing less than nothing
+pub record NoBalanceIsBelowItsCredit : Type 0 where
   pub money : (b : Balances) (account : ℕ) → AreLawful b → IsAccount b account →
-      pos 0 ≤ℤ money_of b account
+      neg_ℤ (grains (money_credit_of b account)) ≤ℤ money_of b account
   pub units : (b : Balances) (account asset : ℕ) → AreLawful b → IsAccount b account → IsAsset b asset →
+      neg_ℤ (pos (unit_credit_of b account asset)) ≤ℤ units_of b account asset
+  pub no_money_credit : (b : Balances) (account : ℕ) → AreLawful b → IsAccount b account → money_credit_of b account ≡ 0 →
+      pos 0 ≤ℤ money_of b account
+  pub no_unit_credit : (b : Balances) (account asset : ℕ) → AreLawful b → IsAccount b account → IsAsset b asset → unit_credit_of b account asset ≡ 0 →
       pos 0 ≤ℤ units_of b account asset
 
--- no account has more than all accounts together
+-- no account has more than all accounts together and all that they may owe: 2^88 grains, and 2^56 units of an asset
 pub record SumsBoundBalances : Type 0 where
   pub money : (b : Balances) (account : ℕ) → AreLawful b → IsAccount b account →
-      money_of b account ≤ℤ money_of_all b
+      money_of b account ≤ℤ (money_of_all b +ℤ pos (2 ^ 88))
   pub units : (b : Balances) (account asset : ℕ) → AreLawful b → IsAccount b account → IsAsset b asset →
-      units_of b account asset ≤ℤ units_of_all b asset
+      units_of b account asset ≤ℤ (units_of_all b asset +ℤ pos (2 ^ 56))
 
 -- where all accounts together are near the totals, each change that is accepted fits
 abbrev pub ChangesFitNearSums : Type 0

@@ -4,17 +4,22 @@ use Rattle.std.specs.Prelude.{◌≡◌, ℕ, ◌≤◌, ℤ, pos, List, length,
 use Rattle.std.specs.List.{All}
 use Rattle.flow_accounts.specs.declared.Holding.{Holding}
 use Rattle.flow_accounts.specs.declared.Accounts.TheInside.{Inside}
-use Rattle.flow_accounts.specs.Balances.{Account, Balances}
+use Rattle.flow_accounts.specs.Balances.{Account, Credit, Balances}
 use Rattle.flow_accounts.specs.Lawful.{AreLawful}
 
 -- an account, of whose places for units the first are in use
 abbrev pub account_in : ℕ → Holding → Account
 account_in assets h = record { money = h.money; units = take assets h.units }
 
+-- its credit line
+abbrev pub credit_line_in : ℕ → Holding → Credit
+credit_line_in assets h = record { ticks = h.money_credit; units = take assets h.unit_credits }
+
 -- the balances that the fields stand for
 abbrev pub balances_in : Inside → Balances
 balances_in a = record {
   accounts = map (account_in a.assets) a.accounts.items;
+  credits = map (credit_line_in a.assets) a.accounts.items;
   total_money = a.total_money;
   total_units = take a.assets a.total_units;
 }
@@ -24,9 +29,15 @@ pub record HasSpare (assets : ℕ) (places : List ℤ) : Type 0 where
   pub places_made : length places ≡ 64
   pub zero_beyond : (k : ℕ) → assets ≤ k → slice_index_or places k (pos 0) ≡ pos 0
 
+-- the same of places for credits
+pub record HasSpareCredit (assets : ℕ) (places : List ℕ) : Type 0 where
+  pub places_made : length places ≡ 64
+  pub zero_beyond : (k : ℕ) → assets ≤ k → slice_index_or places k 0 ≡ 0
+
 -- what the fields keep
 pub record AreKept (a : Inside) : Type 0 where
   pub lawful : AreLawful (balances_in a)
   pub few_assets : a.assets ≤ 64
   pub totals : HasSpare a.assets a.total_units
   pub accounts : All (λ h. HasSpare a.assets h.units) a.accounts.items
+  pub credits : All (λ h. HasSpareCredit a.assets h.unit_credits) a.accounts.items

@@ -16,8 +16,13 @@ pub enum AccountFault {
     TotalLimit,
     /// As many accounts as there may be are there.
     Full,
-    /// The withdrawal is above what is free: the balance less what is reserved, in grains or units.
+    /// The withdrawal is above what is free: the balance less what is reserved, in grains or units, which is negative
+    /// where credit is in use.
     NotFree(i128),
+    /// The credit is above 2^40 ticks or units.
+    CreditLimit,
+    /// The credit is below what is in use of it, what is reserved less the balance, in grains or units.
+    InUse(i128),
     /// There is no memory for another account.
     Memory,
 }

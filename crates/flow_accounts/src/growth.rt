@@ -1,6 +1,6 @@
 ghost use Rattle.std.specs.Prelude.{◌≡◌, ◌+◌, ◌<◌, ◌↔◌, IsTrue, IfOk, IfErr, OnOk, OnErr};
 
-use crate::places::no_units;
+use crate::places::{no_credits, no_units};
 use crate::{AccountFault, Accounts, Holding, MOST_ACCOUNTS};
 
 impl Accounts {
@@ -8,7 +8,7 @@ impl Accounts {
     ghost use Rattle.flow_accounts.specs.Lawful.{AreLawful, most_accounts, most_assets};
     ghost use Rattle.flow_accounts.specs.Answers.{RefusesAccount};
 
-    /// Adds an asset, of which all balances and the total are 0. Its number is the count of assets
+    /// Adds an asset, of which all balances, all credits and the total are 0. Its number is the count of assets
     /// before. It grows nothing: each account has the place already.
     pub fn add_asset(&mut self)
         requires { asset_count self.old < most_assets }
@@ -18,7 +18,7 @@ impl Accounts {
         self.assets += 1;
     }
 
-    /// Opens an account that holds nothing, and answers its number, which is the new count of
+    /// Opens an account that holds nothing and has no credit, and answers its number, which is the new count of
     /// accounts.
     ///
     /// `Full` exactly where 65,536 accounts are there; else `Memory` where there is no room for one
@@ -38,6 +38,8 @@ impl Accounts {
         self.accounts.push(Holding {
             money: 0,
             units: no_units(),
+            money_credit: 0,
+            unit_credits: no_credits(),
         })?;
         Ok(count + 1)
     }

@@ -1,14 +1,14 @@
 //! Laws of the operations on balances. Each function does nothing: its contract is the law, over
 //! all balances.
 
-ghost use Rattle.flow_accounts.specs.Laws.{AccountsOpenEmpty, AssetsStartAtZero, MoneyMoves, NoBalanceIsNegative, UnitsMove, MoneyChanges, UnitsChange, TotalsStaySums, SumsBoundBalances, ChangesFitNearSums, ChangesFitAtSums};
+ghost use Rattle.flow_accounts.specs.Laws.{AccountsOpenEmpty, AssetsStartAtZero, MoneyMoves, NoBalanceIsBelowItsCredit, UnitsMove, MoneyCreditIsSet, UnitCreditIsSet, CreditsKeepLaw, MoneyChanges, UnitsChange, TotalsStaySums, SumsBoundBalances, ChangesFitNearSums, ChangesFitAtSums};
 
-/// An account that is opened holds nothing, and no balance or sum changes.
+/// An account that is opened holds nothing and has no credit, and no balance, credit or sum changes.
 pub fn accounts_open_empty()
     ensures { AccountsOpenEmpty }
 {}
 
-/// Of an asset that is added nobody holds a unit, and no balance or sum changes.
+/// Of an asset that is added nobody holds a unit or has credit, and no balance, credit or sum changes.
 pub fn assets_start_at_zero()
     ensures { AssetsStartAtZero }
 {}
@@ -40,12 +40,27 @@ pub fn totals_stay_sums()
     ensures { TotalsStaySums }
 {}
 
-/// No account has less than nothing.
-pub fn no_balance_is_negative()
-    ensures { NoBalanceIsNegative }
+/// A credit in money that is given changes nothing else.
+pub fn money_credit_is_set()
+    ensures { MoneyCreditIsSet }
 {}
 
-/// No account has more than all accounts together.
+/// A credit in an asset that is given changes nothing else.
+pub fn unit_credit_is_set()
+    ensures { UnitCreditIsSet }
+{}
+
+/// A credit that is accepted keeps balances lawful.
+pub fn credits_keep_law()
+    ensures { CreditsKeepLaw }
+{}
+
+/// No account owes more than its credit, and so one without credit has nothing less than nothing.
+pub fn no_balance_is_below_its_credit()
+    ensures { NoBalanceIsBelowItsCredit }
+{}
+
+/// No account has more than all accounts together and all that they may owe: 2^88 grains, and 2^56 units of an asset.
 pub fn sums_bound_balances()
     ensures { SumsBoundBalances }
 {}

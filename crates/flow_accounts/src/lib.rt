@@ -5,9 +5,11 @@
 //! ticks, and moved in grains when a batch is settled. Assets are kept in whole units. Accounts are
 //! numbered from 1, assets from 0.
 //!
-//! No balance is ever negative. A total may be: what an account gained in a settlement it may
-//! withdraw, though nobody deposited it. Whoever settles only among the accounts keeps each total
-//! equal to the sum of its balances, by the [`laws`].
+//! An account may get credit, in money and in each asset, for what its orders need: a balance may
+//! then fall to minus its credit, and never below. A withdrawal doesn't use credit. A total may be
+//! negative: what an account gained in a settlement it may withdraw, though nobody deposited it.
+//! Whoever settles only among the accounts keeps each total equal to the sum of its balances, by
+//! the [`laws`].
 //!
 //! # Limits
 //!
@@ -19,14 +21,15 @@
 //! # Costs
 //!
 //! Every call takes the same time however many accounts and assets there are, but that opening an
-//! account sometimes moves all of them to a larger block. An account takes 528 bytes, with the
+//! account sometimes moves all of them to a larger block. An account takes 1,056 bytes, with the
 //! places for all 64 assets in it. The block doubles as it grows, so it has up to twice the bytes
-//! of its accounts, and 33 MiB for 65,536 of them; while it is moved, the smaller one is there too.
+//! of its accounts, and 66 MiB for 65,536 of them; while it is moved, the smaller one is there too.
 //! Nothing but [`Accounts::add_account`] takes memory.
 #![tactic(auto)]
 
 ghost use Rattle.std.specs.Prelude.{◌≡◌, SomeIff};
 
+mod credit;
 mod deposits;
 mod fault;
 mod growth;
@@ -52,26 +55,31 @@ const PLACES: usize = 64;
 // One tick in grains.
 const GRAINS_PER_TICK: i128 = 1 << 32;
 
+// No credit is above this, in ticks or units.
+const MOST_CREDIT: u64 = 1 << 40;
+
 // No deposit takes the total of money above this, in grains.
 const MONEY_LIMIT: i128 = 1 << 100;
 
 // No deposit takes the total of an asset above this, in units.
 const UNIT_LIMIT: i128 = 1 << 60;
 
-// What an account holds. Of the places for units as many are in use as there are assets; the others
-// are 0.
+// What an account holds, and its credits: in whole ticks and in units. Of the places for units and for their credits as
+// many are in use as there are assets; the others are 0.
 #[derive(Clone, Copy)]
 struct Holding {
     money: i128,
     units: [i64; PLACES],
+    money_credit: u64,
+    unit_credits: [u64; PLACES],
 }
 
-const _: () = prove!(size_of::<Holding>() == 528);
+const _: () = prove!(size_of::<Holding>() == 1056);
 
 /// All accounts with their balances, and the totals of deposits less withdrawals.
 ///
 /// Contracts see one value: a list of accounts, each with its money and a list of its units by
-/// asset; the total of money; and the list of the assets' totals.
+/// asset; a list of their credit lines; the total of money; and the list of the assets' totals.
 #[derive(Drop)]
 pub struct Accounts {
     accounts: Vec<Holding>,

@@ -1,6 +1,6 @@
-ghost use Rattle.std.specs.Prelude.{◌≡◌, ◌↔◌, IsTrue, slice_set, pos, ◌+ℤ◌, ◌≤ℤ◌};
+ghost use Rattle.std.specs.Prelude.{◌≡◌, ◌↔◌, ◌^◌, IsTrue, slice_set, pos, ◌+ℤ◌, ◌-ℤ◌, ◌≤ℤ◌, ◌<ℤ◌};
 ghost use Rattle.flow_accounts.specs.Balances.{grains};
-ghost use Rattle.flow_accounts.specs.Places.{HasSpare};
+ghost use Rattle.flow_accounts.specs.Places.{HasSpare, HasSpareCredit};
 
 use crate::{Accounts, GRAINS_PER_TICK, PLACES};
 
@@ -18,8 +18,15 @@ pub(crate) fn no_units() -> [i64; PLACES]
     [0; PLACES]
 }
 
+// Places for credits, none of them in use.
+pub(crate) fn no_credits() -> [u64; PLACES]
+    ensures { HasSpareCredit 0 result }
+{
+    [0; PLACES]
+}
+
 impl Accounts {
-    ghost use Rattle.flow_accounts.specs.Balances.{IsAccount, IsAsset, money_of, units_of, total_units_of, change_money, change_units};
+    ghost use Rattle.flow_accounts.specs.Balances.{IsAccount, IsAsset, money_of, units_of, money_with_credit, units_with_credit, total_units_of, change_money, change_units};
     ghost use Rattle.flow_accounts.specs.Lawful.{AreLawful, IsMoneyBalance, IsUnitBalance, IsMoneyTotal, IsUnitTotal, money_limit, unit_limit};
     ghost use Rattle.flow_accounts.specs.Fits.{MoneyFits, UnitsFit};
 
@@ -40,6 +47,7 @@ impl Accounts {
         requires { IsAccount self.now account }
         ensures value { result ≡ money_of self.now account }
         ensures balance { IsMoneyBalance result }
+        ensures reach { money_with_credit self.now account ≤ℤ pos (2 ^ 125) }
     {
         self.accounts[account as usize - 1].money
     }
@@ -49,6 +57,7 @@ impl Accounts {
         requires asset { IsAsset self.now asset }
         ensures value { result ≡ units_of self.now account asset }
         ensures balance { IsUnitBalance result }
+        ensures reach { units_with_credit self.now account asset ≤ℤ pos (2 ^ 63) }
     {
         self.accounts[account as usize - 1].units[asset as usize]
     }
@@ -61,10 +70,52 @@ impl Accounts {
         self.total_units[asset as usize]
     }
 
+    // What an account holds of money less what is reserved, in grains; below 0 where credit is in use.
+    pub(crate) fn money_free(&self, account: u32, reserved: i128) -> i128
+        requires account { IsAccount self.now account }
+        requires not_negative { pos 0 ≤ℤ reserved }
+        requires covered { reserved ≤ℤ money_with_credit self.now account }
+        ensures { result ≡ money_of self.now account -ℤ reserved }
+    {
+        self.money_held(account) - reserved
+    }
+
+    // What is reserved less what an account holds of money, in grains: how much of its credit is in use.
+    pub(crate) fn money_owed(&self, account: u32, reserved: i128) -> i128
+        requires account { IsAccount self.now account }
+        requires not_negative { pos 0 ≤ℤ reserved }
+        requires covered { reserved ≤ℤ money_with_credit self.now account }
+        ensures { result ≡ reserved -ℤ money_of self.now account }
+    {
+        reserved - self.money_held(account)
+    }
+
+    // The same of the units of an asset.
+    pub(crate) fn units_free(&self, account: u32, asset: u16, reserved: i128) -> i128
+        requires account { IsAccount self.now account }
+        requires asset { IsAsset self.now asset }
+        requires not_negative { pos 0 ≤ℤ reserved }
+        requires covered { reserved ≤ℤ units_with_credit self.now account asset }
+        ensures free { result ≡ units_of self.now account asset -ℤ reserved }
+        ensures most { result <ℤ pos (2 ^ 62) }
+    {
+        i128::from(self.units_held(account, asset)) - reserved
+    }
+
+    pub(crate) fn units_owed(&self, account: u32, asset: u16, reserved: i128) -> i128
+        requires account { IsAccount self.now account }
+        requires asset { IsAsset self.now asset }
+        requires not_negative { pos 0 ≤ℤ reserved }
+        requires covered { reserved ≤ℤ units_with_credit self.now account asset }
+        ensures { result ≡ reserved -ℤ units_of self.now account asset }
+    {
+        reserved - i128::from(self.units_held(account, asset))
+    }
+
     // Changes the money of an account and the total.
     pub(crate) fn change_money(&mut self, account: u32, amount: i128)
         requires account { IsAccount self.old account }
-        requires not_negative { pos 0 ≤ℤ (money_of self.old account +ℤ amount) }
+        requires within_credit { pos 0 ≤ℤ (money_with_credit self.old account +ℤ amount) }
         requires within_limit { (self.old.total_money +ℤ amount) ≤ℤ money_limit }
         requires fits { MoneyFits self.old account amount }
         ensures changed { self.new ≡ change_money self.old account amount }
@@ -79,7 +130,7 @@ impl Accounts {
     pub(crate) fn change_units(&mut self, account: u32, asset: u16, amount: i64)
         requires account { IsAccount self.old account }
         requires asset { IsAsset self.old asset }
-        requires not_negative { pos 0 ≤ℤ (units_of self.old account asset +ℤ amount) }
+        requires within_credit { pos 0 ≤ℤ (units_with_credit self.old account asset +ℤ amount) }
         requires within_limit { (total_units_of self.old asset +ℤ amount) ≤ℤ unit_limit }
         requires fits { UnitsFit self.old account asset amount }
         ensures changed { self.new ≡ change_units self.old account asset amount }

@@ -3,14 +3,14 @@ ghost use Rattle.std.specs.Prelude.{◌≡◌, ◌^◌, pos, ◌+ℤ◌, ◌≤�
 use crate::Accounts;
 
 impl Accounts {
-    ghost use Rattle.flow_accounts.specs.Balances.{IsAccount, IsAsset, money_of, units_of, move_money, move_units};
+    ghost use Rattle.flow_accounts.specs.Balances.{IsAccount, IsAsset, money_of, units_of, money_with_credit, units_with_credit, move_money, move_units};
     ghost use Rattle.flow_accounts.specs.Lawful.{AreLawful};
 
     /// Changes the money of an account by so many grains, which may be negative, when a batch is
-    /// settled. The total stays.
+    /// settled. It doesn't fall below minus the account's credit. The total stays.
     pub fn add_money(&mut self, account: u32, amount: i128)
         requires account { IsAccount self.old account }
-        requires not_negative { pos 0 ≤ℤ (money_of self.old account +ℤ amount) }
+        requires within_credit { pos 0 ≤ℤ (money_with_credit self.old account +ℤ amount) }
         requires fits { (money_of self.old account +ℤ amount) <ℤ pos (2 ^ 124) }
         ensures moved { self.new ≡ move_money self.old account amount }
         ensures lawful { AreLawful self.new }
@@ -24,7 +24,7 @@ impl Accounts {
     pub fn add_units(&mut self, account: u32, asset: u16, amount: i64)
         requires account { IsAccount self.old account }
         requires asset { IsAsset self.old asset }
-        requires not_negative { pos 0 ≤ℤ (units_of self.old account asset +ℤ amount) }
+        requires within_credit { pos 0 ≤ℤ (units_with_credit self.old account asset +ℤ amount) }
         requires fits { (units_of self.old account asset +ℤ amount) <ℤ pos (2 ^ 62) }
         ensures moved { self.new ≡ move_units self.old account asset amount }
         ensures lawful { AreLawful self.new }

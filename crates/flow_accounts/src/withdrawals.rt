@@ -1,16 +1,24 @@
-ghost use Rattle.std.specs.Prelude.{◌≡◌, ◌↔◌, IsOk, IfOk, OnOk, OnErr, IfErr, pos, neg_ℤ, ◌≤ℤ◌};
+ghost use Rattle.std.specs.Prelude.{◌≡◌, ◌<◌, ◌^◌, ◌↔◌, IsOk, IfOk, OnOk, OnErr, IfErr, pos, neg_ℤ, ◌≤ℤ◌};
 
 use crate::places::grains_of;
 use crate::{AccountFault, Accounts};
 
+// A change by so many units less.
+fn less(units: u64) -> i64
+    requires { units < 2 ^ 62 }
+    ensures { result ≡ neg_ℤ (pos units) }
+{
+    -(units as i64)
+}
+
 impl Accounts {
-    ghost use Rattle.flow_accounts.specs.Balances.{grains, IsAccount, IsAsset, money_of, units_of, change_money, change_units};
+    ghost use Rattle.flow_accounts.specs.Balances.{grains, IsAccount, IsAsset, money_of, units_of, money_with_credit, units_with_credit, change_money, change_units};
     ghost use Rattle.flow_accounts.specs.Lawful.{AreLawful};
     ghost use Rattle.flow_accounts.specs.Answers.{AcceptsMoneyWithdrawal, RefusesMoneyWithdrawal, AcceptsUnitWithdrawal, RefusesUnitWithdrawal};
     ghost use Rattle.flow_accounts.specs.Fits.{MoneyFits, UnitsFit};
 
     /// Withdraws ticks: the account's money and the total of money fall by them. `reserved` is what
-    /// the account's orders may still need of its money, in grains: from 0 to the balance.
+    /// the account's orders may still need of its money, in grains: from 0 to the balance and the credit.
     ///
     /// The first of these that holds refuses it, and then nothing changes: `NoAccount`, where the
     /// account isn't there; `Zero`, for 0 ticks; `NotFree`, where the ticks are above the grains
@@ -24,7 +32,7 @@ impl Accounts {
         reserved: i128,
     ) -> Result<(), AccountFault>
         requires not_negative { pos 0 ≤ℤ reserved }
-        requires covered { IsAccount self.old account → reserved ≤ℤ money_of self.old account }
+        requires covered { IsAccount self.old account → reserved ≤ℤ money_with_credit self.old account }
         requires fits { AcceptsMoneyWithdrawal self.old account ticks reserved →
             MoneyFits self.old account (neg_ℤ (grains ticks)) }
         ensures accepted { IsOk result ↔ AcceptsMoneyWithdrawal self.old account ticks reserved }
@@ -40,7 +48,7 @@ impl Accounts {
 
     /// Withdraws units of an asset: the account's units and the asset's total fall by them.
     /// `reserved` is what the account's orders may still need of the asset, in units: from 0 to the
-    /// balance.
+    /// balance and the credit.
     ///
     /// The first of these that holds refuses it, and then nothing changes: `NoAccount` and
     /// `NoAsset`, where the account or the asset isn't there; `Zero`, for 0 units; `NotFree`, where
@@ -56,7 +64,7 @@ impl Accounts {
     ) -> Result<(), AccountFault>
         requires not_negative { pos 0 ≤ℤ reserved }
         requires covered { IsAccount self.old account → IsAsset self.old asset →
-            reserved ≤ℤ units_of self.old account asset }
+            reserved ≤ℤ units_with_credit self.old account asset }
         requires fits { AcceptsUnitWithdrawal self.old account asset units reserved →
             UnitsFit self.old account asset (neg_ℤ (pos units)) }
         ensures accepted { IsOk result ↔ AcceptsUnitWithdrawal self.old account asset units reserved }
@@ -71,7 +79,7 @@ impl Accounts {
     }
 
     /// The grains that [`Accounts::withdraw_money`] would add, which are negative, or the fault that it would
-    /// answer. `reserved` is as there, in grains: from 0 to the balance. Nothing changes.
+    /// answer. `reserved` is as there, in grains: from 0 to the balance and the credit. Nothing changes.
     pub fn money_withdrawal(
         &self,
         account: u32,
@@ -79,7 +87,7 @@ impl Accounts {
         reserved: i128,
     ) -> Result<i128, AccountFault>
         requires not_negative { pos 0 ≤ℤ reserved }
-        requires covered { IsAccount self.now account → reserved ≤ℤ money_of self.now account }
+        requires covered { IsAccount self.now account → reserved ≤ℤ money_with_credit self.now account }
         ensures accepted { IsOk result ↔ AcceptsMoneyWithdrawal self.now account ticks reserved }
         ensures refused { IfErr result (RefusesMoneyWithdrawal self.now account ticks reserved) }
         ensures amount { IfOk result (λ amount. amount ≡ neg_ℤ (grains ticks)) }
@@ -92,7 +100,7 @@ impl Accounts {
             return Err(AccountFault::Zero);
         }
         let amount = grains_of(ticks);
-        let free = self.money_held(account) - reserved;
+        let free = self.money_free(account, reserved);
         if amount > free {
             return Err(AccountFault::NotFree(free));
         }
@@ -100,7 +108,7 @@ impl Accounts {
     }
 
     /// The units that [`Accounts::withdraw_units`] would add, which are negative, or the fault that it would
-    /// answer. `reserved` is as there, in units: from 0 to the balance. Nothing changes.
+    /// answer. `reserved` is as there, in units: from 0 to the balance and the credit. Nothing changes.
     pub fn unit_withdrawal(
         &self,
         account: u32,
@@ -110,7 +118,7 @@ impl Accounts {
     ) -> Result<i64, AccountFault>
         requires not_negative { pos 0 ≤ℤ reserved }
         requires covered { IsAccount self.now account → IsAsset self.now asset →
-            reserved ≤ℤ units_of self.now account asset }
+            reserved ≤ℤ units_with_credit self.now account asset }
         ensures accepted { IsOk result ↔ AcceptsUnitWithdrawal self.now account asset units reserved }
         ensures refused { IfErr result (RefusesUnitWithdrawal self.now account asset units reserved) }
         ensures amount { IfOk result (λ amount. amount ≡ neg_ℤ (pos units)) }
@@ -125,10 +133,10 @@ impl Accounts {
         if units == 0 {
             return Err(AccountFault::Zero);
         }
-        let units_free = i128::from(self.units_held(account, asset)) - reserved;
-        if i128::from(units) > units_free {
-            return Err(AccountFault::NotFree(units_free));
+        let free = self.units_free(account, asset, reserved);
+        if i128::from(units) > free {
+            return Err(AccountFault::NotFree(free));
         }
-        Ok(-(units as i64))
+        Ok(less(units))
     }
 }

@@ -14,8 +14,8 @@ use Rattle.flow_orders.specs.Own.{clearing_at, floor_rates, rates_by_choice}
 
 buyer_and_seller : List Order
 buyer_and_seller =
-    record { number = 1; account = 1; low = pos 386547056640; high = pos 472446402560; rate = 1000; cap = 10000; filled = 0; row = record { asset = 0; weight = pos 1 } ∷ [] }
-    ∷ record { number = 2; account = 2; low = neg_ℤ (pos 472446402560); high = neg_ℤ (pos 386547056640); rate = 1000; cap = 10000; filled = 0; row = record { asset = 0; weight = neg_ℤ (pos 1) } ∷ [] }
+    record { number = 1; account = 1; low = pos 386547056640; high = pos 472446402560; rate = 1000; cap = 10000; filled = 0; row = record { asset = 0; weight = pos 1 } ∷ []; last = 0 }
+    ∷ record { number = 2; account = 2; low = neg_ℤ (pos 472446402560); high = neg_ℤ (pos 386547056640); rate = 1000; cap = 10000; filled = 0; row = record { asset = 0; weight = neg_ℤ (pos 1) } ∷ []; last = 0 }
     ∷ []
 
 one_price : List ℤ
@@ -55,9 +55,9 @@ chosen_published = refl
 
 portfolio_book : List Order
 portfolio_book =
-    record { number = 1; account = 1; low = pos 429496729600; high = pos 2147483648000; rate = 100; cap = 1000; filled = 0; row = record { asset = 0; weight = pos 1 } ∷ record { asset = 1; weight = pos 1 } ∷ [] }
-    ∷ record { number = 2; account = 2; low = neg_ℤ (pos 472446402560); high = neg_ℤ (pos 386547056640); rate = 1000; cap = 10000; filled = 0; row = record { asset = 0; weight = neg_ℤ (pos 1) } ∷ [] }
-    ∷ record { number = 3; account = 2; low = neg_ℤ (pos 472446402560); high = neg_ℤ (pos 386547056640); rate = 1000; cap = 10000; filled = 0; row = record { asset = 1; weight = neg_ℤ (pos 1) } ∷ [] }
+    record { number = 1; account = 1; low = pos 429496729600; high = pos 2147483648000; rate = 100; cap = 1000; filled = 0; row = record { asset = 0; weight = pos 1 } ∷ record { asset = 1; weight = pos 1 } ∷ []; last = 0 }
+    ∷ record { number = 2; account = 2; low = neg_ℤ (pos 472446402560); high = neg_ℤ (pos 386547056640); rate = 1000; cap = 10000; filled = 0; row = record { asset = 0; weight = neg_ℤ (pos 1) } ∷ []; last = 0 }
+    ∷ record { number = 3; account = 2; low = neg_ℤ (pos 472446402560); high = neg_ℤ (pos 386547056640); rate = 1000; cap = 10000; filled = 0; row = record { asset = 1; weight = neg_ℤ (pos 1) } ∷ []; last = 0 }
     ∷ []
 
 two_prices : List ℤ

@@ -27,7 +27,7 @@ use Rattle.flow_orders.proofs.WalkLaws.{right_clearings_are_optimal}
 -- an order that was just placed, with its limits in ticks
 abbrev order : (number account : ℕ) (low high : ℤ) (rate cap : ℕ) → List Entry → Order
 order number account low high rate cap row =
-    record { number = number; account = account; low = price_of_ticks low; high = price_of_ticks high; rate = rate; cap = cap; filled = 0; row = row }
+    record { number = number; account = account; low = price_of_ticks low; high = price_of_ticks high; rate = rate; cap = cap; filled = 0; row = row; last = 0 }
 
 abbrev entry : ℕ → ℤ → Entry
 entry asset weight = record { asset = asset; weight = weight }

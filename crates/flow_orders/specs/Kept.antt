@@ -13,6 +13,7 @@ order_in o = record {
   cap = o.cap;
   filled = o.filled;
   row = o.row;
+  last = o.last;
 }
 
 -- what is kept is an order within the limits

@@ -6,7 +6,8 @@ use Rattle.weight_rows.specs.Rows.{IsLawfulRow, weight_in}
 use Rattle.demand_curve.specs.Demand.{Terms, IsWithin, IsWithinLimits}
 use Rattle.demand_curve.specs.Numbers.{or_zero}
 
--- an order: its number and account, its limits, the rate that it asks for at most, its cap and what is filled of it, and its row
+-- an order: its number and account, its limits, the rate that it asks for at most, its cap and what is filled of it, its row,
+-- and the number of the last batch in which it trades, 0 where it has none
 pub record Order : Type 0 where
   pub number : ℕ
   pub account : ℕ
@@ -16,6 +17,7 @@ pub record Order : Type 0 where
   pub cap : ℕ
   pub filled : ℕ
   pub row : List Entry
+  pub last : ℕ
 
 -- no limit price is more ticks away from 0
 abbrev pub most_ticks : ℕ

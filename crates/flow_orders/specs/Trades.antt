@@ -1,5 +1,5 @@
 -- What orders trade in a batch, what is left over of each asset, and which orders stay.
-use Rattle.std.specs.Prelude.{ℕ, ◌+◌, nat_lt, Bool, ℤ, pos, ◌*ℤ◌, List, [], ◌∷◌, map, length}
+use Rattle.std.specs.Prelude.{ℕ, ◌+◌, nat_lt, ◌==◌, Bool, not, ℤ, pos, ◌*ℤ◌, List, [], ◌∷◌, map, length}
 use Rattle.std.specs.List.{range_with_len, filter}
 use Rattle.list_sums.specs.Sums.{int_sum_by}
 use Rattle.weight_rows.specs.Rows.{weight_in, price_of}
@@ -48,3 +48,7 @@ is_live o = nat_lt o.filled o.cap
 -- the orders that stay after the batch: those that aren't filled to their cap
 abbrev pub staying : List Trade → List Order
 staying ts = filter is_live (map after_fill ts)
+
+-- the orders that go on after the batch of a number was held, cleared or skipped: all but those whose last one it was
+abbrev pub going_on : ℕ → List Order → List Order
+going_on batch orders = filter (λ o. not (o.last == batch)) orders

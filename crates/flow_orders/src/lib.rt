@@ -5,7 +5,7 @@
 //! excess and bounds, moves and walks of prices, trades and residuals, right outcomes and the program's own one,
 //! welfare and the dual. [`laws`] has what holds of them.
 //!
-//! [`Order`] is an order as the program keeps it: 64 bytes beside the entries of its row. [`order_fault`] tells
+//! [`Order`] is an order as the program keeps it: 72 bytes beside the entries of its row. [`order_fault`] tells
 //! what is wrong with the numbers of one that is asked for, [`money_need`] and [`unit_need`] tell what it needs.
 //! [`add_residuals`] adds up what rates leave over of each asset, and [`spread`] and [`steepness`] bound what a book of
 //! orders leaves over of one. No call takes memory. Each takes constant time, but `add_residuals`, which goes once over

@@ -13,7 +13,8 @@ use weight_rows::WeightRow;
 pub(crate) const GRAINS_PER_TICK: i64 = 1 << 32;
 
 /// An order that isn't filled to its cap: its number and account, its limit prices, the rate that it asks for at most
-/// in a batch, its cap, how much of the cap is filled, and the row of its portfolio.
+/// in a batch, its cap, how much of the cap is filled, the row of its portfolio, and the number of the last batch in
+/// which it trades, 0 where it has none.
 ///
 /// The order type is that of Flow Trading (Budish, Cramton, Kyle, Lee and Malec, 2023): it buys a portfolio at a rate
 /// per batch that falls as the portfolio's price rises, up to a cumulative cap. Whole ticks and units and the limits of
@@ -30,10 +31,11 @@ pub struct Order {
     rate: u32,
     low: i32,
     high: i32,
+    last: u32,
     row: WeightRow,
 }
 
-const _: () = prove!(size_of::<Order>() == 64);
+const _: () = prove!(size_of::<Order>() == 72);
 
 impl Model for Order {
     ghost use Rattle.flow_orders.specs.Orders.{Order as order_value};
@@ -74,6 +76,7 @@ impl Order {
           cap = cap;
           filled = 0;
           row = row;
+          last = 0;
         } }
         ensures order { IsOrder result }
     {
@@ -85,8 +88,43 @@ impl Order {
             rate,
             low: low as i32,
             high: high as i32,
+            last: 0,
             row,
         }
+    }
+
+    /// An order of which nothing is filled and that trades for the last time in the batch of number `last`. The limits
+    /// are in ticks; [`order_fault`](crate::order_fault) finds no fault in the numbers.
+    pub fn until(
+        number: u64,
+        account: u32,
+        low: i64,
+        high: i64,
+        rate: u32,
+        cap: u64,
+        last: u32,
+        row: WeightRow,
+    ) -> Order
+        requires limits { AreLimits low high }
+        requires rate { IsFrom1To most_rate rate }
+        requires cap { IsFrom1To most_cap cap }
+        requires last { 1 ≤ last }
+        ensures value { result ≡ record {
+          number = number;
+          account = account;
+          low = price_of_ticks low;
+          high = price_of_ticks high;
+          rate = rate;
+          cap = cap;
+          filled = 0;
+          row = row;
+          last = last;
+        } }
+        ensures order { IsOrder result }
+    {
+        let mut order = Order::new(number, account, low, high, rate, cap, row);
+        order.last = last;
+        order
     }
 
     /// The order's number.
@@ -143,6 +181,14 @@ impl Order {
         ensures order { IsOrder self.now }
     {
         self.filled
+    }
+
+    /// The number of the last batch in which it trades, or 0 where it has none.
+    pub fn last(&self) -> u32
+        ensures value { result ≡ self.now.last }
+        ensures order { IsOrder self.now }
+    {
+        self.last
     }
 
     /// The row of its portfolio, which is a lawful one.

@@ -1,17 +1,25 @@
 -- Journals as files: pairs of records, whatever they ask and answer.
-use Rattle.std.specs.Prelude.{ℕ, List}
+use Rattle.std.specs.Prelude.{ℕ, List, ◌++◌}
+use Rattle.std.specs.List.{flat_map}
 use Rattle.wire_records.specs.Records.{Record, most_body}
 use Rattle.wire_records.specs.Commands.{Pair}
 use Rattle.wire_records.specs.Grammars.{both}
 use Rattle.wire_records.specs.Reading.{Format}
-use Rattle.wire_records.specs.Formats.{Version, One, magics, records, EitherStatesOver}
+use Rattle.wire_records.specs.declared.version.Version.{Version}
+use Rattle.wire_records.specs.declared.version.Version.TheVariants.{One, Two}
+use Rattle.wire_records.specs.Formats.{magics, records, EitherStatesOver}
 use Rattle.flow_orders.specs.Outcomes.{Outcome}
 use Rattle.journal_records.specs.Replies.{answer_record, most_reply_body}
-use Rattle.journal_records.specs.Pairs.{journal_magic}
+use Rattle.journal_records.specs.Pairs.{pair_spelling, journal_magic, journal_magic_2}
 
 -- the magic of a journal of each version
 abbrev pub journal_magic_of : Version → List ℕ
 journal_magic_of One = journal_magic
+journal_magic_of Two = journal_magic_2
+
+-- the bytes of a journal of these pairs, in a version
+abbrev pub journal_in : Version → List (Pair Record Outcome) → List ℕ
+journal_in version pairs = journal_magic_of version ++ flat_map pair_spelling pairs
 
 -- journals: a command record, and behind it the record of a reply, each with a body within its limit
 abbrev pub journals : Format Version (Record × Record)

@@ -5,11 +5,12 @@ use Rattle.wire_records.specs.Records.{Record, IsRecord}
 use Rattle.wire_records.specs.Commands.{Answer, Plain, Batch, Pair}
 use Rattle.wire_records.specs.Grammars.{spell_all}
 use Rattle.wire_records.specs.Reading.{Reading, File, End, Reads}
-use Rattle.wire_records.specs.Formats.{Version, One}
+use Rattle.wire_records.specs.declared.version.Version.{Version}
+use Rattle.wire_records.specs.declared.version.Version.TheVariants.{One}
 use Rattle.flow_orders.specs.Outcomes.{Clearing, Skipping, Outcome, Cleared, Skipped}
 use Rattle.journal_records.specs.Replies.{answer_record, IsAnswer, most_reply_body, IsWithinLimits}
-use Rattle.journal_records.specs.Pairs.{IsPair, pair_spelling, journal_magic, journal, plain_room, cleared_room, skipped_room}
-use Rattle.journal_records.specs.Formats.{journals, records_of}
+use Rattle.journal_records.specs.Pairs.{IsPair, pair_spelling, journal, plain_room, cleared_room, skipped_room}
+use Rattle.journal_records.specs.Formats.{journals, journal_in, records_of}
 
 -- a record spells at most one answer
 abbrev pub OneAnswer : Type 0
@@ -49,12 +50,17 @@ OneJournalFile =
     (limit : ℕ) (bytes : List ℕ)
     → (r : Reading Version (Record × Record)) × Reads journals limit bytes r × ((s : Reading Version (Record × Record)) → Reads journals limit bytes s → s ≡ r)
 
--- a journal of pairs is the file of their records
-abbrev pub JournalIsFile : Type 0
-JournalIsFile = (pairs : List (Pair Record Outcome)) → journal pairs ≡ journal_magic ++ spell_all journals.units (map records_of pairs)
+-- a journal of pairs is the file of their records, and so in each version
+pub record JournalIsFile : Type 0 where
+  pub one : (pairs : List (Pair Record Outcome)) → journal pairs ≡ journal_in One pairs
+  pub file : (version : Version) (pairs : List (Pair Record Outcome)) → journal_in version pairs ≡ journals.magics.spell version ++ spell_all journals.units (map records_of pairs)
 
--- a journal within the limit is read as the records of its pairs, to its end
+-- a journal within the limit is read as the records of its pairs, in its version and to its end
 abbrev pub JournalIsRead : Type 0
 JournalIsRead =
-    (limit : ℕ) (pairs : List (Pair Record Outcome)) → All IsPair pairs → length (journal pairs) ≤ limit
-    → Reads journals limit (journal pairs) (File One (map records_of pairs) End)
+    (limit : ℕ) (version : Version) (pairs : List (Pair Record Outcome)) → All IsPair pairs → length (journal_in version pairs) ≤ limit
+    → Reads journals limit (journal_in version pairs) (File version (map records_of pairs) End)
+
+-- journals that are the same bytes are of one version, and their pairs are the same
+abbrev pub OneJournal : Type 0
+OneJournal = (v w : Version) (p q : List (Pair Record Outcome)) → All IsPair p → All IsPair q → journal_in v p ≡ journal_in w q → (v ≡ w) × (p ≡ q)

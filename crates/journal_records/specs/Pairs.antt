@@ -16,11 +16,15 @@ pub record IsPair (pair : Pair Record Outcome) : Type 0 where
 unfoldable pub pair_spelling : Pair Record Outcome → List ℕ
 pair_spelling pair = spelling pair.asked ++ spelling (answer_record pair.answer)
 
--- the magic of a journal
+-- the magic of a journal of version One
 abbrev pub journal_magic : List ℕ
 journal_magic = codes "FLOWJNL1"
 
--- the bytes of a journal of these pairs
+-- and of one of version Two
+abbrev pub journal_magic_2 : List ℕ
+journal_magic_2 = codes "FLOWJNL2"
+
+-- the bytes of a journal of these pairs, in version One
 abbrev pub journal : List (Pair Record Outcome) → List ℕ
 journal pairs = journal_magic ++ flat_map pair_spelling pairs
 

@@ -1,18 +1,40 @@
 //! Journals as files.
-ghost use Rattle.std.specs.Prelude.{ℕ, List, ◌↔◌, IsTrue};
-ghost use Rattle.wire_records.specs.Grammars.{BeginsWith};
-ghost use Rattle.wire_records.specs.Formats.{One};
+ghost use Rattle.std.specs.Prelude.{◌≡◌, ℕ, List, ◌↔◌, Some, IfNone, IsTrue};
+ghost use Rattle.wire_records.specs.Grammars.{BeginsWith, BeginsWithNone};
+ghost use Rattle.wire_records.specs.declared.version.Version.{Version};
+ghost use Rattle.wire_records.specs.declared.version.Version.TheVariants.{One};
 ghost use Rattle.journal_records.specs.Formats.{journals};
 
-/// The first 8 bytes of a journal.
+use wire_records::Version;
+
+/// The first 8 bytes of a journal of version One.
 pub const JOURNAL_MAGIC: [u8; 8] = *b"FLOWJNL1";
+
+/// The first 8 bytes of a journal of version Two.
+pub const JOURNAL_MAGIC_2: [u8; 8] = *b"FLOWJNL2";
 
 /// The longest body of a reply's record in a journal, in bytes.
 pub const MOST_REPLY_BODY: u32 = 262_144;
 
-/// Whether the bytes begin as a journal, so that pairs stand behind the first 8. Constant cost.
+/// Whether the bytes begin as a journal of version One, so that pairs stand behind the first 8. Constant cost.
 pub fn is_journal(bytes: &[u8]) -> bool
     ensures { IsTrue result ↔ ((body : List ℕ) × BeginsWith journals.magics bytes.now One body) }
 {
     bytes.starts_with(&JOURNAL_MAGIC)
+}
+
+/// The version of which the bytes begin as a journal, so that its pairs stand behind the first 8; `None` exactly where
+/// they begin with no version's magic. Constant cost.
+pub fn journal_version(bytes: &[u8]) -> Option<Version>
+    ensures exact { (version : Version) → (result ≡ Some version)
+        ↔ ((body : List ℕ) × BeginsWith journals.magics bytes.now version body) }
+    ensures none { IfNone result (BeginsWithNone journals.magics bytes.now) }
+{
+    if bytes.starts_with(&JOURNAL_MAGIC) {
+        Some(Version::One)
+    } else if bytes.starts_with(&JOURNAL_MAGIC_2) {
+        Some(Version::Two)
+    } else {
+        None
+    }
 }

@@ -2,10 +2,10 @@
 //! does nothing.
 ghost use Rattle.std.specs.Prelude.{◌≡◌};
 ghost use Rattle.journal_records.specs.Replies.{most_reply_body};
-ghost use Rattle.journal_records.specs.Pairs.{journal_magic};
-ghost use Rattle.journal_records.specs.Laws.{OneAnswer, OnePair, PairFits, ClearedPairFits, SkippedPairFits, PlainRepliesFit, BatchRepliesFit, OneJournalFile, JournalIsFile, JournalIsRead};
+ghost use Rattle.journal_records.specs.Pairs.{journal_magic, journal_magic_2};
+ghost use Rattle.journal_records.specs.Laws.{OneAnswer, OnePair, PairFits, ClearedPairFits, SkippedPairFits, PlainRepliesFit, BatchRepliesFit, OneJournalFile, JournalIsFile, JournalIsRead, OneJournal};
 
-use crate::{JOURNAL_MAGIC, MOST_REPLY_BODY};
+use crate::{JOURNAL_MAGIC, JOURNAL_MAGIC_2, MOST_REPLY_BODY};
 
 /// A record spells at most one answer.
 pub fn one_answer()
@@ -49,12 +49,17 @@ pub fn one_journal_file()
     ensures { OneJournalFile }
 {}
 
-/// A journal of pairs is the file of their records, so what was written is what is read.
+/// A journal of pairs is the file of their records, in each version, so what was written is what is read.
 pub fn journal_is_file()
     ensures { JournalIsFile }
 {}
 
-/// A journal within the limit is read as the records of its pairs, to its end.
+/// Journals that are the same bytes are of one version, and their pairs are the same.
+pub fn one_journal()
+    ensures { OneJournal }
+{}
+
+/// A journal within the limit is read as the records of its pairs, in its version and to its end.
 pub fn journal_is_read()
     ensures { JournalIsRead }
 {}
@@ -62,5 +67,6 @@ pub fn journal_is_read()
 /// The magic and the limit that the code names are those of the definitions.
 pub fn constant_is_named()
     ensures magic { JOURNAL_MAGIC ≡ journal_magic }
+    ensures magic_2 { JOURNAL_MAGIC_2 ≡ journal_magic_2 }
     ensures most_reply_body { MOST_REPLY_BODY ≡ most_reply_body }
 {}

@@ -4,6 +4,7 @@
 //! can't fail. [`write_cleared`] writes the pair of a batch that cleared, and [`write_skipped`] that of one that was
 //! skipped, straight from what is published of it.
 //!
+//! [`journal_version`] looks at the magic before the first pair, and says which version it is of.
 //! [`next_pair`] takes a pair off the front of borrowed bytes, [`is_overlong`] says of bytes without one whether any that
 //! follow could make one of them, and [`reply`] says which answer the pair's second record spells. All is read where it
 //! lies: a [`ClearedView`] tells a batch's numbers by their places, and can be checked as it is, and a [`SkippedView`]
@@ -35,7 +36,7 @@ mod skipped_view;
 
 pub use cleared::write_cleared;
 pub use cleared_view::ClearedView;
-pub use file::{JOURNAL_MAGIC, MOST_REPLY_BODY, is_journal};
+pub use file::{JOURNAL_MAGIC, JOURNAL_MAGIC_2, MOST_REPLY_BODY, is_journal, journal_version};
 pub use pair::{PairFramed, PairView, is_overlong, next_pair};
 pub use plain::{reserve_plain, write_plain};
 pub use reply_view::{ReplyView, reply};

@@ -93,7 +93,7 @@ fn plain_in(tag: u8, body: &[u8]) -> Option<Reply>
 }
 
 /// The answer that a record spells, where it lies; `None` exactly where it spells none: its tag is outside 128 to 134, or
-/// its body isn't of the length that its fields state, or the code of a refusal is outside 1 to 19. Constant cost, and
+/// its body isn't of the length that its fields state, or the code of a refusal is none's. Constant cost, and
 /// nothing is allocated.
 pub fn reply<'a>(answered: &RecordView<'a>) -> Option<ReplyView<'a>>
     ensures { IsReplyRead answered.now result }

@@ -20,3 +20,6 @@ not_below a b none = by_lt_z a b (λ below. absurd (none below)) (λ above. abov
 
 pub not_least : (a b : ℕ) → (a ≤ b → ⊥) → b < a
 not_least a b none = elim (cases_lt b a) [ inl below ↦ below | inr not ↦ absurd (none not) ]
+
+pub not_above : (a b : ℕ) → (a < b → ⊥) → b ≤ a
+not_above a b none = elim (cases_lt a b) [ inl above ↦ absurd (none above) | inr not ↦ not ]

@@ -19,7 +19,7 @@ use Rattle.flow_orders.specs.Own.{IsOwnOutcome}
 use Rattle.market_core.specs.Market.{Market, IsSound}
 use Rattle.market_core.specs.Step.{FirstRefusal, Serves}
 use Rattle.market_core.specs.Private.{IsAnswered, refusal_for, ticker_refusal}
-use Rattle.market_core.proofs.Fitting.{sound-served}
+use Rattle.market_core.proofs.Fitting.{sound-served, of_each}
 
 -- a ticker that can be added is refused by nothing
 pub addable_is_accepted : (m : Market) (ticker : List ℕ) → IsAddable m.tickers ticker → FirstRefusal m (AddAsset ticker) None
@@ -91,10 +91,12 @@ module _ (Rule : BatchRule) where
   refuses-account_fault m new fault.Zero refused answered same = absurd refused
   refuses-account_fault m new fault.TotalLimit refused answered same = absurd refused
   refuses-account_fault m new (fault.NotFree free) refused answered same = absurd refused
+  refuses-account_fault m new fault.CreditLimit refused answered same = absurd refused
+  refuses-account_fault m new (fault.InUse used) refused answered same = absurd refused
   refuses-account_fault m new fault.Memory refused answered same = absurd answered
 
 -- whether an account was opened or not, a sound market stays sound
 pub sound-opened : (m : Market) (now : Balances) (outcome : Result ℕ AccountFault) → IsSound m → OnOk outcome (account_count m.balances < most_accounts)
     → OnOk outcome (now ≡ open_account m.balances) → OnErr outcome (now ≡ m.balances) → IsSound (record m { balances = now })
-sound-opened m now (Ok number) sound few opened same = sound-served m OpenAccount _ (record m { balances = now }) sound (serves-open_account IsOwnOutcome m now few opened)
+sound-opened m now (Ok number) sound few opened same = sound-served m OpenAccount _ (record m { balances = now }) (of_each m.version OpenAccount (omega arith) (omega arith)) sound (serves-open_account IsOwnOutcome m now few opened)
 sound-opened m now (Err why) sound few opened same = subst (λ b. IsSound (record m { balances = b })) (sym same) sound

@@ -2,14 +2,14 @@
 use Rattle.std.proofs.Common.{◌≡◌, ℕ, inl, inr, Result, Ok, Err, Some, None, OnOk, OnErr, IsOk, ◌↔◌, refl, ap, arith}
 use Rattle.std.specs.Prelude.{IfErr, MatchResult}
 use Rattle.std.proofs.lemmas.Int.{ints}
-use Rattle.wire_records.specs.Commands.{DepositMoney, DepositAsset, WithdrawMoney, WithdrawAsset, Plain}
+use Rattle.wire_records.specs.Commands.{DepositMoney, DepositAsset, WithdrawMoney, WithdrawAsset, SetMoneyCredit, SetUnitCredit, Plain}
 use Rattle.wire_records.specs.declared.reply.Reply.{Reply}
 use Rattle.wire_records.specs.declared.reply.Reply.TheVariants.{Done, Refused}
 use Rattle.wire_records.specs.declared.reply.Refusal.TheVariants as refusals
 use Rattle.flow_accounts.specs.declared.fault.AccountFault.{AccountFault}
 use Rattle.flow_accounts.specs.declared.fault.AccountFault.TheVariants as fault
-use Rattle.flow_accounts.specs.Balances.{Balances, grains, change_money, change_units}
-use Rattle.flow_accounts.specs.Answers.{AcceptsMoneyDeposit, RefusesMoneyDeposit, AcceptsUnitDeposit, RefusesUnitDeposit, AcceptsMoneyWithdrawal, RefusesMoneyWithdrawal, AcceptsUnitWithdrawal, RefusesUnitWithdrawal}
+use Rattle.flow_accounts.specs.Balances.{Balances, grains, change_money, change_units, set_money_credit, set_unit_credit}
+use Rattle.flow_accounts.specs.Answers.{AcceptsMoneyDeposit, RefusesMoneyDeposit, AcceptsUnitDeposit, RefusesUnitDeposit, AcceptsMoneyWithdrawal, RefusesMoneyWithdrawal, AcceptsUnitWithdrawal, RefusesUnitWithdrawal, AcceptsMoneyCredit, RefusesMoneyCredit, AcceptsUnitCredit, RefusesUnitCredit}
 use Rattle.std.specs.Prelude.{pos, neg_ℤ}
 use Rattle.flow_orders.specs.Outcomes.{BatchRule}
 use Rattle.flow_orders.specs.Orders.{needed_money, needed_units}
@@ -49,6 +49,8 @@ module _ (Rule : BatchRule) (m : Market) (now : Balances) where
   serves-deposit_money account ticks (Err fault.NoAsset) reply accepted refused ok err is = absurd refused
   serves-deposit_money account ticks (Err fault.Full) reply accepted refused ok err is = absurd refused
   serves-deposit_money account ticks (Err (fault.NotFree free)) reply accepted refused ok err is = absurd refused
+  serves-deposit_money account ticks (Err fault.CreditLimit) reply accepted refused ok err is = absurd refused
+  serves-deposit_money account ticks (Err (fault.InUse used)) reply accepted refused ok err is = absurd refused
   serves-deposit_money account ticks (Err fault.Memory) reply accepted refused ok err is = absurd refused
 
   pub serves-deposit_units : {T : Type 0} (account asset units : ℕ) (outcome : Result T AccountFault) (reply : Reply)
@@ -76,6 +78,8 @@ module _ (Rule : BatchRule) (m : Market) (now : Balances) where
       }
   serves-deposit_units account asset units (Err fault.Full) reply accepted refused ok err is = absurd refused
   serves-deposit_units account asset units (Err (fault.NotFree free)) reply accepted refused ok err is = absurd refused
+  serves-deposit_units account asset units (Err fault.CreditLimit) reply accepted refused ok err is = absurd refused
+  serves-deposit_units account asset units (Err (fault.InUse used)) reply accepted refused ok err is = absurd refused
   serves-deposit_units account asset units (Err fault.Memory) reply accepted refused ok err is = absurd refused
 
   -- a withdrawal, where what the orders of the account need is reserved
@@ -103,6 +107,8 @@ module _ (Rule : BatchRule) (m : Market) (now : Balances) where
   serves-withdraw_money account ticks (Err fault.NoAsset) reply accepted refused ok err is = absurd refused
   serves-withdraw_money account ticks (Err fault.TotalLimit) reply accepted refused ok err is = absurd refused
   serves-withdraw_money account ticks (Err fault.Full) reply accepted refused ok err is = absurd refused
+  serves-withdraw_money account ticks (Err fault.CreditLimit) reply accepted refused ok err is = absurd refused
+  serves-withdraw_money account ticks (Err (fault.InUse used)) reply accepted refused ok err is = absurd refused
   serves-withdraw_money account ticks (Err fault.Memory) reply accepted refused ok err is = absurd refused
 
   pub serves-withdraw_units : {T : Type 0} (account asset units : ℕ) (outcome : Result T AccountFault) (reply : Reply) → let reserved = needed_units m.orders account asset in
@@ -130,4 +136,65 @@ module _ (Rule : BatchRule) (m : Market) (now : Balances) where
       }
   serves-withdraw_units account asset units (Err fault.TotalLimit) reply accepted refused ok err is = absurd refused
   serves-withdraw_units account asset units (Err fault.Full) reply accepted refused ok err is = absurd refused
+  serves-withdraw_units account asset units (Err fault.CreditLimit) reply accepted refused ok err is = absurd refused
+  serves-withdraw_units account asset units (Err (fault.InUse used)) reply accepted refused ok err is = absurd refused
   serves-withdraw_units account asset units (Err fault.Memory) reply accepted refused ok err is = absurd refused
+
+  -- a credit in money, where what the orders of the account need is reserved
+  pub serves-set_money_credit : {T : Type 0} (account ticks : ℕ) (outcome : Result T AccountFault) (reply : Reply) → let reserved = needed_money m.orders account in
+      (IsOk outcome ↔ AcceptsMoneyCredit m.balances account ticks reserved) → IfErr outcome (RefusesMoneyCredit m.balances account ticks reserved)
+      → OnOk outcome (now ≡ set_money_credit m.balances account ticks) → OnErr outcome (now ≡ m.balances) → Replies outcome reply
+      → Serves Rule m (SetMoneyCredit account ticks) (Plain reply) made
+  serves-set_money_credit account ticks (Ok x) reply accepted refused ok err is =
+      let a = accepted.0 refl in
+      record {
+        first = None;
+        refused = inr (a.account_there, inr (λ above. omega (arith, above, a.within_limit), inr (λ short. omega (arith, ints, short, a.covers), refl)));
+        answered = (ap Plain is, ap (λ b. record m { balances = b }) ok);
+      }
+  serves-set_money_credit account ticks (Err fault.NoAccount) reply accepted refused ok err is =
+      record { first = Some refusals.NoAccount; refused = inl (refused, refl); answered = (ap Plain is, ap (λ b. record m { balances = b }) err) }
+  serves-set_money_credit account ticks (Err fault.CreditLimit) reply accepted refused ok err is =
+      record { first = Some refusals.CreditLimit; refused = inr (refused.0, inl (refused.1, refl)); answered = (ap Plain is, ap (λ b. record m { balances = b }) err) }
+  serves-set_money_credit account ticks (Err (fault.InUse used)) reply accepted refused ok err is =
+      record {
+        first = Some refusals.CreditInUse;
+        refused = inr (refused.0, inr (λ above. omega (arith, above, refused.1), inl (omega (arith, ints, refused.2, refused.3), refl)));
+        answered = (ap Plain is, ap (λ b. record m { balances = b }) err);
+      }
+  serves-set_money_credit account ticks (Err fault.NoAsset) reply accepted refused ok err is = absurd refused
+  serves-set_money_credit account ticks (Err fault.Zero) reply accepted refused ok err is = absurd refused
+  serves-set_money_credit account ticks (Err fault.TotalLimit) reply accepted refused ok err is = absurd refused
+  serves-set_money_credit account ticks (Err fault.Full) reply accepted refused ok err is = absurd refused
+  serves-set_money_credit account ticks (Err (fault.NotFree free)) reply accepted refused ok err is = absurd refused
+  serves-set_money_credit account ticks (Err fault.Memory) reply accepted refused ok err is = absurd refused
+
+  -- and in an asset
+  pub serves-set_unit_credit : {T : Type 0} (account asset units : ℕ) (outcome : Result T AccountFault) (reply : Reply) → let reserved = needed_units m.orders account asset in
+      (IsOk outcome ↔ AcceptsUnitCredit m.balances account asset units reserved) → IfErr outcome (RefusesUnitCredit m.balances account asset units reserved)
+      → OnOk outcome (now ≡ set_unit_credit m.balances account asset units) → OnErr outcome (now ≡ m.balances) → Replies outcome reply
+      → Serves Rule m (SetUnitCredit account asset units) (Plain reply) made
+  serves-set_unit_credit account asset units (Ok x) reply accepted refused ok err is =
+      let a = accepted.0 refl in
+      record {
+        first = None;
+        refused = inr (a.account_there, inr (a.asset_there, inr (λ above. omega (arith, above, a.within_limit), inr (λ short. omega (arith, ints, short, a.covers), refl))));
+        answered = (ap Plain is, ap (λ b. record m { balances = b }) ok);
+      }
+  serves-set_unit_credit account asset units (Err fault.NoAccount) reply accepted refused ok err is =
+      record { first = Some refusals.NoAccount; refused = inl (refused, refl); answered = (ap Plain is, ap (λ b. record m { balances = b }) err) }
+  serves-set_unit_credit account asset units (Err fault.NoAsset) reply accepted refused ok err is =
+      record { first = Some refusals.NoAsset; refused = inr (refused.0, inl (refused.1, refl)); answered = (ap Plain is, ap (λ b. record m { balances = b }) err) }
+  serves-set_unit_credit account asset units (Err fault.CreditLimit) reply accepted refused ok err is =
+      record { first = Some refusals.CreditLimit; refused = inr (refused.0, inr (refused.1, inl (refused.2, refl))); answered = (ap Plain is, ap (λ b. record m { balances = b }) err) }
+  serves-set_unit_credit account asset units (Err (fault.InUse used)) reply accepted refused ok err is =
+      record {
+        first = Some refusals.CreditInUse;
+        refused = inr (refused.0, inr (refused.1, inr (λ above. omega (arith, above, refused.2), inl (omega (arith, ints, refused.3, refused.4), refl))));
+        answered = (ap Plain is, ap (λ b. record m { balances = b }) err);
+      }
+  serves-set_unit_credit account asset units (Err fault.Zero) reply accepted refused ok err is = absurd refused
+  serves-set_unit_credit account asset units (Err fault.TotalLimit) reply accepted refused ok err is = absurd refused
+  serves-set_unit_credit account asset units (Err fault.Full) reply accepted refused ok err is = absurd refused
+  serves-set_unit_credit account asset units (Err (fault.NotFree free)) reply accepted refused ok err is = absurd refused
+  serves-set_unit_credit account asset units (Err fault.Memory) reply accepted refused ok err is = absurd refused

@@ -15,7 +15,7 @@ use Rattle.ticker_table.proofs.Names.{IsTicker-from_parts}
 use Rattle.demand_curve.specs.Demand.{IsWithin}
 use Rattle.flow_accounts.specs.Balances.{Balances, IsAccount, IsAsset, asset_count, account_count}
 use Rattle.flow_orders.specs.Orders.{Order, money_need, unit_need, AreLimits, IsFrom1To}
-use Rattle.market_core.specs.Market.{free_money, free_units, Market}
+use Rattle.market_core.specs.Market.{usable_money, usable_units, Market}
 use Rattle.market_core.specs.Step.{IsAffordable}
 use Rattle.order_book.specs.Book.{HasOrder}
 
@@ -144,8 +144,8 @@ either_affordable m o =
     either_same
     (λ p. record { money = p.0; units = λ asset is_asset. p.1 asset is_asset })
     (λ is. (is.money, λ asset is_asset. is.units asset is_asset))
-    (either_both (either_le_z (pos (money_need o)) (free_money m o.account))
-    (either_below (asset_count m.balances) (λ asset. pos (unit_need asset o) ≤ℤ free_units m o.account asset) (λ asset. either_le_z _ _)))
+    (either_both (either_le_z (pos (money_need o)) (usable_money m o.account))
+    (either_below (asset_count m.balances) (λ asset. pos (unit_need asset o) ≤ℤ usable_units m o.account asset) (λ asset. either_le_z _ _)))
 
 pub either_order : (m : Market) (account number : ℕ) → Either (HasOrder m.orders account number)
 either_order m account number =

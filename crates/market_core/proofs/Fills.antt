@@ -8,18 +8,21 @@ use Rattle.std.proofs.lemmas.List.Sums.{sum_by-cons, sum_by-append}
 use Rattle.std.proofs.lemmas.Bool.Decides.{eqb_tells}
 use Rattle.flow_orders.specs.Orders.{Order}
 use Rattle.flow_orders.specs.Outcomes.{Clearing, Fill, Outcome, Cleared, Skipped, trades_of, IsRightOutcome, IsRightClearing}
-use Rattle.flow_orders.specs.Trades.{Trade, after_fill, is_live}
-use Rattle.wire_records.specs.Commands.{Request, Command, AddAsset, OpenAccount, DepositMoney, DepositAsset, WithdrawMoney, WithdrawAsset, PlaceOrder, CancelOrder, RunBatch, Answer, Plain, Batch, Pair}
+use Rattle.flow_orders.specs.Trades.{Trade, after_fill, is_live, staying}
+use Rattle.wire_records.specs.Commands.{Request, Command, AddAsset, OpenAccount, DepositMoney, DepositAsset, WithdrawMoney, WithdrawAsset, PlaceOrder, CancelOrder, RunBatch, PlaceUntil, SetMoneyCredit, SetUnitCredit, Answer, Plain, Batch, Pair}
 use Rattle.wire_records.specs.declared.reply.Refusal.{Refusal}
 use Rattle.wire_records.specs.declared.reply.Reply.TheVariants.{Order as OrderPlaced, Refused}
 use Rattle.std.proofs.lemmas.Bool.{cases_lt}
 use Rattle.market_core.specs.Market.{IsLiveOrder, Market, IsSound, start_prices}
 use Rattle.market_core.specs.Step.{Accepts, Answers, Serves, after_batch, placed, ServesRead}
 use Rattle.wire_records.specs.declared.command.BodyFault.{BodyFault}
+use Rattle.wire_records.specs.declared.version.Version.{Version}
 use Rattle.market_core.specs.Journal.{Step, Follows, filled_in, filled_by, fills_of, Places}
 use Rattle.flow_orders.proofs.TradeFacts.{before_fills, after_fills}
 use Rattle.market_core.proofs.SoundBatch.{orders_before, allowed}
-use Rattle.market_core.proofs.Soundness.{sound_step, sound_follows}
+use Rattle.market_core.proofs.Soundness.{ReadsOwn, sound_step, sound_follows}
+use Rattle.market_core.proofs.Versions.{follows_version}
+use Rattle.market_core.proofs.Made.{with_order}
 use Rattle.market_core.proofs.OneJournal.{follows-parts}
 
 -- ---- one number in a list of trades
@@ -119,7 +122,7 @@ filled_cleared m c number cap filled sound right is =
           ⊎_elim
           (λ none. omega (arith, sum, none, is.most))
           (λ found.
-          let d : Trade = record { order = record { number = 0; account = 0; low = pos 0; high = pos 0; rate = 0; cap = 0; filled = 0; row = [] }; traded = 0 } in
+          let d : Trade = record { order = record { number = 0; account = 0; low = pos 0; high = pos 0; rate = 0; cap = 0; filled = 0; row = []; last = 0 }; traded = 0 } in
           let t = slice_index_or ts found.0 d in
           let here = live found.0 d found.1 (found.2 d) in
           let one = traded_at number ts ascend found.0 d found.1 (found.2 d) in
@@ -127,12 +130,15 @@ filled_cleared m c number cap filled sound right is =
           omega (arith, sum, one, within, here.0, here.1, is.most))
           (traded_found number ts);
       used = is.used;
-      live = All-filter is_live (λ (o : Order). o.number ≡ number → (o.cap ≡ cap) × (o.filled ≡ filled + filled_in number c.fills)) (after_fills ts)
-          (All-map (λ (o : Order). o.number ≡ number → (o.cap ≡ cap) × (o.filled ≡ filled + filled_in number c.fills)) after_fill ts
+      live =
+          let P : Order → Type 0 = λ o. o.number ≡ number → (o.cap ≡ cap) × (o.filled ≡ filled + filled_in number c.fills) in
+          All-filter (λ (o : Order). not (o.last == m.batches + 1)) P (staying ts)
+          (All-filter is_live P (after_fills ts)
+          (All-map P after_fill ts
           (λ k d inside its.
           let here = live k d inside its in
           let one = traded_at number ts ascend k d inside its in
-          (here.0, omega (arith, here.1, one, sum))));
+          (here.0, omega (arith, here.1, one, sum)))));
     }
 
 -- the same orders, and nothing filled
@@ -153,12 +159,21 @@ filled_accepted m (DepositMoney account ticks) a n number cap filled sound accep
 filled_accepted m (DepositAsset account asset units) a n number cap filled sound accepts is = rw (accepts.0, accepts.1) (filled_same m _ number cap filled (filled + 0) is refl refl refl)
 filled_accepted m (WithdrawMoney account ticks) a n number cap filled sound accepts is = rw (accepts.0, accepts.1) (filled_same m _ number cap filled (filled + 0) is refl refl refl)
 filled_accepted m (WithdrawAsset account asset units) a n number cap filled sound accepts is = rw (accepts.0, accepts.1) (filled_same m _ number cap filled (filled + 0) is refl refl refl)
+filled_accepted m (SetMoneyCredit account ticks) a n number cap filled sound accepts is = rw (accepts.0, accepts.1) (filled_same m _ number cap filled (filled + 0) is refl refl refl)
+filled_accepted m (SetUnitCredit account asset units) a n number cap filled sound accepts is = rw (accepts.0, accepts.1) (filled_same m _ number cap filled (filled + 0) is refl refl refl)
+filled_accepted m (PlaceUntil last r) a n number cap filled sound accepts is =
+    let none : filled + 0 ≡ filled = omega arith in
+    rw (accepts.0, accepts.1) (record {
+      most = omega (arith, is.most);
+      used = omega (arith, is.used);
+      live = rw none (All-push (λ (o : Order). o.number ≡ number → (o.cap ≡ cap) × (o.filled ≡ filled)) m.orders (placed m last r) is.live (λ same. absurd (omega (arith, same, is.used))));
+    })
 filled_accepted m (PlaceOrder r) a n number cap filled sound accepts is =
     let none : filled + 0 ≡ filled = omega arith in
     rw (accepts.0, accepts.1) (record {
       most = omega (arith, is.most);
       used = omega (arith, is.used);
-      live = rw none (All-push (λ (o : Order). o.number ≡ number → (o.cap ≡ cap) × (o.filled ≡ filled)) m.orders (placed m r) is.live (λ same. absurd (omega (arith, same, is.used))));
+      live = rw none (All-push (λ (o : Order). o.number ≡ number → (o.cap ≡ cap) × (o.filled ≡ filled)) m.orders (placed m 0 r) is.live (λ same. absurd (omega (arith, same, is.used))));
     })
 filled_accepted m (CancelOrder account other) a n number cap filled sound accepts is =
     let none : filled + 0 ≡ filled = omega arith in
@@ -171,7 +186,13 @@ filled_accepted m (RunBatch budget) a n number cap filled sound accepts is = rw 
   where
     by_outcome : (o : Outcome) → IsRightOutcome m.orders (start_prices m) budget o → IsFilled (after_batch m o) number cap (filled + filled_by number (Batch (m.batches + 1) o))
     by_outcome (Cleared c) right = filled_cleared m c number cap filled sound right is
-    by_outcome (Skipped s) right = filled_same m _ number cap filled (filled + 0) is refl refl refl
+    by_outcome (Skipped s) right =
+        let none : filled + 0 ≡ filled = omega arith in
+        record {
+          most = omega (arith, is.most);
+          used = is.used;
+          live = rw none (All-filter (λ (o : Order). not (o.last == m.batches + 1)) (λ (o : Order). o.number ≡ number → (o.cap ≡ cap) × (o.filled ≡ filled)) m.orders is.live);
+        }
 
 -- numbers that aren't given out yet get no fills, and numbers never come back
 record IsUnused (m n : Market) (number filled : ℕ) : Type 0 where
@@ -194,15 +215,28 @@ unused_accepted m (WithdrawMoney account ticks) a n number sound accepts = rw (a
 unused_accepted m (WithdrawAsset account asset units) a n number sound accepts = rw (accepts.0, accepts.1) (record { later = omega arith; none = λ _. refl })
 unused_accepted m (PlaceOrder r) a n number sound accepts = rw (accepts.0, accepts.1) (record { later = omega arith; none = λ _. refl })
 unused_accepted m (CancelOrder account other) a n number sound accepts = rw (accepts.0, accepts.1) (record { later = omega arith; none = λ _. refl })
+unused_accepted m (PlaceUntil last r) a n number sound accepts = rw (accepts.0, accepts.1) (record { later = omega arith; none = λ _. refl })
+unused_accepted m (SetMoneyCredit account ticks) a n number sound accepts = rw (accepts.0, accepts.1) (record { later = omega arith; none = λ _. refl })
+unused_accepted m (SetUnitCredit account asset units) a n number sound accepts = rw (accepts.0, accepts.1) (record { later = omega arith; none = λ _. refl })
 unused_accepted m (RunBatch budget) a n number sound accepts = rw (accepts.2.0, accepts.2.1) (by_outcome accepts.0 accepts.1)
   where
     by_outcome : (o : Outcome) → IsRightOutcome m.orders (start_prices m) budget o → IsUnused m (after_batch m o) number (filled_by number (Batch (m.batches + 1) o))
     by_outcome (Cleared c) right = record { later = omega arith; none = unused_cleared m c number sound right }
     by_outcome (Skipped s) right = record { later = omega arith; none = λ _. refl }
 
+-- an accepted command that places an order on a request
+abbrev IsPlacing : Market → Request → Command → Type 0
+IsPlacing m r c = (a : Answer Outcome) (n : Market) → Accepts IsRightOutcome m c a n → (last : ℕ) × (a ≡ Plain (OrderPlaced m.next_order)) × (n ≡ with_order m (placed m last r))
+
+placing_once : (m : Market) (r : Request) → IsPlacing m r (PlaceOrder r)
+placing_once m r a n accepts = (0, accepts.0, accepts.1)
+
+placing_until : (m : Market) (last : ℕ) (r : Request) → IsPlacing m r (PlaceUntil last r)
+placing_until m last r a n accepts = (last, accepts.0, accepts.1)
+
 -- what is placed by an answer that names an order
-placed_by : (m : Market) (r : Request) (a : Answer Outcome) (n : Market) (number : ℕ) → IsSound m → Serves IsRightOutcome m (PlaceOrder r) a n → a ≡ Plain (OrderPlaced number) → (number ≡ m.next_order) × IsFilled n number r.cap 0
-placed_by m r a n number sound serves named = by_first serves.first serves.answered
+placed_by : (m : Market) (r : Request) (c : Command) (a : Answer Outcome) (n : Market) (number : ℕ) → IsPlacing m r c → IsSound m → Serves IsRightOutcome m c a n → a ≡ Plain (OrderPlaced number) → (number ≡ m.next_order) × IsFilled n number r.cap 0
+placed_by m r c a n number placing sound serves named = by_first serves.first serves.answered
   where
     number_of : (x y : ℕ) → ◌≡◌ {A = Answer Outcome} (Plain (OrderPlaced x)) (Plain (OrderPlaced y)) → x ≡ y
     number_of x y e = cc
@@ -210,21 +244,22 @@ placed_by m r a n number sound serves named = by_first serves.first serves.answe
     no_refusal : (x : ℕ) (f : Refusal) → ◌≡◌ {A = Answer Outcome} (Plain (OrderPlaced x)) (Plain (Refused f)) → ⊥
     no_refusal x f e = cc
 
-    by_first : (first : Option Refusal) → Answers IsRightOutcome m (PlaceOrder r) first a n → (number ≡ m.next_order) × IsFilled n number r.cap 0
+    by_first : (first : Option Refusal) → Answers IsRightOutcome m c first a n → (number ≡ m.next_order) × IsFilled n number r.cap 0
     by_first (Some f) answers = absurd (no_refusal number f (sym named ∙ answers.0))
     by_first None answers =
-        let is : number ≡ m.next_order = number_of number m.next_order (sym named ∙ answers.0) in (
+        let made = placing a n answers in
+        let is : number ≡ m.next_order = number_of number m.next_order (sym named ∙ made.1) in (
           is,
-          rw (answers.1, is) (record {
+          rw (made.2, is) (record {
             most = omega arith;
             used = omega arith;
-            live = All-push (λ (o : Order). o.number ≡ m.next_order → (o.cap ≡ r.cap) × (o.filled ≡ 0)) m.orders (placed m r)
+            live = All-push (λ (o : Order). o.number ≡ m.next_order → (o.cap ≡ r.cap) × (o.filled ≡ 0)) m.orders (placed m made.0 r)
                 (λ k d inside same. let less = (sound.live k d inside).numbered.1 in absurd (omega (arith, same, less)))
                 (λ _. (refl, refl));
           }),
         )
 
-module _ {R : Type 0} (Reads : R → Result Command BodyFault → Type 0) (one_reading : (r : R) (a b : Result Command BodyFault) → Reads r a → Reads r b → a ≡ b) where
+module _ {R : Type 0} (Reads : Version → R → Result Command BodyFault → Type 0) (own : ReadsOwn Reads) (one_reading : (version : Version) (r : R) (a b : Result Command BodyFault) → Reads version r a → Reads version r b → a ≡ b) where
   filled_step : (m : Market) (asked : R) (a : Answer Outcome) (n : Market) (number cap filled : ℕ) → IsSound m → Step Reads IsRightOutcome m asked a n → IsFilled m number cap filled → IsFilled n number cap (filled + filled_by number a)
   filled_step m asked a n number cap filled sound step is = by_read step.read step.served
     where
@@ -255,7 +290,7 @@ module _ {R : Type 0} (Reads : R → Result Command BodyFault → Type 0) (one_r
   filled_follows m (pair ∷ pairs) n number cap filled sound follows is =
       let next = follows.0 in
       let now = filled_step m pair.asked pair.answer next number cap filled sound follows.1 is in
-      let rest = filled_follows next pairs n number cap (filled + filled_by number pair.answer) (sound_step Reads m pair.asked pair.answer next sound follows.1) follows.2 now in
+      let rest = filled_follows next pairs n number cap (filled + filled_by number pair.answer) (sound_step Reads own m pair.asked pair.answer next sound follows.1) follows.2 now in
       omega (arith, rest, fills-cons number pair pairs)
 
   unused_follows : (m : Market) (pairs : List (Pair R Outcome)) (n : Market) (number : ℕ) → IsSound m → Follows Reads IsRightOutcome m pairs n → n.next_order ≤ number → (fills_of number pairs ≡ 0) × (m.next_order ≤ n.next_order)
@@ -263,23 +298,29 @@ module _ {R : Type 0} (Reads : R → Result Command BodyFault → Type 0) (one_r
   unused_follows m (pair ∷ pairs) n number sound follows above =
       let next = follows.0 in
       let here = unused_step m pair.asked pair.answer next number sound follows.1 in
-      let rest = unused_follows next pairs n number (sound_step Reads m pair.asked pair.answer next sound follows.1) follows.2 above in
+      let rest = unused_follows next pairs n number (sound_step Reads own m pair.asked pair.answer next sound follows.1) follows.2 above in
       let none = here.none (omega (arith, here.later, rest.1, above)) in
       (omega (arith, fills-cons number pair pairs, none, rest.0), omega (arith, here.later, rest.1))
 
   -- (e) from a sound market on, the fills listed under a placed order's number don't pass its cap
-  pub fills_within_cap : (old : Market) (before after : List (Pair R Outcome)) (pair : Pair R Outcome) (m : Market) (number cap : ℕ) → IsSound old → Follows Reads IsRightOutcome old (before ++ pair ∷ after) m → Places Reads number cap pair → fills_of number (before ++ pair ∷ after) ≤ cap
+  pub fills_within_cap : (old : Market) (before after : List (Pair R Outcome)) (pair : Pair R Outcome) (m : Market) (number cap : ℕ) → IsSound old → Follows Reads IsRightOutcome old (before ++ pair ∷ after) m → Places (Reads old.version) number cap pair → fills_of number (before ++ pair ∷ after) ≤ cap
   fills_within_cap old before after pair m number cap start follows places =
       let parts = follows-parts Reads one_reading IsRightOutcome old m before (pair ∷ after) follows in
       let mid = parts.0 in
-      let sound = sound_follows Reads old before mid start parts.1 in
+      let sound = sound_follows Reads own old before mid start parts.1 in
       let next = parts.2.0 in
       let step = parts.2.1 in
-      let read = one_reading pair.asked step.read (Ok (PlaceOrder places.request)) step.spelled places.spelled in
-      let placing = placed_by mid places.request pair.answer next number sound (subst (λ r. ServesRead IsRightOutcome mid r pair.answer next) read step.served) places.answered in
+      let version : mid.version ≡ old.version = follows_version IsRightOutcome Reads old before mid parts.1 in
+      let served_as : (c : Command) → Reads old.version pair.asked (Ok c) → Serves IsRightOutcome mid c pair.answer next = λ c spelled.
+      subst (λ r. ServesRead IsRightOutcome mid r pair.answer next) (one_reading mid.version pair.asked step.read (Ok c) step.spelled (subst (λ v. Reads v pair.asked (Ok c)) (sym version) spelled)) step.served in
+      let placing : (number ≡ mid.next_order) × IsFilled next number places.request.cap 0 =
+      ⊎_elim
+      (λ once. placed_by mid places.request (PlaceOrder places.request) pair.answer next number (placing_once mid places.request) sound (served_as (PlaceOrder places.request) once) places.answered)
+      (λ until. placed_by mid places.request (PlaceUntil until.0 places.request) pair.answer next number (placing_until mid until.0 places.request) sound (served_as (PlaceUntil until.0 places.request) until.1) places.answered)
+      places.asks in
       let none = (unused_follows old before mid number start parts.1 (omega (arith, placing.0))).0 in
       let here : filled_by number pair.answer ≡ 0 = ap (filled_by number) places.answered in
-      let rest = filled_follows next after m number places.request.cap 0 (sound_step Reads mid pair.asked pair.answer next sound step) parts.2.2 placing.1 in
+      let rest = filled_follows next after m number places.request.cap 0 (sound_step Reads own mid pair.asked pair.answer next sound step) parts.2.2 placing.1 in
       let all = sum_by-append (λ (p : Pair R Outcome). filled_by number p.answer) before (pair ∷ after) in
       omega (arith, all, none, fills-cons number pair after, here, rest, places.cap_is)
 

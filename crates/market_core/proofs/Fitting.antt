@@ -10,6 +10,10 @@ use Rattle.flow_accounts.specs.Sums.{units_of_all}
 use Rattle.flow_accounts.specs.Fits.{AcceptedChangesFit, SumsAreNearTotals}
 use Rattle.flow_accounts.proofs.Bounds.{changes_fit_near_sums}
 use Rattle.wire_records.specs.Commands.{Command, Answer}
+use Rattle.wire_records.specs.CommandRecords.{tag_of}
+use Rattle.wire_records.specs.Versions.{IsOfVersion}
+use Rattle.wire_records.specs.declared.version.Version.{Version}
+use Rattle.wire_records.specs.declared.version.Version.TheVariants.{One, Two}
 use Rattle.flow_orders.specs.Outcomes.{Outcome}
 use Rattle.flow_orders.specs.Own.{IsOwnOutcome}
 use Rattle.market_core.specs.Market.{Market, IsSound}
@@ -45,6 +49,11 @@ sound_is_near m sound = record {
 pub sound_changes_fit : (m : Market) → IsSound m → AcceptedChangesFit m.balances
 sound_changes_fit m sound = changes_fit_near_sums m.balances (sound_is_lawful m sound) (sound_is_near m sound)
 
--- what is served by the own rule keeps a market sound
-pub sound-served : (m : Market) (c : Command) (a : Answer Outcome) (n : Market) → IsSound m → Serves IsOwnOutcome m c a n → IsSound n
-sound-served m c a n sound serves = sound_served m c a n sound (own_served_is_right m c a n sound serves)
+-- what is served by the own rule keeps a market sound, where the command is one of its version
+pub sound-served : (m : Market) (c : Command) (a : Answer Outcome) (n : Market) → IsOfVersion m.version c → IsSound m → Serves IsOwnOutcome m c a n → IsSound n
+sound-served m c a n of sound serves = sound_served m c a n of sound (own_served_is_right m c a n sound serves)
+
+-- the commands of version One are commands of each version
+pub of_each : (version : Version) (c : Command) → 1 ≤ tag_of c → tag_of c ≤ 9 → IsOfVersion version c
+of_each One c some few = (some, few)
+of_each Two c some few = (some, omega (arith, few))

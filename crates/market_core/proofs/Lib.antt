@@ -24,3 +24,6 @@ pub mod SoundOrders
 pub mod Soundness
 pub mod StartPrices
 pub mod WorkedRows
+pub mod Ending
+pub mod Versions
+pub mod VersionRows

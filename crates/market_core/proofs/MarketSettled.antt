@@ -6,7 +6,7 @@ use Rattle.demand_curve.proofs.RoundingLaws.{rounding_is_within_room}
 use Rattle.flow_accounts.specs.Balances.{Account, Balances}
 use Rattle.flow_orders.specs.Orders.{Order, terms_of}
 use Rattle.flow_orders.specs.Excess.{price_for}
-use Rattle.flow_orders.specs.Trades.{Trade, trades, staying}
+use Rattle.flow_orders.specs.Trades.{Trade, trades, staying, going_on}
 use Rattle.flow_orders.specs.Outcomes.{trades_of}
 use Rattle.flow_orders.specs.Outcomes as outcomes
 use Rattle.flow_orders.proofs.TradeFacts.{All-trades}
@@ -42,14 +42,14 @@ module _ (m : Market) (c : Cleared) (sound : IsSound m) (may : MaySettleAt m c) 
 
   -- what the code makes is the market after the batch, which is sound
   pub settled_is : (b : Balances) (exchange : Account) (orders : List Order) (prices : List ℤ)
-      → b ≡ settled_balances c.prices ts m.balances → exchange ≡ settled_exchange c.prices ts m.balances m.exchange → orders ≡ staying ts → prices ≡ c.prices
+      → b ≡ settled_balances c.prices ts m.balances → exchange ≡ settled_exchange c.prices ts m.balances m.exchange → orders ≡ going_on (m.batches + 1) (staying ts) → prices ≡ c.prices
       → changed m b exchange orders prices ≡ after_batch m (outcomes.Cleared (clearing_of m.orders c))
   settled_is b exchange orders prices balances_are exchange_is orders_are prices_are =
       ap (λ x. changed m x exchange orders prices) balances_are
       ∙ ap (λ x. changed m (settled_balances c.prices ts m.balances) x orders prices) exchange_is
       ∙ ap (λ x. changed m (settled_balances c.prices ts m.balances) (settled_exchange c.prices ts m.balances m.exchange) x prices) orders_are
-      ∙ ap (λ x. changed m (settled_balances c.prices ts m.balances) (settled_exchange c.prices ts m.balances m.exchange) (staying ts) x) prices_are
-      ∙ ap (λ us. changed m (settled_balances c.prices us m.balances) (settled_exchange c.prices us m.balances m.exchange) (staying us) c.prices) (sym back)
+      ∙ ap (λ x. changed m (settled_balances c.prices ts m.balances) (settled_exchange c.prices ts m.balances m.exchange) (going_on (m.batches + 1) (staying ts)) x) prices_are
+      ∙ ap (λ us. changed m (settled_balances c.prices us m.balances) (settled_exchange c.prices us m.balances m.exchange) (going_on (m.batches + 1) (staying us)) c.prices) (sym back)
 
   pub settled_is_sound : m.batches < most_batches → IsSound (after_batch m (outcomes.Cleared (clearing_of m.orders c)))
   settled_is_sound more = sound_settled m (clearing_of m.orders c) (trades_of m.orders (clearing_of m.orders c).fills) refl sound may.right more

@@ -7,12 +7,13 @@ use Rattle.flow_orders.specs.Own.{IsOwnOutcome}
 use Rattle.wire_records.specs.Commands.{Command, Answer, Pair}
 use Rattle.market_core.specs.Market.{Market, empty_market}
 use Rattle.wire_records.specs.declared.command.BodyFault.{BodyFault}
+use Rattle.wire_records.specs.declared.version.Version.{Version}
 use Rattle.market_core.specs.Step.{ServesRead}
 use Rattle.market_core.specs.Journal.{Step, Follows, IsJournal}
 use Rattle.market_core.proofs.OneStep.{one_market, one_service, own_has_one}
 
 -- records that are read in one way
-module _ {R : Type 0} (Reads : R → Result Command BodyFault → Type 0) (one_reading : (r : R) (a b : Result Command BodyFault) → Reads r a → Reads r b → a ≡ b) where
+module _ {R : Type 0} (Reads : Version → R → Result Command BodyFault → Type 0) (one_reading : (version : Version) (r : R) (a b : Result Command BodyFault) → Reads version r a → Reads version r b → a ≡ b) where
   module _ (Rule : List Order → List ℤ → ℕ → Outcome → Type 0) where
     read_market : (old : Market) (read : Result Command BodyFault) (a : Answer Outcome) (x y : Market) → ServesRead Rule old read a x → ServesRead Rule old read a y → x ≡ y
     read_market old (Ok c) a x y first other = one_market Rule old c a x y first other
@@ -21,7 +22,7 @@ module _ {R : Type 0} (Reads : R → Result Command BodyFault → Type 0) (one_r
     -- (a) old market, record and answer determine the new market
     pub step_market : (old : Market) (asked : R) (a : Answer Outcome) (x y : Market) → Step Reads Rule old asked a x → Step Reads Rule old asked a y → x ≡ y
     step_market old asked a x y first other =
-        read_market old first.read a x y first.served (rw (one_reading asked first.read other.read first.spelled other.spelled) other.served)
+        read_market old first.read a x y first.served (rw (one_reading old.version asked first.read other.read first.spelled other.spelled) other.served)
 
     -- (a) a legal journal determines the market after it
     pub journal_market : (old : Market) (pairs : List (Pair R Outcome)) (x y : Market) → Follows Reads Rule old pairs x → Follows Reads Rule old pairs y → x ≡ y
@@ -49,7 +50,7 @@ module _ {R : Type 0} (Reads : R → Result Command BodyFault → Type 0) (one_r
   -- (b) under the own rule a record gets one answer and makes one market
   pub own_step : (old : Market) (asked : R) (a b : Answer Outcome) (x y : Market) → Step Reads IsOwnOutcome old asked a x → Step Reads IsOwnOutcome old asked b y → (a ≡ b) × (x ≡ y)
   own_step old asked a b x y first other =
-      read_once old first.read a b x y first.served (rw (one_reading asked first.read other.read first.spelled other.spelled) other.served)
+      read_once old first.read a b x y first.served (rw (one_reading old.version asked first.read other.read first.spelled other.spelled) other.served)
 
   same_pair : (p q : Pair R Outcome) → p.asked ≡ q.asked → p.answer ≡ q.answer → p ≡ q
   same_pair p q a b =
@@ -70,5 +71,5 @@ module _ {R : Type 0} (Reads : R → Result Command BodyFault → Type 0) (one_r
       (rw (same_pair x y asked.0 step.0, rest.0) refl, rest.1)
 
   -- (b) records have one own journal, which leads to one market
-  pub one_own_journal : (records : List R) (p q : List (Pair R Outcome)) (m n : Market) → IsJournal Reads IsOwnOutcome records p m → IsJournal Reads IsOwnOutcome records q n → (p ≡ q) × (m ≡ n)
-  one_own_journal records p q m n first other = one_from empty_market p q m n (first.asked ∙ sym other.asked) first.steps other.steps
+  pub one_own_journal : (version : Version) (records : List R) (p q : List (Pair R Outcome)) (m n : Market) → IsJournal Reads IsOwnOutcome version records p m → IsJournal Reads IsOwnOutcome version records q n → (p ≡ q) × (m ≡ n)
+  one_own_journal version records p q m n first other = one_from (empty_market version) p q m n (first.asked ∙ sym other.asked) first.steps other.steps

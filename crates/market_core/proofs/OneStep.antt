@@ -3,7 +3,7 @@ use Rattle.std.proofs.Common.{◌≡◌, ◌+◌, ℕ, ℤ, List, Option, Some, 
 use Rattle.flow_orders.specs.Orders.{Order}
 use Rattle.flow_orders.specs.Outcomes.{Outcome}
 use Rattle.flow_orders.specs.Own.{IsOwnOutcome}
-use Rattle.wire_records.specs.Commands.{Command, AddAsset, OpenAccount, DepositMoney, DepositAsset, WithdrawMoney, WithdrawAsset, PlaceOrder, CancelOrder, RunBatch, Answer, Batch}
+use Rattle.wire_records.specs.Commands.{Command, AddAsset, OpenAccount, DepositMoney, DepositAsset, WithdrawMoney, WithdrawAsset, PlaceOrder, CancelOrder, RunBatch, PlaceUntil, SetMoneyCredit, SetUnitCredit, Answer, Batch}
 use Rattle.wire_records.specs.declared.reply.Refusal.{Refusal}
 use Rattle.market_core.specs.Market.{Market, start_prices}
 use Rattle.market_core.specs.Step.{◌when◌else◌, ◌unless◌else◌, accept, FirstRefusal, Accepts, Answers, Serves, after_batch}
@@ -40,6 +40,9 @@ one_first m (WithdrawAsset account asset units) = one_unless _ _ _ (one_unless _
 one_first m (PlaceOrder r) = one_unless _ _ _ (one_unless _ _ _ (one_unless _ _ _ (one_unless _ _ _ (one_unless _ _ _ (one_unless _ _ _ (one_when _ _ _ (one_unless _ _ _ one_accept)))))))
 one_first m (CancelOrder account number) = one_unless _ _ _ (one_unless _ _ _ one_accept)
 one_first m (RunBatch budget) = one_unless _ _ _ (one_when _ _ _ one_accept)
+one_first m (PlaceUntil last r) = one_unless _ _ _ (one_unless _ _ _ (one_unless _ _ _ (one_unless _ _ _ (one_when _ _ _ (one_unless _ _ _ (one_unless _ _ _ (one_when _ _ _ (one_unless _ _ _ one_accept))))))))
+one_first m (SetMoneyCredit account ticks) = one_unless _ _ _ (one_when _ _ _ (one_when _ _ _ one_accept))
+one_first m (SetUnitCredit account asset units) = one_unless _ _ _ (one_unless _ _ _ (one_when _ _ _ (one_when _ _ _ one_accept)))
 
 -- how a batch may end
 module _ (Rule : List Order → List ℤ → ℕ → Outcome → Type 0) where
@@ -53,6 +56,9 @@ module _ (Rule : List Order → List ℤ → ℕ → Outcome → Type 0) where
   accepted_market m (WithdrawAsset account asset units) a x y first other = first.1 ∙ sym other.1
   accepted_market m (PlaceOrder r) a x y first other = first.1 ∙ sym other.1
   accepted_market m (CancelOrder account number) a x y first other = first.1 ∙ sym other.1
+  accepted_market m (PlaceUntil last r) a x y first other = first.1 ∙ sym other.1
+  accepted_market m (SetMoneyCredit account ticks) a x y first other = first.1 ∙ sym other.1
+  accepted_market m (SetUnitCredit account asset units) a x y first other = first.1 ∙ sym other.1
   accepted_market m (RunBatch budget) a x y first other =
       first.2.1 ∙ ap (after_batch m) (outcome_of (m.batches + 1) first.0 other.0 (sym first.2.0 ∙ other.2.0)) ∙ sym other.2.1
     where
@@ -82,6 +88,9 @@ module _ (Rule : List Order → List ℤ → ℕ → Outcome → Type 0) where
   accepted_once m (WithdrawAsset account asset units) a b x y one first other = (first.0 ∙ sym other.0, first.1 ∙ sym other.1)
   accepted_once m (PlaceOrder r) a b x y one first other = (first.0 ∙ sym other.0, first.1 ∙ sym other.1)
   accepted_once m (CancelOrder account number) a b x y one first other = (first.0 ∙ sym other.0, first.1 ∙ sym other.1)
+  accepted_once m (PlaceUntil last r) a b x y one first other = (first.0 ∙ sym other.0, first.1 ∙ sym other.1)
+  accepted_once m (SetMoneyCredit account ticks) a b x y one first other = (first.0 ∙ sym other.0, first.1 ∙ sym other.1)
+  accepted_once m (SetUnitCredit account asset units) a b x y one first other = (first.0 ∙ sym other.0, first.1 ∙ sym other.1)
   accepted_once m (RunBatch budget) a b x y one first other =
       let same = one first.0 other.0 first.1 other.1 in
       (first.2.0 ∙ ap (Batch (m.batches + 1)) same ∙ sym other.2.0, first.2.1 ∙ ap (after_batch m) same ∙ sym other.2.1)
@@ -105,4 +114,7 @@ own_has_one m (WithdrawMoney account ticks) = tt
 own_has_one m (WithdrawAsset account asset units) = tt
 own_has_one m (PlaceOrder r) = tt
 own_has_one m (CancelOrder account number) = tt
+own_has_one m (PlaceUntil last r) = tt
+own_has_one m (SetMoneyCredit account ticks) = tt
+own_has_one m (SetUnitCredit account asset units) = tt
 own_has_one m (RunBatch budget) = one_own m.orders (start_prices m) budget

@@ -6,14 +6,15 @@ use Rattle.std.proofs.lemmas.List.Elements.{All-map}
 use Rattle.demand_curve.specs.Demand.{IsWithin}
 use Rattle.flow_orders.specs.Outcomes.{Outcome, IsRightOutcome}
 use Rattle.flow_orders.specs.Own.{IsOwnOutcome}
-use Rattle.wire_records.specs.Commands.{Command, AddAsset, OpenAccount, DepositMoney, DepositAsset, WithdrawMoney, WithdrawAsset, PlaceOrder, CancelOrder, RunBatch, Answer, Pair}
+use Rattle.wire_records.specs.Commands.{Command, AddAsset, OpenAccount, DepositMoney, DepositAsset, WithdrawMoney, WithdrawAsset, PlaceOrder, CancelOrder, RunBatch, PlaceUntil, SetMoneyCredit, SetUnitCredit, Answer, Pair}
 use Rattle.wire_records.specs.declared.reply.Refusal.{Refusal}
 use Rattle.market_core.specs.Market.{Market, IsSound, start_prices, cut_price, empty_market}
 use Rattle.market_core.specs.Step.{FirstRefusal, Accepts, Answers, Serves, ServesRead}
 use Rattle.wire_records.specs.declared.command.BodyFault.{BodyFault}
+use Rattle.wire_records.specs.declared.version.Version.{Version}
 use Rattle.market_core.specs.Journal.{Step, Follows, IsJournal}
 use Rattle.market_core.proofs.Accepted.{past_unless}
-use Rattle.market_core.proofs.Soundness.{sound_step, sound-empty}
+use Rattle.market_core.proofs.Soundness.{ReadsOwn, sound_step, sound-empty}
 use Rattle.flow_orders.proofs.OwnIsRight.{own_is_right}
 
 cut_within : (p : ℤ) → IsWithin (2 ^ 60) (cut_price p)
@@ -31,6 +32,9 @@ accepted_right m (WithdrawMoney account ticks) a n sound none accepts = accepts
 accepted_right m (WithdrawAsset account asset units) a n sound none accepts = accepts
 accepted_right m (PlaceOrder r) a n sound none accepts = accepts
 accepted_right m (CancelOrder account number) a n sound none accepts = accepts
+accepted_right m (PlaceUntil last r) a n sound none accepts = accepts
+accepted_right m (SetMoneyCredit account ticks) a n sound none accepts = accepts
+accepted_right m (SetUnitCredit account asset units) a n sound none accepts = accepts
 accepted_right m (RunBatch budget) a n sound none accepts =
     (accepts.0, own_is_right m.orders (start_prices m) budget accepts.0 (λ k d inside. (sound.live k d inside).order) (start_within m) (past_unless none).0.1 accepts.1, accepts.2)
 
@@ -42,7 +46,7 @@ own_served_is_right m c a n sound serves = record { first = serves.first; refuse
     by_first (Some r) refused answered = answered
     by_first None refused answered = accepted_right m c a n sound refused answered
 
-module _ {R : Type 0} (Reads : R → Result Command BodyFault → Type 0) where
+module _ {R : Type 0} (Reads : Version → R → Result Command BodyFault → Type 0) (own : ReadsOwn Reads) where
   read_right : (m : Market) (read : Result Command BodyFault) (a : Answer Outcome) (n : Market) → IsSound m → ServesRead IsOwnOutcome m read a n → ServesRead IsRightOutcome m read a n
   read_right m (Ok c) a n sound serves = own_served_is_right m c a n sound serves
   read_right m (Err r) a n sound serves = serves
@@ -54,8 +58,8 @@ module _ {R : Type 0} (Reads : R → Result Command BodyFault → Type 0) where
   own_follows_are_right m [] n sound follows = follows
   own_follows_are_right m (pair ∷ pairs) n sound follows =
       let step = own_step_is_right m pair.asked pair.answer follows.0 sound follows.1 in
-      (follows.0, step, own_follows_are_right follows.0 pairs n (sound_step Reads m pair.asked pair.answer follows.0 sound step) follows.2)
+      (follows.0, step, own_follows_are_right follows.0 pairs n (sound_step Reads own m pair.asked pair.answer follows.0 sound step) follows.2)
 
   -- (b) an own journal is a legal one
-  pub own_journal_is_legal : (records : List R) (pairs : List (Pair R Outcome)) (n : Market) → IsJournal Reads IsOwnOutcome records pairs n → IsJournal Reads IsRightOutcome records pairs n
-  own_journal_is_legal records pairs n journal = record { asked = journal.asked; steps = own_follows_are_right empty_market pairs n sound-empty journal.steps }
+  pub own_journal_is_legal : (version : Version) (records : List R) (pairs : List (Pair R Outcome)) (n : Market) → IsJournal Reads IsOwnOutcome version records pairs n → IsJournal Reads IsRightOutcome version records pairs n
+  own_journal_is_legal version records pairs n journal = record { asked = journal.asked; steps = own_follows_are_right (empty_market version) pairs n (sound-empty version) journal.steps }

@@ -7,7 +7,7 @@ use Rattle.std.proofs.lemmas.Bool.{cases_Bool}
 use Rattle.std.proofs.lemmas.Bool.Decides.{eqb_tells}
 use Rattle.weight_rows.specs.declared.entries.Entry.{Entry}
 use Rattle.weight_rows.specs.Rows.{weight_in}
-use Rattle.flow_accounts.specs.Balances.{Balances, IsAsset, money_of, units_of}
+use Rattle.flow_accounts.specs.Balances.{Balances, IsAsset, money_with_credit, units_with_credit}
 use Rattle.flow_orders.specs.Orders.{Order, own_sum, money_need, unit_need, needed_money, needed_units}
 use Rattle.fill_caps.specs.Covers.{CoversNeeds}
 use Rattle.flow_orders.proofs.OwnSums.{own_sum-append}
@@ -65,15 +65,15 @@ needs-filter b p orders covers = record {
 
 -- an order that is placed needs what is free
 pub needs-push : (b : Balances) (orders : List Order) (o : Order) → CoversNeeds b orders
-    → pos (money_need o) ≤ℤ (money_of b o.account -ℤ needed_money orders o.account)
-    → ((asset : ℕ) → IsAsset b asset → pos (unit_need asset o) ≤ℤ (units_of b o.account asset -ℤ needed_units orders o.account asset))
+    → pos (money_need o) ≤ℤ (money_with_credit b o.account -ℤ needed_money orders o.account)
+    → ((asset : ℕ) → IsAsset b asset → pos (unit_need asset o) ≤ℤ (units_with_credit b o.account asset -ℤ needed_units orders o.account asset))
     → CoversNeeds b (orders ++ o ∷ [])
 needs-push b orders o covers money units = record {
   money = λ account there.
       let all = own_sum-push (λ (o : Order). o.account) (λ (o : Order). pos (money_need o)) account orders o in
       ⊎_elim
       (λ same.
-      let free : pos (money_need o) ≤ℤ (money_of b account -ℤ needed_money orders account) = rw (← same.1) money in
+      let free : pos (money_need o) ≤ℤ (money_with_credit b account -ℤ needed_money orders account) = rw (← same.1) money in
       let here = rw same.0 at all in
       omega (arith, ints, here, free))
       (λ other. let here = rw other.0 at all in omega (arith, ints, here, covers.money account there))
@@ -82,7 +82,7 @@ needs-push b orders o covers money units = record {
       let all = own_sum-push (λ (o : Order). o.account) (λ (o : Order). pos (unit_need asset o)) account orders o in
       ⊎_elim
       (λ same.
-      let free : pos (unit_need asset o) ≤ℤ (units_of b account asset -ℤ needed_units orders account asset) = rw (← same.1) (units asset is_asset) in
+      let free : pos (unit_need asset o) ≤ℤ (units_with_credit b account asset -ℤ needed_units orders account asset) = rw (← same.1) (units asset is_asset) in
       let here = rw same.0 at all in
       omega (arith, ints, here, free))
       (λ other. let here = rw other.0 at all in omega (arith, ints, here, covers.units account asset there is_asset))

@@ -1,5 +1,5 @@
 -- What an order that is asked for needs of its account, entry by entry; and a cancelled one.
-use Rattle.std.proofs.Common.{◌≡◌, ℕ, ◌+◌, ◌-◌, ◌*◌, ◌<◌, ◌↔◌, inl, inr, Bool, List, [], ◌∷◌, ◌++◌, ℤ, pos, negsuc, ◌≤ℤ◌, Option, Some, None, is_some, IsTrue, length, ⊎_elim, refl, sym, ap, ◌∙◌, subst, arith}
+use Rattle.std.proofs.Common.{◌≡◌, ℕ, ◌+◌, ◌-◌, ◌*◌, ◌<◌, ◌≤◌, ◌↔◌, inl, inr, Bool, List, [], ◌∷◌, ◌++◌, ℤ, pos, negsuc, ◌≤ℤ◌, Option, Some, None, is_some, IsTrue, length, ⊎_elim, refl, sym, ap, ◌∙◌, subst, arith}
 use Rattle.std.specs.Prelude.{slice_get, slice_index_or, All, Contains, IsNone, IfNone, IfSome}
 use Rattle.std.proofs.lemmas.Int.{ints}
 use Rattle.std.proofs.lemmas.Bool.{cases_lt}
@@ -9,16 +9,17 @@ use Rattle.weight_rows.specs.declared.entries.Entry.{Entry}
 use Rattle.weight_rows.specs.Rows.{IsLawfulRow, assets_of, weight_in}
 use Rattle.weight_rows.proofs.RowLawProofs.{entries_give_weights, named_assets_weigh}
 use Rattle.flow_accounts.specs.Balances.{IsAccount, IsAsset}
-use Rattle.wire_records.specs.Commands.{Request, PlaceOrder, CancelOrder, Plain}
+use Rattle.wire_records.specs.Commands.{Request, PlaceOrder, PlaceUntil, CancelOrder, Plain}
 use Rattle.wire_records.specs.declared.reply.Reply.TheVariants.{Refused, Order as OrderPlaced}
-use Rattle.wire_records.specs.declared.reply.Refusal.TheVariants.{NoAccount, NoOrder}
+use Rattle.wire_records.specs.declared.reply.Refusal.{Refusal}
+use Rattle.wire_records.specs.declared.reply.Refusal.TheVariants.{NoAccount, NoOrder, BadLast}
 use Rattle.demand_curve.specs.Numbers.{or_zero}
 use Rattle.flow_orders.specs.Orders.{Order, most_orders, price_of_ticks, sold}
 use Rattle.flow_orders.specs.Outcomes.{BatchRule}
 use Rattle.order_book.specs.Book.{Book, HasOrder, without}
-use Rattle.market_core.specs.Market.{Market, IsSound, free_money, free_units}
-use Rattle.market_core.specs.Step.{FirstRefusal, Serves, placed, IsAffordable}
-use Rattle.market_core.specs.Private.{cancel_reply}
+use Rattle.market_core.specs.Market.{Market, IsSound, usable_money, usable_units}
+use Rattle.market_core.specs.Step.{◌when◌else◌, FirstRefusal, RefusesRow, Serves, placed, IsAffordable}
+use Rattle.market_core.specs.Private.{cancel_reply, RefusesNumbers, HasRightNumbers, no_other, IsFreeFor}
 use Rattle.market_core.proofs.Accepted.{past_when, past_unless, not_least}
 
 -- ---- entry by entry
@@ -57,12 +58,12 @@ negative_is_not_none n is = omega (arith, ints, is)
 
 -- the units that each entry sells are free exactly where those of each asset are
 pub free_by_entries : (m : Market) (account cap : ℕ) (row : List Entry) → IsLawfulRow row → All (λ e. IsAsset m.balances e.asset) row
-    → ((asset : ℕ) → IsAsset m.balances asset → pos 0 ≤ℤ free_units m account asset)
-    → All (λ e. pos (sold e.weight * cap) ≤ℤ free_units m account e.asset) row
-    → (asset : ℕ) → IsAsset m.balances asset → pos (sold (weight_in row asset) * cap) ≤ℤ free_units m account asset
+    → ((asset : ℕ) → IsAsset m.balances asset → pos 0 ≤ℤ usable_units m account asset)
+    → All (λ e. pos (sold e.weight * cap) ≤ℤ usable_units m account e.asset) row
+    → (asset : ℕ) → IsAsset m.balances asset → pos (sold (weight_in row asset) * cap) ≤ℤ usable_units m account asset
 free_by_entries m account cap row lawful assets some each asset there = by_weight (weight_in row asset) refl
   where
-    by_weight : (w : ℤ) → weight_in row asset ≡ w → pos (sold w * cap) ≤ℤ free_units m account asset
+    by_weight : (w : ℤ) → weight_in row asset ≡ w → pos (sold w * cap) ≤ℤ usable_units m account asset
     by_weight (pos n) is = omega (arith, ints, some asset there)
     by_weight (negsuc n) is =
         let named = (named_assets_weigh row asset lawful).0 (λ none. absurd (negative_is_not_none n (sym is ∙ none))) in
@@ -71,49 +72,107 @@ free_by_entries m account cap row lawful assets some each asset there = by_weigh
         let is_asset : (slice_index_or row named.0 d).asset ≡ asset = sym (asset_at row named.0 d asset inside) ∙ named.2 in
         let here = each named.0 d inside in
         let weight : (slice_index_or row named.0 d).weight ≡ negsuc n = sym (entries_give_weights row lawful named.0 d inside) ∙ ap (weight_in row) is_asset ∙ is in
-        subst (λ a. pos (sold (negsuc n) * cap) ≤ℤ free_units m account a) is_asset
-        (subst (λ w. pos (sold w * cap) ≤ℤ free_units m account (slice_index_or row named.0 d).asset) weight here)
+        subst (λ a. pos (sold (negsuc n) * cap) ≤ℤ usable_units m account a) is_asset
+        (subst (λ w. pos (sold w * cap) ≤ℤ usable_units m account (slice_index_or row named.0 d).asset) weight here)
 
 pub entries_are_free : (m : Market) (account cap : ℕ) (row : List Entry) → IsLawfulRow row → All (λ e. IsAsset m.balances e.asset) row
-    → ((asset : ℕ) → IsAsset m.balances asset → pos (sold (weight_in row asset) * cap) ≤ℤ free_units m account asset)
-    → All (λ e. pos (sold e.weight * cap) ≤ℤ free_units m account e.asset) row
+    → ((asset : ℕ) → IsAsset m.balances asset → pos (sold (weight_in row asset) * cap) ≤ℤ usable_units m account asset)
+    → All (λ e. pos (sold e.weight * cap) ≤ℤ usable_units m account e.asset) row
 entries_are_free m account cap row lawful assets free k d inside =
-    subst (λ w. pos (sold w * cap) ≤ℤ free_units m account (slice_index_or row k d).asset) (entries_give_weights row lawful k d inside)
+    subst (λ w. pos (sold w * cap) ≤ℤ usable_units m account (slice_index_or row k d).asset) (entries_give_weights row lawful k d inside)
     (free (slice_index_or row k d).asset (assets k d inside))
 
 -- what an order needs is free exactly where its money is and the units of each entry are
 pub affordable_is : (m : Market) (r : Request) (free : Bool) → IsSound m → IsAccount m.balances r.account → IsLawfulRow r.row → All (λ e. IsAsset m.balances e.asset) r.row
-    → pos (or_zero (price_of_ticks r.high) * r.cap) ≤ℤ free_money m r.account
-    → (IsTrue free ↔ All (λ e. pos (sold e.weight * r.cap) ≤ℤ free_units m r.account e.asset) r.row)
-    → (IsTrue free ↔ IsAffordable m (placed m r))
+    → pos (or_zero (price_of_ticks r.high) * r.cap) ≤ℤ usable_money m r.account
+    → (IsTrue free ↔ All (λ e. pos (sold e.weight * r.cap) ≤ℤ usable_units m r.account e.asset) r.row)
+    → (IsTrue free ↔ IsFreeFor m r)
 affordable_is m r free sound account lawful assets money is =
     let whole : r.cap ≡ r.cap - 0 = omega arith in
-    let some : (asset : ℕ) → IsAsset m.balances asset → pos 0 ≤ℤ free_units m r.account asset =
+    let some : (asset : ℕ) → IsAsset m.balances asset → pos 0 ≤ℤ usable_units m r.account asset =
     λ asset there. omega (arith, ints, sound.covered.units r.account asset account there) in (
       λ yes. record {
-        money = subst (λ n. pos (or_zero (price_of_ticks r.high) * n) ≤ℤ free_money m r.account) whole money;
-        units = λ asset there. subst (λ n. pos (sold (weight_in r.row asset) * n) ≤ℤ free_units m r.account asset) whole
+        money = subst (λ n. pos (or_zero (price_of_ticks r.high) * n) ≤ℤ usable_money m r.account) whole money;
+        units = λ asset there. subst (λ n. pos (sold (weight_in r.row asset) * n) ≤ℤ usable_units m r.account asset) whole
             (free_by_entries m r.account r.cap r.row lawful assets some (is.0 yes) asset there);
       },
       λ affordable. is.1 (entries_are_free m r.account r.cap r.row lawful assets
-          (λ asset there. subst (λ n. pos (sold (weight_in r.row asset) * n) ≤ℤ free_units m r.account asset) (sym whole) (affordable.units asset there))),
+          (λ asset there. subst (λ n. pos (sold (weight_in r.row asset) * n) ≤ℤ usable_units m r.account asset) (sym whole) (affordable.units asset there))),
     )
 
+-- whatever its last batch is
+pub free_until : (m : Market) (last : ℕ) (r : Request) → IsFreeFor m r → IsAffordable m (placed m last r)
+free_until m last r free = record { money = free.money; units = free.units }
+
+pub free_from : (m : Market) (last : ℕ) (r : Request) → IsAffordable m (placed m last r) → IsFreeFor m r
+free_from m last r free = record { money = free.money; units = free.units }
+
+-- ---- refusals in parts
+
+-- a refusal for the numbers is the first, whatever the others are
+pub refuses_numbers : (m : Market) (r : Request) (others : Option Refusal → Type 0) (first : Option Refusal) → RefusesNumbers m r no_other first → RefusesNumbers m r others first
+refuses_numbers m r others first (inl here) = inl here
+refuses_numbers m r others first (inr (account, inl here)) = inr (account, inl here)
+refuses_numbers m r others first (inr (account, inr (limits, inl here))) = inr (account, inr (limits, inl here))
+refuses_numbers m r others first (inr (account, inr (limits, inr (rate, inl here)))) = inr (account, inr (limits, inr (rate, inl here)))
+refuses_numbers m r others first (inr (account, inr (limits, inr (rate, inr (cap, none))))) = absurd none
+
+-- where the numbers are right, the others decide
+pub passes_numbers : (m : Market) (r : Request) (others : Option Refusal → Type 0) (first : Option Refusal) → HasRightNumbers m r → others first → RefusesNumbers m r others first
+passes_numbers m r others first right other = inr (right.account, inr (right.limits, inr (right.rate, inr (right.cap, other))))
+
+-- a refusal for the row doesn't depend on the last batch
+pub refuses_row_until : (m : Market) (last : ℕ) (r : Request) (first : Option Refusal) → RefusesRow m (placed m 0 r) first → RefusesRow m (placed m last r) first
+refuses_row_until m last r first (inl here) = inl here
+refuses_row_until m last r first (inr (row, inl here)) = inr (row, inl here)
+refuses_row_until m last r first (inr (row, inr (assets, inl here))) = inr (row, inr (assets, inl here))
+refuses_row_until m last r first (inr (row, inr (assets, inr (few, inl (dear, is))))) = inr (row, inr (assets, inr (few, inl ((λ free. dear (free_from m last r free)), is))))
+refuses_row_until m last r first (inr (row, inr (assets, inr (few, inr (free, none))))) = inr (row, inr (assets, inr (few, inr (free_until m last r free, none))))
+
+-- so the first refusal of either command, by its parts
+pub first_of_place : (m : Market) (r : Request) (first : Option Refusal) → HasRightNumbers m r → RefusesRow m (placed m 0 r) first → FirstRefusal m (PlaceOrder r) first
+first_of_place m r first right row = passes_numbers m r (RefusesRow m (placed m 0 r)) first right row
+
+pub first_of_until : (m : Market) (last : ℕ) (r : Request) (first : Option Refusal) → HasRightNumbers m r → (last ≤ m.batches → ⊥) → RefusesRow m (placed m 0 r) first → FirstRefusal m (PlaceUntil last r) first
+first_of_until m last r first right later row = passes_numbers m r (BadLast when last ≤ m.batches else RefusesRow m (placed m last r)) first right (inr (later, refuses_row_until m last r first row))
+
+pub too_late : (m : Market) (last : ℕ) (r : Request) → HasRightNumbers m r → last ≤ m.batches → FirstRefusal m (PlaceUntil last r) (Some BadLast)
+too_late m last r right over = passes_numbers m r (BadLast when last ≤ m.batches else RefusesRow m (placed m last r)) (Some BadLast) right (inl (over, refl))
+
 -- where no refusal holds, there is place for one order more
+row_is_few : (m : Market) (o : Order) → RefusesRow m o None → length m.orders < most_orders
+row_is_few m o first =
+    let row = past_unless first in
+    let assets = past_unless row.1 in
+    not_least most_orders (length m.orders) (past_when assets.1).0
+
 pub accepted_is_few : (m : Market) (r : Request) → FirstRefusal m (PlaceOrder r) None → length m.orders < most_orders
 accepted_is_few m r first =
     let account = past_unless first in
     let limits = past_unless account.1 in
     let rate = past_unless limits.1 in
+    row_is_few m (placed m 0 r) (past_unless rate.1).1
+
+pub until_is_few : (m : Market) (last : ℕ) (r : Request) → FirstRefusal m (PlaceUntil last r) None → length m.orders < most_orders
+until_is_few m last r first =
+    let account = past_unless first in
+    let limits = past_unless account.1 in
+    let rate = past_unless limits.1 in
     let cap = past_unless rate.1 in
-    let row = past_unless cap.1 in
-    let assets = past_unless row.1 in
-    not_least most_orders (length m.orders) (past_when assets.1).0
+    row_is_few m (placed m last r) (past_when cap.1).1
 
 -- the order is added
-pub serves-place : (Rule : BatchRule) (m : Market) (r : Request) (o : Order) (orders : List Order) → FirstRefusal m (PlaceOrder r) None → o ≡ placed m r → orders ≡ m.orders ++ o ∷ []
+pub serves-place : (Rule : BatchRule) (m : Market) (r : Request) (o : Order) (orders : List Order) → FirstRefusal m (PlaceOrder r) None → o ≡ placed m 0 r → orders ≡ m.orders ++ o ∷ []
     → Serves Rule m (PlaceOrder r) (Plain (OrderPlaced m.next_order)) (record m { orders = orders; next_order = m.next_order + 1 })
 serves-place Rule m r o orders first is made = record {
+  first = None;
+  refused = first;
+  answered = (refl, ap (λ os. record m { orders = os; next_order = m.next_order + 1 }) (made ∙ ap (λ x. m.orders ++ x ∷ []) is));
+}
+
+pub serves-place_until : (Rule : BatchRule) (m : Market) (last : ℕ) (r : Request) (o : Order) (orders : List Order) → FirstRefusal m (PlaceUntil last r) None → o ≡ placed m last r → orders ≡ m.orders ++ o ∷ []
+    → Serves Rule m (PlaceUntil last r) (Plain (OrderPlaced m.next_order)) (record m { orders = orders; next_order = m.next_order + 1 })
+serves-place_until Rule m last r o orders first is made = record {
   first = None;
   refused = first;
   answered = (refl, ap (λ os. record m { orders = os; next_order = m.next_order + 1 }) (made ∙ ap (λ x. m.orders ++ x ∷ []) is));

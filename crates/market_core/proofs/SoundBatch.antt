@@ -1,6 +1,6 @@
 -- A batch with a right outcome keeps a market sound.
-use Rattle.std.proofs.Common.{◌≡◌, ℕ, ◌+◌, ◌*◌, ◌^◌, ◌≤◌, ◌<◌, ℤ, pos, ◌+ℤ◌, ◌-ℤ◌, List, length, map, refl, ap, sym, subst, ◌∙◌, arith}
-use Rattle.std.specs.Prelude.{All, slice_index_or, unsigned_abs}
+use Rattle.std.proofs.Common.{◌≡◌, ◌≢◌, ℕ, ◌+◌, ◌*◌, ◌^◌, ◌≤◌, ◌<◌, ℤ, pos, ◌+ℤ◌, ◌-ℤ◌, List, length, map, refl, ap, sym, subst, ◌∙◌, arith}
+use Rattle.std.specs.Prelude.{All, slice_index_or, unsigned_abs, not, ◌==◌}
 use Rattle.std.specs.List.{range_with_len}
 use Rattle.std.proofs.lemmas.Int.{ints}
 use Rattle.std.proofs.lemmas.List.{length-map}
@@ -12,9 +12,9 @@ use Rattle.flow_accounts.specs.Balances.{Account, Balances, IsAccount, account_c
 use Rattle.flow_orders.specs.Orders.{Order, terms_of}
 use Rattle.flow_orders.specs.Excess.{price_for, residual_bound}
 use Rattle.flow_orders.specs.Outcomes.{Clearing, Fill, Outcome, Cleared, Skipped, trades_of, IsRightClearing, IsRightOutcome}
-use Rattle.flow_orders.specs.Trades.{Trade, trader, residual, residual_cost, after_fill, is_live, staying}
+use Rattle.flow_orders.specs.Trades.{Trade, trader, residual, residual_cost, after_fill, is_live, staying, going_on}
 use Rattle.fill_caps.specs.Settlement.{settled_balances, settled_exchange}
-use Rattle.market_core.specs.Market.{Market, IsSound, IsLiveOrder, start_prices, most_batches}
+use Rattle.market_core.specs.Market.{Market, IsSound, IsLiveOrder, IsInTime, start_prices, most_batches}
 use Rattle.market_core.specs.Step.{after_batch}
 use Rattle.fill_caps.specs.Settles.{Settles}
 use Rattle.flow_orders.proofs.TradeFacts.{IsAllowed, before_fills, after_fills}
@@ -25,6 +25,9 @@ use Rattle.fill_caps.proofs.Settled.{staying_are_live, numbers_ascend}
 use Rattle.fill_caps.proofs.SettledBalances.{settles, settled_units_count, exchange_units_count}
 use Rattle.market_core.proofs.SoundBalances.{live_still}
 use Rattle.market_core.proofs.SoundOrders.{filter_few}
+use Rattle.market_core.proofs.OwnNeeds.{needs-filter}
+use Rattle.market_core.proofs.Ending.{others_go_on, still_in_time}
+use Rattle.std.proofs.lemmas.List.Kept.{AllPairs-filter}
 use Rattle.flow_orders.proofs.TradeFacts.{before-trades, All-trades}
 
 -- ---- the market after a cleared batch
@@ -36,8 +39,8 @@ difference_small : (x y : ℤ) (n p : ℕ) → unsigned_abs x ≤ n * p → unsi
 difference_small x y n p small less = omega (arith, ints, small, less)
 
 -- a live order after its fill, where it stays
-live_after : (m n : Market) (t : Trade) → account_count n.balances ≡ account_count m.balances → asset_count n.balances ≡ asset_count m.balances → n.next_order ≡ m.next_order → IsLiveOrder m t.order → (after_fill t).filled < (after_fill t).cap → IsLiveOrder n (after_fill t)
-live_after m n t accounts assets next live left = record {
+live_after : (m n : Market) (t : Trade) → account_count n.balances ≡ account_count m.balances → asset_count n.balances ≡ asset_count m.balances → n.next_order ≡ m.next_order → IsLiveOrder m t.order → (after_fill t).filled < (after_fill t).cap → IsInTime n t.order → IsLiveOrder n (after_fill t)
+live_after m n t accounts assets next live left time = record {
   order = record {
     terms = record {
       low_in_range = live.order.terms.low_in_range;
@@ -55,6 +58,7 @@ live_after m n t accounts assets next live left = record {
   numbered = (live.numbered.0, omega (arith, live.numbered.1, next));
   account = (live.account.0, omega (arith, live.account.1, accounts));
   assets = λ j e within. let there = live.assets j e within in omega (arith, there, assets);
+  in_time = time;
 }
 
 module _ (m : Market) (c : Clearing) (ts : List Trade) (is : trades_of m.orders c.fills ≡ ts) (sound : IsSound m) (right : IsRightClearing m.orders (start_prices m) c) where
@@ -122,19 +126,33 @@ module _ (m : Market) (c : Clearing) (ts : List Trade) (is : trades_of m.orders 
   accounts_same = settling.accounts
 
   abbrev after : Market
-  after = record m { balances = new; exchange = exchange; orders = staying ts; batches = m.batches + 1; last_prices = c.prices }
+  after = record m { balances = new; exchange = exchange; orders = going_on (m.batches + 1) (staying ts); batches = m.batches + 1; last_prices = c.prices }
 
-  all_live_if : All (λ (o : Order). o.filled < o.cap → IsLiveOrder after o) (after_fills ts)
-  all_live_if = All-map (λ (o : Order). o.filled < o.cap → IsLiveOrder after o) after_fill ts (λ k d inside left. live_after m after (slice_index_or ts k d) accounts_same refl refl (each_live k d inside) left)
+  -- an order stays live where it isn't filled to its cap and has another last batch
+  abbrev StaysLive : Order → Type 0
+  StaysLive o = o.last ≢ m.batches + 1 → o.filled < o.cap → IsLiveOrder after o
+
+  all_live_if : All StaysLive (after_fills ts)
+  all_live_if = All-map StaysLive after_fill ts (λ k d inside other left.
+      let t = slice_index_or ts k d in
+      let live = each_live k d inside in
+      live_after m after t accounts_same refl refl live left (still_in_time m after t.order refl refl other live.in_time))
+
+  all_live : All (IsLiveOrder after) (going_on (m.batches + 1) (staying ts))
+  all_live k d inside =
+      let P : Order → Type 0 = λ o. o.last ≢ m.batches + 1 → IsLiveOrder after o in
+      let staying_if : All P (staying ts) = λ i e within other. All-filter is_live StaysLive (after_fills ts) all_live_if i e within other (staying_are_live ts i e within) in
+      All-filter (λ (o : Order). not (o.last == m.batches + 1)) P (staying ts) staying_if k d inside (others_go_on (m.batches + 1) (staying ts) k d inside)
 
   -- the market after a cleared batch is sound
   pub sound_settled : m.batches < most_batches → IsSound after
   sound_settled more = record {
-    one_each = record { tickers = sound.one_each.tickers; prices = prices_count; accounts = settled_units_count c.prices ts m.balances m.exchange; exchange = exchange_units_count c.prices ts m.balances m.exchange };
+    one_each = record { tickers = sound.one_each.tickers; prices = prices_count; accounts = settled_units_count c.prices ts m.balances m.exchange; exchange = exchange_units_count c.prices ts m.balances m.exchange; credits = sound.one_each.credits ∙ sym accounts_same };
     tickers = sound.tickers;
-    live = λ k d inside. All-filter is_live (λ (o : Order). o.filled < o.cap → IsLiveOrder after o) (after_fills ts) all_live_if k d inside (staying_are_live ts k d inside);
-    ascending = numbers_ascend ts (rw orders_before sound.ascending);
-    covered = needs_kept_by_batch c.prices ts m.balances new m.exchange exchange settling allowed (rw orders_before sound.covered);
+    live = all_live;
+    ascending = AllPairs-filter (λ (x : Order) (y : Order). x.number < y.number) (λ (o : Order). not (o.last == m.batches + 1)) (staying ts) (numbers_ascend ts (rw orders_before sound.ascending));
+    covered = needs-filter new (λ (o : Order). not (o.last == m.batches + 1)) (staying ts) (needs_kept_by_batch c.prices ts m.balances new m.exchange exchange settling allowed (rw orders_before sound.covered));
+    credit = record { lawful = sound.credit.lawful; none = sound.credit.none };
     totals = record {
       money = money_kept c.prices ts m.balances new m.exchange exchange settling there lawful priced ∙ sound.totals.money;
       units = λ asset is_asset. units_kept c.prices ts m.balances new m.exchange exchange settling there asset is_asset ∙ sound.totals.units asset is_asset;
@@ -154,30 +172,40 @@ module _ (m : Market) (c : Clearing) (ts : List Trade) (is : trades_of m.orders 
     };
     prices = right.small;
     few_accounts = omega (arith, accounts_same, sound.few_accounts);
-    few_orders = omega (arith, filter_few is_live (after_fills ts), length-map ts after_fill, few);
+    few_orders = omega (arith, filter_few (λ (o : Order). not (o.last == m.batches + 1)) (staying ts), filter_few is_live (after_fills ts), length-map ts after_fill, few);
     few_batches = omega (arith, more);
     next = sound.next;
   }
 
+-- a batch that was skipped, whatever its walk was
+pub sound-skipped : (m : Market) → IsSound m → m.batches < most_batches → IsSound (record m { orders = going_on (m.batches + 1) m.orders; batches = m.batches + 1 })
+sound-skipped m sound more =
+    let goes = λ (o : Order). not (o.last == m.batches + 1) in
+    let kept = All-filter goes (IsLiveOrder m) m.orders sound.live in
+    let after : Market = record m { orders = going_on (m.batches + 1) m.orders; batches = m.batches + 1 } in
+    record {
+      one_each = record { tickers = sound.one_each.tickers; prices = sound.one_each.prices; accounts = sound.one_each.accounts; exchange = sound.one_each.exchange; credits = sound.one_each.credits };
+      tickers = sound.tickers;
+      live = live_still m after (going_on (m.batches + 1) m.orders) (omega arith) (omega arith) (omega arith)
+          (λ k d inside. still_in_time m after (slice_index_or (going_on (m.batches + 1) m.orders) k d) refl refl (others_go_on (m.batches + 1) m.orders k d inside) (kept k d inside).in_time) kept;
+      ascending = AllPairs-filter (λ (x : Order) (y : Order). x.number < y.number) goes m.orders sound.ascending;
+      covered = needs-filter m.balances goes m.orders sound.covered;
+      credit = record { lawful = sound.credit.lawful; none = sound.credit.none };
+      totals = record { money = sound.totals.money; units = sound.totals.units };
+      widths = record {
+        total_money = sound.widths.total_money;
+        total_units = sound.widths.total_units;
+        exchange_money = omega (arith, sound.widths.exchange_money);
+        exchange_units = λ k d inside. let before = sound.widths.exchange_units k d inside in omega (arith, before);
+      };
+      prices = sound.prices;
+      few_accounts = sound.few_accounts;
+      few_orders = omega (arith, filter_few goes m.orders, sound.few_orders);
+      few_batches = omega (arith, more);
+      next = sound.next;
+    }
+
 -- a batch with a right outcome
 pub sound-batch : (m : Market) (outcome : Outcome) (budget : ℕ) → IsSound m → m.batches < most_batches → IsRightOutcome m.orders (start_prices m) budget outcome → IsSound (after_batch m outcome)
 sound-batch m (Cleared c) budget sound more right = sound_settled m c (trades_of m.orders c.fills) refl sound right more
-sound-batch m (Skipped s) budget sound more right = record {
-  one_each = record { tickers = sound.one_each.tickers; prices = sound.one_each.prices; accounts = sound.one_each.accounts; exchange = sound.one_each.exchange };
-  tickers = sound.tickers;
-  live = live_still m (after_batch m (Skipped s)) m.orders (omega arith) (omega arith) (omega arith) sound.live;
-  ascending = sound.ascending;
-  covered = sound.covered;
-  totals = record { money = sound.totals.money; units = sound.totals.units };
-  widths = record {
-    total_money = sound.widths.total_money;
-    total_units = sound.widths.total_units;
-    exchange_money = omega (arith, sound.widths.exchange_money);
-    exchange_units = λ k d inside. let before = sound.widths.exchange_units k d inside in omega (arith, before);
-  };
-  prices = sound.prices;
-  few_accounts = sound.few_accounts;
-  few_orders = sound.few_orders;
-  few_batches = omega (arith, more);
-  next = sound.next;
-}
+sound-batch m (Skipped s) budget sound more right = sound-skipped m sound more

@@ -8,16 +8,18 @@ use Rattle.weight_rows.specs.Rows.{IsLawfulRow, IsLawfulWeight, weight_in, portf
 use Rattle.ticker_table.specs.Tickers.{IsNameCharacter, IsTicker}
 use Rattle.wire_records.specs.Commands.{Request, Command, AddAsset, OpenAccount, DepositMoney, DepositAsset, WithdrawMoney, WithdrawAsset, PlaceOrder, CancelOrder, RunBatch, Answer, Plain, Batch, Pair}
 use Rattle.wire_records.specs.declared.command.BodyFault.{BodyFault}
+use Rattle.wire_records.specs.declared.version.Version.{Version}
+use Rattle.wire_records.specs.declared.version.Version.TheVariants.{One}
 use Rattle.wire_records.specs.declared.reply.Refusal.{Refusal}
 use Rattle.wire_records.specs.declared.reply.Refusal.TheVariants.{NoAccount, NoAsset, ZeroAmount, TotalLimit, NotFree, BadLimits, BadRate, BadCap, BadRow, NoOrder, BadBudget, BatchLimit, TickerTaken, AssetLimit, BadTicker, AccountLimit, OrderLimit}
 use Rattle.wire_records.specs.declared.reply.Reply.TheVariants as reply
-use Rattle.flow_accounts.specs.Balances.{Account, Balances, IsAsset, account_count}
+use Rattle.flow_accounts.specs.Balances.{Account, Credit, Balances, IsAsset, account_count}
 use Rattle.flow_orders.specs.Orders.{Order, AreLimits, money_need, unit_need}
 use Rattle.flow_orders.specs.Outcomes.{Outcome, Cleared}
 use Rattle.flow_orders.specs.Trades.{trades}
 use Rattle.flow_orders.specs.Own.{IsOwnOutcome}
 use Rattle.flow_orders.proofs.WorkedRows as batches
-use Rattle.market_core.specs.Market.{Market, empty_market, start_prices, held_money, held_units, free_money, free_units}
+use Rattle.market_core.specs.Market.{Market, empty_market, start_prices, held_money, held_units, free_money, usable_units}
 use Rattle.fill_caps.specs.Settlement.{settled_account, settled_balances, settled_exchange}
 use Rattle.market_core.specs.Step.{FirstRefusal, Accepts, Answers, Serves, IsAffordable, placed}
 use Rattle.order_book.specs.Book.{HasOrder}
@@ -36,14 +38,21 @@ buys = record { account = 1; low = pos 90; high = pos 110; rate = 1000; cap = 10
 abbrev sells : Request
 sells = record { account = 2; low = neg_ℤ (pos 110); high = neg_ℤ (pos 90); rate = 1000; cap = 10000; row = entry 0 (neg_ℤ (pos 1)) ∷ [] }
 
+abbrev no_credit : Credit
+no_credit = record { ticks = 0; units = 0 ∷ [] }
+
+abbrev no_credit_of_two : Credit
+no_credit_of_two = record { ticks = 0; units = 0 ∷ 0 ∷ [] }
+
 abbrev holds : ℤ → ℤ → Account
 holds money units = record { money = money; units = units ∷ [] }
 
 -- a market of the one asset, by the money of the first account and what the two accounts hold of the asset
 abbrev two_accounts : ℤ → Market
 two_accounts money = record {
+  version = One;
   tickers = aapl ∷ [];
-  balances = record { accounts = holds money (pos 0) ∷ holds (pos 0) (pos 10000) ∷ []; total_money = money; total_units = pos 10000 ∷ [] };
+  balances = record { accounts = holds money (pos 0) ∷ holds (pos 0) (pos 10000) ∷ []; credits = no_credit ∷ no_credit ∷ []; total_money = money; total_units = pos 10000 ∷ [] };
   exchange = holds (pos 0) (pos 0);
   orders = [];
   next_order = 1;
@@ -71,11 +80,11 @@ first_asset : (b : Balances) (weight : ℤ) → 0 < length b.total_units → All
 first_asset b weight there = All-from_recursion (λ (e : Entry). IsAsset b e.asset) (entry 0 weight ∷ []) (there, tt)
 
 -- what the buyer needs is what there is
-buyer_affords : IsAffordable enough (placed enough buys)
+buyer_affords : IsAffordable enough (placed enough 0 buys)
 unfolding weight_in
 buyer_affords = record { money = omega (arith, ints); units = units }
   where
-    units : (asset : ℕ) → asset < 1 → pos (unit_need asset (placed enough buys)) ≤ℤ free_units enough 1 asset
+    units : (asset : ℕ) → asset < 1 → pos (unit_need asset (placed enough 0 buys)) ≤ℤ usable_units enough 1 asset
     units zero inside = omega (arith, ints)
     units (suc asset) inside = absurd (omega (arith, inside))
 
@@ -132,8 +141,8 @@ buyer_is_refused =
 -- ---- eight commands: an asset, two accounts, two deposits, two orders, and a batch
 
 -- commands as they stand, read as themselves
-abbrev Itself : Command → Result Command BodyFault → Type 0
-Itself command read = read ≡ Ok command
+abbrev Itself : Version → Command → Result Command BodyFault → Type 0
+Itself version command read = read ≡ Ok command
 
 -- the journal of a buyer and a seller
 abbrev says : Command → Answer Outcome → Pair Command Outcome
@@ -157,30 +166,31 @@ traded =
 
 -- the markets in between
 abbrev with_asset_0 : Market
-with_asset_0 = record { tickers = aapl ∷ []; balances = record { accounts = []; total_money = pos 0; total_units = pos 0 ∷ [] }; exchange = holds (pos 0) (pos 0); orders = []; next_order = 1; batches = 0; last_prices = pos 0 ∷ [] }
+with_asset_0 = record { version = One; tickers = aapl ∷ []; balances = record { accounts = []; credits = []; total_money = pos 0; total_units = pos 0 ∷ [] }; exchange = holds (pos 0) (pos 0); orders = []; next_order = 1; batches = 0; last_prices = pos 0 ∷ [] }
 
 abbrev with_account_1 : Market
-with_account_1 = record with_asset_0 { balances = record { accounts = holds (pos 0) (pos 0) ∷ []; total_money = pos 0; total_units = pos 0 ∷ [] } }
+with_account_1 = record with_asset_0 { balances = record { accounts = holds (pos 0) (pos 0) ∷ []; credits = no_credit ∷ []; total_money = pos 0; total_units = pos 0 ∷ [] } }
 
 abbrev with_account_2 : Market
-with_account_2 = record with_asset_0 { balances = record { accounts = holds (pos 0) (pos 0) ∷ holds (pos 0) (pos 0) ∷ []; total_money = pos 0; total_units = pos 0 ∷ [] } }
+with_account_2 = record with_asset_0 { balances = record { accounts = holds (pos 0) (pos 0) ∷ holds (pos 0) (pos 0) ∷ []; credits = no_credit ∷ no_credit ∷ []; total_money = pos 0; total_units = pos 0 ∷ [] } }
 
 abbrev with_money : Market
-with_money = record with_asset_0 { balances = record { accounts = holds (pos 4724464025600000) (pos 0) ∷ holds (pos 0) (pos 0) ∷ []; total_money = pos 4724464025600000; total_units = pos 0 ∷ [] } }
+with_money = record with_asset_0 { balances = record { accounts = holds (pos 4724464025600000) (pos 0) ∷ holds (pos 0) (pos 0) ∷ []; credits = no_credit ∷ no_credit ∷ []; total_money = pos 4724464025600000; total_units = pos 0 ∷ [] } }
 
 abbrev with_buyer : Market
-with_buyer = record enough { orders = placed enough buys ∷ []; next_order = 2 }
+with_buyer = record enough { orders = placed enough 0 buys ∷ []; next_order = 2 }
 
 abbrev with_seller : Market
-with_seller = record enough { orders = placed enough buys ∷ placed with_buyer sells ∷ []; next_order = 3 }
+with_seller = record enough { orders = placed enough 0 buys ∷ placed with_buyer 0 sells ∷ []; next_order = 3 }
 
 -- after the batch: the buyer paid for 500 units, the seller was paid for as many, and the exchange holds nothing
 abbrev after_trade : Market
 after_trade = record {
+  version = One;
   tickers = aapl ∷ [];
-  balances = record { accounts = holds (pos 4509758610472500) (pos 500) ∷ holds (pos 214705415127500) (pos 9500) ∷ []; total_money = pos 4724464025600000; total_units = pos 10000 ∷ [] };
+  balances = record { accounts = holds (pos 4509758610472500) (pos 500) ∷ holds (pos 214705415127500) (pos 9500) ∷ []; credits = no_credit ∷ no_credit ∷ []; total_money = pos 4724464025600000; total_units = pos 10000 ∷ [] };
   exchange = holds (pos 0) (pos 0);
-  orders = record (placed enough buys) { filled = 500 } ∷ record (placed with_buyer sells) { filled = 500 } ∷ [];
+  orders = record (placed enough 0 buys) { filled = 500 } ∷ record (placed with_buyer 0 sells) { filled = 500 } ∷ [];
   next_order = 3;
   batches = 1;
   last_prices = pos 429410830255 ∷ [];
@@ -196,7 +206,7 @@ aapl_is_valid = record {
   whole = refl;
 }
 
-serves_asset : Serves IsOwnOutcome empty_market (AddAsset aapl) (Plain (reply.Asset 0)) with_asset_0
+serves_asset : Serves IsOwnOutcome (empty_market One) (AddAsset aapl) (Plain (reply.Asset 0)) with_asset_0
 serves_asset = record {
   first = None;
   refused = inr (aapl_is_valid, inr ((λ taken. omega (arith, taken.1)), inr ((λ full. omega (arith, full)), refl)));
@@ -227,11 +237,11 @@ serves_buyer : Serves IsOwnOutcome enough (PlaceOrder buys) (Plain (reply.Order 
 serves_buyer = record { first = None; refused = buyer_is_accepted; answered = (refl, refl) }
 
 -- what the seller needs is what there is, and no money
-seller_affords : IsAffordable with_buyer (placed with_buyer sells)
+seller_affords : IsAffordable with_buyer (placed with_buyer 0 sells)
 unfolding weight_in
 seller_affords = record { money = omega (arith, ints); units = units }
   where
-    units : (asset : ℕ) → asset < 1 → pos (unit_need asset (placed with_buyer sells)) ≤ℤ free_units with_buyer 2 asset
+    units : (asset : ℕ) → asset < 1 → pos (unit_need asset (placed with_buyer 0 sells)) ≤ℤ usable_units with_buyer 2 asset
     units zero inside = omega (arith, ints)
     units (suc asset) inside = absurd (omega (arith, inside))
 
@@ -279,7 +289,7 @@ abbrev eight : List Command
 eight = AddAsset aapl ∷ OpenAccount ∷ OpenAccount ∷ DepositMoney 1 1100000 ∷ DepositAsset 2 0 10000 ∷ PlaceOrder buys ∷ PlaceOrder sells ∷ RunBatch 10 ∷ []
 
 -- the journal of the eight commands
-the_journal : IsJournal Itself IsOwnOutcome eight (opened ++ traded) after_trade
+the_journal : IsJournal Itself IsOwnOutcome One eight (opened ++ traded) after_trade
 the_journal = record {
   asked = refl;
   steps = (
@@ -312,7 +322,7 @@ held_is : (held_money after_trade ≡ pos 4724464025600000) × (held_units after
 held_is = (refl, refl)
 
 -- what was deposited is what is held
-deposited : AddTogether Itself money_added (opened ++ traded) (held_money after_trade)
+deposited : AddTogether (Itself One) money_added (opened ++ traded) (held_money after_trade)
 deposited = (
   Ok (AddAsset aapl),
   pos 4724464025600000,
@@ -340,8 +350,8 @@ deposited = (
 )
 
 -- the journal says what the cap of the first order is
-places_is : Places Itself 1 10000 (says (PlaceOrder buys) (Plain (reply.Order 1)))
-places_is = record { request = buys; spelled = refl; answered = refl; cap_is = refl }
+places_is : Places (Itself One) 1 10000 (says (PlaceOrder buys) (Plain (reply.Order 1)))
+places_is = record { request = buys; asks = inl refl; answered = refl; cap_is = refl }
 
 -- ---- money is refused that a live order needs
 
@@ -357,7 +367,7 @@ not_too_much = inr ((omega arith, omega arith), inr ((λ nothing. omega (arith, 
 
 -- ---- an order that sells needs no money, but all units that it may sell
 
-seller_needs : (money_need (placed with_buyer sells) ≡ 0) × (unit_need 0 (placed with_buyer sells) ≡ 10000)
+seller_needs : (money_need (placed with_buyer 0 sells) ≡ 0) × (unit_need 0 (placed with_buyer 0 sells) ≡ 10000)
 unfolding weight_in
 seller_needs = (refl, refl)
 
@@ -370,7 +380,7 @@ one_unit_too_many = inr ((omega arith, omega arith), inr (omega arith, inr ((λ 
 refused_serves : Serves IsOwnOutcome a_tick_less (PlaceOrder buys) (Plain (reply.Refused NotFree)) a_tick_less
 refused_serves = record { first = Some NotFree; refused = buyer_is_refused; answered = (refl, refl) }
 
-seller_alone : Serves IsOwnOutcome a_tick_less (PlaceOrder sells) (Plain (reply.Order 1)) (record a_tick_less { orders = placed a_tick_less sells ∷ []; next_order = 2 })
+seller_alone : Serves IsOwnOutcome a_tick_less (PlaceOrder sells) (Plain (reply.Order 1)) (record a_tick_less { orders = placed a_tick_less 0 sells ∷ []; next_order = 2 })
 unfolding weight_in
 seller_alone = record {
   first = None;
@@ -400,7 +410,7 @@ seller_alone = record {
   answered = (refl, refl);
 }
   where
-    units : (asset : ℕ) → asset < 1 → pos (unit_need asset (placed a_tick_less sells)) ≤ℤ free_units a_tick_less 2 asset
+    units : (asset : ℕ) → asset < 1 → pos (unit_need asset (placed a_tick_less 0 sells)) ≤ℤ usable_units a_tick_less 2 asset
     units zero inside = omega (arith, ints)
     units (suc asset) inside = absurd (omega (arith, inside))
 
@@ -418,12 +428,12 @@ not_its_order = inr ((omega arith, omega arith), inl (none, refl))
     none has = at has.live.0 has.order has.live.1 has.live.2 has.account_is has.number_is
 
 abbrev without_buyer : Market
-without_buyer = record with_seller { orders = placed with_buyer sells ∷ [] }
+without_buyer = record with_seller { orders = placed with_buyer 0 sells ∷ [] }
 
 its_order : Serves IsOwnOutcome with_seller (CancelOrder 1 1) (Plain reply.Done) without_buyer
 its_order = record {
   first = None;
-  refused = inr ((omega arith, omega arith), inr (record { order = placed enough buys; live = (0, omega arith, refl); account_is = refl; number_is = refl }, refl));
+  refused = inr ((omega arith, omega arith), inr (record { order = placed enough 0 buys; live = (0, omega arith, refl); account_is = refl; number_is = refl }, refl));
   answered = (refl, refl);
 }
 
@@ -503,10 +513,10 @@ budget_0 = inl ((λ budget. omega (arith, budget.0)), refl)
 budget_65537 : FirstRefusal enough (RunBatch 65537) (Some BadBudget)
 budget_65537 = inl ((λ budget. omega (arith, budget.1)), refl)
 
-last_batch : FirstRefusal (record empty_market { batches = 2 ^ 24 - 1 }) (RunBatch 1) None
+last_batch : FirstRefusal (record (empty_market One) { batches = 2 ^ 24 - 1 }) (RunBatch 1) None
 last_batch = inr ((omega arith, omega arith), inr ((λ held. omega (arith, held)), refl))
 
-no_batch_more : FirstRefusal (record empty_market { batches = 2 ^ 24 }) (RunBatch 1) (Some BatchLimit)
+no_batch_more : FirstRefusal (record (empty_market One) { batches = 2 ^ 24 }) (RunBatch 1) (Some BatchLimit)
 no_batch_more = inr ((omega arith, omega arith), inl (omega arith, refl))
 
 -- ---- totals
@@ -566,7 +576,7 @@ no_spaces bytes ticker = by ticker.name ticker.named ticker.spelled (ticker.char
 invalid : FirstRefusal enough (AddAsset (codes "aapl    ")) (Some BadTicker) × FirstRefusal enough (AddAsset (codes "        ")) (Some BadTicker)
 invalid = (inl (no_lower_case (codes "apl    "), refl), inl (no_spaces (codes "       "), refl))
 
-asset_65 : (tickers : List (List ℕ)) → length tickers ≡ 64 → ¬ Contains tickers aapl → FirstRefusal (record empty_market { tickers = tickers }) (AddAsset aapl) (Some AssetLimit)
+asset_65 : (tickers : List (List ℕ)) → length tickers ≡ 64 → ¬ Contains tickers aapl → FirstRefusal (record (empty_market One) { tickers = tickers }) (AddAsset aapl) (Some AssetLimit)
 asset_65 tickers count absent = inr (aapl_is_valid, inr (absent, inl (omega (arith, count), refl)))
 
 account_65537 : (m : Market) → account_count m.balances ≡ 65536 → FirstRefusal m OpenAccount (Some AccountLimit)
@@ -596,8 +606,9 @@ order_16385 orders count =
 
 abbrev with_msft : Market
 with_msft = record {
+  version = One;
   tickers = aapl ∷ codes "MSFT    " ∷ [];
-  balances = record { accounts = record { money = pos 4509758610472500; units = pos 500 ∷ pos 0 ∷ [] } ∷ record { money = pos 214705415127500; units = pos 9500 ∷ pos 0 ∷ [] } ∷ []; total_money = pos 4724464025600000; total_units = pos 10000 ∷ pos 0 ∷ [] };
+  balances = record { accounts = record { money = pos 4509758610472500; units = pos 500 ∷ pos 0 ∷ [] } ∷ record { money = pos 214705415127500; units = pos 9500 ∷ pos 0 ∷ [] } ∷ []; credits = no_credit_of_two ∷ no_credit_of_two ∷ []; total_money = pos 4724464025600000; total_units = pos 10000 ∷ pos 0 ∷ [] };
   exchange = record { money = pos 0; units = pos 0 ∷ pos 0 ∷ [] };
   orders = after_trade.orders;
   next_order = 3;
@@ -611,10 +622,10 @@ adds_msft = (refl, refl)
 -- ---- a batch of two assets, whose residuals the exchange takes with the other sign
 
 abbrev before_wide : Balances
-before_wide = record { accounts = record { money = pos (500000 * 2 ^ 32); units = pos 0 ∷ pos 0 ∷ [] } ∷ record { money = pos 0; units = pos 10000 ∷ pos 10000 ∷ [] } ∷ []; total_money = pos (500000 * 2 ^ 32); total_units = pos 10000 ∷ pos 10000 ∷ [] }
+before_wide = record { accounts = record { money = pos (500000 * 2 ^ 32); units = pos 0 ∷ pos 0 ∷ [] } ∷ record { money = pos 0; units = pos 10000 ∷ pos 10000 ∷ [] } ∷ []; credits = no_credit_of_two ∷ no_credit_of_two ∷ []; total_money = pos (500000 * 2 ^ 32); total_units = pos 10000 ∷ pos 10000 ∷ [] }
 
 wide_balances : settled_balances batches.at_3 (trades batches.wide_book (79 ∷ 81 ∷ 78 ∷ [])) before_wide
-    ≡ record { accounts = record { money = pos (500000 * 2 ^ 32 - 62153416633199); units = pos 79 ∷ pos 79 ∷ [] } ∷ record { money = pos 62547436932933; units = pos 9919 ∷ pos 9922 ∷ [] } ∷ []; total_money = pos (500000 * 2 ^ 32); total_units = pos 10000 ∷ pos 10000 ∷ [] }
+    ≡ record { accounts = record { money = pos (500000 * 2 ^ 32 - 62153416633199); units = pos 79 ∷ pos 79 ∷ [] } ∷ record { money = pos 62547436932933; units = pos 9919 ∷ pos 9922 ∷ [] } ∷ []; credits = no_credit_of_two ∷ no_credit_of_two ∷ []; total_money = pos (500000 * 2 ^ 32); total_units = pos 10000 ∷ pos 10000 ∷ [] }
 unfolding settled_account weight_in portfolio_price
 wide_balances = refl
 
@@ -624,7 +635,7 @@ unfolding weight_in
 wide_exchange = refl
 
 -- prices are cut where a batch starts
-cut : start_prices (record empty_market { last_prices = pos (2 ^ 62) ∷ neg_ℤ (pos (2 ^ 62)) ∷ pos (2 ^ 60) ∷ neg_ℤ (pos (2 ^ 60 + 1)) ∷ pos 5 ∷ [] }) ≡ pos (2 ^ 60) ∷ neg_ℤ (pos (2 ^ 60)) ∷ pos (2 ^ 60) ∷ neg_ℤ (pos (2 ^ 60)) ∷ pos 5 ∷ []
+cut : start_prices (record (empty_market One) { last_prices = pos (2 ^ 62) ∷ neg_ℤ (pos (2 ^ 62)) ∷ pos (2 ^ 60) ∷ neg_ℤ (pos (2 ^ 60 + 1)) ∷ pos 5 ∷ [] }) ≡ pos (2 ^ 60) ∷ neg_ℤ (pos (2 ^ 60)) ∷ pos (2 ^ 60) ∷ neg_ℤ (pos (2 ^ 60)) ∷ pos 5 ∷ []
 cut = refl
 
 -- ---- a journal that isn't: a wrong number, or another reply

@@ -5,6 +5,7 @@ use Rattle.market_core.specs.Market.{Market}
 -- the market that the fields stand for
 abbrev pub market_in : Inside → Market
 market_in m = record {
+  version = m.version;
   tickers = m.tickers;
   balances = m.accounts;
   exchange = m.exchange;

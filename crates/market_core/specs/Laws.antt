@@ -1,20 +1,25 @@
 -- What holds of steps, journals and markets.
-use Rattle.std.specs.Prelude.{◌≡◌, ℕ, ◌+◌, ◌*◌, ◌^◌, ◌<◌, ◌≤◌, ℤ, pos, ◌+ℤ◌, ◌<ℤ◌, ◌↔◌, List, ◌∷◌, ◌++◌, length, map, All, Contains}
+use Rattle.std.specs.Prelude.{◌≡◌, ◌≢◌, ◌⊎◌, ℕ, ◌+◌, ◌*◌, ◌^◌, ◌<◌, ◌≤◌, ℤ, pos, ◌+ℤ◌, ◌<ℤ◌, ◌≤ℤ◌, ◌↔◌, Bool, List, ◌∷◌, ◌++◌, length, map, All, Contains}
+use Rattle.std.specs.List.{filter}
 use Rattle.ticker_table.specs.Tickers.{ticker_limit}
-use Rattle.flow_accounts.specs.Balances.{IsAsset}
+use Rattle.flow_accounts.specs.Balances.{Balances, IsAccount, IsAsset, money_of, units_of, money_credit_of, unit_credit_of}
+use Rattle.fill_caps.specs.Covers.{CoversNeeds}
 use Rattle.flow_accounts.specs.Lawful.{most_assets}
 use Rattle.wire_records.specs.Records.{Record, AreBytes}
 use Rattle.wire_records.specs.Commands.{Command, RunBatch, Answer, Plain, Batch, Pair}
-use Rattle.wire_records.specs.CommandRecords.{IsReadAs}
+use Rattle.wire_records.specs.Versions.{IsReadAs}
+use Rattle.wire_records.specs.declared.version.Version.{Version}
+use Rattle.wire_records.specs.declared.version.Version.TheVariants.{One}
 use Rattle.wire_records.specs.declared.reply.Refusal.{Refusal}
 use Rattle.wire_records.specs.declared.reply.Reply.TheVariants.{Refused}
 use Rattle.flow_orders.specs.Orders.{Order, most_ticks}
-use Rattle.flow_orders.specs.Outcomes.{Outcome, Fill, Clearing, Cleared, Skipping, Skipped, dual_of, IsRightOutcome}
+use Rattle.flow_orders.specs.Outcomes.{Outcome, Fill, Clearing, Cleared, Skipping, Skipped, dual_of, trades_of, IsRightOutcome}
+use Rattle.flow_orders.specs.Trades.{staying, going_on}
 use Rattle.flow_orders.specs.Duals.{movement_of}
 use Rattle.flow_orders.specs.Own.{IsOwnOutcome}
 use Rattle.flow_orders.specs.Welfare.{IsOptimalWithin}
-use Rattle.market_core.specs.Market.{Market, empty_market, IsSound, start_prices, held_money, held_units}
-use Rattle.market_core.specs.Step.{Serves}
+use Rattle.market_core.specs.Market.{Market, empty_market, IsSound, start_prices, held_money, held_units, free_money, free_units, usable_money, usable_units}
+use Rattle.market_core.specs.Step.{Serves, after_batch}
 use Rattle.market_core.specs.Journal.{Step, Follows, IsJournal, money_added, units_added, AddTogether, Places, HoldsDeposits, fills_of}
 use Rattle.market_core.specs.Promises.{KeepsPromises, ClearNear}
 
@@ -50,20 +55,21 @@ PlainCommandsNeedNoRule = (old : Market) (command : Command) (answer : Answer Ou
     → ((budget : ℕ) → ¬ (command ≡ RunBatch budget))
     → Serves IsOwnOutcome old command answer new ↔ Serves IsRightOutcome old command answer new
 
--- records of bytes have exactly one own journal, which leads to one market
+-- records of bytes have exactly one own journal in each version, which leads to one market
 abbrev pub OneOwnJournal : Type 0
-OneOwnJournal = (records : List Record) → All (λ r. AreBytes r.body) records → (pairs : List (Pair Record Outcome)) × (m : Market) × IsJournal IsReadAs IsOwnOutcome records pairs m
-    × ((other : List (Pair Record Outcome)) (n : Market) → IsJournal IsReadAs IsOwnOutcome records other n → (pairs ≡ other) × (m ≡ n))
+OneOwnJournal = (version : Version) (records : List Record) → All (λ r. AreBytes r.body) records
+    → (pairs : List (Pair Record Outcome)) × (m : Market) × IsJournal IsReadAs IsOwnOutcome version records pairs m
+    × ((other : List (Pair Record Outcome)) (n : Market) → IsJournal IsReadAs IsOwnOutcome version records other n → (pairs ≡ other) × (m ≡ n))
 
 -- and it is a legal one
 abbrev pub OwnJournalsAreLegal : Type 0
-OwnJournalsAreLegal = (records : List Record) (pairs : List (Pair Record Outcome)) (m : Market)
-    → IsJournal IsReadAs IsOwnOutcome records pairs m → IsJournal IsReadAs IsRightOutcome records pairs m
+OwnJournalsAreLegal = (version : Version) (records : List Record) (pairs : List (Pair Record Outcome)) (m : Market)
+    → IsJournal IsReadAs IsOwnOutcome version records pairs m → IsJournal IsReadAs IsRightOutcome version records pairs m
 
--- the empty market is sound, and every step keeps a market sound
+-- the empty market of each version is sound, and every step keeps a market sound, and its version
 abbrev pub StepsKeepSoundness : Type 0
-StepsKeepSoundness = IsSound empty_market × ((old : Market) (asked : Record) (answer : Answer Outcome) (new : Market)
-    → IsSound old → Step IsReadAs IsRightOutcome old asked answer new → IsSound new)
+StepsKeepSoundness = ((version : Version) → IsSound (empty_market version)) × ((old : Market) (asked : Record) (answer : Answer Outcome) (new : Market)
+    → IsSound old → Step IsReadAs IsRightOutcome old asked answer new → IsSound new × (new.version ≡ old.version))
 
 -- every command has a step under the own rule, from any market
 abbrev pub EveryCommandIsServed : Type 0
@@ -72,18 +78,18 @@ EveryCommandIsServed = (old : Market) (command : Command) → (answer : Answer O
 -- from a sound market on what is held changes by the accepted deposits less the accepted withdrawals; in the empty market nothing is held
 pub record HeldIsDeposited : Type 0 where
   pub money : (old : Market) (pairs : List (Pair Record Outcome)) (new : Market) → IsSound old → Leads old pairs new
-      → (added : ℤ) × AddTogether IsReadAs money_added pairs added × (held_money new ≡ held_money old +ℤ added)
+      → (added : ℤ) × AddTogether (IsReadAs old.version) money_added pairs added × (held_money new ≡ held_money old +ℤ added)
   pub units : (old : Market) (pairs : List (Pair Record Outcome)) (new : Market) (asset : ℕ)
       → IsSound old → IsAsset old.balances asset → IsAsset new.balances asset → Leads old pairs new
-      → (added : ℤ) × AddTogether IsReadAs (units_added asset) pairs added × (held_units new asset ≡ held_units old asset +ℤ added)
-  pub all_money : (pairs : List (Pair Record Outcome)) (m : Market) → Leads empty_market pairs m → AddTogether IsReadAs money_added pairs (held_money m)
-  pub all_units : (pairs : List (Pair Record Outcome)) (m : Market) (asset : ℕ) → IsAsset m.balances asset → Leads empty_market pairs m
-      → AddTogether IsReadAs (units_added asset) pairs (held_units m asset)
+      → (added : ℤ) × AddTogether (IsReadAs old.version) (units_added asset) pairs added × (held_units new asset ≡ held_units old asset +ℤ added)
+  pub all_money : (version : Version) (pairs : List (Pair Record Outcome)) (m : Market) → Leads (empty_market version) pairs m → AddTogether (IsReadAs version) money_added pairs (held_money m)
+  pub all_units : (version : Version) (pairs : List (Pair Record Outcome)) (m : Market) (asset : ℕ) → IsAsset m.balances asset → Leads (empty_market version) pairs m
+      → AddTogether (IsReadAs version) (units_added asset) pairs (held_units m asset)
 
--- the market of a legal journal is sound, and what it holds is the accepted deposits less the accepted withdrawals
+-- from a sound market on steps lead to a sound one, and what it holds more is the accepted deposits less the accepted withdrawals
 abbrev pub JournalsHoldDeposits : Type 0
-JournalsHoldDeposits = (records : List Record) (pairs : List (Pair Record Outcome)) (m : Market)
-    → IsJournal IsReadAs IsRightOutcome records pairs m → HoldsDeposits IsReadAs pairs m
+JournalsHoldDeposits = (start : Market) (pairs : List (Pair Record Outcome)) (m : Market)
+    → IsSound start → Leads start pairs m → HoldsDeposits IsReadAs start pairs m
 
 -- a batch changes nothing that is held in total
 abbrev pub BatchesKeepTotals : Type 0
@@ -91,15 +97,47 @@ BatchesKeepTotals = (old : Market) (command : Command) (number : ℕ) (outcome :
     → IsSound old → Serves IsRightOutcome old command (Batch number outcome) new
     → (held_money new ≡ held_money old) × ((asset : ℕ) → IsAsset old.balances asset → held_units new asset ≡ held_units old asset)
 
--- a batch that is skipped is counted, and changes nothing else
-abbrev pub SkipsChangeNothing : Type 0
-SkipsChangeNothing = (old : Market) (command : Command) (number : ℕ) (skipping : Skipping) (new : Market)
-    → Serves IsRightOutcome old command (Batch number (Skipped skipping)) new → new ≡ record old { batches = old.batches + 1 }
+-- a batch that is skipped is counted, the orders leave whose last batch it was, and nothing else changes
+abbrev pub SkipsOnlyEndOrders : Type 0
+SkipsOnlyEndOrders = (old : Market) (command : Command) (number : ℕ) (skipping : Skipping) (new : Market)
+    → Serves IsRightOutcome old command (Batch number (Skipped skipping)) new
+    → new ≡ record old { orders = going_on (old.batches + 1) old.orders; batches = old.batches + 1 }
+
+-- the batch of an order's last number is the last in which it trades, and it isn't live after it; an order that isn't filled to
+-- its cap and has another last batch, or none, stays
+pub record OrdersEndInTime : Type 0 where
+  pub before : (old : Market) (command : Command) (number : ℕ) (outcome : Outcome) (new : Market) → IsSound old
+      → Serves IsRightOutcome old command (Batch number outcome) new → All (λ (o : Order). (o.last ≡ 0) ⊎ (number ≤ o.last)) old.orders
+  pub after : (old : Market) (command : Command) (number : ℕ) (outcome : Outcome) (new : Market) → IsSound old
+      → Serves IsRightOutcome old command (Batch number outcome) new → All (λ (o : Order). (o.last ≡ 0) ⊎ (number < o.last)) new.orders
+  pub stays : (old : Market) (command : Command) (number : ℕ) (s : Skipping) (new : Market) (o : Order)
+      → Serves IsRightOutcome old command (Batch number (Skipped s)) new → Contains old.orders o → o.last ≢ number → Contains new.orders o
+
+-- in a sound market of version One no order has a last batch and no account has credit, so a batch ends no order, an order may
+-- use what is free, and no account owes anything
+pub record VersionOneHasNeither (m : Market) : Type 0 where
+  pub lasts : All (λ (o : Order). o.last ≡ 0) m.orders
+  pub goes_on : (batch : ℕ) → 1 ≤ batch → going_on batch m.orders ≡ m.orders
+  pub money_credit : (account : ℕ) → money_credit_of m.balances account ≡ 0
+  pub unit_credit : (account asset : ℕ) → unit_credit_of m.balances account asset ≡ 0
+  pub money : (account : ℕ) → usable_money m account ≡ free_money m account
+  pub units : (account asset : ℕ) → usable_units m account asset ≡ free_units m account asset
+  pub no_debt : (account : ℕ) → IsAccount m.balances account → pos 0 ≤ℤ money_of m.balances account
+  pub no_short : (account asset : ℕ) → IsAccount m.balances account → IsAsset m.balances asset → pos 0 ≤ℤ units_of m.balances account asset
+
+abbrev pub VersionOneIsAsBefore : Type 0
+VersionOneIsAsBefore = (m : Market) → IsSound m → m.version ≡ One → VersionOneHasNeither m
+
+-- what a market of version One makes of a batch: it is settled or counted, and no order leaves but one that is filled to its cap
+pub record BatchesOfVersionOne : Type 0 where
+  pub cleared : (old : Market) (c : Clearing) → IsSound old → old.version ≡ One
+      → (after_batch old (Cleared c)).orders ≡ staying (trades_of old.orders c.fills)
+  pub skipped : (old : Market) (s : Skipping) → IsSound old → old.version ≡ One → after_batch old (Skipped s) ≡ record old { batches = old.batches + 1 }
 
 -- from a sound market on no order's fills pass the cap that it was placed with, nor that of an order that is live
 pub record FillsKeepCaps : Type 0 where
   pub placed : (old : Market) (before after : List (Pair Record Outcome)) (pair : Pair Record Outcome) (m : Market) (number cap : ℕ) → IsSound old
-      → Leads old (before ++ pair ∷ after) m → Places IsReadAs number cap pair → fills_of number (before ++ pair ∷ after) ≤ cap
+      → Leads old (before ++ pair ∷ after) m → Places (IsReadAs old.version) number cap pair → fills_of number (before ++ pair ∷ after) ≤ cap
   pub live : (old : Market) (pairs : List (Pair Record Outcome)) (m : Market) (o : Order) → IsSound old → Contains old.orders o
       → Leads old pairs m → o.filled + fills_of o.number pairs ≤ o.cap
 
@@ -145,11 +183,17 @@ abbrev pub LegalStepsNumberOne : Type 0
 LegalStepsNumberOne = (old : Market) (asked : Record) (answer : Answer Outcome) (new : Market)
     → Step IsReadAs IsRightOutcome old asked answer new → new.next_order ≤ old.next_order + 1
 
--- every legal journal keeps the promises of the exchange
+-- from a sound market on steps keep the promises of the exchange, and so every legal journal does
 abbrev pub LegalJournalsKeepPromises : Type 0
-LegalJournalsKeepPromises = (pairs : List (Pair Record Outcome)) (m : Market) → Leads empty_market pairs m → KeepsPromises IsReadAs pairs
+LegalJournalsKeepPromises = (start : Market) (pairs : List (Pair Record Outcome)) (m : Market)
+    → IsSound start → Leads start pairs m → KeepsPromises IsReadAs start pairs
 
--- the journal that the program's own rule makes of records keeps what the rule promises of books of one-asset orders
+-- from a sound market on steps by the program's own rule keep what the rule promises of books of one-asset orders
 abbrev pub OwnJournalsClearNear : Type 0
-OwnJournalsClearNear = (records : List Record) (pairs : List (Pair Record Outcome)) (m : Market)
-    → IsJournal IsReadAs IsOwnOutcome records pairs m → ClearNear IsReadAs pairs
+OwnJournalsClearNear = (start : Market) (pairs : List (Pair Record Outcome)) (m : Market)
+    → IsSound start → Follows IsReadAs IsOwnOutcome start pairs m → ClearNear IsReadAs start pairs
+
+-- settling keeps what live orders need covered, whichever orders leave: what each account holds, with its credit, is at least what
+-- its orders need that are still live
+abbrev pub OrdersMayLeave : Type 0
+OrdersMayLeave = (b : Balances) (stays : Order → Bool) (orders : List Order) → CoversNeeds b orders → CoversNeeds b (filter stays orders)

@@ -1,11 +1,13 @@
 -- The market: what is kept from one command to the next, and what holds of it at all times.
-use Rattle.std.specs.Prelude.{◌≡◌, ℕ, ◌*◌, ◌^◌, ◌<◌, ◌≤◌, ℤ, pos, neg_ℤ, ◌+ℤ◌, ◌-ℤ◌, ◌≤ℤ◌, unsigned_abs, List, [], map, length, All, AllPairs}
+use Rattle.std.specs.Prelude.{◌≡◌, ◌⊎◌, ℕ, ◌*◌, ◌^◌, ◌<◌, ◌≤◌, ℤ, pos, neg_ℤ, ◌+ℤ◌, ◌-ℤ◌, ◌≤ℤ◌, unsigned_abs, List, [], map, length, All, AllPairs}
 use Rattle.std.specs.Int.{int_min, int_max}
 use Rattle.weight_rows.specs.Rows.{IsPrice}
 use Rattle.ticker_table.specs.Tickers.{AreTickers}
-use Rattle.flow_accounts.specs.Balances.{Account, Balances, IsAccount, IsAsset, account_count, asset_count, money_of}
+use Rattle.wire_records.specs.declared.version.Version.{Version}
+use Rattle.wire_records.specs.declared.version.Version.TheVariants.{One, Two}
+use Rattle.flow_accounts.specs.Balances.{Account, Credit, Balances, IsAccount, IsAsset, account_count, asset_count, money_of, money_with_credit, units_with_credit}
 use Rattle.flow_accounts.specs.Balances.{units_of, units_in, total_units_of, no_balances, empty_account}
-use Rattle.flow_accounts.specs.Lawful.{most_accounts, money_limit, unit_limit}
+use Rattle.flow_accounts.specs.Lawful.{most_accounts, money_limit, unit_limit, IsLawfulCredit}
 use Rattle.flow_accounts.specs.Sums.{money_of_all, units_of_all}
 use Rattle.flow_orders.specs.Orders.{Order, IsOrder, most_orders, needed_money, needed_units}
 use Rattle.fill_caps.specs.Covers.{CoversNeeds}
@@ -14,9 +16,11 @@ use Rattle.fill_caps.specs.Covers.{CoversNeeds}
 abbrev pub most_batches : ℕ
 most_batches = 2 ^ 24
 
--- tickers in the order of their numbers; balances and totals; the exchange's own account; the live orders, ascending; the number
--- that the next order gets; how many batches were held; and the last cleared price of each asset, 0 where there is none
+-- the version; tickers in the order of their numbers; balances, credits and totals; the exchange's own account; the live orders,
+-- ascending; the number that the next order gets; how many batches were held; and the last cleared price of each asset, 0 where
+-- there is none
 pub record Market : Type 0 where
+  pub version : Version
   pub tickers : List (List ℕ)
   pub balances : Balances
   pub exchange : Account
@@ -25,9 +29,9 @@ pub record Market : Type 0 where
   pub batches : ℕ
   pub last_prices : List ℤ
 
--- the market before the first command
-abbrev pub empty_market : Market
-empty_market = record { tickers = []; balances = no_balances; exchange = empty_account 0; orders = []; next_order = 1; batches = 0; last_prices = [] }
+-- the market of a version before the first command
+abbrev pub empty_market : Version → Market
+empty_market version = record { version = version; tickers = []; balances = no_balances; exchange = empty_account 0; orders = []; next_order = 1; batches = 0; last_prices = [] }
 
 -- a price, cut to the range in which a search starts
 abbrev pub cut_price : ℤ → ℤ
@@ -53,19 +57,44 @@ free_money m account = money_of m.balances account -ℤ needed_money m.orders ac
 abbrev pub free_units : Market → ℕ → ℕ → ℤ
 free_units m account asset = units_of m.balances account asset -ℤ needed_units m.orders account asset
 
--- there is one ticker, one last price, and in each account one balance for each asset
+-- the money of an account that its orders may still use: what isn't needed of its balance and its credit
+abbrev pub usable_money : Market → ℕ → ℤ
+usable_money m account = money_with_credit m.balances account -ℤ needed_money m.orders account
+
+-- the units of an asset in an account that its orders may still use
+abbrev pub usable_units : Market → ℕ → ℕ → ℤ
+usable_units m account asset = units_with_credit m.balances account asset -ℤ needed_units m.orders account asset
+
+-- there is one ticker, one last price, one credit line for each account, and in each account one balance for each asset
 pub record HasOneEach (m : Market) : Type 0 where
   pub tickers : length m.tickers ≡ asset_count m.balances
   pub prices : length m.last_prices ≡ asset_count m.balances
   pub accounts : All (λ (a : Account). length a.units ≡ asset_count m.balances) m.balances.accounts
   pub exchange : length m.exchange.units ≡ asset_count m.balances
+  pub credits : length m.balances.credits ≡ account_count m.balances
 
--- a live order of a market: it is within the limits, its number was given out, and its account and its assets are there
+-- an order that has a last batch in a market of version Two alone, and then one that is still to come
+abbrev pub IsInTime : Market → Order → Type 0
+IsInTime m o = (o.last ≡ 0) ⊎ ((m.version ≡ Two) × (m.batches < o.last))
+
+-- a live order of a market: it is within the limits, its number was given out, its account and its assets are there, and its last
+-- batch is still to come
 pub record IsLiveOrder (m : Market) (o : Order) : Type 0 where
   pub order : IsOrder o
   pub numbered : (1 ≤ o.number) × (o.number < m.next_order)
   pub account : IsAccount m.balances o.account
   pub assets : All (λ e. IsAsset m.balances e.asset) o.row
+  pub in_time : IsInTime m o
+
+-- a credit line of zeros
+pub record IsNoCredit (c : Credit) : Type 0 where
+  pub ticks : c.ticks ≡ 0
+  pub units : All (λ u. u ≡ 0) c.units
+
+-- credits are within their limits, and in version One there are none
+pub record HasLawfulCredit (m : Market) : Type 0 where
+  pub lawful : All (IsLawfulCredit (asset_count m.balances)) m.balances.credits
+  pub none : m.version ≡ One → All IsNoCredit m.balances.credits
 
 -- accounts and exchange together hold the totals
 pub record HoldsTotals (m : Market) : Type 0 where
@@ -86,6 +115,7 @@ pub record IsSound (m : Market) : Type 0 where
   pub live : All (IsLiveOrder m) m.orders
   pub ascending : AllPairs (λ (o : Order) (later : Order). o.number < later.number) m.orders
   pub covered : CoversNeeds m.balances m.orders
+  pub credit : HasLawfulCredit m
   pub totals : HoldsTotals m
   pub widths : IsWithinWidths m
   pub prices : All IsPrice m.last_prices

@@ -1,11 +1,17 @@
 -- Words that only private functions of the market use.
-use Rattle.std.specs.Prelude.{Bool, true, false}
+use Rattle.std.specs.Prelude.{Bool, true, false, Option}
+use Rattle.demand_curve.specs.Demand.{most_rate}
+use Rattle.flow_accounts.specs.Balances.{IsAccount}
+use Rattle.flow_orders.specs.Orders.{most_cap, AreLimits, IsFrom1To}
+use Rattle.wire_records.specs.Commands.{Request}
+use Rattle.market_core.specs.Market.{Market}
+use Rattle.market_core.specs.Step.{◌unless◌else◌, IsAffordable, placed}
 use Rattle.ticker_table.specs.declared.table.TickerFault.{TickerFault}
 use Rattle.ticker_table.specs.declared.table.TickerFault.TheVariants as ticker
 use Rattle.flow_accounts.specs.declared.fault.AccountFault.{AccountFault}
 use Rattle.flow_accounts.specs.declared.fault.AccountFault.TheVariants as fault
 use Rattle.wire_records.specs.declared.reply.Refusal.{Refusal}
-use Rattle.wire_records.specs.declared.reply.Refusal.TheVariants.{AssetLimit, TickerTaken, BadTicker, AccountLimit, NoAccount, NoAsset, ZeroAmount, TotalLimit, NotFree, NoOrder}
+use Rattle.wire_records.specs.declared.reply.Refusal.TheVariants.{AssetLimit, TickerTaken, BadTicker, AccountLimit, NoAccount, NoAsset, ZeroAmount, TotalLimit, NotFree, NoOrder, BadLimits, BadRate, BadCap, CreditLimit, CreditInUse}
 use Rattle.wire_records.specs.declared.reply.Reply.{Reply}
 use Rattle.wire_records.specs.declared.reply.Reply.TheVariants.{Done, Refused}
 
@@ -18,6 +24,8 @@ IsAnswered fault.Zero = Unit {0}
 IsAnswered fault.TotalLimit = Unit {0}
 IsAnswered fault.Full = Unit {0}
 IsAnswered (fault.NotFree free) = Unit {0}
+IsAnswered fault.CreditLimit = Unit {0}
+IsAnswered (fault.InUse used) = Unit {0}
 
 -- the refusal for a fault; want of memory has none, and any stands here
 abbrev pub refusal_for : AccountFault → Refusal
@@ -27,6 +35,8 @@ refusal_for fault.Zero = ZeroAmount
 refusal_for fault.TotalLimit = TotalLimit
 refusal_for fault.Full = AccountLimit
 refusal_for (fault.NotFree free) = NotFree
+refusal_for fault.CreditLimit = CreditLimit
+refusal_for (fault.InUse used) = CreditInUse
 refusal_for fault.Memory = NoAccount
 
 -- the refusal for a fault of a ticker; want of memory has none, and any stands here
@@ -40,3 +50,26 @@ ticker_refusal ticker.Memory = BadTicker
 abbrev pub cancel_reply : Bool → Reply
 cancel_reply true = Done
 cancel_reply false = Refused NoOrder
+
+-- the refusals that an order meets for its account and its numbers; then others decide
+abbrev pub RefusesNumbers : Market → Request → (Option Refusal → Type 0) → Option Refusal → Type 0
+RefusesNumbers m r others =
+    NoAccount unless IsAccount m.balances r.account else
+    BadLimits unless AreLimits r.low r.high else
+    BadRate unless IsFrom1To most_rate r.rate else
+    BadCap unless IsFrom1To most_cap r.cap else others
+
+-- its account is there, and its numbers are as they should be
+pub record HasRightNumbers (m : Market) (r : Request) : Type 0 where
+  pub account : IsAccount m.balances r.account
+  pub limits : AreLimits r.low r.high
+  pub rate : IsFrom1To most_rate r.rate
+  pub cap : IsFrom1To most_cap r.cap
+
+-- no other refusal
+abbrev pub no_other : Option Refusal → Type 0
+no_other first = ⊥
+
+-- what an order on a request needs is free, whatever its last batch
+abbrev pub IsFreeFor : Market → Request → Type 0
+IsFreeFor m r = IsAffordable m (placed m 0 r)

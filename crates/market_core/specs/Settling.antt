@@ -12,7 +12,7 @@ pub record MaySettleAt (m : Market) (c : Cleared) : Type 0 where
   pub one_rate_each : length c.rates ≡ length m.orders
   pub right : IsRightClearing m.orders (start_prices m) (clearing_of m.orders c)
 
--- such a clearing, or any skip, which is only counted
+-- such a clearing, or any skip, of which nothing is asked
 abbrev pub MaySettle : Market → Outcome → Type 0
 MaySettle m (parts.Cleared c) = MaySettleAt m c
 MaySettle m (parts.Skipped s) = Unit {0}

@@ -82,11 +82,12 @@ impl Market {
 
     /// Counts a batch that ended so. Where it cleared it is settled: each account pays for its orders' rates and
     /// receives their units, the exchange takes the other side of the residuals, each order is filled by its rate and
-    /// leaves once it is filled to its cap, and the prices are the last ones. A batch that was skipped changes nothing
-    /// else.
+    /// leaves once it is filled to its cap, and the prices are the last ones. Either way the orders leave whose last
+    /// batch it was; a batch that was skipped changes nothing else.
     ///
-    /// The outcome is right for the live orders and the start prices, and fewer than 2^24 batches were held. It takes no
-    /// memory and can't fail. It costs two passes over the entries of the live orders, however many accounts there are.
+    /// The outcome is right for the live orders and the start prices, and fewer than 2^24 batches were held. It takes
+    /// no memory and can't fail. It costs two passes over the entries of the live orders, however many accounts there
+    /// are, and one over the orders and the entries of those that leave.
     pub fn settle(&mut self, outcome: &Outcome)
         requires right { MaySettle self.old outcome.now }
         requires more { self.old.batches < most_batches }
@@ -94,7 +95,10 @@ impl Market {
     {
         match outcome {
             Outcome::Cleared(cleared) => self.settle_cleared(cleared),
-            Outcome::Skipped(_) => self.batches += 1,
+            Outcome::Skipped(_) => {
+                self.book.end(self.batches + 1);
+                self.batches += 1;
+            }
         }
     }
 
@@ -113,7 +117,9 @@ impl Market {
             rates,
         );
         self.book.fill(rates);
+        let batch = self.batches + 1;
+        self.book.end(batch);
         self.last_prices.set(prices);
-        self.batches += 1;
+        self.batches = batch;
     }
 }

@@ -1,7 +1,8 @@
 //! What would be answered: the command that a record spells, and the reply that a command gets. Nothing is changed.
 ghost use Rattle.std.specs.Prelude.{◌≡◌, ℕ, ◌+◌, ◌<◌, ◌^◌, Ok, Err, IfOk, IfErr, length};
-ghost use Rattle.wire_records.specs.Commands.{AddAsset, OpenAccount, DepositMoney, DepositAsset, WithdrawMoney, WithdrawAsset, PlaceOrder, CancelOrder, RunBatch};
-ghost use Rattle.wire_records.specs.CommandRecords.{IsCommand, IsReadAs};
+ghost use Rattle.wire_records.specs.Commands.{AddAsset, OpenAccount, DepositMoney, DepositAsset, WithdrawMoney, WithdrawAsset, PlaceOrder, CancelOrder, RunBatch, PlaceUntil, SetMoneyCredit, SetUnitCredit};
+ghost use Rattle.wire_records.specs.CommandRecords.{IsCommand};
+ghost use Rattle.wire_records.specs.Versions.{most_tag, IsOfVersion, IsReadAs};
 ghost use Rattle.wire_records.specs.Views.{command_of};
 ghost use Rattle.wire_records.specs.declared.command.BodyFault.{BodyFault as body_fault};
 ghost use Rattle.market_core.specs.Step.{refusal_of};
@@ -11,7 +12,17 @@ use crate::Market;
 use crate::market::{refusal_of, reply_to, ticker_refusal};
 use crate::orders::cancel_reply;
 use flow_accounts::AccountFault;
-use wire_records::{BodyFault, CommandView, PlaceView, RecordView, Refusal, Reply};
+use wire_records::{BodyFault, CommandView, PlaceView, RecordView, Refusal, Reply, Version};
+
+// The highest tag of a command of a version.
+fn most_tag(version: Version) -> u8
+    ensures { result ≡ most_tag version }
+{
+    match version {
+        Version::One => 9,
+        Version::Two => 12,
+    }
+}
 
 // The refusal of a record that can't be served.
 fn body_refusal(fault: BodyFault) -> Refusal
@@ -24,13 +35,16 @@ fn body_refusal(fault: BodyFault) -> Refusal
 }
 
 impl Market {
-    /// The command that a record spells, with its fields in the borrowed bytes, or the refusal that the record gets:
-    /// `UnknownTag` exactly where no command has the tag, `BadBody` exactly where one has it, but not this body.
-    /// Constant cost.
+    /// The command of the market's version that a record spells, with its fields in the borrowed bytes, or the refusal
+    /// that the record gets: `UnknownTag` exactly where no command of the version has the tag, `BadBody` exactly where
+    /// one has it, but not this body. Constant cost.
     pub fn read<'a>(&self, asked: &RecordView<'a>) -> Result<CommandView<'a>, Refusal>
-        ensures command { IfOk result (λ command. IsReadAs asked.now (Ok (command_of command))) }
-        ensures fault { IfErr result (λ refusal. (why : body_fault) × IsReadAs asked.now (Err why) × (refusal ≡ refusal_of why)) }
+        ensures command { IfOk result (λ command. IsReadAs self.now.version asked.now (Ok (command_of command))) }
+        ensures fault { IfErr result (λ refusal. (why : body_fault) × IsReadAs self.now.version asked.now (Err why) × (refusal ≡ refusal_of why)) }
     {
+        if asked.tag() > most_tag(self.version) {
+            return Err(Refusal::UnknownTag);
+        }
         match asked.command() {
             Ok(command) => Ok(command),
             Err(fault) => Err(body_refusal(fault)),
@@ -38,13 +52,14 @@ impl Market {
     }
 
     /// The reply that a command gets now: the one that [`Market::apply`] answers where memory isn't wanted. The command
-    /// holds no batch, and the number that the next order gets is below 2^64 - 1.
+    /// is of the market's version and holds no batch, and the number that the next order gets is below 2^64 - 1.
     ///
     /// It takes no memory. The cost is constant, however many accounts and orders there are, but that an order is looked
     /// at entry by entry, and that one to be cancelled is found by its number, in as many steps as the count of live
     /// orders has bits.
     pub fn expected(&self, command: &CommandView<'_>) -> Reply
         requires command { IsCommand (command_of command.now) }
+        requires version { IsOfVersion self.now.version (command_of command.now) }
         requires no_batch { (budget : ℕ) → ¬ (command_of command.now ≡ RunBatch budget) }
         requires next { self.now.next_order + 1 < 2 ^ 64 }
         ensures { IsExpected self.now (command_of command.now) result }
@@ -71,6 +86,15 @@ impl Market {
             CommandView::PlaceOrder(ref place) => self.expected_order(place),
             CommandView::CancelOrder { account, order } => self.expected_cancel(account, order),
             CommandView::RunBatch { .. } => unreachable!(),
+            CommandView::PlaceUntil { last, ref place } => self.expected_until(last, place),
+            CommandView::SetMoneyCredit { account, ticks } => {
+                self.expected_money_credit(account, ticks)
+            }
+            CommandView::SetUnitCredit {
+                account,
+                asset,
+                units,
+            } => self.expected_unit_credit(account, asset, units),
         }
     }
 
@@ -131,6 +155,32 @@ impl Market {
             Some(refusal) => Reply::Refused(refusal),
             None => Reply::Order(self.next_order),
         }
+    }
+
+    fn expected_until(&self, last: u32, place: &PlaceView<'_>) -> Reply
+        ensures { IsExpected self.now (PlaceUntil last place.now) result }
+    {
+        if let Some(first) = self.until_refusal(last, place) {
+            return Reply::Refused(first);
+        }
+        Reply::Order(self.next_order)
+    }
+
+    fn expected_money_credit(&self, account: u32, ticks: u64) -> Reply
+        ensures { IsExpected self.now (SetMoneyCredit account ticks) result }
+    {
+        let reserved = self.book.money_needed(account);
+        reply_to(self.accounts.money_credit_fault(account, ticks, reserved))
+    }
+
+    fn expected_unit_credit(&self, account: u32, asset: u16, units: u64) -> Reply
+        ensures { IsExpected self.now (SetUnitCredit account asset units) result }
+    {
+        let reserved = self.book.units_needed(account, asset);
+        reply_to(
+            self.accounts
+                .unit_credit_fault(account, asset, units, reserved),
+        )
     }
 
     fn expected_cancel(&self, account: u32, number: u64) -> Reply

@@ -1,7 +1,7 @@
 //! What holds of steps, journals and markets, whatever code there is. Each law is the contract of a function that
 //! does nothing.
 ghost use Rattle.market_core.specs.Laws.{MarketIsDetermined, JournalsDetermineTheMarket, OneRefusal, PlainCommandsHaveOneAnswer, PlainCommandsNeedNoRule, EveryCommandIsServed, OneOwnJournal};
-ghost use Rattle.market_core.specs.Laws.{OwnJournalsAreLegal, StepsKeepSoundness, HeldIsDeposited, BatchesKeepTotals, SkipsChangeNothing, FillsKeepCaps};
+ghost use Rattle.market_core.specs.Laws.{OwnJournalsAreLegal, StepsKeepSoundness, HeldIsDeposited, BatchesKeepTotals, SkipsOnlyEndOrders, OrdersEndInTime, VersionOneIsAsBefore, BatchesOfVersionOne, OrdersMayLeave, FillsKeepCaps};
 ghost use Rattle.market_core.specs.Laws.{ClearedBatchesAreOptimal, SkipsLowerTheDual, LargeBudgetsClear, SequencesCompose, LimitsAgree, JournalsHoldDeposits, StepsNumberOne, LegalStepsNumberOne, LegalJournalsKeepPromises, OwnJournalsClearNear};
 
 /// Old market, record and answer determine the new market.
@@ -55,7 +55,8 @@ pub fn held_is_deposited()
     ensures { HeldIsDeposited }
 {}
 
-/// The market of a legal journal is sound, and holds the accepted deposits less the accepted withdrawals.
+/// Steps from a sound market lead to a sound one, which holds as much more as the accepted deposits less the accepted
+/// withdrawals.
 pub fn journals_hold_deposits()
     ensures { JournalsHoldDeposits }
 {}
@@ -65,9 +66,30 @@ pub fn batches_keep_totals()
     ensures { BatchesKeepTotals }
 {}
 
-/// A skipped batch is counted, and changes nothing else.
-pub fn skips_change_nothing()
-    ensures { SkipsChangeNothing }
+/// A skipped batch is counted, the orders leave whose last batch it was, and nothing else changes.
+pub fn skips_only_end_orders()
+    ensures { SkipsOnlyEndOrders }
+{}
+
+/// The batch of an order's last number is the last in which it trades, and the order leaves with it, whether the batch
+/// cleared or was skipped.
+pub fn orders_end_in_time()
+    ensures { OrdersEndInTime }
+{}
+
+/// In a sound market of version One no order has a last batch and no account has credit.
+pub fn version_one_is_as_before()
+    ensures { VersionOneIsAsBefore }
+{}
+
+/// A batch of version One ends no order but one that is filled to its cap.
+pub fn batches_of_version_one()
+    ensures { BatchesOfVersionOne }
+{}
+
+/// Accounts that cover what orders need cover what those need that are left, whichever leave.
+pub fn orders_may_leave()
+    ensures { OrdersMayLeave }
 {}
 
 /// No order's fills pass its cap, over a whole journal.
@@ -110,12 +132,13 @@ pub fn legal_steps_number_one()
     ensures { LegalStepsNumberOne }
 {}
 
-/// Every legal journal keeps the promises of the exchange, whoever wrote it and whatever right outcomes its batches have.
+/// Steps from a sound market, and so every legal journal, keep the promises of the exchange, whoever wrote them and
+/// whatever right outcomes their batches have.
 pub fn legal_journals_keep_promises()
     ensures { LegalJournalsKeepPromises }
 {}
 
-/// In the journal that the program makes of command records each batch of one-asset orders clears, at prices within 2^60
+/// In steps by the program's own rule from a sound market each batch of one-asset orders clears, at prices within 2^60
 /// grains, and an asset that was settled keeps its price.
 pub fn own_journals_clear_near()
     ensures { OwnJournalsClearNear }

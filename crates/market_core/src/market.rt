@@ -1,9 +1,11 @@
 //! The market of a run, and what a command makes of it.
 ghost use Rattle.std.specs.Prelude.{◌≡◌, ◌≢◌, ℕ, ◌+◌, ◌<◌, ◌^◌, IfOk, OnErr, MatchResult, length};
 ghost use Rattle.std.specs.Result.{ForErr};
-ghost use Rattle.wire_records.specs.Commands.{AddAsset, OpenAccount, DepositMoney, DepositAsset, WithdrawMoney, WithdrawAsset, PlaceOrder, CancelOrder, RunBatch, Plain};
+ghost use Rattle.wire_records.specs.Commands.{AddAsset, OpenAccount, DepositMoney, DepositAsset, WithdrawMoney, WithdrawAsset, PlaceOrder, CancelOrder, RunBatch, SetMoneyCredit, SetUnitCredit, Plain};
 ghost use Rattle.wire_records.specs.CommandRecords.{IsCommand};
 ghost use Rattle.wire_records.specs.Views.{command_of};
+ghost use Rattle.wire_records.specs.Versions.{IsOfVersion};
+ghost use Rattle.wire_records.specs.declared.version.Version.TheVariants.{One};
 ghost use Rattle.market_core.specs.Private.{refusal_for, ticker_refusal, IsAnswered};
 
 use crate::prices::LastPrices;
@@ -14,12 +16,13 @@ use residual_account::ResidualAccount;
 use std::alloc::Global;
 use std::marker::Model;
 use ticker_table::{TickerFault, TickerTable};
-use wire_records::{CommandView, Memory, Refusal, Reply};
+use wire_records::{CommandView, Memory, Refusal, Reply, Version};
 
-/// The assets by their tickers, all balances, the exchange's own account, the live orders, the number that the next order
-/// gets, how many batches were held, and the last cleared prices.
+/// The version, the assets by their tickers, all balances, the exchange's own account, the live orders, the number that
+/// the next order gets, how many batches were held, and the last cleared prices.
 #[derive(Drop)]
 pub struct Market {
+    pub(crate) version: Version,
     pub(crate) alloc: Global,
     pub(crate) tickers: TickerTable,
     pub(crate) accounts: Accounts,
@@ -54,6 +57,8 @@ pub(crate) fn refusal_of(fault: AccountFault) -> Refusal
         AccountFault::TotalLimit => Refusal::TotalLimit,
         AccountFault::Full => Refusal::AccountLimit,
         AccountFault::NotFree(_) => Refusal::NotFree,
+        AccountFault::CreditLimit => Refusal::CreditLimit,
+        AccountFault::InUse(_) => Refusal::CreditInUse,
         AccountFault::Memory => unreachable!(),
     }
 }
@@ -89,12 +94,20 @@ impl Market {
     ghost use Rattle.market_core.specs.Step.{Serves};
     ghost use Rattle.market_core.specs.Wanting.{MayWant};
 
-    /// No asset and no account. Takes no memory.
+    /// A market of version One with no asset and no account. Takes no memory.
     pub fn new(alloc: Global) -> Market
-        ensures { result ≡ empty_market }
+        ensures { result ≡ empty_market One }
+    {
+        Market::new_in(alloc, Version::One)
+    }
+
+    /// A market of a version with no asset and no account. Takes no memory.
+    pub fn new_in(alloc: Global, version: Version) -> Market
+        ensures { result ≡ empty_market version }
     {
         Market {
             alloc,
+            version,
             tickers: TickerTable::new(alloc),
             accounts: Accounts::new(alloc),
             exchange: ResidualAccount::new(),
@@ -105,13 +118,14 @@ impl Market {
         }
     }
 
-    /// Serves one command that holds no batch, and answers its reply. Only a new asset, account or order may want memory; then
-    /// nothing is changed. The number that the next order gets is below 2^64 - 1.
+    /// Serves one command of the market's version that holds no batch, and answers its reply. Only a new asset, account
+    /// or order may want memory; then nothing is changed. The number that the next order gets is below 2^64 - 1.
     ///
     /// The cost is that of the command's own fields, however many accounts and orders there are; a cancelled order
     /// leaves a gap among the live ones that is closed by a move.
     pub fn apply(&mut self, command: &CommandView<'_>) -> Result<Reply, Memory>
         requires command { IsCommand (command_of command.now) }
+        requires version { IsOfVersion self.old.version (command_of command.now) }
         requires no_batch { (budget : ℕ) → ¬ (command_of command.now ≡ RunBatch budget) }
         requires next { self.old.next_order + 1 < 2 ^ 64 }
         ensures served { IfOk result (λ reply. Serves IsOwnOutcome self.old (command_of command.now) (Plain reply) self.new) }
@@ -139,7 +153,31 @@ impl Market {
             CommandView::PlaceOrder(ref place) => self.place_order(place),
             CommandView::CancelOrder { account, order } => Ok(self.cancel_order(account, order)),
             CommandView::RunBatch { .. } => unreachable!(),
+            CommandView::PlaceUntil { last, ref place } => self.place_until(last, place),
+            CommandView::SetMoneyCredit { account, ticks } => {
+                Ok(self.set_money_credit(account, ticks))
+            }
+            CommandView::SetUnitCredit {
+                account,
+                asset,
+                units,
+            } => Ok(self.set_unit_credit(account, asset, units)),
         }
+    }
+
+    /// The version of the market: which commands it has.
+    pub fn version(&self) -> Version
+        ensures value { result ≡ self.now.version }
+        ensures sound { IsSound self.now }
+    {
+        self.version
+    }
+
+    /// The allocator of its collections.
+    pub fn alloc(&self) -> Global
+        ensures sound { IsSound self.now }
+    {
+        self.alloc
     }
 
     /// The tickers of the assets, by the assets' numbers.
@@ -216,6 +254,22 @@ impl Market {
         ensures { Serves IsOwnOutcome self.old (DepositAsset account asset units) (Plain result) self.new }
     {
         reply_to(self.accounts.deposit_units(account, asset, units))
+    }
+
+    fn set_money_credit(&mut self, account: u32, ticks: u64) -> Reply
+        requires { IsOfVersion self.old.version (SetMoneyCredit account ticks) }
+        ensures { Serves IsOwnOutcome self.old (SetMoneyCredit account ticks) (Plain result) self.new }
+    {
+        let needed = self.book.money_needed(account);
+        reply_to(self.accounts.set_money_credit(account, ticks, needed))
+    }
+
+    fn set_unit_credit(&mut self, account: u32, asset: u16, units: u64) -> Reply
+        requires { IsOfVersion self.old.version (SetUnitCredit account asset units) }
+        ensures { Serves IsOwnOutcome self.old (SetUnitCredit account asset units) (Plain result) self.new }
+    {
+        let needed = self.book.units_needed(account, asset);
+        reply_to(self.accounts.set_unit_credit(account, asset, units, needed))
     }
 
     fn withdraw_money(&mut self, account: u32, ticks: u64) -> Reply

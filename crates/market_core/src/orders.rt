@@ -1,24 +1,35 @@
 //! Orders: placed where they can be paid and delivered, and cancelled.
-ghost use Rattle.std.specs.Prelude.{◌≡◌, ◌+◌, ◌*◌, ◌<◌, ◌≤◌, ◌^◌, ◌↔◌, ◌≤ℤ◌, pos, IsTrue, IfOk, OnErr, All};
+ghost use Rattle.std.specs.Prelude.{◌≡◌, ◌+◌, ◌*◌, ◌<◌, ◌≤◌, ◌^◌, ◌↔◌, ◌≤ℤ◌, pos, IsTrue, IfOk, IfSome, IfNone, Some, OnErr, All};
 ghost use Rattle.demand_curve.specs.Numbers.{or_zero};
 ghost use Rattle.weight_rows.specs.Rows.{IsLawfulRow, IsLawfulWeight};
-ghost use Rattle.flow_accounts.specs.Balances.{IsAccount, IsAsset};
+ghost use Rattle.flow_accounts.specs.Balances.{IsAccount, IsAsset, grains, money_with_credit, units_with_credit};
 ghost use Rattle.flow_orders.specs.Orders.{AreLimits, IsFrom1To, most_cap, price_of_ticks, sold};
 ghost use Rattle.flow_orders.specs.Own.{IsOwnOutcome};
-ghost use Rattle.wire_records.specs.Commands.{PlaceOrder, CancelOrder, Plain};
+ghost use Rattle.wire_records.specs.Commands.{PlaceOrder, PlaceUntil, CancelOrder, Plain};
+ghost use Rattle.wire_records.specs.Versions.{IsOfVersion};
 ghost use Rattle.wire_records.specs.CommandRecords.{IsCommand};
-ghost use Rattle.market_core.specs.Market.{IsSound, free_money, free_units};
-ghost use Rattle.market_core.specs.Step.{FirstRefusal, Serves, placed, IsAffordable};
+ghost use Rattle.market_core.specs.Market.{IsSound, usable_money, usable_units};
+ghost use Rattle.market_core.specs.Step.{FirstRefusal, RefusesRow, Serves, placed};
 ghost use Rattle.market_core.specs.Wanting.{MayWant};
-ghost use Rattle.market_core.specs.Private.{cancel_reply};
+ghost use Rattle.market_core.specs.Private.{cancel_reply, RefusesNumbers, HasRightNumbers, no_other, IsFreeFor};
 
 use crate::Market;
 use flow_orders::{Order, OrderFault, money_need, order_fault, unit_need};
 use weight_rows::{Entry, WeightRow};
 use wire_records::{Memory, PlaceView, Refusal, Reply, RowView};
 
+// One tick in grains.
+const GRAINS_PER_TICK: i128 = 1 << 32;
+
 // No more orders are live.
 const MOST_ORDERS: usize = 16_384;
+
+// Ticks in grains.
+fn grains_of(ticks: u64) -> i128
+    ensures { result ≡ grains ticks }
+{
+    i128::from(ticks) * GRAINS_PER_TICK
+}
 
 // The reply to a cancel, by whether the order is there.
 pub(crate) fn cancel_reply(there: bool) -> Reply
@@ -61,6 +72,37 @@ impl Market {
         Ok(Reply::Order(number))
     }
 
+    pub(crate) fn place_until(&mut self, last: u32, place: &PlaceView<'_>) -> Result<Reply, Memory>
+        requires command { IsCommand (PlaceUntil last place.now) }
+        requires version { IsOfVersion self.old.version (PlaceUntil last place.now) }
+        requires next { self.old.next_order + 1 < 2 ^ 64 }
+        ensures served { IfOk result (λ reply. Serves IsOwnOutcome self.old (PlaceUntil last place.now) (Plain reply) self.new) }
+        ensures stays { OnErr result (self.new ≡ self.old) }
+        ensures wanted { OnErr result (MayWant self.old (PlaceUntil last place.now)) }
+    {
+        if let Some(first) = self.until_refusal(last, place) {
+            return Ok(Reply::Refused(first));
+        }
+        match self.book.reserve_one() {
+            Ok(()) => {}
+            Err(_) => return Err(Memory),
+        }
+        let row = WeightRow::new(place.row().to_list(self.alloc)?);
+        let next = self.next_order;
+        self.next_order = next + 1;
+        self.book.add(Order::until(
+            next,
+            place.account(),
+            place.low(),
+            place.high(),
+            place.rate(),
+            place.cap(),
+            last,
+            row,
+        ));
+        Ok(Reply::Order(next))
+    }
+
     pub(crate) fn cancel_order(&mut self, account: u32, number: u64) -> Reply
         ensures { Serves IsOwnOutcome self.old (CancelOrder account number) (Plain result) self.new }
     {
@@ -75,15 +117,48 @@ impl Market {
     pub(crate) fn place_refusal(&self, place: &PlaceView<'_>) -> Option<Refusal>
         ensures { FirstRefusal self.now (PlaceOrder place.now) result }
     {
+        match self.numbers_refusal(place) {
+            Some(refusal) => Some(refusal),
+            None => self.row_refusal(place),
+        }
+    }
+
+    // The first refusal of an order that is asked for up to a last batch, if any holds.
+    pub(crate) fn until_refusal(&self, last: u32, place: &PlaceView<'_>) -> Option<Refusal>
+        ensures { FirstRefusal self.now (PlaceUntil last place.now) result }
+    {
+        match self.numbers_refusal(place) {
+            Some(refusal) => return Some(refusal),
+            None => {}
+        }
+        if last <= self.batches {
+            return Some(Refusal::BadLast);
+        }
+        self.row_refusal(place)
+    }
+
+    // The first refusal of an order for its account and its numbers.
+    fn numbers_refusal(&self, place: &PlaceView<'_>) -> Option<Refusal>
+        ensures some { IfSome result (λ refusal. RefusesNumbers self.now place.now no_other (Some refusal)) }
+        ensures none { IfNone result (HasRightNumbers self.now place.now) }
+    {
         if self.accounts.money(place.account()).is_none() {
             return Some(Refusal::NoAccount);
         }
         match order_fault(place.low(), place.high(), place.rate(), place.cap()) {
-            Some(OrderFault::BadLimits) => return Some(Refusal::BadLimits),
-            Some(OrderFault::BadRate) => return Some(Refusal::BadRate),
-            Some(OrderFault::BadCap) => return Some(Refusal::BadCap),
-            None => {}
+            Some(OrderFault::BadLimits) => Some(Refusal::BadLimits),
+            Some(OrderFault::BadRate) => Some(Refusal::BadRate),
+            Some(OrderFault::BadCap) => Some(Refusal::BadCap),
+            None => None,
         }
+    }
+
+    // The first refusal of an order with right numbers, whatever its last batch is: for its row, for a full book, or for
+    // what it needs.
+    fn row_refusal(&self, place: &PlaceView<'_>) -> Option<Refusal>
+        requires { HasRightNumbers self.now place.now }
+        ensures { RefusesRow self.now (placed self.now 0 place.now) result }
+    {
         let row = place.row();
         if row.fault().is_some() {
             return Some(Refusal::BadRow);
@@ -123,7 +198,7 @@ impl Market {
         requires cap { IsFrom1To most_cap place.now.cap }
         requires row { IsLawfulRow place.now.row }
         requires assets { All (λ e. IsAsset self.now.balances e.asset) place.now.row }
-        ensures { IsTrue result ↔ IsAffordable self.now (placed self.now place.now) }
+        ensures { IsTrue result ↔ IsFreeFor self.now place.now }
     {
         self.is_money_free(place) && self.are_units_free(place.account(), &place.row(), place.cap())
     }
@@ -133,10 +208,10 @@ impl Market {
         requires account { IsAccount self.now.balances place.now.account }
         requires limits { AreLimits place.now.low place.now.high }
         requires cap { IsFrom1To most_cap place.now.cap }
-        ensures value { IsTrue result ↔ (pos (or_zero (price_of_ticks place.now.high) * place.now.cap) ≤ℤ free_money self.now place.now.account) }
+        ensures value { IsTrue result ↔ (pos (or_zero (price_of_ticks place.now.high) * place.now.cap) ≤ℤ usable_money self.now place.now.account) }
         ensures sound { IsSound self.now }
     {
-        money_need(place.high(), place.cap()) <= self.free_money(place.account())
+        money_need(place.high(), place.cap()) <= self.usable_money(place.account())
     }
 
     // Whether the account has free the units that an order of this row and cap may sell.
@@ -145,7 +220,7 @@ impl Market {
         requires cap { cap ≤ most_cap }
         requires row { IsLawfulRow row.now }
         requires assets { All (λ e. IsAsset self.now.balances e.asset) row.now }
-        ensures { IsTrue result ↔ All (λ e. pos (sold e.weight * cap) ≤ℤ free_units self.now account e.asset) row.now }
+        ensures { IsTrue result ↔ All (λ e. pos (sold e.weight * cap) ≤ℤ usable_units self.now account e.asset) row.now }
     {
         let mut place = 0;
         while let Some(entry) = row.entry(place) {
@@ -163,27 +238,47 @@ impl Market {
         requires cap { cap ≤ most_cap }
         requires weight { IsLawfulWeight entry.weight }
         requires asset { IsAsset self.now.balances entry.asset }
-        ensures { IsTrue result ↔ (pos (sold entry.weight * cap) ≤ℤ free_units self.now account entry.asset) }
+        ensures { IsTrue result ↔ (pos (sold entry.weight * cap) ≤ℤ usable_units self.now account entry.asset) }
     {
-        i128::from(unit_need(entry.weight, cap)) <= self.free_units(account, entry.asset)
+        i128::from(unit_need(entry.weight, cap)) <= self.usable_units(account, entry.asset)
     }
 
-    // The money of an account that its orders don't need, in grains.
-    fn free_money(&self, account: u32) -> i128
+    // The money of an account that its orders may still use, in grains: its balance and credit, less what they need.
+    fn usable_money(&self, account: u32) -> i128
         requires { IsAccount self.now.balances account }
-        ensures value { result ≡ free_money self.now account }
+        ensures value { result ≡ usable_money self.now account }
         ensures sound { IsSound self.now }
     {
-        self.accounts.money(account).unwrap() - self.book.money_needed(account)
+        self.money_with_credit(account) - self.book.money_needed(account)
     }
 
-    // The units of an asset in an account that its orders don't need.
-    fn free_units(&self, account: u32, asset: u16) -> i128
+    // The money of an account and its credit, in grains.
+    fn money_with_credit(&self, account: u32) -> i128
+        requires { IsAccount self.now.balances account }
+        ensures { result ≡ money_with_credit self.now.balances account }
+    {
+        let held = self.accounts.money(account).unwrap();
+        let credit = grains_of(self.accounts.money_credit(account).unwrap());
+        held + credit
+    }
+
+    // The units of an asset in an account that its orders may still use.
+    fn usable_units(&self, account: u32, asset: u16) -> i128
         requires account { IsAccount self.now.balances account }
         requires asset { IsAsset self.now.balances asset }
-        ensures { result ≡ free_units self.now account asset }
+        ensures { result ≡ usable_units self.now account asset }
     {
-        i128::from(self.accounts.units(account, asset).unwrap())
-            - self.book.units_needed(account, asset)
+        self.units_with_credit(account, asset) - self.book.units_needed(account, asset)
+    }
+
+    // The units of an asset in an account and its credit.
+    fn units_with_credit(&self, account: u32, asset: u16) -> i128
+        requires account { IsAccount self.now.balances account }
+        requires asset { IsAsset self.now.balances asset }
+        ensures { result ≡ units_with_credit self.now.balances account asset }
+    {
+        let held = i128::from(self.accounts.units(account, asset).unwrap());
+        let credit = i128::from(self.accounts.unit_credit(account, asset).unwrap());
+        held + credit
     }
 }

@@ -7,4 +7,5 @@ pub mod Standing
 pub mod Traded
 pub mod TradeLoops
 pub mod Filling
+pub mod Ending
 pub mod NeedLaws

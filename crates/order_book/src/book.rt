@@ -4,6 +4,7 @@ ghost use Rattle.flow_orders.specs.Orders.{most_orders, needed_money, needed_uni
 ghost use Rattle.std.specs.List.{HoldsAt};
 ghost use Rattle.order_book.specs.Book.{AreLive, IsPlaceOf, HasOrder};
 
+use crate::ended::{end_orders, lower_ended};
 use crate::fill::{fill_orders, lower_traded};
 use crate::sums::{Need, NeedSums};
 use flow_orders::Order;
@@ -49,7 +50,7 @@ impl Model for Book {
 
 impl Book {
     ghost use Rattle.flow_orders.specs.Orders.{terms_of};
-    ghost use Rattle.flow_orders.specs.Trades.{trades, staying};
+    ghost use Rattle.flow_orders.specs.Trades.{trades, staying, going_on};
     ghost use Rattle.order_book.specs.Needs.{needed, most_needed};
     ghost use Rattle.order_book.specs.Book.{without};
 
@@ -166,6 +167,16 @@ impl Book {
     {
         lower_traded(&mut self.sums, &self.orders, rates);
         fill_orders(&mut self.orders, rates);
+    }
+
+    /// Takes out the orders whose last batch has this number, which need nothing from now on. The others stay.
+    pub fn end(&mut self, batch: u32)
+        ensures orders { self.new.orders ≡ going_on batch self.old.orders }
+        ensures room { self.old.room ≤ self.new.room }
+        ensures live { AreLive self.new.orders }
+    {
+        lower_ended(&mut self.sums, &self.orders, batch);
+        end_orders(&mut self.orders, batch);
     }
 }
 

@@ -9,14 +9,16 @@
 //! Adding and cancelling an order takes the same time however many accounts and assets there are: a constant one for
 //! the sum of its money and for each entry of its row. The place of an order is found by its number, in as many steps
 //! as the count of orders has bits, and the later orders close the gap that a cancelled one leaves, in one move of
-//! their block. What an account needs is one look-up. Filling goes once over the entries of all orders.
+//! their block. What an account needs is one look-up. Filling goes once over the entries of all orders, and orders that
+//! end leave in one pass over all, however many they are.
 //!
 //! Nothing but [`Book::reserve_one`] takes memory. Most of its calls take none; the others move all orders, or all
-//! sums, to a block of about twice the size. An order takes 64 bytes beside its row. The room that an order had stays
+//! sums, to a block of about twice the size. An order takes 72 bytes beside its row. The room that an order had stays
 //! for later ones.
 #![tactic(auto)]
 
 mod book;
+mod ended;
 mod fill;
 pub mod laws;
 mod sums;

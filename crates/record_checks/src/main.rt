@@ -9,7 +9,7 @@
 //! | `front LIMIT: BYTES` | `next_record` | `whole TAG TAKEN BODY RECORD`, `end`, `too_large LENGTH` or `short` |
 //! | `command: RECORD` | `RecordView::command` | the command, `unknown_tag` or `bad_body` |
 //! | `code NUMBER:` | `Refusal::of_code`, `code` | the refusal and its number, or `none` |
-//! | `magic: BYTES` | `is_command_file`, `is_journal` | `commands`, `journal` or `neither` |
+//! | `magic: BYTES` | `command_version`, `journal_version` | `commands VERSION`, `journal VERSION` or `neither` |
 //! | `head TAG LENGTH:` | `put_head` | the bytes |
 //! | `pair: BYTES` | `next_pair`, `reply`, `is_overlong` | `whole TAKEN RECORD` and the reply, `end` or `broken`; then `overlong` |
 //! | `reply: RECORD` | `reply`, `to_cleared` | the reply, or `none` |

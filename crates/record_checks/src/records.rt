@@ -4,12 +4,12 @@ ghost use Rattle.wire_records.specs.CommandRecords.{HasShortRow};
 ghost use Rattle.wire_records.specs.Views.{command_in};
 
 use crate::telling::{put, put_bytes, put_command, put_item};
-use journal_records::{MOST_REPLY_BODY, is_journal};
+use journal_records::{MOST_REPLY_BODY, journal_version};
 use std::alloc::Global;
 use weight_rows::RowFault;
 use wire_records::{
-    BodyFault, Command, CommandView, Framed, MOST_ROW, RecordView, Refusal, RowView,
-    is_command_file, next_record, put_head, write_command,
+    BodyFault, Command, CommandView, Framed, MOST_ROW, MOST_ROW_UNTIL, RecordView, Refusal,
+    RowView, Version, command_version, next_record, put_head, write_command,
 };
 
 // The one record that these bytes are.
@@ -87,6 +87,27 @@ fn owned(alloc: Global, command: CommandView<'_>) -> Option<Command> {
         },
         CommandView::CancelOrder { account, order } => Command::CancelOrder { account, order },
         CommandView::RunBatch { budget } => Command::RunBatch { budget },
+        CommandView::PlaceUntil { last, place } => Command::PlaceUntil {
+            last,
+            account: place.account(),
+            low: place.low(),
+            high: place.high(),
+            rate: place.rate(),
+            cap: place.cap(),
+            row: place.row().to_list(alloc).ok()?,
+        },
+        CommandView::SetMoneyCredit { account, ticks } => {
+            Command::SetMoneyCredit { account, ticks }
+        }
+        CommandView::SetUnitCredit {
+            account,
+            asset,
+            units,
+        } => Command::SetUnitCredit {
+            account,
+            asset,
+            units,
+        },
     })
 }
 
@@ -101,6 +122,18 @@ fn put_view(alloc: Global, command: CommandView<'_>, text: &mut String) -> Optio
                 place.cap().into(),
             ];
             put("place_order", &numbers, text)?;
+            put_row(&place.row(), text)
+        }
+        CommandView::PlaceUntil { last, place } => {
+            let numbers = [
+                last.into(),
+                place.account().into(),
+                place.low().into(),
+                place.high().into(),
+                place.rate().into(),
+                place.cap().into(),
+            ];
+            put("place_until", &numbers, text)?;
             put_row(&place.row(), text)
         }
         plain => put_command(owned(alloc, plain)?, text),
@@ -121,6 +154,7 @@ fn has_short_row(command: &Command) -> bool
 {
     match command {
         Command::PlaceOrder { row, .. } => row.as_slice().len() <= MOST_ROW,
+        Command::PlaceUntil { row, .. } => row.as_slice().len() <= MOST_ROW_UNTIL,
         _ => true,
     }
 }
@@ -154,12 +188,18 @@ pub(crate) fn put_code(code: u8, text: &mut String) -> Option<()> {
     }
 }
 
+fn number_of(version: Version) -> i128 {
+    match version {
+        Version::One => 1,
+        Version::Two => 2,
+    }
+}
+
 pub(crate) fn put_magic(bytes: &[u8], text: &mut String) -> Option<()> {
-    let found = match (is_command_file(bytes), is_journal(bytes)) {
-        (true, false) => "commands",
-        (false, true) => "journal",
-        (false, false) => "neither",
-        (true, true) => "both",
-    };
-    put(found, &[], text)
+    match (command_version(bytes), journal_version(bytes)) {
+        (Some(version), None) => put("commands", &[number_of(version)], text),
+        (None, Some(version)) => put("journal", &[number_of(version)], text),
+        (None, None) => put("neither", &[], text),
+        (Some(_), Some(_)) => put("both", &[], text),
+    }
 }

@@ -88,5 +88,36 @@ pub(crate) fn put_command(command: Command, text: &mut String) -> Option<()> {
             put("cancel_order", &[account.into(), order.into()], text)
         }
         Command::RunBatch { budget } => put("run_batch", &[budget.into()], text),
+        Command::PlaceUntil {
+            last,
+            account,
+            low,
+            high,
+            rate,
+            cap,
+            row,
+        } => {
+            let numbers = [
+                last.into(),
+                account.into(),
+                low.into(),
+                high.into(),
+                rate.into(),
+                cap.into(),
+            ];
+            put("place_until", &numbers, text)?;
+            put_entries(row.as_slice(), text)
+        }
+        Command::SetMoneyCredit { account, ticks } => {
+            put("set_money_credit", &[account.into(), ticks.into()], text)
+        }
+        Command::SetUnitCredit {
+            account,
+            asset,
+            units,
+        } => {
+            let numbers = [account.into(), asset.into(), units.into()];
+            put("set_unit_credit", &numbers, text)
+        }
     }
 }

@@ -5,28 +5,31 @@ use Rattle.std.specs.Prelude.{if◌then◌else◌, ◌==◌}
 use Rattle.wire_fields.specs.Numbers.{unsigned, IsUnsigned}
 use Rattle.wire_fields.proofs.Spelling.{length-unsigned, unsigned_unique}
 use Rattle.wire_records.specs.Records.{Record}
-use Rattle.wire_records.specs.Commands.{Command, AddAsset, OpenAccount, DepositMoney, DepositAsset, WithdrawMoney, WithdrawAsset, PlaceOrder, CancelOrder, RunBatch}
-use Rattle.wire_records.specs.CommandRecords.{tag_of, body_of, IsCommand, Spells, SpellsNone}
-use Rattle.wire_records.specs.Private.{SpellsNoRequest}
+use Rattle.wire_records.specs.Commands.{Request, Command, AddAsset, OpenAccount, DepositMoney, DepositAsset, WithdrawMoney, WithdrawAsset, PlaceOrder, CancelOrder, RunBatch, PlaceUntil, SetMoneyCredit, SetUnitCredit}
+use Rattle.wire_records.specs.CommandRecords.{tag_of, body_of, request_spelling, IsRequest, IsCommand, Spells, SpellsNone}
+use Rattle.wire_records.specs.Private.{SpellsNoRequest, SpellsNoUntil}
 use Rattle.wire_records.proofs.Requests.{request_unique}
 
--- how long the body of a command with this tag is, for the tags 1 to 9 but 7
+-- how long the body of a command with this tag is, for the tags 1 to 12 but 7 and 10
 abbrev pub size_of : ℕ → ℕ
 size_of tag =
-    if tag == 1 then 8 else (if tag == 2 then 0 else (if tag == 3 then 12 else (if tag == 4 then 14 else (if tag == 5 then 12 else (if tag == 6 then 14 else (if tag == 8 then 12 else 4))))))
+    if tag == 1 then 8 else (if tag == 2 then 0 else (if tag == 3 then 12 else (if tag == 4 then 14 else (if tag == 5 then 12 else (if tag == 6 then 14 else (if tag == 8 then 12 else (if tag == 9 then 4 else (if tag == 11 then 12 else 14))))))))
 
 -- a body has the length of its tag
-pub length-body_of : (c : Command) → IsCommand c → tag_of c ≢ 7 → length (body_of c) ≡ size_of (tag_of c)
+pub length-body_of : (c : Command) → IsCommand c → tag_of c ≢ 7 → tag_of c ≢ 10 → length (body_of c) ≡ size_of (tag_of c)
 unfolding body_of
-length-body_of (AddAsset ticker) h other = h.0
-length-body_of OpenAccount h other = refl
-length-body_of (DepositMoney account ticks) h other = simp (length-append, length-unsigned)
-length-body_of (DepositAsset account asset units) h other = simp (length-append, length-unsigned)
-length-body_of (WithdrawMoney account ticks) h other = simp (length-append, length-unsigned)
-length-body_of (WithdrawAsset account asset units) h other = simp (length-append, length-unsigned)
-length-body_of (PlaceOrder request) h other = absurd (other refl)
-length-body_of (CancelOrder account number) h other = simp (length-append, length-unsigned)
-length-body_of (RunBatch budget) h other = length-unsigned 4 budget
+length-body_of (AddAsset ticker) h other until = h.0
+length-body_of OpenAccount h other until = refl
+length-body_of (DepositMoney account ticks) h other until = simp (length-append, length-unsigned)
+length-body_of (DepositAsset account asset units) h other until = simp (length-append, length-unsigned)
+length-body_of (WithdrawMoney account ticks) h other until = simp (length-append, length-unsigned)
+length-body_of (WithdrawAsset account asset units) h other until = simp (length-append, length-unsigned)
+length-body_of (PlaceOrder request) h other until = absurd (other refl)
+length-body_of (CancelOrder account number) h other until = simp (length-append, length-unsigned)
+length-body_of (RunBatch budget) h other until = length-unsigned 4 budget
+length-body_of (PlaceUntil last request) h other until = absurd (until refl)
+length-body_of (SetMoneyCredit account ticks) h other until = simp (length-append, length-unsigned)
+length-body_of (SetUnitCredit account asset units) h other until = simp (length-append, length-unsigned)
 
 -- a record is its tag and its body
 pub same_record : (r : Record) (tag : ℕ) (body : List ℕ) → r.tag ≡ tag → r.body ≡ body → r ≡ record { tag = tag; body = body }
@@ -40,10 +43,10 @@ pub body_is : (c : Command) (r : Record) → Spells c r → r.body ≡ body_of c
 body_is c r s = ap (λ (x : Record). x.body) s.spelled
 
 -- a body of another length than its tag's is no command's
-pub spells_none : (r : Record) → r.tag ≢ 7 → length r.body ≢ size_of r.tag → SpellsNone r
-spells_none r order other c s =
+pub spells_none : (r : Record) → r.tag ≢ 7 → r.tag ≢ 10 → length r.body ≢ size_of r.tag → SpellsNone r
+spells_none r order until other c s =
     let tags = tag_is c r s in
-    other (ap length (body_is c r s) ∙ length-body_of c s.fits (λ e. order (tags ∙ e)) ∙ ap size_of (sym tags))
+    other (ap length (body_is c r s) ∙ length-body_of c s.fits (λ e. order (tags ∙ e)) (λ e. until (tags ∙ e)) ∙ ap size_of (sym tags))
 
 -- a command of the tag 7 has the body of a request
 is_request : (c : Command) → IsCommand c → tag_of c ≡ 7 → SpellsNoRequest (body_of c) → ⊥
@@ -57,11 +60,41 @@ is_request (WithdrawAsset account asset units) h e none = absurd (omega (arith, 
 is_request (PlaceOrder request) h e none = none request (record { fits = h; spelled = refl })
 is_request (CancelOrder account number) h e none = absurd (omega (arith, e))
 is_request (RunBatch budget) h e none = absurd (omega (arith, e))
+is_request (PlaceUntil last request) h e none = absurd (omega (arith, e))
+is_request (SetMoneyCredit account ticks) h e none = absurd (omega (arith, e))
+is_request (SetUnitCredit account asset units) h e none = absurd (omega (arith, e))
 
 -- a body that is no request's is no order's
 pub spells_none-from_request : (r : Record) → r.tag ≡ 7 → SpellsNoRequest r.body → SpellsNone r
 spells_none-from_request r order none c s =
     is_request c s.fits (sym (tag_is c r s) ∙ order) (rw (body_is c r s) at none)
+
+-- a command of the tag 10 has the body of a last batch and a request
+is_until : (c : Command) → IsCommand c → tag_of c ≡ 10 → SpellsNoUntil (body_of c) → ⊥
+unfolding body_of
+is_until (AddAsset ticker) h e none = absurd (omega (arith, e))
+is_until OpenAccount h e none = absurd (omega (arith, e))
+is_until (DepositMoney account ticks) h e none = absurd (omega (arith, e))
+is_until (DepositAsset account asset units) h e none = absurd (omega (arith, e))
+is_until (WithdrawMoney account ticks) h e none = absurd (omega (arith, e))
+is_until (WithdrawAsset account asset units) h e none = absurd (omega (arith, e))
+is_until (PlaceOrder request) h e none = absurd (omega (arith, e))
+is_until (CancelOrder account number) h e none = absurd (omega (arith, e))
+is_until (RunBatch budget) h e none = absurd (omega (arith, e))
+is_until (PlaceUntil last request) h e none = none last request (record { fits = h; spelled = refl })
+is_until (SetMoneyCredit account ticks) h e none = absurd (omega (arith, e))
+is_until (SetUnitCredit account asset units) h e none = absurd (omega (arith, e))
+
+-- a body that is none of these is no such order's
+pub spells_none-from_until : (r : Record) → r.tag ≡ 10 → SpellsNoUntil r.body → SpellsNone r
+spells_none-from_until r until none c s =
+    is_until c s.fits (sym (tag_is c r s) ∙ until) (rw (body_is c r s) at none)
+
+-- two last batches with requests behind them, of one spelling
+until_unique : (m n : ℕ) (r s : Request) → IsUnsigned 4 m × IsRequest r → IsUnsigned 4 n × IsRequest s → unsigned 4 m ++ request_spelling r ≡ unsigned 4 n ++ request_spelling s → (m ≡ n) × (r ≡ s)
+until_unique m n r s h k e =
+    let lasts = unsigned_unique 4 m n _ _ h.0 k.0 e in
+    (lasts.0, request_unique r s h.1 k.1 lasts.1)
 
 -- two amounts of money of one spelling, or an account and another number of its width
 money_unique : (a t b u : ℕ) → (a < 2 ^ 32) × (t < 2 ^ 64) → (b < 2 ^ 32) × (u < 2 ^ 64) → unsigned 4 a ++ unsigned 8 t ≡ unsigned 4 b ++ unsigned 8 u → (a ≡ b) × (t ≡ u)
@@ -105,6 +138,12 @@ same_command (CancelOrder a n) (CancelOrder b m) h k tags bodies = let e = money
 same_command (CancelOrder a n) d h k tags bodies = absurd (omega (arith, tags))
 same_command (RunBatch m) (RunBatch n) h k tags bodies = ap RunBatch (number_unique 4 m n h k bodies)
 same_command (RunBatch m) d h k tags bodies = absurd (omega (arith, tags))
+same_command (PlaceUntil m r) (PlaceUntil n s) h k tags bodies = let e = until_unique m n r s h k bodies in rw (e.0, e.1) refl
+same_command (PlaceUntil m r) d h k tags bodies = absurd (omega (arith, tags))
+same_command (SetMoneyCredit a t) (SetMoneyCredit b u) h k tags bodies = let e = money_unique a t b u h k bodies in rw (e.0, e.1) refl
+same_command (SetMoneyCredit a t) d h k tags bodies = absurd (omega (arith, tags))
+same_command (SetUnitCredit a i t) (SetUnitCredit b j u) h k tags bodies = let e = units_unique a i t b j u h k bodies in rw (e.0, e.1, e.2) refl
+same_command (SetUnitCredit a i t) d h k tags bodies = absurd (omega (arith, tags))
 
 -- a record spells at most one command
 pub command_unique : (c d : Command) (r : Record) → Spells c r → Spells d r → c ≡ d

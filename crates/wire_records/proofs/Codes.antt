@@ -2,14 +2,14 @@
 use Rattle.std.proofs.Common.{◌≡◌, ◌-◌, ◌<◌, ℕ, List, [], ◌∷◌, refl, sym, ap, ◌∙◌, lit<}
 use Rattle.std.specs.Prelude.{slice_index_or}
 use Rattle.wire_records.specs.declared.reply.Refusal.{Refusal}
-use Rattle.wire_records.specs.declared.reply.Refusal.TheVariants.{UnknownTag, BadBody, AssetLimit, TickerTaken, BadTicker, AccountLimit, NoAccount, NoAsset, ZeroAmount, TotalLimit, NotFree, BadLimits, BadRate, BadCap, BadRow, OrderLimit, NoOrder, BadBudget, BatchLimit}
+use Rattle.wire_records.specs.declared.reply.Refusal.TheVariants.{UnknownTag, BadBody, AssetLimit, TickerTaken, BadTicker, AccountLimit, NoAccount, NoAsset, ZeroAmount, TotalLimit, NotFree, BadLimits, BadRate, BadCap, BadRow, OrderLimit, NoOrder, BadBudget, BatchLimit, BadLast, CreditInUse, CreditLimit}
 use Rattle.wire_records.specs.Refusals.{code_of}
 
--- the refusals in the order of their codes
+-- the refusals in the order of their codes; no refusal has the codes 20 and 21, and any stands there
 abbrev refusals : List Refusal
 refusals =
     UnknownTag ∷ BadBody ∷ AssetLimit ∷ TickerTaken ∷ BadTicker ∷ AccountLimit ∷ NoAccount ∷ NoAsset ∷ ZeroAmount ∷ TotalLimit
-    ∷ NotFree ∷ BadLimits ∷ BadRate ∷ BadCap ∷ BadRow ∷ OrderLimit ∷ NoOrder ∷ BadBudget ∷ BatchLimit ∷ []
+    ∷ NotFree ∷ BadLimits ∷ BadRate ∷ BadCap ∷ BadRow ∷ OrderLimit ∷ NoOrder ∷ BadBudget ∷ BatchLimit ∷ UnknownTag ∷ UnknownTag ∷ BadLast ∷ CreditInUse ∷ CreditLimit ∷ []
 
 -- the refusal of a code
 abbrev refusal_at : ℕ → Refusal
@@ -36,6 +36,9 @@ refusal_at-code_of OrderLimit = refl
 refusal_at-code_of NoOrder = refl
 refusal_at-code_of BadBudget = refl
 refusal_at-code_of BatchLimit = refl
+refusal_at-code_of BadLast = refl
+refusal_at-code_of CreditInUse = refl
+refusal_at-code_of CreditLimit = refl
 
 -- two refusals of one code are one
 pub code_of-unique : (a b : Refusal) → code_of a ≡ code_of b → a ≡ b
@@ -62,3 +65,6 @@ code_of-byte OrderLimit = lit< tt
 code_of-byte NoOrder = lit< tt
 code_of-byte BadBudget = lit< tt
 code_of-byte BatchLimit = lit< tt
+code_of-byte BadLast = lit< tt
+code_of-byte CreditInUse = lit< tt
+code_of-byte CreditLimit = lit< tt

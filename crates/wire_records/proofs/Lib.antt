@@ -12,3 +12,4 @@ pub mod OneAnswer
 pub mod Readings
 pub mod ReadingLaws
 pub mod RecordCode
+pub mod MagicFound

@@ -1,5 +1,5 @@
 -- A record of bytes has exactly one reading.
-use Rattle.std.proofs.Common.{◌≡◌, ◌≢◌, ℕ, List, ◌++◌, inl, inr, ◌⊎◌, length, length-append, refl, sym, ap, ◌∙◌, arith}
+use Rattle.std.proofs.Common.{◌≡◌, ◌≢◌, ◌≤◌, ◌↔◌, ℕ, List, ◌++◌, inl, inr, ◌⊎◌, length, length-append, refl, sym, ap, ◌∙◌, arith}
 use Rattle.std.specs.Prelude.{Result, Ok, Err}
 use Rattle.std.proofs.lemmas.Bool.{cases_lt, cases_eq}
 use Rattle.std.proofs.lemmas.List.{nil_from_length}
@@ -8,13 +8,16 @@ use Rattle.wire_fields.proofs.Spelling.{length-unsigned}
 use Rattle.wire_records.specs.declared.command.BodyFault.{BodyFault}
 use Rattle.wire_records.specs.declared.command.BodyFault.TheVariants.{UnknownTag, BadBody}
 use Rattle.wire_records.specs.Records.{Record, AreBytes, IsRecord, most_body}
-use Rattle.wire_records.specs.Commands.{Request, Command, AddAsset, OpenAccount, DepositMoney, DepositAsset, WithdrawMoney, WithdrawAsset, PlaceOrder, CancelOrder, RunBatch}
-use Rattle.wire_records.specs.CommandRecords.{tag_of, body_of, record_of, IsCommand, HasShortRow, Spells, IsTag, IsReadAs}
-use Rattle.wire_records.specs.Private.{SpellsRequest}
+use Rattle.wire_records.specs.Commands.{Request, Command, AddAsset, OpenAccount, DepositMoney, DepositAsset, WithdrawMoney, WithdrawAsset, PlaceOrder, CancelOrder, RunBatch, PlaceUntil, SetMoneyCredit, SetUnitCredit}
+use Rattle.wire_records.specs.CommandRecords.{tag_of, body_of, record_of, request_spelling, IsCommand, SpellsNone, HasShortRow, Spells, IsTag, IsRead}
+use Rattle.wire_records.specs.declared.version.Version.{Version}
+use Rattle.wire_records.specs.declared.version.Version.TheVariants.{One, Two}
+use Rattle.wire_records.specs.Versions.{most_tag, IsTagOf, IsOfVersion, IsReadAs}
+use Rattle.wire_records.specs.Private.{SpellsRequest, SpellsUntil}
 use Rattle.wire_records.proofs.Fields.{whole_number, front_number}
 use Rattle.wire_records.proofs.Requests.{request_size}
-use Rattle.wire_records.proofs.RequestsTold.{request_told}
-use Rattle.wire_records.proofs.Bodies.{size_of, same_record, tag_is, spells_none, spells_none-from_request, command_unique}
+use Rattle.wire_records.proofs.RequestsTold.{request_told, until_told}
+use Rattle.wire_records.proofs.Bodies.{size_of, same_record, tag_is, spells_none, spells_none-from_request, spells_none-from_until, command_unique}
 
 -- the tag of each command, from above and below
 tag_of-range : (c : Command) → IsTag (tag_of c)
@@ -27,9 +30,12 @@ tag_of-range (WithdrawAsset account asset units) = (omega arith, omega arith)
 tag_of-range (PlaceOrder request) = (omega arith, omega arith)
 tag_of-range (CancelOrder account number) = (omega arith, omega arith)
 tag_of-range (RunBatch budget) = (omega arith, omega arith)
+tag_of-range (PlaceUntil last request) = (omega arith, omega arith)
+tag_of-range (SetMoneyCredit account ticks) = (omega arith, omega arith)
+tag_of-range (SetUnitCredit account asset units) = (omega arith, omega arith)
 
 -- the record of a command is read as no fault
-no_fault : (c : Command) (r : Record) (why : BodyFault) → Spells c r → IsReadAs r (Err why) → ⊥
+no_fault : (c : Command) (r : Record) (why : BodyFault) → Spells c r → IsRead r (Err why) → ⊥
 no_fault c r UnknownTag s unknown =
     let tag = tag_is c r s in
     let range = tag_of-range c in
@@ -37,22 +43,52 @@ no_fault c r UnknownTag s unknown =
 no_fault c r BadBody s bad = bad.1 c s
 
 -- a record is read as one fault
-fault_unique : (e f : BodyFault) (r : Record) → IsReadAs r (Err e) → IsReadAs r (Err f) → e ≡ f
+fault_unique : (e f : BodyFault) (r : Record) → IsRead r (Err e) → IsRead r (Err f) → e ≡ f
 fault_unique UnknownTag UnknownTag r p q = refl
 fault_unique UnknownTag BadBody r p q = absurd (p q.0)
 fault_unique BadBody UnknownTag r p q = absurd (q p.0)
 fault_unique BadBody BadBody r p q = refl
 
--- the record of a command is read as that command
-pub command_read : (c : Command) (r : Record) (read : Result Command BodyFault) → Spells c r → IsReadAs r read → read ≡ Ok c
-command_read c r (Ok d) s found = ap Ok (command_unique d c r found s)
-command_read c r (Err why) s found = absurd (no_fault c r why s found)
+-- the record of a command is read as that command, in whatever version
+pub command_seen : (c : Command) (r : Record) (read : Result Command BodyFault) → Spells c r → IsRead r read → read ≡ Ok c
+command_seen c r (Ok d) s found = ap Ok (command_unique d c r found s)
+command_seen c r (Err why) s found = absurd (no_fault c r why s found)
 
--- a record has at most one reading
-pub reading_unique : (r : Record) (a b : Result Command BodyFault) → IsReadAs r a → IsReadAs r b → a ≡ b
-reading_unique r (Ok c) b p q = sym (command_read c r b p q)
-reading_unique r a (Ok c) p q = command_read c r a q p
-reading_unique r (Err e) (Err f) p q = ap Err (fault_unique e f r p q)
+-- a record has at most one reading in whatever version
+pub seen_unique : (r : Record) (a b : Result Command BodyFault) → IsRead r a → IsRead r b → a ≡ b
+seen_unique r (Ok c) b p q = sym (command_seen c r b p q)
+seen_unique r a (Ok c) p q = command_seen c r a q p
+seen_unique r (Err e) (Err f) p q = ap Err (fault_unique e f r p q)
+
+-- a version's command is read as no fault in it
+no_fault_in : (version : Version) (c : Command) (r : Record) (why : BodyFault) → IsTagOf version r.tag → Spells c r → IsReadAs version r (Err why) → ⊥
+no_fault_in version c r UnknownTag tag s unknown = unknown tag
+no_fault_in version c r BadBody tag s bad = bad.1 c s
+
+-- a record is read as one fault in a version
+fault_unique_in : (version : Version) (e f : BodyFault) (r : Record) → IsReadAs version r (Err e) → IsReadAs version r (Err f) → e ≡ f
+fault_unique_in version UnknownTag UnknownTag r p q = refl
+fault_unique_in version UnknownTag BadBody r p q = absurd (p q.0)
+fault_unique_in version BadBody UnknownTag r p q = absurd (q p.0)
+fault_unique_in version BadBody BadBody r p q = refl
+
+-- the record of a version's command is read as that command in it
+read_here : (version : Version) (c : Command) (r : Record) (read : Result Command BodyFault) → IsTagOf version r.tag → Spells c r → IsReadAs version r read → read ≡ Ok c
+read_here version c r (Ok d) tag s found = ap Ok (command_unique d c r found.1 s)
+read_here version c r (Err why) tag s found = absurd (no_fault_in version c r why tag s found)
+
+pub command_read : (version : Version) (c : Command) (r : Record) (read : Result Command BodyFault) → IsOfVersion version c → Spells c r → IsReadAs version r read → read ≡ Ok c
+command_read version c r read of s found = read_here version c r read (rw (tag_is c r s) of) s found
+
+-- a record has at most one reading in a version
+pub reading_unique : (version : Version) (r : Record) (a b : Result Command BodyFault) → IsReadAs version r a → IsReadAs version r b → a ≡ b
+reading_unique version r (Ok c) b p q = sym (read_here version c r b p.0 p.1 q)
+reading_unique version r a (Ok c) p q = read_here version c r a q.0 q.1 p
+reading_unique version r (Err e) (Err f) p q = ap Err (fault_unique_in version e f r p q)
+
+-- a command that is read in a version is one of it
+pub read_own : (version : Version) (r : Record) (c : Command) → IsReadAs version r (Ok c) → IsOfVersion version c
+read_own version r c read = rw (← tag_is c r read.1) read.0
 
 -- 12 bytes are a number of four and one of eight
 twelve : (bytes : List ℕ) → length bytes ≡ 12 → AreBytes bytes → (a t : ℕ) × (IsUnsigned 4 a × IsUnsigned 8 t) × (bytes ≡ unsigned 4 a ++ unsigned 8 t)
@@ -73,10 +109,10 @@ fourteen bytes len small =
 from_body : (c : Command) (r : Record) → IsCommand c → r.tag ≡ tag_of c → r.body ≡ body_of c → Spells c r
 from_body c r fits tag body = record { fits = fits; spelled = same_record r (tag_of c) (body_of c) tag body }
 
--- the command of each tag but 7, if the body has the length of the tag
-spelled : (r : Record) → AreBytes r.body → IsTag r.tag → r.tag ≢ 7 → length r.body ≡ size_of r.tag → (c : Command) × Spells c r
+-- the command of each tag but 7 and 10, if the body has the length of the tag
+spelled : (r : Record) → AreBytes r.body → IsTag r.tag → r.tag ≢ 7 → r.tag ≢ 10 → length r.body ≡ size_of r.tag → (c : Command) × Spells c r
 unfolding body_of
-spelled r small tag order len =
+spelled r small tag order until len =
     elim (cases_eq r.tag 1) [
       | inl is ↦ (AddAsset r.body, from_body (AddAsset r.body) r (len ∙ ap size_of is, small) is refl)
       | inr no_1 ↦
@@ -98,9 +134,17 @@ spelled r small tag order len =
                                         elim (cases_eq r.tag 8) [
                                           | inl is ↦ let m = twelve r.body (len ∙ ap size_of is) small in (CancelOrder m.0 m.1, from_body (CancelOrder m.0 m.1) r m.2 is m.3)
                                           | inr no_8 ↦
-                                              let is : r.tag ≡ 9 = omega (arith, tag.0, tag.1, order, no_1, no_2, no_3, no_4, no_5, no_6, no_8) in
-                                              let m = whole_number 4 r.body (len ∙ ap size_of is) small in
-                                              (RunBatch m.0, from_body (RunBatch m.0) r m.1 is m.2)
+                                              elim (cases_eq r.tag 9) [
+                                                | inl is ↦ let m = whole_number 4 r.body (len ∙ ap size_of is) small in (RunBatch m.0, from_body (RunBatch m.0) r m.1 is m.2)
+                                                | inr no_9 ↦
+                                                    elim (cases_eq r.tag 11) [
+                                                      | inl is ↦ let m = twelve r.body (len ∙ ap size_of is) small in (SetMoneyCredit m.0 m.1, from_body (SetMoneyCredit m.0 m.1) r m.2 is m.3)
+                                                      | inr no_11 ↦
+                                                          let is : r.tag ≡ 12 = omega (arith, tag.0, tag.1, order, until, no_1, no_2, no_3, no_4, no_5, no_6, no_8, no_9, no_11) in
+                                                          let m = fourteen r.body (len ∙ ap size_of is) small in
+                                                          (SetUnitCredit m.0 m.1 m.2, from_body (SetUnitCredit m.0 m.1 m.2) r m.3 is m.4)
+                                                    ]
+                                              ]
                                         ]
                                   ]
                             ]
@@ -114,33 +158,73 @@ pub order_spelled : (r : Record) (request : Request) → r.tag ≡ 7 → SpellsR
 unfolding body_of
 order_spelled r request is found = from_body (PlaceOrder request) r found.fits is found.spelled
 
--- whether a tag is a command's
-tag_or_not : (tag : ℕ) → IsTag tag ⊎ (IsTag tag → ⊥)
-tag_or_not tag =
+-- the order of the tag 10, if the body is a last batch's and a request's
+pub until_spelled : (r : Record) (last : ℕ) (request : Request) → r.tag ≡ 10 → SpellsUntil r.body last request → Spells (PlaceUntil last request) r
+unfolding body_of
+until_spelled r last request is found = from_body (PlaceUntil last request) r found.fits is found.spelled
+
+-- whether a tag is up to a bound
+up_to_or_not : (most tag : ℕ) → ((1 ≤ tag) × (tag ≤ most)) ⊎ ((1 ≤ tag) × (tag ≤ most) → ⊥)
+up_to_or_not most tag =
     elim (cases_lt tag 1) [
       | inl none ↦ inr (λ is. omega (arith, none, is.0))
-      | inr some ↦ elim (cases_lt 9 tag) [ inl above ↦ inr (λ is. omega (arith, above, is.1)) | inr below ↦ inl (some, below) ]
+      | inr some ↦ elim (cases_lt most tag) [ inl above ↦ inr (λ is. omega (arith, above, is.1)) | inr below ↦ inl (some, below) ]
     ]
 
--- a record of bytes has a reading
-pub reading_some : (r : Record) → AreBytes r.body → (read : Result Command BodyFault) × IsReadAs r read
-reading_some r small =
-    elim (tag_or_not r.tag) [
-      | inr unknown ↦ (Err UnknownTag, unknown)
-      | inl tag ↦
-          elim (cases_eq r.tag 7) [
+-- a command's tag: some command is spelled, or none is
+told : (r : Record) → AreBytes r.body → IsTag r.tag → ((c : Command) × Spells c r) ⊎ SpellsNone r
+told r small tag =
+    elim (cases_eq r.tag 7) [
+      | inl is ↦
+          elim (request_told r.body small) [
+            | inl found ↦ inl (PlaceOrder found.0, order_spelled r found.0 is found.1)
+            | inr none ↦ inr (spells_none-from_request r is none)
+          ]
+      | inr order ↦
+          elim (cases_eq r.tag 10) [
             | inl is ↦
-                elim (request_told r.body small) [
-                  | inl found ↦ (Ok (PlaceOrder found.0), order_spelled r found.0 is found.1)
-                  | inr none ↦ (Err BadBody, (tag, spells_none-from_request r is none))
+                elim (until_told r.body small) [
+                  | inl found ↦ inl (PlaceUntil found.0 found.1, until_spelled r found.0 found.1 is found.2)
+                  | inr none ↦ inr (spells_none-from_until r is none)
                 ]
-            | inr order ↦
+            | inr until ↦
                 elim (cases_eq (length r.body) (size_of r.tag)) [
-                  | inl len ↦ let found = spelled r small tag order len in (Ok found.0, found.1)
-                  | inr other ↦ (Err BadBody, (tag, spells_none r order other))
+                  | inl len ↦ inl (spelled r small tag order until len)
+                  | inr other ↦ inr (spells_none r order until other)
                 ]
           ]
     ]
+
+-- a record of bytes has a reading in whatever version
+pub seen_some : (r : Record) → AreBytes r.body → (read : Result Command BodyFault) × IsRead r read
+seen_some r small =
+    elim (up_to_or_not 12 r.tag) [
+      | inr unknown ↦ (Err UnknownTag, unknown)
+      | inl tag ↦ elim (told r small tag) [ inl found ↦ (Ok found.0, found.1) | inr none ↦ (Err BadBody, (tag, none)) ]
+    ]
+
+-- no version has more tags
+within_all : (version : Version) (tag : ℕ) → IsTagOf version tag → IsTag tag
+within_all One tag is = (is.0, omega (arith, is.1))
+within_all Two tag is = is
+
+-- a record of bytes has a reading in each version
+pub reading_some : (version : Version) (r : Record) → AreBytes r.body → (read : Result Command BodyFault) × IsReadAs version r read
+reading_some version r small =
+    elim (up_to_or_not (most_tag version) r.tag) [
+      | inr unknown ↦ (Err UnknownTag, unknown)
+      | inl tag ↦
+          elim (told r small (within_all version r.tag tag)) [
+            | inl found ↦ (Ok found.0, (tag, found.1))
+            | inr none ↦ (Err BadBody, (tag, none))
+          ]
+    ]
+
+-- what is read in whatever version is read in version Two, which has all commands
+pub seen_in_two : (r : Record) (read : Result Command BodyFault) → IsRead r read ↔ IsReadAs Two r read
+seen_in_two r (Ok c) = (λ s. (rw (tag_is c r s) (tag_of-range c), s), λ both. both.1)
+seen_in_two r (Err UnknownTag) = (λ p. p, λ p. p)
+seen_in_two r (Err BadBody) = (λ p. p, λ p. p)
 
 -- how long an account and an amount of money are
 money_size : (account ticks : ℕ) → length (unsigned 4 account ++ unsigned 8 ticks) ≡ 12
@@ -162,3 +246,6 @@ command_short (WithdrawAsset account asset units) h few = record { tag = omega a
 command_short (PlaceOrder request) h few = record { tag = omega arith; body = omega (arith, request_size request, few) }
 command_short (CancelOrder account number) h few = record { tag = omega arith; body = omega (arith, money_size account number) }
 command_short (RunBatch budget) h few = record { tag = omega arith; body = omega (arith, length-unsigned 4 budget) }
+command_short (PlaceUntil last request) h few = record { tag = omega arith; body = omega (arith, length-append (unsigned 4 last) (request_spelling request), length-unsigned 4 last, request_size request, few) }
+command_short (SetMoneyCredit account ticks) h few = record { tag = omega arith; body = omega (arith, money_size account ticks) }
+command_short (SetUnitCredit account asset units) h few = record { tag = omega arith; body = omega (arith, units_size account asset units) }

@@ -1,13 +1,15 @@
 -- Records are a code, and overlong ones can be told.
-use Rattle.std.proofs.Common.{◌≡◌, ◌≢◌, ◌<◌, ◌≤◌, ◌+◌, ◌^◌, ℕ, zero, suc, List, ◌++◌, Bool, true, false, inl, inr, ◌⊎◌, length, take, drop, length-append, append_assoc, refl, sym, ap, ◌∙◌, arith}
+use Rattle.std.proofs.Common.{◌≡◌, ◌≢◌, ◌<◌, ◌≤◌, ◌+◌, ◌^◌, ℕ, zero, suc, List, ◌++◌, Bool, true, false, inl, inr, ◌⊎◌, length, take, drop, get_or, length-append, append_assoc, refl, sym, ap, ◌∙◌, arith}
 use Rattle.std.specs.Bool.{Decides}
 use Rattle.std.specs.Str.{bytes_eq}
 use Rattle.std.proofs.lemmas.Slice.Eq.{bytes_eq-Decides}
 use Rattle.std.proofs.lemmas.Bool.{cases_lt}
-use Rattle.std.proofs.lemmas.List.{take-append-drop, drop_at, length-take-le, append_cancel_left}
+use Rattle.std.proofs.lemmas.List.{take-append-drop, take_at, drop_at, length-take-le, append_cancel_left}
 use Rattle.wire_records.specs.Records.{Record, IsRecord, head, spelling}
 use Rattle.wire_records.specs.Grammars.{BeginsWith, BeginsWithNone}
-use Rattle.wire_records.specs.Formats.{Version, One, magics, records, StatesOver, EitherStatesOver, command_magic_of, commands}
+use Rattle.wire_records.specs.declared.version.Version.{Version}
+use Rattle.wire_records.specs.declared.version.Version.TheVariants.{One, Two}
+use Rattle.wire_records.specs.Formats.{magics, records, StatesOver, EitherStatesOver, command_magic_of, commands}
 use Rattle.wire_records.proofs.CodeLaws.{IsCode}
 use Rattle.wire_records.proofs.ReadingLaws.{IsReadable}
 use Rattle.wire_records.proofs.Spelled.{length-head, length-spelling, read_whole, spelling_unique}
@@ -139,42 +141,64 @@ either_over_told limit next small bytes =
           ]
     ]
 
--- bytes that begin with some version's magic begin with that of the only one
-only_magic : (magic_of : Version → List ℕ) (v : Version) (bytes rest : List ℕ) → bytes ≡ magic_of v ++ rest → bytes ≡ magic_of One ++ rest
-only_magic magic_of One bytes rest e = e
+-- a magic of each version, of as many bytes, and not the same
+pub record AreMagics (magic_of : Version → List ℕ) : Type 0 where
+  pub some : 0 < length (magic_of One)
+  pub alike : length (magic_of Two) ≡ length (magic_of One)
+  pub other : magic_of One ≢ magic_of Two
+
+-- as many bytes at the front of the same bytes are the same
+same_front : (a b x y : List ℕ) → length b ≡ length a → a ++ x ≡ b ++ y → a ≡ b
+same_front a b x y alike e = sym (take_at a x (length a) refl) ∙ ap (take (length a)) e ∙ take_at b y (length a) alike
 
 -- one magic stands at the front of bytes
-one_magic : (magic_of : Version → List ℕ) (v w : Version) (x y : List ℕ) → magic_of v ++ x ≡ magic_of w ++ y → (v ≡ w) × (x ≡ y)
-one_magic magic_of One One x y e = (refl, append_cancel_left (magic_of One) x y e)
+pub one_magic : (magic_of : Version → List ℕ) → AreMagics magic_of → (v w : Version) (x y : List ℕ) → magic_of v ++ x ≡ magic_of w ++ y → (v ≡ w) × (x ≡ y)
+one_magic magic_of are One One x y e = (refl, append_cancel_left (magic_of One) x y e)
+one_magic magic_of are One Two x y e = absurd (are.other (same_front (magic_of One) (magic_of Two) x y are.alike e))
+one_magic magic_of are Two One x y e = absurd (are.other (sym (same_front (magic_of Two) (magic_of One) x y (sym are.alike) e)))
+one_magic magic_of are Two Two x y e = (refl, append_cancel_left (magic_of Two) x y e)
 
 -- a magic takes some bytes
-some_magic : (magic_of : Version → List ℕ) → 0 < length (magic_of One) → (v : Version) → 0 < length (magic_of v)
-some_magic magic_of some One = some
+some_magic : (magic_of : Version → List ℕ) → AreMagics magic_of → (v : Version) → 0 < length (magic_of v)
+some_magic magic_of are One = are.some
+some_magic magic_of are Two = omega (arith, are.some, are.alike)
+
+-- bytes that begin with a magic, from what stands there
+begins_with : (magic bytes rest : List ℕ) → bytes ≡ magic ++ rest → bytes ≡ magic ++ drop (length magic) bytes
+begins_with magic bytes rest e = e ∙ ap (λ xs. magic ++ xs) (sym (ap (drop (length magic)) e ∙ drop_at magic rest (length magic) refl))
 
 -- whether bytes begin with a magic
 magic_told : (magic_of : Version → List ℕ) (bytes : List ℕ) → ((v : Version) × (rest : List ℕ) × BeginsWith (magics magic_of) bytes v rest) ⊎ BeginsWithNone (magics magic_of) bytes
 magic_told magic_of bytes =
-    let magic = magic_of One in
-    elim (same_or_not bytes (magic ++ drop (length magic) bytes)) [
-      | inl same ↦ inl (One, drop (length magic) bytes, (tt, same))
-      | inr other ↦
-          inr (λ v rest lawful e.
-          let here = only_magic magic_of v bytes rest e in
-          other (here ∙ ap (λ xs. magic_of One ++ xs) (sym (ap (drop (length (magic_of One))) here ∙ drop_at (magic_of One) rest (length (magic_of One)) refl))))
+    elim (same_or_not bytes (magic_of One ++ drop (length (magic_of One)) bytes)) [
+      | inl same ↦ inl (One, drop (length (magic_of One)) bytes, (tt, same))
+      | inr not_one ↦
+          elim (same_or_not bytes (magic_of Two ++ drop (length (magic_of Two)) bytes)) [
+            | inl same ↦ inl (Two, drop (length (magic_of Two)) bytes, (tt, same))
+            | inr not_two ↦ inr (begins_with_none magic_of bytes not_one not_two)
+          ]
     ]
+  where
+    begins_with_none : (magic_of : Version → List ℕ) (bytes : List ℕ) → bytes ≢ magic_of One ++ drop (length (magic_of One)) bytes → bytes ≢ magic_of Two ++ drop (length (magic_of Two)) bytes → BeginsWithNone (magics magic_of) bytes
+    begins_with_none magic_of bytes not_one not_two One rest lawful e = not_one (begins_with (magic_of One) bytes rest e)
+    begins_with_none magic_of bytes not_one not_two Two rest lawful e = not_two (begins_with (magic_of Two) bytes rest e)
 
--- the magic of the only version is a code
-pub magic_code : (magic_of : Version → List ℕ) → 0 < length (magic_of One) → IsCode (magics magic_of)
-magic_code magic_of some = record {
-  some = λ version lawful. some_magic magic_of some version;
-  one = λ v w x y a b e. one_magic magic_of v w x y e;
+-- the magics of the versions are a code
+pub magic_code : (magic_of : Version → List ℕ) → AreMagics magic_of → IsCode (magics magic_of)
+magic_code magic_of are = record {
+  some = λ version lawful. some_magic magic_of are version;
+  one = λ v w x y a b e. one_magic magic_of are v w x y e;
   told = magic_told magic_of;
 }
+
+-- the magics of command files
+pub command_magics : AreMagics command_magic_of
+command_magics = record { some = omega arith; alike = refl; other = λ e. let last : 49 ≡ 50 = ap (λ (l : List ℕ). get_or l 7 0) e in omega (arith, last) }
 
 -- command files can be read
 pub commands_readable : IsReadable commands
 commands_readable = record {
-  magics = magic_code command_magic_of (omega arith);
+  magics = magic_code command_magic_of command_magics;
   units = record_code 1024 (omega arith);
   overlong = over_told 1024;
 }

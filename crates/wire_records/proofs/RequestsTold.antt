@@ -1,13 +1,14 @@
 -- Which bytes spell a request.
-use Rattle.std.proofs.Common.{◌≡◌, ◌≢◌, ◌+◌, ◌-◌, ◌*◌, ◌<◌, ℕ, List, ◌++◌, inl, inr, ◌⊎◌, length, lit<, refl, sym, ap, ◌∙◌, arith}
+use Rattle.std.proofs.Common.{◌≡◌, ◌≢◌, ◌+◌, ◌-◌, ◌*◌, ◌<◌, ℕ, List, ◌++◌, inl, inr, ◌⊎◌, length, length-append, lit<, refl, sym, ap, ◌∙◌, arith}
 use Rattle.std.proofs.lemmas.Bool.{cases_lt, cases_eq}
-use Rattle.wire_fields.specs.Numbers.{unsigned, signed}
+use Rattle.wire_fields.specs.Numbers.{unsigned, signed, IsUnsigned}
+use Rattle.wire_fields.proofs.Spelling.{length-unsigned, unsigned_unique}
 use Rattle.weight_rows.specs.declared.entries.Entry.{Entry}
 use Rattle.wire_records.specs.declared.place.Numbers.{Numbers}
 use Rattle.wire_records.specs.Records.{AreBytes}
 use Rattle.wire_records.specs.Commands.{Request}
 use Rattle.wire_records.specs.CommandRecords.{request_spelling, entry_spelling}
-use Rattle.wire_records.specs.Private.{FitNumbers, numbers_and, entries_in, SpellEntries, SpellsRequest, SpellsNoRequest}
+use Rattle.wire_records.specs.Private.{FitNumbers, numbers_and, entries_in, SpellEntries, SpellsRequest, SpellsNoRequest, SpellsUntil, SpellsNoUntil}
 use Rattle.wire_records.proofs.CodeLaws.{counted_size}
 use Rattle.wire_records.proofs.Fields.{front_number, front_signed}
 use Rattle.wire_records.proofs.Requests.{numbers_of, fit_numbers, numbers_unique, entry_size, request_size}
@@ -91,4 +92,30 @@ request_told body small =
     elim (cases_lt (length body) 33) [
       | inl few ↦ inr (none-from_few body few)
       | inr enough ↦ let more = length body - 33 in numbers_told body more (has_numbers body more (omega arith) small)
+    ]
+
+-- four bytes are a last batch, and what stands behind them is a request or isn't
+pub until_from : (last : ℕ) (rest body : List ℕ) (request : Request) → IsUnsigned 4 last → body ≡ unsigned 4 last ++ rest → SpellsRequest rest request → SpellsUntil body last request
+until_from last rest body request fits whole spells = record { fits = (fits, spells.fits); spelled = whole ∙ ap (λ xs. unsigned 4 last ++ xs) spells.spelled }
+
+pub none_until-from_rest : (last : ℕ) (rest body : List ℕ) → IsUnsigned 4 last → body ≡ unsigned 4 last ++ rest → SpellsNoRequest rest → SpellsNoUntil body
+none_until-from_rest last rest body fits whole none other request spells =
+    let found = unsigned_unique 4 last other rest (request_spelling request) fits spells.fits.0 (sym whole ∙ spells.spelled) in
+    none request (record { fits = spells.fits.1; spelled = found.1 })
+
+pub none_until-from_few : (body : List ℕ) → length body < 4 → SpellsNoUntil body
+none_until-from_few body few last request spells =
+    omega (arith, few, ap length spells.spelled, length-append (unsigned 4 last) (request_spelling request), length-unsigned 4 last)
+
+-- whether bytes spell a last batch with a request behind it
+pub until_told : (body : List ℕ) → AreBytes body → ((last : ℕ) × (request : Request) × SpellsUntil body last request) ⊎ SpellsNoUntil body
+until_told body small =
+    elim (cases_lt (length body) 4) [
+      | inl few ↦ inr (none_until-from_few body few)
+      | inr enough ↦
+          let front = front_number 4 (length body - 4) body (omega (arith, enough)) small in
+          elim (request_told front.1 front.4) [
+            | inl found ↦ inl (front.0, found.0, until_from front.0 front.1 body found.0 front.2 front.5 found.1)
+            | inr none ↦ inr (none_until-from_rest front.0 front.1 body front.2 front.5 none)
+          ]
     ]

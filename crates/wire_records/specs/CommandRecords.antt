@@ -4,7 +4,7 @@ use Rattle.std.specs.List.{flat_map}
 use Rattle.wire_fields.specs.Numbers.{unsigned, signed, IsUnsigned, IsSigned}
 use Rattle.weight_rows.specs.declared.entries.Entry.{Entry}
 use Rattle.wire_records.specs.Records.{Record, AreBytes}
-use Rattle.wire_records.specs.Commands.{Request, Command, AddAsset, OpenAccount, DepositMoney, DepositAsset, WithdrawMoney, WithdrawAsset, PlaceOrder, CancelOrder, RunBatch}
+use Rattle.wire_records.specs.Commands.{Request, Command, AddAsset, OpenAccount, DepositMoney, DepositAsset, WithdrawMoney, WithdrawAsset, PlaceOrder, CancelOrder, RunBatch, PlaceUntil, SetMoneyCredit, SetUnitCredit}
 use Rattle.wire_records.specs.declared.command.BodyFault.{BodyFault}
 use Rattle.wire_records.specs.declared.command.BodyFault.TheVariants.{UnknownTag, BadBody}
 
@@ -19,6 +19,9 @@ tag_of (WithdrawAsset account asset units) = 6
 tag_of (PlaceOrder request) = 7
 tag_of (CancelOrder account number) = 8
 tag_of (RunBatch budget) = 9
+tag_of (PlaceUntil last request) = 10
+tag_of (SetMoneyCredit account ticks) = 11
+tag_of (SetUnitCredit account asset units) = 12
 
 -- the bytes of an entry: its asset, and its weight
 unfoldable pub entry_spelling : Entry → List ℕ
@@ -41,6 +44,9 @@ body_of (WithdrawAsset account asset units) = unsigned 4 account ++ (unsigned 2 
 body_of (PlaceOrder request) = request_spelling request
 body_of (CancelOrder account number) = unsigned 4 account ++ unsigned 8 number
 body_of (RunBatch budget) = unsigned 4 budget
+body_of (PlaceUntil last request) = unsigned 4 last ++ request_spelling request
+body_of (SetMoneyCredit account ticks) = unsigned 4 account ++ unsigned 8 ticks
+body_of (SetUnitCredit account asset units) = unsigned 4 account ++ (unsigned 2 asset ++ unsigned 8 units)
 
 -- the record of each command
 abbrev pub record_of : Command → Record
@@ -71,10 +77,17 @@ IsCommand (WithdrawAsset account asset units) = IsUnsigned 4 account × IsUnsign
 IsCommand (PlaceOrder request) = IsRequest request
 IsCommand (CancelOrder account number) = IsUnsigned 4 account × IsUnsigned 8 number
 IsCommand (RunBatch budget) = IsUnsigned 4 budget
+IsCommand (PlaceUntil last request) = IsUnsigned 4 last × IsRequest request
+IsCommand (SetMoneyCredit account ticks) = IsUnsigned 4 account × IsUnsigned 8 ticks
+IsCommand (SetUnitCredit account asset units) = IsUnsigned 4 account × IsUnsigned 2 asset × IsUnsigned 8 units
 
 -- the most entries of a row in a record within the limit of command records
 abbrev pub most_row : ℕ
 most_row = 165
+
+-- and of one that also names the last batch of its order
+abbrev pub most_row_until : ℕ
+most_row_until = 164
 
 -- the row of a command, if it has one, has at most so many entries
 abbrev pub HasShortRow : Command → Type 0
@@ -87,23 +100,26 @@ HasShortRow (WithdrawAsset account asset units) = Unit {0}
 HasShortRow (PlaceOrder request) = length request.row ≤ most_row
 HasShortRow (CancelOrder account number) = Unit {0}
 HasShortRow (RunBatch budget) = Unit {0}
+HasShortRow (PlaceUntil last request) = length request.row ≤ most_row_until
+HasShortRow (SetMoneyCredit account ticks) = Unit {0}
+HasShortRow (SetUnitCredit account asset units) = Unit {0}
 
 -- the record is this command's
 pub record Spells (command : Command) (r : Record) : Type 0 where
   pub fits : IsCommand command
   pub spelled : r ≡ record_of command
 
--- a tag of a command, 1 to 9
+-- a tag of a command, 1 to 12
 abbrev pub IsTag : ℕ → Type 0
-IsTag tag = (1 ≤ tag) × (tag ≤ 9)
+IsTag tag = (1 ≤ tag) × (tag ≤ 12)
 
 -- no command of any tag has this record
 abbrev pub SpellsNone : Record → Type 0
 SpellsNone r = (command : Command) → ¬ Spells command r
 
--- What a record is read as: the command that it spells, or why there is none. Each record of bytes has
--- exactly one reading, by the laws.
-abbrev pub IsReadAs : Record → Result Command BodyFault → Type 0
-IsReadAs r (Ok command) = Spells command r
-IsReadAs r (Err UnknownTag) = ¬ IsTag r.tag
-IsReadAs r (Err BadBody) = IsTag r.tag × SpellsNone r
+-- What a record is read as in whatever version: the command that it spells, or why there is none. Each record of bytes has
+-- exactly one such reading, by the laws.
+abbrev pub IsRead : Record → Result Command BodyFault → Type 0
+IsRead r (Ok command) = Spells command r
+IsRead r (Err UnknownTag) = ¬ IsTag r.tag
+IsRead r (Err BadBody) = IsTag r.tag × SpellsNone r

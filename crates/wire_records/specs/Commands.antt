@@ -12,7 +12,7 @@ pub record Request : Type 0 where
   pub cap : ℕ
   pub row : List Entry
 
--- What a command asks for. Accounts and orders are numbered from 1, assets from 0; money is in ticks.
+-- What a command asks for. Accounts, orders and batches are numbered from 1, assets from 0; money is in ticks.
 pub data Command : Type 0 where
   AddAsset : (ticker : List ℕ) → Command
   OpenAccount : Command
@@ -23,6 +23,9 @@ pub data Command : Type 0 where
   PlaceOrder : (request : Request) → Command
   CancelOrder : (account number : ℕ) → Command
   RunBatch : (budget : ℕ) → Command
+  PlaceUntil : (last : ℕ) (request : Request) → Command
+  SetMoneyCredit : (account ticks : ℕ) → Command
+  SetUnitCredit : (account asset units : ℕ) → Command
 
 -- any answer: a plain reply, or the number of a batch and its outcome, whatever outcomes are
 pub data Answer (O : Type 0) : Type 0 where

@@ -1,9 +1,12 @@
 -- What holds of the grammar, whatever reads or writes it.
-use Rattle.std.specs.Prelude.{◌≡◌, ◌<◌, ◌≤◌, ◌^◌, ℕ, List, ◌++◌, length, All, Result, Ok}
+use Rattle.std.specs.Prelude.{◌≡◌, ◌<◌, ◌≤◌, ◌^◌, ℕ, List, ◌++◌, ◌↔◌, length, All, Result, Ok}
 use Rattle.wire_records.specs.Records.{Record, AreBytes, IsRecord, spelling, most_body}
 use Rattle.wire_records.specs.Framing.{IsFront}
 use Rattle.wire_records.specs.Commands.{Command}
-use Rattle.wire_records.specs.CommandRecords.{record_of, IsCommand, HasShortRow, Spells, IsReadAs}
+use Rattle.wire_records.specs.CommandRecords.{record_of, IsCommand, HasShortRow, Spells, IsRead}
+use Rattle.wire_records.specs.declared.version.Version.{Version}
+use Rattle.wire_records.specs.declared.version.Version.TheVariants.{Two}
+use Rattle.wire_records.specs.Versions.{IsOfVersion, IsReadAs}
 use Rattle.wire_records.specs.declared.reply.Refusal.{Refusal}
 use Rattle.wire_records.specs.Refusals.{code_of}
 use Rattle.wire_records.specs.declared.command.BodyFault.{BodyFault}
@@ -11,7 +14,7 @@ use Rattle.wire_records.specs.declared.record.Framed.{Framed}
 use Rattle.wire_records.specs.declared.record.Framed.TheVariants.{Whole}
 use Rattle.wire_records.specs.Grammars.{spell_all}
 use Rattle.wire_records.specs.Reading.{Reading, File, Ending, End, Reads, StartsWith}
-use Rattle.wire_records.specs.Formats.{Version, commands}
+use Rattle.wire_records.specs.Formats.{commands}
 
 -- No record's spelling is a proper front of another's: bytes that begin with two records begin with one.
 abbrev pub OneRecord : Type 0
@@ -35,19 +38,28 @@ abbrev pub WrittenIsFramed : Type 0
 WrittenIsFramed =
     (limit : ℕ) (r : Record) (rest : List ℕ) (front : Framed) → limit < 2 ^ 32 → IsRecord limit r → IsFront front limit (spelling r ++ rest) → front ≡ Whole r (length (spelling r))
 
--- a record is read as at most one command or fault
+-- in a version a record is read as at most one command or fault
 abbrev pub OneReading : Type 0
-OneReading = (r : Record) (a b : Result Command BodyFault) → IsReadAs r a → IsReadAs r b → a ≡ b
+OneReading = (version : Version) (r : Record) (a b : Result Command BodyFault) → IsReadAs version r a → IsReadAs version r b → a ≡ b
 
--- each record of bytes is read as a command or a fault
+-- in each version each record of bytes is read as a command or a fault
 abbrev pub EachIsRead : Type 0
-EachIsRead = (r : Record) → AreBytes r.body → (read : Result Command BodyFault) × IsReadAs r read
+EachIsRead = (version : Version) (r : Record) → AreBytes r.body → (read : Result Command BodyFault) × IsReadAs version r read
 
--- the record of a command is read as that command
+-- in a version that has it, the record of a command is read as that command
 abbrev pub CommandIsRead : Type 0
-CommandIsRead = (c : Command) (r : Record) (read : Result Command BodyFault) → Spells c r → IsReadAs r read → read ≡ Ok c
+CommandIsRead = (version : Version) (c : Command) (r : Record) (read : Result Command BodyFault)
+    → IsOfVersion version c → Spells c r → IsReadAs version r read → read ≡ Ok c
 
--- the record of a command whose row has at most 165 entries, if it has one, is within the limit of command records
+-- what a record is read as in whatever version is its reading in the version that has all commands
+abbrev pub ReadInTwo : Type 0
+ReadInTwo = (r : Record) (read : Result Command BodyFault) → IsRead r read ↔ IsReadAs Two r read
+
+-- a command that is read in a version is one of the version
+abbrev pub ReadsItsOwn : Type 0
+ReadsItsOwn = (version : Version) (r : Record) (c : Command) → IsReadAs version r (Ok c) → IsOfVersion version c
+
+-- the record of a command whose row is short enough, if it has one, is within the limit of command records
 abbrev pub CommandIsShort : Type 0
 CommandIsShort = (c : Command) → IsCommand c → HasShortRow c → IsRecord most_body (record_of c)
 

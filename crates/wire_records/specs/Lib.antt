@@ -7,5 +7,6 @@ pub mod Views
 pub mod Refusals
 pub mod Grammars
 pub mod Reading
+pub mod Versions
 pub mod Formats
 pub mod Laws

@@ -5,7 +5,7 @@ use Rattle.std.specs.Int.{cast_signed, w32}
 use Rattle.wire_fields.specs.Numbers.{unsigned, signed, IsUnsigned, IsSigned}
 use Rattle.weight_rows.specs.declared.entries.Entry.{Entry}
 use Rattle.wire_records.specs.declared.place.Numbers.{Numbers}
-use Rattle.wire_records.specs.Commands.{Request, Command, PlaceOrder}
+use Rattle.wire_records.specs.Commands.{Request, Command, PlaceOrder, PlaceUntil}
 use Rattle.wire_records.specs.CommandRecords.{entry_spelling, request_spelling, IsEntry, IsRequest}
 
 -- the entry of these six bytes
@@ -45,7 +45,17 @@ pub record SpellsRequest (body : List ℕ) (request : Request) : Type 0 where
 abbrev pub SpellsNoRequest : List ℕ → Type 0
 SpellsNoRequest body = (request : Request) → ¬ SpellsRequest body request
 
+-- this body spells this last batch, and behind it this request
+pub record SpellsUntil (body : List ℕ) (last : ℕ) (request : Request) : Type 0 where
+  pub fits : IsUnsigned 4 last × IsRequest request
+  pub spelled : body ≡ unsigned 4 last ++ request_spelling request
+
+-- this body spells no last batch with a request behind it
+abbrev pub SpellsNoUntil : List ℕ → Type 0
+SpellsNoUntil body = (last : ℕ) (request : Request) → ¬ SpellsUntil body last request
+
 -- the most bytes that the record of a command with a row of such a length takes, or of one without a row
 abbrev pub room_of : Command → ℕ
 room_of (PlaceOrder request) = 38 + 6 * length request.row
+room_of (PlaceUntil last request) = 42 + 6 * length request.row
 room_of _ = 19

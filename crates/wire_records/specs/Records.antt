@@ -32,9 +32,13 @@ StatesLength n bytes = (n < 2 ^ 32) × (tag : ℕ) × (tag < 256) × (rest : Lis
 abbrev pub HasNoFront : ℕ → List ℕ → Type 0
 HasNoFront limit bytes = (r : Record) (rest : List ℕ) → IsRecord limit r → bytes ≢ spelling r ++ rest
 
--- the magic of a command file
+-- the magic of a command file of version One
 abbrev pub command_magic : List ℕ
 command_magic = codes "FLOWCMD1"
+
+-- and of one of version Two
+abbrev pub command_magic_2 : List ℕ
+command_magic_2 = codes "FLOWCMD2"
 
 -- the longest body of a command record, in bytes
 abbrev pub most_body : ℕ

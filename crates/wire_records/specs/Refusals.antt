@@ -1,7 +1,7 @@
 -- The number of each refusal, as a reply spells it.
 use Rattle.std.specs.Prelude.{ℕ}
 use Rattle.wire_records.specs.declared.reply.Refusal.{Refusal}
-use Rattle.wire_records.specs.declared.reply.Refusal.TheVariants.{UnknownTag, BadBody, AssetLimit, TickerTaken, BadTicker, AccountLimit, NoAccount, NoAsset, ZeroAmount, TotalLimit, NotFree, BadLimits, BadRate, BadCap, BadRow, OrderLimit, NoOrder, BadBudget, BatchLimit}
+use Rattle.wire_records.specs.declared.reply.Refusal.TheVariants.{UnknownTag, BadBody, AssetLimit, TickerTaken, BadTicker, AccountLimit, NoAccount, NoAsset, ZeroAmount, TotalLimit, NotFree, BadLimits, BadRate, BadCap, BadRow, OrderLimit, NoOrder, BadBudget, BatchLimit, BadLast, CreditInUse, CreditLimit}
 
 -- the code of a refusal
 abbrev pub code_of : Refusal → ℕ
@@ -24,3 +24,6 @@ code_of OrderLimit = 16
 code_of NoOrder = 17
 code_of BadBudget = 18
 code_of BatchLimit = 19
+code_of BadLast = 22
+code_of CreditInUse = 23
+code_of CreditLimit = 24

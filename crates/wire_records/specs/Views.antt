@@ -1,6 +1,6 @@
 -- What contracts see of the program's own commands and of views of borrowed bytes.
 use Rattle.std.specs.Prelude.{Result, Ok, Err}
-use Rattle.wire_records.specs.Commands.{Command, AddAsset, OpenAccount, DepositMoney, DepositAsset, WithdrawMoney, WithdrawAsset, PlaceOrder, CancelOrder, RunBatch}
+use Rattle.wire_records.specs.Commands.{Command, AddAsset, OpenAccount, DepositMoney, DepositAsset, WithdrawMoney, WithdrawAsset, PlaceOrder, CancelOrder, RunBatch, PlaceUntil, SetMoneyCredit, SetUnitCredit}
 use Rattle.wire_records.specs.declared.command.Command as owned
 use Rattle.wire_records.specs.declared.command.Command.TheVariants as own
 use Rattle.wire_records.specs.declared.command.CommandView.{CommandView}
@@ -18,6 +18,9 @@ command_in (own.WithdrawAsset account asset units) = WithdrawAsset account asset
 command_in (own.PlaceOrder account low high rate cap row) = PlaceOrder (record { account = account; low = low; high = high; rate = rate; cap = cap; row = row })
 command_in (own.CancelOrder account order) = CancelOrder account order
 command_in (own.RunBatch budget) = RunBatch budget
+command_in (own.PlaceUntil last account low high rate cap row) = PlaceUntil last (record { account = account; low = low; high = high; rate = rate; cap = cap; row = row })
+command_in (own.SetMoneyCredit account ticks) = SetMoneyCredit account ticks
+command_in (own.SetUnitCredit account asset units) = SetUnitCredit account asset units
 
 -- the command that a view shows
 abbrev pub command_of : CommandView → Command
@@ -30,6 +33,9 @@ command_of (view.WithdrawAsset account asset units) = WithdrawAsset account asse
 command_of (view.PlaceOrder place) = PlaceOrder place
 command_of (view.CancelOrder account order) = CancelOrder account order
 command_of (view.RunBatch budget) = RunBatch budget
+command_of (view.PlaceUntil last place) = PlaceUntil last place
+command_of (view.SetMoneyCredit account ticks) = SetMoneyCredit account ticks
+command_of (view.SetUnitCredit account asset units) = SetUnitCredit account asset units
 
 -- what was read, with the command in place of its view
 abbrev pub reading : Result CommandView BodyFault → Result Command BodyFault

@@ -2,7 +2,7 @@
 ghost use Rattle.std.specs.Prelude.{◌≡◌, ◌≢◌, ◌<◌, ◌^◌, ◌++◌, length, IfSome, IfNone};
 ghost use Rattle.wire_fields.specs.Numbers.{unsigned};
 
-use crate::place::place_in;
+use crate::place::{place_in, until_in};
 use crate::{PlaceView, RecordView};
 use weight_rows::EntryList;
 use wire_fields::Cursor;
@@ -59,6 +59,28 @@ pub enum Command {
     RunBatch {
         budget: u32,
     },
+    /// The same as [`Command::PlaceOrder`], but the order trades for the last time in the batch of number `last`,
+    /// and leaves the book after it. Of version Two.
+    PlaceUntil {
+        last: u32,
+        account: u32,
+        low: i64,
+        high: i64,
+        rate: u32,
+        cap: u64,
+        row: EntryList,
+    },
+    /// An account's credit in money, in ticks: how far its balance may fall below 0 for its orders. Of version Two.
+    SetMoneyCredit {
+        account: u32,
+        ticks: u64,
+    },
+    /// An account's credit in an asset, in whole units. Of version Two.
+    SetUnitCredit {
+        account: u32,
+        asset: u16,
+        units: u64,
+    },
 }
 
 /// A command in borrowed bytes: the fields are those of [`Command`], in the same units.
@@ -100,6 +122,22 @@ pub enum CommandView<'a> {
     /// A batch, whose prices are looked for with at most `budget` steps.
     RunBatch {
         budget: u32,
+    },
+    /// An order of an account for a portfolio, which trades for the last time in the batch of this number.
+    PlaceUntil {
+        last: u32,
+        place: PlaceView<'a>,
+    },
+    /// An account's credit in money, in ticks.
+    SetMoneyCredit {
+        account: u32,
+        ticks: u64,
+    },
+    /// An account's credit in an asset, in whole units.
+    SetUnitCredit {
+        account: u32,
+        asset: u16,
+        units: u64,
     },
 }
 
@@ -159,16 +197,16 @@ fn batch_field(body: &[u8]) -> Option<u32>
 }
 
 impl<'a> RecordView<'a> {
-    ghost use Rattle.wire_records.specs.CommandRecords.{IsReadAs};
+    ghost use Rattle.wire_records.specs.CommandRecords.{IsRead};
     ghost use Rattle.wire_records.specs.Views.{reading};
 
-    /// The command that the record spells, with its fields in the borrowed bytes. Constant cost.
+    /// The command of whatever version that the record spells, with its fields in the borrowed bytes. Constant cost.
     ///
-    /// `UnknownTag` exactly where the tag is outside 1 to 9, `BadBody` exactly where it is 1 to 9 and no command of
+    /// `UnknownTag` exactly where the tag is outside 1 to 12, `BadBody` exactly where it is 1 to 12 and no command of
     /// the tag has this body: a byte more or fewer than the fields take. The entries of an order aren't looked at,
     /// beyond how many bytes they take.
     pub fn command(&self) -> Result<CommandView<'a>, BodyFault>
-        ensures { IsReadAs self.now (reading result) }
+        ensures { IsRead self.now (reading result) }
     {
         let body = self.body();
         match self.tag() {
@@ -208,6 +246,22 @@ impl<'a> RecordView<'a> {
             },
             9 => match batch_field(body) {
                 Some(budget) => Ok(CommandView::RunBatch { budget }),
+                None => Err(BodyFault::BadBody),
+            },
+            10 => match until_in(body) {
+                Some((last, place)) => Ok(CommandView::PlaceUntil { last, place }),
+                None => Err(BodyFault::BadBody),
+            },
+            11 => match money_fields(body) {
+                Some((account, ticks)) => Ok(CommandView::SetMoneyCredit { account, ticks }),
+                None => Err(BodyFault::BadBody),
+            },
+            12 => match asset_fields(body) {
+                Some((account, asset, units)) => Ok(CommandView::SetUnitCredit {
+                    account,
+                    asset,
+                    units,
+                }),
                 None => Err(BodyFault::BadBody),
             },
             1 | 2 => Err(BodyFault::BadBody),

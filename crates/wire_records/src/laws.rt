@@ -1,11 +1,14 @@
 //! What holds of the grammar, whatever reads or writes it. Each law is the contract of a function that
 //! does nothing.
-ghost use Rattle.wire_records.specs.Laws.{OneRecord, OneCommand, OneRefusal, OneFront, WrittenIsFramed, OneReading, EachIsRead, CommandIsRead, CommandIsShort, OneFile, FirstOfFile, FileIsRead};
+ghost use Rattle.wire_records.specs.Laws.{OneRecord, OneCommand, OneRefusal, OneFront, WrittenIsFramed, OneReading, EachIsRead, CommandIsRead, ReadInTwo, ReadsItsOwn, CommandIsShort, OneFile, FirstOfFile, FileIsRead};
 ghost use Rattle.std.specs.Prelude.{◌≡◌, ◌↔◌, IsTrue};
-ghost use Rattle.wire_records.specs.Records.{command_magic, most_body};
-ghost use Rattle.wire_records.specs.CommandRecords.{most_row};
+ghost use Rattle.wire_records.specs.Records.{command_magic, command_magic_2, most_body};
+ghost use Rattle.wire_records.specs.CommandRecords.{most_row, most_row_until};
 
-use crate::{BodyFault, COMMAND_MAGIC, MOST_BODY, MOST_ROW, Refusal, Reply};
+use crate::{
+    BodyFault, COMMAND_MAGIC, COMMAND_MAGIC_2, MOST_BODY, MOST_ROW, MOST_ROW_UNTIL, Refusal, Reply,
+    Version,
+};
 
 /// No record's spelling is a proper front of another's, so what was written is read again, whatever
 /// follows it.
@@ -33,23 +36,33 @@ pub fn written_is_framed()
     ensures { WrittenIsFramed }
 {}
 
-/// A record has at most one reading: what `RecordView::command` answers shows the only command, or is the
-/// only fault, that its contract allows.
+/// In a version a record has at most one reading: one command or one fault.
 pub fn one_reading()
     ensures { OneReading }
 {}
 
-/// Each record of bytes has a reading, whatever it holds.
+/// In each version each record of bytes has a reading, whatever it holds.
 pub fn each_is_read()
     ensures { EachIsRead }
 {}
 
-/// The record of a command is read as that command, and as no fault.
+/// In a version that has it, the record of a command is read as that command, and as no fault.
 pub fn command_is_read()
     ensures { CommandIsRead }
 {}
 
-/// The record of a command whose row has at most 165 entries, if it has one, is within the limit of command records.
+/// What a record spells in whatever version is what it is read as in version Two, which has all commands. So what
+/// `RecordView::command` answers shows the only command, or is the only fault, that its contract allows.
+pub fn read_in_two()
+    ensures { ReadInTwo }
+{}
+
+/// A command that is read in a version is one of its commands.
+pub fn reads_its_own()
+    ensures { ReadsItsOwn }
+{}
+
+/// The record of a command whose row is short enough, if it has one, is within the limit of command records.
 pub fn command_is_short()
     ensures { CommandIsShort }
 {}
@@ -72,8 +85,15 @@ pub fn file_is_read()
 /// The magic and the limits that the code names are those of the definitions.
 pub fn constants_are_named()
     ensures magic { COMMAND_MAGIC ≡ command_magic }
+    ensures magic_2 { COMMAND_MAGIC_2 ≡ command_magic_2 }
     ensures most_body { MOST_BODY ≡ most_body }
     ensures most_row { MOST_ROW ≡ most_row }
+    ensures most_row_until { MOST_ROW_UNTIL ≡ most_row_until }
+{}
+
+/// Two versions are equal in a test exactly where they are the same.
+pub fn equal_versions()
+    ensures { (a b : Version) → IsTrue (⟦<Version as PartialEq>⟧.eq a b) ↔ (a ≡ b) }
 {}
 
 /// Two replies are equal in a test exactly where they are the same.

@@ -3,8 +3,8 @@
 //! A record is a tag, a length and a body. [`next_record`] takes one off the front of borrowed bytes,
 //! and [`RecordView::command`] says which command it spells; neither copies or allocates anything. The entries
 //! of an order are read where they lie too, one by one, through a [`RowView`].
-//! [`is_command_file`] looks at the magic before the first record. [`write_command`] writes the one record of
-//! a command. What holds of all spellings, and of files as a whole, stands in [`laws`].
+//! [`command_version`] looks at the magic before the first record, and says which version it is of. [`write_command`]
+//! writes the one record of a command. What holds of all spellings, and of files as a whole, stands in [`laws`].
 #![tactic(auto)]
 
 mod command;
@@ -13,11 +13,16 @@ pub mod laws;
 mod place;
 mod record;
 mod reply;
+mod version;
 mod write;
 
 pub use command::{BodyFault, Command, CommandView};
-pub use file::{COMMAND_MAGIC, MOST_BODY, MOST_ROW, is_command_file};
+pub use file::{
+    COMMAND_MAGIC, COMMAND_MAGIC_2, MOST_BODY, MOST_ROW, MOST_ROW_UNTIL, command_version,
+    is_command_file,
+};
 pub use place::{PlaceView, RowView};
 pub use record::{Framed, RecordView, next_record};
 pub use reply::{Refusal, Reply};
+pub use version::Version;
 pub use write::{Memory, put_head, write_command};

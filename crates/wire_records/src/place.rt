@@ -5,7 +5,7 @@ ghost use Rattle.weight_rows.specs.declared.faults.RowFault.{RowFault};
 ghost use Rattle.weight_rows.specs.Rows.{IsLawfulRow, most_entries};
 ghost use Rattle.weight_rows.specs.Faults.{IsFaultOf};
 ghost use Rattle.wire_records.specs.CommandRecords.{entry_spelling, IsEntry};
-ghost use Rattle.wire_records.specs.Private.{FitNumbers, numbers_and, SpellsRequest, SpellsNoRequest};
+ghost use Rattle.wire_records.specs.Private.{FitNumbers, numbers_and, SpellsRequest, SpellsNoRequest, SpellsUntil, SpellsNoUntil};
 
 use crate::Memory;
 use crate::record::as_bytes;
@@ -229,4 +229,15 @@ pub(crate) fn place_in(body: &[u8]) -> Option<PlaceView<'_>>
         cap: numbers.cap,
         row: RowView { bytes },
     })
+}
+
+// The last batch and the request behind it that a body spells, or `None` where it spells none.
+pub(crate) fn until_in(body: &[u8]) -> Option<(u32, PlaceView<'_>)>
+    ensures found { IfSome result (λ until. SpellsUntil body.now until.0 until.1) }
+    ensures none { IfNone result (SpellsNoUntil body.now) }
+{
+    let mut cursor = Cursor::new(body);
+    let last = cursor.take_u32()?;
+    let place = place_in(cursor.take(cursor.left())?)?;
+    Some((last, place))
 }

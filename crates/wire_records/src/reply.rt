@@ -20,7 +20,7 @@ pub enum Reply {
 /// command changes nothing.
 #[derive(Clone, Copy, Debug, PartialEq, Eq)]
 pub enum Refusal {
-    /// The tag is no command's.
+    /// The tag is no command's of the version.
     UnknownTag,
     /// The body isn't that of the tag.
     BadBody,
@@ -59,13 +59,19 @@ pub enum Refusal {
     BadBudget,
     /// 2^24 batches were held.
     BatchLimit,
+    /// The last batch of the order was already held, or is 0.
+    BadLast,
+    /// The balance and the credit asked for don't cover what the account's orders need.
+    CreditInUse,
+    /// The credit is above 2^40.
+    CreditLimit,
 }
 
 impl Refusal {
     ghost use Rattle.wire_records.specs.declared.reply.Refusal.{Refusal};
     ghost use Rattle.wire_records.specs.Refusals.{code_of};
 
-    /// The number of the refusal, as a reply spells it: 1 to 19. Each refusal has its own.
+    /// The number of the refusal, as a reply spells it: 1 to 19, or 22 to 24. Each refusal has its own.
     pub fn code(&self) -> u8
         ensures { result ≡ code_of self.now }
     {
@@ -89,10 +95,14 @@ impl Refusal {
             Refusal::NoOrder => 17,
             Refusal::BadBudget => 18,
             Refusal::BatchLimit => 19,
+            Refusal::BadLast => 22,
+            Refusal::CreditInUse => 23,
+            Refusal::CreditLimit => 24,
         }
     }
 
-    /// The refusal of a number; `None` exactly where the number is outside 1 to 19, and so none's.
+    /// The refusal of a number; `None` exactly where the number is neither 1 to 19 nor 22 to 24,
+    /// and so none's.
     pub fn of_code(code: u8) -> Option<Refusal>
         ensures found { IfSome result (λ refusal. code_of refusal ≡ code) }
         ensures none { IfNone result ((refusal : Refusal) → code_of refusal ≢ code) }
@@ -117,6 +127,9 @@ impl Refusal {
             17 => Refusal::NoOrder,
             18 => Refusal::BadBudget,
             19 => Refusal::BatchLimit,
+            22 => Refusal::BadLast,
+            23 => Refusal::CreditInUse,
+            24 => Refusal::CreditLimit,
             _ => return None,
         })
     }

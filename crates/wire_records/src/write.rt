@@ -3,7 +3,7 @@ ghost use Rattle.std.specs.Prelude.{◌≡◌, ◌+◌, ◌*◌, ◌++◌, ◌�
 ghost use Rattle.std.specs.List.{flat_map};
 ghost use Rattle.wire_fields.specs.Numbers.{unsigned};
 ghost use Rattle.wire_records.specs.Records.{AreBytes, head, spelling};
-ghost use Rattle.wire_records.specs.CommandRecords.{entry_spelling, request_spelling, record_of, IsEntry, IsRequest, IsCommand, HasShortRow, most_row};
+ghost use Rattle.wire_records.specs.CommandRecords.{entry_spelling, request_spelling, record_of, IsEntry, IsRequest, IsCommand, HasShortRow, most_row, most_row_until};
 ghost use Rattle.wire_records.specs.Private.{room_of};
 ghost use Rattle.wire_records.specs.Views.{command_in};
 
@@ -90,6 +90,32 @@ fn put_entries(out: &mut Vec<u8>, entries: &[Entry])
     }
 }
 
+// The fields of an order that is asked for.
+fn put_request(
+    out: &mut Vec<u8>,
+    account: u32,
+    low: i64,
+    high: i64,
+    rate: u32,
+    cap: u64,
+    row: &[Entry],
+)
+    requires short { length row.now ≤ most_row }
+    requires room { vec_len out.old + (33 + 6 * length row.now) ≤ vec_capacity out.old }
+    ensures written { out.new.items ≡ out.old.items ++ request_spelling
+        (record { account = account; low = low; high = high; rate = rate; cap = cap; row = row.now }) }
+    ensures fits { IsRequest
+        (record { account = account; low = low; high = high; rate = rate; cap = cap; row = row.now }) }
+{
+    put_u32(out, account);
+    put_i64(out, low);
+    put_i64(out, high);
+    put_u32(out, rate);
+    put_u64(out, cap);
+    put_u8(out, row.len() as u8);
+    put_entries(out, row);
+}
+
 // A record of an order that is asked for.
 fn put_order(
     out: &mut Vec<u8>,
@@ -107,16 +133,37 @@ fn put_order(
       body = request_spelling
           (record { account = account; low = low; high = high; rate = rate; cap = cap; row = row.now });
     }) }
-    ensures fits { IsRequest (record { account = account; low = low; high = high; rate = rate; cap = cap; row = row.now }) }
+    ensures fits { IsRequest
+        (record { account = account; low = low; high = high; rate = rate; cap = cap; row = row.now }) }
 {
     put_head(out, 7, 33 + 6 * row.len() as u32);
-    put_u32(out, account);
-    put_i64(out, low);
-    put_i64(out, high);
-    put_u32(out, rate);
-    put_u64(out, cap);
-    put_u8(out, row.len() as u8);
-    put_entries(out, row);
+    put_request(out, account, low, high, rate, cap, row);
+}
+
+// A record of an order that is asked for up to a last batch.
+fn put_until(
+    out: &mut Vec<u8>,
+    last: u32,
+    account: u32,
+    low: i64,
+    high: i64,
+    rate: u32,
+    cap: u64,
+    row: &[Entry],
+)
+    requires short { length row.now ≤ most_row_until }
+    requires room { vec_len out.old + (42 + 6 * length row.now) ≤ vec_capacity out.old }
+    ensures written { out.new.items ≡ out.old.items ++ spelling (record {
+      tag = 10;
+      body = unsigned 4 last ++ request_spelling
+          (record { account = account; low = low; high = high; rate = rate; cap = cap; row = row.now });
+    }) }
+    ensures fits { IsRequest
+        (record { account = account; low = low; high = high; rate = rate; cap = cap; row = row.now }) }
+{
+    put_head(out, 10, 37 + 6 * row.len() as u32);
+    put_u32(out, last);
+    put_request(out, account, low, high, rate, cap, row);
 }
 
 // A record of a batch.
@@ -135,13 +182,15 @@ fn room_for(command: &Command) -> usize
 {
     match command {
         Command::PlaceOrder { row, .. } => 38 + 6 * row.as_slice().len(),
+        Command::PlaceUntil { row, .. } => 42 + 6 * row.as_slice().len(),
         _ => LONGEST,
     }
 }
 
 #[tactic(auto, unfolding(crate::specs::CommandRecords::body_of))]
-/// Appends the record of a command, whose row has at most [`MOST_ROW`](crate::MOST_ROW) entries, if it has one: at
-/// most 19 bytes, or 38 and 6 for each entry. After `Memory` the bytes are as before. The cost is that of the bytes,
+/// Appends the record of a command, whose row has at most [`MOST_ROW`](crate::MOST_ROW) entries, if it has one, and at
+/// most [`MOST_ROW_UNTIL`](crate::MOST_ROW_UNTIL) where the command names a last batch: at most 19 bytes, or 42 and 6
+/// for each entry. After `Memory` the bytes are as before. The cost is that of the bytes,
 /// and of a move of `out` where it has to grow.
 pub fn write_command(command: &Command, out: &mut Vec<u8>) -> Result<(), Memory>
     requires { HasShortRow (command_in command.now) }
@@ -177,6 +226,30 @@ pub fn write_command(command: &Command, out: &mut Vec<u8>) -> Result<(), Memory>
         } => put_order(out, *account, *low, *high, *rate, *cap, row.as_slice()),
         Command::CancelOrder { account, order } => put_money(out, 8, *account, *order),
         Command::RunBatch { budget } => put_batch(out, *budget),
+        Command::PlaceUntil {
+            last,
+            account,
+            low,
+            high,
+            rate,
+            cap,
+            row,
+        } => put_until(
+            out,
+            *last,
+            *account,
+            *low,
+            *high,
+            *rate,
+            *cap,
+            row.as_slice(),
+        ),
+        Command::SetMoneyCredit { account, ticks } => put_money(out, 11, *account, *ticks),
+        Command::SetUnitCredit {
+            account,
+            asset,
+            units,
+        } => put_units(out, 12, *account, *asset, *units),
     }
     Ok(())
 }

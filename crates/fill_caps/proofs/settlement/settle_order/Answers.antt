@@ -1,19 +1,19 @@
 use Rattle.std.proofs.Common.{◌∙◌, arith}
-use Rattle.flow_accounts.specs.Balances.{money_of}
+use Rattle.flow_accounts.specs.Balances.{money_of, money_credit_of}
 use Rattle.fill_caps.proofs.OrderMoves.{rate_is_small, cost_is_paid, money_stays, units_stay_after, order_settles}
 use Rattle.fill_caps.proofs.settlement.settle_order.Goals as goal
 
-pub add_money-requires-clause-not_negative : goal.add_money-requires-clause-not_negative
-add_money-requires-clause-not_negative c =
+pub add_money-requires-clause-within_credit : goal.add_money-requires-clause-within_credit
+add_money-requires-clause-within_credit c =
     let is = c.account-account.ensures.order in
     let cost = cost_is_paid c.args.prices.now c.args.order.now c.args.rate is c.requires.rounding c.row-row.result.now c.price.result c.cost_at-cost.result c.row-row.ensures.value c.price.ensures.value (record { sfits = c.price.type_inv }) c.cost_at-cost.ensures.value in
-    rw c.account-account.ensures.value (money_stays c.args.prices.now c.args.order.now c.args.rate is c.requires.rounding c.requires.range (money_of c.args.accounts.now c.args.order.now.account) c.cost_at-cost.result c.requires.room.money_covered c.requires.room.money_most (record { sfits = c.cost_at-cost.type_inv }) cost).0
+    rw c.account-account.ensures.value (money_stays c.args.prices.now c.args.order.now c.args.rate is c.requires.rounding c.requires.range (money_of c.args.accounts.now c.args.order.now.account) (money_credit_of c.args.accounts.now c.args.order.now.account) c.cost_at-cost.result c.requires.room.money_covered c.requires.room.money_most (record { sfits = c.cost_at-cost.type_inv }) cost).0
 
 pub add_money-requires-clause-fits : goal.add_money-requires-clause-fits
 add_money-requires-clause-fits c =
     let is = c.account-account.ensures.order in
     let cost = cost_is_paid c.args.prices.now c.args.order.now c.args.rate is c.requires.rounding c.row-row.result.now c.price.result c.cost_at-cost.result c.row-row.ensures.value c.price.ensures.value (record { sfits = c.price.type_inv }) c.cost_at-cost.ensures.value in
-    rw c.account-account.ensures.value (money_stays c.args.prices.now c.args.order.now c.args.rate is c.requires.rounding c.requires.range (money_of c.args.accounts.now c.args.order.now.account) c.cost_at-cost.result c.requires.room.money_covered c.requires.room.money_most (record { sfits = c.cost_at-cost.type_inv }) cost).1
+    rw c.account-account.ensures.value (money_stays c.args.prices.now c.args.order.now c.args.rate is c.requires.rounding c.requires.range (money_of c.args.accounts.now c.args.order.now.account) (money_credit_of c.args.accounts.now c.args.order.now.account) c.cost_at-cost.result c.requires.room.money_covered c.requires.room.money_most (record { sfits = c.cost_at-cost.type_inv }) cost).1
 
 pub settle_entries-requires-clause-rate : goal.settle_entries-requires-clause-rate
 settle_entries-requires-clause-rate c =

@@ -1,9 +1,11 @@
-use Rattle.std.proofs.Common.{refl, arith}
-use Rattle.std.proofs.lemmas.Int.{ints}
+use Rattle.std.proofs.Common.{rules}
 use Rattle.flow_accounts.proofs.Accounts.unit_withdrawal.Goals as goal
 
-pub returns-then-from-units_free-clause-refused : goal.returns-then-from-units_free-clause-refused
-returns-then-from-units_free-clause-refused c = (c.if-not-has_account.ensures.there.0 refl, c.if-not-has_asset.ensures.0 refl, omega arith, omega (arith, ints), omega (arith, ints))
+pub returns-then-from-free-clause-refused : goal.returns-then-from-free-clause-refused
+returns-then-from-free-clause-refused c = search rules
+
+pub less-requires : goal.less-requires
+less-requires c = search rules
 
 pub returns-clause-accepted : goal.returns-clause-accepted
-returns-clause-accepted c = (λ _. record { account_there = c.if-not-has_account.ensures.there.0 refl; asset_there = c.if-not-has_asset.ensures.0 refl; not_zero = omega arith; free = omega (arith, ints) }, λ _. refl)
+returns-clause-accepted c = search rules

@@ -1,4 +1,4 @@
-use Rattle.std.proofs.Common.{[], ◌∷◌, ◌++◌, length, Err, ap}
+use Rattle.std.proofs.Common.{[], ◌∷◌, ◌++◌, length, Err, ap, arith}
 use Rattle.wire_records.specs.Commands.{AddAsset, Plain}
 use Rattle.wire_records.specs.declared.reply.Reply.TheVariants.{Asset}
 use Rattle.flow_orders.specs.Own.{IsOwnOutcome}
@@ -6,7 +6,7 @@ use Rattle.market_core.specs.Market.{Market}
 use Rattle.market_core.specs.Step.{Serves}
 use Rattle.market_core.specs.Kept.{market_in}
 use Rattle.market_core.proofs.Adding.{serves-add_asset, refuses-ticker_fault}
-use Rattle.market_core.proofs.Fitting.{sound-served}
+use Rattle.market_core.proofs.Fitting.{sound-served, of_each}
 use Rattle.market_core.proofs.market.Market.add_asset.Goals as goal
 
 -- the market that an added asset makes
@@ -26,7 +26,7 @@ served c =
 pub invariant_of-self : goal.invariant_of-self
 invariant_of-self c =
     let added = c.in-Ok.ensures.added in
-    rw added.1 (sound-served (market_in c.self.inside) _ _ _ c.self.invariant (served c))
+    rw added.1 (sound-served (market_in c.self.inside) _ _ _ (of_each c.self.inside.version (AddAsset c.copy_from_slice.new.self) (omega arith) (omega arith)) c.self.invariant (served c))
 
 pub returns-in-Ok-clause-served : goal.returns-in-Ok-clause-served
 returns-in-Ok-clause-served c =

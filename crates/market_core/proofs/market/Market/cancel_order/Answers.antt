@@ -1,10 +1,10 @@
-use Rattle.std.proofs.Common.{◌∙◌, ap, not, refl}
+use Rattle.std.proofs.Common.{◌∙◌, ap, not, refl, arith}
 use Rattle.wire_records.specs.Commands.{CancelOrder, Plain}
 use Rattle.flow_accounts.specs.Balances.{IsAccount, money_of}
 use Rattle.flow_orders.specs.Own.{IsOwnOutcome}
 use Rattle.market_core.specs.Step.{Serves}
 use Rattle.market_core.specs.Kept.{market_in}
-use Rattle.market_core.proofs.Fitting.{sound-served}
+use Rattle.market_core.proofs.Fitting.{sound-served, of_each}
 use Rattle.market_core.proofs.Reserving.{none_where, some_where}
 use Rattle.market_core.proofs.Placing.{refuses-no_account, serves-cancel}
 use Rattle.market_core.proofs.market.Market.cancel_order.Goals as goal
@@ -18,7 +18,7 @@ served c =
     (serves-cancel IsOwnOutcome m c.args.account c.args.number c.cancel.result c.self.inside.book c.cancel.new.self there is.none is.stays is.order is.account is.number is.orders)
 
 pub invariant_of-self : goal.invariant_of-self
-invariant_of-self c = sound-served (market_in c.self.inside) _ _ _ c.self.invariant (served c)
+invariant_of-self c = sound-served (market_in c.self.inside) _ _ _ (of_each c.self.inside.version (CancelOrder c.args.account c.args.number) (omega arith) (omega arith)) c.self.invariant (served c)
 
 pub returns-then-is_none : goal.returns-then-is_none
 returns-then-is_none c =

@@ -12,6 +12,6 @@ returns-in-None c =
     let m = market_in c.self.inside in
     let first : FirstRefusal m (PlaceOrder c.args.place.now) None = rw (← c.self.view_is) at c.in-None.ensures in
     rw (← c.self.view_is) (
-      record m { orders = m.orders ++ placed m c.args.place.now ∷ []; next_order = m.next_order + 1 },
+      record m { orders = m.orders ++ placed m 0 c.args.place.now ∷ []; next_order = m.next_order + 1 },
       record { first = None; refused = first; answered = (refl, refl) },
     )

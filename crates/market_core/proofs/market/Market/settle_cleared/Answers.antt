@@ -1,6 +1,7 @@
-use Rattle.std.proofs.Common.{◌≡◌, subst, sym}
+use Rattle.std.proofs.Common.{◌≡◌, ◌+◌, ap, subst, sym, ◌∙◌}
 use Rattle.batch_certificate.specs.Published.{clearing_of}
 use Rattle.flow_orders.specs.Outcomes as outcomes
+use Rattle.flow_orders.specs.Trades.{going_on}
 use Rattle.market_core.specs.Market.{IsSound}
 use Rattle.market_core.specs.Step.{after_batch}
 use Rattle.market_core.specs.Settling.{MaySettleAt}
@@ -18,13 +19,13 @@ fill-requires-clause-within c =
     let may : MaySettleAt (market_in c.self.inside) c.args.cleared.now = rw (← c.self.view_is) at c.requires.right in
     rw c.as_slice-rates.ensures (within_rooms (market_in c.self.inside) c.args.cleared.now c.self.invariant may)
 
-made : (c : goal.After-self-1) → changed (market_in c.self.inside) c.settle.new.accounts c.settle.new.exchange c.fill.new.self.orders c.set.new.self ≡ after_batch (market_in c.self.inside) (outcomes.Cleared (clearing_of (market_in c.self.inside).orders c.args.cleared.now))
+made : (c : goal.After-self-1) → changed (market_in c.self.inside) c.settle.new.accounts c.settle.new.exchange c.end.new.self.orders c.set.new.self ≡ after_batch (market_in c.self.inside) (outcomes.Cleared (clearing_of (market_in c.self.inside).orders c.args.cleared.now))
 made c =
     let may : MaySettleAt (market_in c.self.inside) c.args.cleared.now = rw (← c.self.view_is) at c.requires.right in
-    settled_is (market_in c.self.inside) c.args.cleared.now c.self.invariant may c.settle.new.accounts c.settle.new.exchange c.fill.new.self.orders c.set.new.self
+    settled_is (market_in c.self.inside) c.args.cleared.now c.self.invariant may c.settle.new.accounts c.settle.new.exchange c.end.new.self.orders c.set.new.self
     (rw (c.orders.ensures.value, c.as_slice-rates.ensures, c.as_slice-prices.ensures) at c.settle.ensures.accounts)
     (rw (c.orders.ensures.value, c.as_slice-rates.ensures, c.as_slice-prices.ensures) at c.settle.ensures.exchange)
-    (rw c.as_slice-rates.ensures at c.fill.ensures.orders)
+    (c.end.ensures.orders ∙ ap (going_on (c.self.inside.batches + 1)) (rw c.as_slice-rates.ensures at c.fill.ensures.orders))
     (rw c.as_slice-prices.ensures at c.set.ensures)
 
 pub invariant_of-self : goal.invariant_of-self

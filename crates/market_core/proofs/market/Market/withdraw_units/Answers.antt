@@ -1,10 +1,11 @@
+use Rattle.std.proofs.Common.{arith}
 use Rattle.wire_records.specs.Commands.{WithdrawAsset, Plain}
 use Rattle.flow_orders.specs.Orders.{needed_units}
 use Rattle.flow_orders.specs.Own.{IsOwnOutcome}
 use Rattle.market_core.specs.Step.{Serves}
 use Rattle.market_core.specs.Kept.{market_in}
 use Rattle.market_core.proofs.Answering.{serves-withdraw_units}
-use Rattle.market_core.proofs.Fitting.{sound_changes_fit, sound-served}
+use Rattle.market_core.proofs.Fitting.{sound_changes_fit, sound-served, of_each}
 use Rattle.market_core.proofs.Reserving.{same_number, needed_units_not_negative}
 use Rattle.market_core.proofs.market.Market.withdraw_units.Goals as goal
 
@@ -31,7 +32,7 @@ served c =
     answers.accepted answers.refused answers.ok answers.err c.reply_to.ensures
 
 pub invariant_of-self : goal.invariant_of-self
-invariant_of-self c = sound-served (market_in c.self.inside) _ _ _ c.self.invariant (served c)
+invariant_of-self c = sound-served (market_in c.self.inside) _ _ _ (of_each c.self.inside.version (WithdrawAsset c.args.account c.args.asset c.args.units) (omega arith) (omega arith)) c.self.invariant (served c)
 
 pub returns : goal.returns
 returns c = rw (← c.self.view_is) (served c)

@@ -3,16 +3,16 @@ use Rattle.std.proofs.lemmas.List.{nil_from_length}
 use Rattle.std.proofs.lemmas.Bool.Decides.{nat_tests}
 use Rattle.wire_records.specs.Records.{Record}
 use Rattle.wire_records.specs.CommandRecords.{body_of, SpellsNone, IsTag}
-use Rattle.wire_records.proofs.Bodies.{same_record, spells_none, spells_none-from_request, size_of}
-use Rattle.wire_records.proofs.Readings.{order_spelled}
+use Rattle.wire_records.proofs.Bodies.{same_record, spells_none, spells_none-from_request, spells_none-from_until, size_of}
+use Rattle.wire_records.proofs.Readings.{order_spelled, until_spelled}
 use Rattle.wire_records.proofs.record.RecordView.command.Goals as goal
 use Rattle.wire_records.proofs.record.RecordView.command.Goals.{in-1+else-body-eq8, in-2+else-is_empty}
 
 -- a body of another length than its tag's
-bad : (r : Record) (tag size : ℕ) → r.tag ≡ tag → IsTag tag → tag ≢ 7 → size ≡ size_of tag → (length r.body ≡ size → ⊥) → IsTag r.tag × SpellsNone r
-bad r tag size is named order size_is other = (
+bad : (r : Record) (tag size : ℕ) → r.tag ≡ tag → IsTag tag → tag ≢ 7 → tag ≢ 10 → size ≡ size_of tag → (length r.body ≡ size → ⊥) → IsTag r.tag × SpellsNone r
+bad r tag size is named order until size_is other = (
   (omega arith, omega arith),
-  spells_none r (λ e. order (sym is ∙ e)) (λ e. other (e ∙ ap size_of is ∙ sym size_is)),
+  spells_none r (λ e. order (sym is ∙ e)) (λ e. until (sym is ∙ e)) (λ e. other (e ∙ ap size_of is ∙ sym size_is)),
 )
 
 pub returns-in-1 : goal.returns-in-1
@@ -30,7 +30,7 @@ unfolding body_of
 returns-in-Some c = record { fits = c.in-Some.ensures.fits; spelled = same_record c.args.self.now 3 _ (omega arith) (sym c.body-body.ensures.value ∙ c.in-Some.ensures.spelled) }
 
 pub returns-in-None : goal.returns-in-None
-returns-in-None c = bad c.args.self.now 3 12 (omega arith) (omega arith, omega arith) (omega arith) refl (λ e. c.in-None.ensures.other (ap length c.body-body.ensures.value ∙ e))
+returns-in-None c = bad c.args.self.now 3 12 (omega arith) (omega arith, omega arith) (omega arith) (omega arith) refl (λ e. c.in-None.ensures.other (ap length c.body-body.ensures.value ∙ e))
 
 pub returns-in-Some-asset_fields : goal.returns-in-Some-asset_fields
 unfolding body_of
@@ -39,7 +39,7 @@ returns-in-Some-asset_fields c =
     record { fits = arm.ensures.fits; spelled = same_record c.args.self.now 4 _ (omega arith) (sym c.body-body.ensures.value ∙ arm.ensures.spelled) }
 
 pub returns-in-None-asset_fields : goal.returns-in-None-asset_fields
-returns-in-None-asset_fields c = bad c.args.self.now 4 14 (omega arith) (omega arith, omega arith) (omega arith) refl (λ e. c.in-None-asset_fields.ensures.other (ap length c.body-body.ensures.value ∙ e))
+returns-in-None-asset_fields c = bad c.args.self.now 4 14 (omega arith) (omega arith, omega arith) (omega arith) (omega arith) refl (λ e. c.in-None-asset_fields.ensures.other (ap length c.body-body.ensures.value ∙ e))
 
 pub returns-in-Some-money_fields : goal.returns-in-Some-money_fields
 unfolding body_of
@@ -48,7 +48,7 @@ returns-in-Some-money_fields c =
     record { fits = arm.ensures.fits; spelled = same_record c.args.self.now 5 _ (omega arith) (sym c.body-body.ensures.value ∙ arm.ensures.spelled) }
 
 pub returns-in-None-money_fields : goal.returns-in-None-money_fields
-returns-in-None-money_fields c = bad c.args.self.now 5 12 (omega arith) (omega arith, omega arith) (omega arith) refl (λ e. c.in-None-money_fields.ensures.other (ap length c.body-body.ensures.value ∙ e))
+returns-in-None-money_fields c = bad c.args.self.now 5 12 (omega arith) (omega arith, omega arith) (omega arith) (omega arith) refl (λ e. c.in-None-money_fields.ensures.other (ap length c.body-body.ensures.value ∙ e))
 
 pub returns-in-Some-asset_fields-2 : goal.returns-in-Some-asset_fields-2
 unfolding body_of
@@ -57,15 +57,15 @@ returns-in-Some-asset_fields-2 c =
     record { fits = arm.ensures.fits; spelled = same_record c.args.self.now 6 _ (omega arith) (sym c.body-body.ensures.value ∙ arm.ensures.spelled) }
 
 pub returns-in-None-asset_fields-2 : goal.returns-in-None-asset_fields-2
-returns-in-None-asset_fields-2 c = bad c.args.self.now 6 14 (omega arith) (omega arith, omega arith) (omega arith) refl (λ e. c.in-None-asset_fields-2.ensures.other (ap length c.body-body.ensures.value ∙ e))
+returns-in-None-asset_fields-2 c = bad c.args.self.now 6 14 (omega arith) (omega arith, omega arith) (omega arith) (omega arith) refl (λ e. c.in-None-asset_fields-2.ensures.other (ap length c.body-body.ensures.value ∙ e))
 
 pub returns-in-1-2 : goal.returns-in-1-2
 returns-in-1-2 c =
     elim c.in-1-2-1.branch [
       | in-1+else-body-eq8 w ↦
-          bad c.args.self.now 1 8 (omega arith) (omega arith, omega arith) (omega arith) refl (λ e. w.if-body-eq8.false (ap length c.body-body.ensures.value ∙ e))
+          bad c.args.self.now 1 8 (omega arith) (omega arith, omega arith) (omega arith) (omega arith) refl (λ e. w.if-body-eq8.false (ap length c.body-body.ensures.value ∙ e))
       | in-2+else-is_empty w ↦
-          bad c.args.self.now 2 0 (omega arith) (omega arith, omega arith) (omega arith) refl (λ e. let empty : length c.body-body.result.now ≡ 0 = ap length c.body-body.ensures.value ∙ e in absurd (grind (arith, nat_tests, w.is_empty.ensures)))
+          bad c.args.self.now 2 0 (omega arith) (omega arith, omega arith) (omega arith) (omega arith) refl (λ e. let empty : length c.body-body.result.now ≡ 0 = ap length c.body-body.ensures.value ∙ e in absurd (grind (arith, nat_tests, w.is_empty.ensures)))
     ]
 
 pub returns-in-Some-place_in : goal.returns-in-Some-place_in
@@ -83,7 +83,7 @@ returns-in-Some-money_fields-2 c =
     record { fits = arm.ensures.fits; spelled = same_record c.args.self.now 8 _ (omega arith) (sym c.body-body.ensures.value ∙ arm.ensures.spelled) }
 
 pub returns-in-None-money_fields-2 : goal.returns-in-None-money_fields-2
-returns-in-None-money_fields-2 c = bad c.args.self.now 8 12 (omega arith) (omega arith, omega arith) (omega arith) refl (λ e. c.in-None-money_fields-2.ensures.other (ap length c.body-body.ensures.value ∙ e))
+returns-in-None-money_fields-2 c = bad c.args.self.now 8 12 (omega arith) (omega arith, omega arith) (omega arith) (omega arith) refl (λ e. c.in-None-money_fields-2.ensures.other (ap length c.body-body.ensures.value ∙ e))
 
 pub returns-in-Some-batch_field : goal.returns-in-Some-batch_field
 unfolding body_of
@@ -92,4 +92,30 @@ returns-in-Some-batch_field c =
     record { fits = arm.ensures.fits; spelled = same_record c.args.self.now 9 _ (omega arith) (sym c.body-body.ensures.value ∙ arm.ensures.spelled) }
 
 pub returns-in-None-batch_field : goal.returns-in-None-batch_field
-returns-in-None-batch_field c = bad c.args.self.now 9 4 (omega arith) (omega arith, omega arith) (omega arith) refl (λ e. c.in-None-batch_field.ensures.other (ap length c.body-body.ensures.value ∙ e))
+returns-in-None-batch_field c = bad c.args.self.now 9 4 (omega arith) (omega arith, omega arith) (omega arith) (omega arith) refl (λ e. c.in-None-batch_field.ensures.other (ap length c.body-body.ensures.value ∙ e))
+
+pub returns-in-Some-until_in : goal.returns-in-Some-until_in
+returns-in-Some-until_in c =
+    until_spelled c.args.self.now c.in-Some-until_in.last c.in-Some-until_in.place (omega arith) (rw c.body-body.ensures.value at c.in-Some-until_in.ensures.found)
+
+pub returns-in-None-until_in : goal.returns-in-None-until_in
+returns-in-None-until_in c =
+    ((omega arith, omega arith), spells_none-from_until c.args.self.now (omega arith) (rw c.body-body.ensures.value at c.in-None-until_in.ensures.none))
+
+pub returns-in-Some-money_fields-3 : goal.returns-in-Some-money_fields-3
+unfolding body_of
+returns-in-Some-money_fields-3 c =
+    let arm = c.in-Some-money_fields-3 in
+    record { fits = arm.ensures.fits; spelled = same_record c.args.self.now 11 _ (omega arith) (sym c.body-body.ensures.value ∙ arm.ensures.spelled) }
+
+pub returns-in-None-money_fields-3 : goal.returns-in-None-money_fields-3
+returns-in-None-money_fields-3 c = bad c.args.self.now 11 12 (omega arith) (omega arith, omega arith) (omega arith) (omega arith) refl (λ e. c.in-None-money_fields-3.ensures.other (ap length c.body-body.ensures.value ∙ e))
+
+pub returns-in-Some-asset_fields-3 : goal.returns-in-Some-asset_fields-3
+unfolding body_of
+returns-in-Some-asset_fields-3 c =
+    let arm = c.in-Some-asset_fields-3 in
+    record { fits = arm.ensures.fits; spelled = same_record c.args.self.now 12 _ (omega arith) (sym c.body-body.ensures.value ∙ arm.ensures.spelled) }
+
+pub returns-in-None-asset_fields-3 : goal.returns-in-None-asset_fields-3
+returns-in-None-asset_fields-3 c = bad c.args.self.now 12 14 (omega arith) (omega arith, omega arith) (omega arith) (omega arith) refl (λ e. c.in-None-asset_fields-3.ensures.other (ap length c.body-body.ensures.value ∙ e))

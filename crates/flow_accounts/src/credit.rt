@@ -1,0 +1,179 @@
+ghost use Rattle.std.specs.Prelude.{◌≡◌, ◌≤◌, ◌↔◌, IsOk, OnOk, OnErr, IfErr, SomeIff, pos, ◌≤ℤ◌, ◌+ℤ◌};
+
+use crate::places::grains_of;
+use crate::{AccountFault, Accounts, MOST_CREDIT};
+
+impl Accounts {
+    ghost use Rattle.flow_accounts.specs.Balances.{IsAccount, IsAsset, money_credit_of, unit_credit_of, money_with_credit, units_with_credit, set_money_credit, set_unit_credit};
+    ghost use Rattle.flow_accounts.specs.Lawful.{AreLawful, most_credit};
+    ghost use Rattle.flow_accounts.specs.Answers.{AcceptsMoneyCredit, RefusesMoneyCredit, AcceptsUnitCredit, RefusesUnitCredit};
+
+    /// An account's credit in money, in ticks, or `None` exactly where the account isn't there.
+    pub fn money_credit(&self, account: u32) -> Option<u64>
+        ensures { SomeIff result (IsAccount self.now account) (money_credit_of self.now account) }
+    {
+        if self.has_account(account) {
+            Some(self.money_credit_held(account))
+        } else {
+            None
+        }
+    }
+
+    /// An account's credit in an asset, in units, or `None` exactly where the account or the asset isn't there.
+    pub fn unit_credit(&self, account: u32, asset: u16) -> Option<u64>
+        ensures { SomeIff result (IsAccount self.now account × IsAsset self.now asset)
+            (unit_credit_of self.now account asset) }
+    {
+        if self.has_account(account) && self.has_asset(asset) {
+            Some(self.unit_credit_held(account, asset))
+        } else {
+            None
+        }
+    }
+
+    fn money_credit_held(&self, account: u32) -> u64
+        requires { IsAccount self.now account }
+        ensures { result ≡ money_credit_of self.now account }
+    {
+        self.accounts[account as usize - 1].money_credit
+    }
+
+    fn unit_credit_held(&self, account: u32, asset: u16) -> u64
+        requires account { IsAccount self.now account }
+        requires asset { IsAsset self.now asset }
+        ensures { result ≡ unit_credit_of self.now account asset }
+    {
+        self.accounts[account as usize - 1].unit_credits[asset as usize]
+    }
+
+    /// Gives an account this credit in money, in place of the one that it had. `reserved` is what the account's orders
+    /// may still need of its money, in grains: from 0 to the balance and the credit that it had.
+    ///
+    /// The first of these that holds refuses it, and then nothing changes: `NoAccount`, where the account isn't there;
+    /// `CreditLimit`, for more than 2^40 ticks; `InUse`, where the credit is below what is reserved less the balance,
+    /// in grains, which it carries.
+    pub fn set_money_credit(
+        &mut self,
+        account: u32,
+        ticks: u64,
+        reserved: i128,
+    ) -> Result<(), AccountFault>
+        requires not_negative { pos 0 ≤ℤ reserved }
+        requires covered { IsAccount self.old account → reserved ≤ℤ money_with_credit self.old account }
+        ensures accepted { IsOk result ↔ AcceptsMoneyCredit self.old account ticks reserved }
+        ensures refused { IfErr result (RefusesMoneyCredit self.old account ticks reserved) }
+        ensures ok { OnOk result (self.new ≡ set_money_credit self.old account ticks) }
+        ensures err { OnErr result (self.new ≡ self.old) }
+        ensures lawful { AreLawful self.new }
+    {
+        self.money_credit_fault(account, ticks, reserved)?;
+        self.write_money_credit(account, ticks, reserved);
+        Ok(())
+    }
+
+    /// Gives an account this credit in an asset, in place of the one that it had. `reserved` is what the account's
+    /// orders may still need of the asset, in units: from 0 to the balance and the credit that it had.
+    ///
+    /// The first of these that holds refuses it, and then nothing changes: `NoAccount` and `NoAsset`, where the account
+    /// or the asset isn't there; `CreditLimit`, for more than 2^40 units; `InUse`, where the credit is below what is
+    /// reserved less the balance, which it carries.
+    pub fn set_unit_credit(
+        &mut self,
+        account: u32,
+        asset: u16,
+        units: u64,
+        reserved: i128,
+    ) -> Result<(), AccountFault>
+        requires not_negative { pos 0 ≤ℤ reserved }
+        requires covered { IsAccount self.old account → IsAsset self.old asset →
+            reserved ≤ℤ units_with_credit self.old account asset }
+        ensures accepted { IsOk result ↔ AcceptsUnitCredit self.old account asset units reserved }
+        ensures refused { IfErr result (RefusesUnitCredit self.old account asset units reserved) }
+        ensures ok { OnOk result (self.new ≡ set_unit_credit self.old account asset units) }
+        ensures err { OnErr result (self.new ≡ self.old) }
+        ensures lawful { AreLawful self.new }
+    {
+        self.unit_credit_fault(account, asset, units, reserved)?;
+        self.write_unit_credit(account, asset, units, reserved);
+        Ok(())
+    }
+
+    /// The fault that [`Accounts::set_money_credit`] would answer, if any. `reserved` is as there. Nothing changes.
+    pub fn money_credit_fault(
+        &self,
+        account: u32,
+        ticks: u64,
+        reserved: i128,
+    ) -> Result<(), AccountFault>
+        requires not_negative { pos 0 ≤ℤ reserved }
+        requires covered { IsAccount self.now account → reserved ≤ℤ money_with_credit self.now account }
+        ensures accepted { IsOk result ↔ AcceptsMoneyCredit self.now account ticks reserved }
+        ensures refused { IfErr result (RefusesMoneyCredit self.now account ticks reserved) }
+        ensures lawful { AreLawful self.now }
+    {
+        if !self.has_account(account) {
+            return Err(AccountFault::NoAccount);
+        }
+        if ticks > MOST_CREDIT {
+            return Err(AccountFault::CreditLimit);
+        }
+        let used = self.money_owed(account, reserved);
+        if grains_of(ticks) < used {
+            return Err(AccountFault::InUse(used));
+        }
+        Ok(())
+    }
+
+    /// The fault that [`Accounts::set_unit_credit`] would answer, if any. `reserved` is as there. Nothing changes.
+    pub fn unit_credit_fault(
+        &self,
+        account: u32,
+        asset: u16,
+        units: u64,
+        reserved: i128,
+    ) -> Result<(), AccountFault>
+        requires not_negative { pos 0 ≤ℤ reserved }
+        requires covered { IsAccount self.now account → IsAsset self.now asset →
+            reserved ≤ℤ units_with_credit self.now account asset }
+        ensures accepted { IsOk result ↔ AcceptsUnitCredit self.now account asset units reserved }
+        ensures refused { IfErr result (RefusesUnitCredit self.now account asset units reserved) }
+        ensures lawful { AreLawful self.now }
+    {
+        if !self.has_account(account) {
+            return Err(AccountFault::NoAccount);
+        }
+        if !self.has_asset(asset) {
+            return Err(AccountFault::NoAsset);
+        }
+        if units > MOST_CREDIT {
+            return Err(AccountFault::CreditLimit);
+        }
+        let used = self.units_owed(account, asset, reserved);
+        if i128::from(units) < used {
+            return Err(AccountFault::InUse(used));
+        }
+        Ok(())
+    }
+
+    fn write_money_credit(&mut self, account: u32, ticks: u64, reserved: i128)
+        requires not_negative { pos 0 ≤ℤ reserved }
+        requires accepted { AcceptsMoneyCredit self.old account ticks reserved }
+        ensures given { self.new ≡ set_money_credit self.old account ticks }
+        ensures lawful { AreLawful self.new }
+    {
+        let _reserved = reserved;
+        let holding = &mut self.accounts[account as usize - 1];
+        holding.money_credit = ticks;
+    }
+
+    fn write_unit_credit(&mut self, account: u32, asset: u16, units: u64, reserved: i128)
+        requires not_negative { pos 0 ≤ℤ reserved }
+        requires accepted { AcceptsUnitCredit self.old account asset units reserved }
+        ensures given { self.new ≡ set_unit_credit self.old account asset units }
+        ensures lawful { AreLawful self.new }
+    {
+        let _reserved = reserved;
+        let holding = &mut self.accounts[account as usize - 1];
+        holding.unit_credits[asset as usize] = units;
+    }
+}

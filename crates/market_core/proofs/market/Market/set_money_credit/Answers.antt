@@ -1,0 +1,30 @@
+use Rattle.wire_records.specs.Commands.{SetMoneyCredit, Plain}
+use Rattle.flow_orders.specs.Own.{IsOwnOutcome}
+use Rattle.market_core.specs.Step.{Serves}
+use Rattle.market_core.specs.Kept.{market_in}
+use Rattle.market_core.proofs.Answering.{serves-set_money_credit}
+use Rattle.market_core.proofs.Fitting.{sound-served}
+use Rattle.market_core.proofs.Reserving.{same_number, needed_money_not_negative}
+use Rattle.market_core.proofs.market.Market.set_money_credit.Goals as goal
+
+pub set_money_credit-requires-clause-not_negative : goal.set_money_credit-requires-clause-not_negative
+set_money_credit-requires-clause-not_negative c =
+    rw (same_number c.money_needed-needed.result (record { sfits = c.money_needed-needed.type_inv }), c.money_needed-needed.ensures.value)
+    (needed_money_not_negative c.self.inside.book.orders c.args.account)
+
+pub set_money_credit-requires-clause-covered : goal.set_money_credit-requires-clause-covered
+set_money_credit-requires-clause-covered c =
+    rw (same_number c.money_needed-needed.result (record { sfits = c.money_needed-needed.type_inv }), c.money_needed-needed.ensures.value)
+    (c.self.invariant.covered.money c.args.account)
+
+served : (c : goal.After-reply_to) → Serves IsOwnOutcome (market_in c.self.inside) (SetMoneyCredit c.args.account c.args.ticks) (Plain c.reply_to.result) (record (market_in c.self.inside) { balances = c.set_money_credit.new.self })
+served c =
+    let answers = rw (same_number c.money_needed-needed.result (record { sfits = c.money_needed-needed.type_inv }), c.money_needed-needed.ensures.value) at c.set_money_credit.ensures in
+    serves-set_money_credit IsOwnOutcome (market_in c.self.inside) c.set_money_credit.new.self c.args.account c.args.ticks c.set_money_credit.result c.reply_to.result
+    answers.accepted answers.refused answers.ok answers.err c.reply_to.ensures
+
+pub invariant_of-self : goal.invariant_of-self
+invariant_of-self c = sound-served (market_in c.self.inside) _ _ _ (rw (← c.self.view_is) at c.requires) c.self.invariant (served c)
+
+pub returns : goal.returns
+returns c = rw (← c.self.view_is) (served c)
