@@ -7,9 +7,10 @@ use Rattle.std.proofs.lemmas.Grind.{flat_map-append}
 use Rattle.std.proofs.lemmas.List.Elements.{All-nil, All-cons, All-head, All-tail, All-append, All-push}
 use Rattle.wire_records.specs.Records.{Record}
 use Rattle.wire_records.specs.Commands.{Pair}
-use Rattle.wire_records.specs.CommandRecords.{IsReadAs}
+use Rattle.wire_records.specs.Versions.{IsReadAs}
 use Rattle.wire_records.specs.Grammars.{spell_all}
 use Rattle.wire_records.specs.Reading.{Ending, EndsAs, ReadsOn}
+use Rattle.wire_records.specs.declared.version.Version.{Version}
 use Rattle.wire_records.proofs.ReadingLaws.{reads_on_some}
 use Rattle.file_units.specs.Units.{Leads, GoesToEnd, GoesToBreak}
 use Rattle.flow_orders.specs.Outcomes.{Outcome, IsRightOutcome}
@@ -79,10 +80,10 @@ pub told : (more : Bool) → IsTrue more ⊎ (¬ IsTrue more)
 told true = inl refl
 told false = inr (λ e. absurd cc)
 
-module _ {O : Type 0} (place : ℕ) (more : Bool) (bytes : List ℕ) (start new : State) (before after : O) where
+module _ {O : Type 0} (version : Version) (place : ℕ) (more : Bool) (bytes : List ℕ) (start new : State) (before after : O) where
   -- all whole units are legal
-  pub all_legal : (ending : Ending) → (goes : GoesToEnd journals Counts place (IsTrue more) bytes ending start new before after) → start.market ≡ empty_market
-      → (are : AreLegal start new goes.units) × AuditsOn place (IsTrue more) bytes are.legal [] ending new.market
+  pub all_legal : (ending : Ending) → (goes : GoesToEnd journals Counts place (IsTrue more) bytes ending start new before after) → start.market ≡ empty_market version
+      → (are : AreLegal start new goes.units) × AuditsOn version place (IsTrue more) bytes are.legal [] ending new.market
   all_legal ending goes begins =
       let are = are_legal start new before after goes.units goes.reads.each goes.leads in (
         are,
@@ -122,9 +123,9 @@ read_more place More dec bytes left rest units bad begins each lawful front =
     )
 
 -- a unit is illegal, or memory is wanted
-pub some_fault : {O : Type 0} (place : ℕ) (more : Bool) (bytes : List ℕ) (start : State) (fault : PairFault) (before after : O) → GoesToBreak journals Counts Breaks bytes fault start before after → start.market ≡ empty_market → start.pairs ≡ 0 → FindsFault place (IsTrue more) bytes fault
-some_fault place more bytes start Memory before after goes begins none = tt
-some_fault place more bytes start (Illegal number) before after goes begins none =
+pub some_fault : {O : Type 0} (version : Version) (place : ℕ) (more : Bool) (bytes : List ℕ) (start : State) (fault : PairFault) (before after : O) → GoesToBreak journals Counts Breaks bytes fault start before after → start.market ≡ empty_market version → start.pairs ≡ 0 → FindsFault version place (IsTrue more) bytes fault
+some_fault version place more bytes start Memory before after goes begins none = tt
+some_fault version place more bytes start (Illegal number) before after goes begins none =
     let are = are_legal start goes.middle before goes.between goes.units goes.each goes.leads in
     let off = goes.breaks in
     let on = read_more place (IsTrue more) (told more) bytes goes.left off.rest goes.units off.unit goes.begins goes.each off.lawful off.front in

@@ -6,11 +6,10 @@ use Rattle.wire_records.specs.Records.{Record}
 use Rattle.wire_records.specs.Commands.{Pair}
 use Rattle.wire_records.specs.Grammars.{spell_all}
 use Rattle.wire_records.specs.Reading.{Ending, End, Torn, TooLong, NotFlow, File, Reads}
-use Rattle.wire_records.specs.Formats.{Version, One}
+use Rattle.wire_records.specs.declared.version.Version.{Version}
 use Rattle.wire_records.proofs.ReadingLaws.{reads_one}
 use Rattle.flow_orders.specs.Outcomes.{Outcome}
-use Rattle.journal_records.specs.Pairs.{journal_magic, journal}
-use Rattle.journal_records.specs.Formats.{journal_magic_of, journals, records_of}
+use Rattle.journal_records.specs.Formats.{journal_magic_of, journal_in, journals, records_of}
 use Rattle.journal_records.proofs.Files.{journals_readable, journal_is_file, journal_is_read}
 use Rattle.market_core.specs.Market.{Market}
 use Rattle.batch_audit.specs.Legal.{IsLegalJournal, AreJudged}
@@ -22,30 +21,31 @@ use Rattle.journal_replay.specs.Audits.{Audits}
 use Rattle.journal_replay.specs.Replays.{IsReplayed}
 use Rattle.journal_replay.specs.Laws.{AuditsToEndAreOfLegalJournals, OneAudit, MarketsAreOfLegalJournals, OneReplay}
 
--- there is one magic
-one_magic : (version : Version) → journal_magic_of version ≡ journal_magic
-one_magic One = refl
-
 -- all bytes are within the limit where there is no more
 within : (limit : ℕ) (bytes : List ℕ) → (limit < length bytes → ⊥) → length bytes ≤ limit
 within limit bytes none = elim (cases_lt limit (length bytes)) [ inl more ↦ absurd (none more) | inr not ↦ not ]
 
-to_legal : (limit : ℕ) (bytes : List ℕ) (pairs : List (Pair Record Outcome)) (market : Market) → Audits limit bytes pairs [] End market → IsLegalJournal pairs market × (bytes ≡ journal pairs) × (length bytes ≤ limit)
+-- legal pairs whose spelling in a version are these bytes, within the limit
+abbrev LegalIn : ℕ → List ℕ → List (Pair Record Outcome) → Market → Type 0
+LegalIn limit bytes pairs market = (version : Version) × IsLegalJournal version pairs market × (bytes ≡ journal_in version pairs) × (length bytes ≤ limit)
+
+to_legal : (limit : ℕ) (bytes : List ℕ) (pairs : List (Pair Record Outcome)) (market : Market) → Audits limit bytes pairs [] End market → LegalIn limit bytes pairs market
 to_legal limit bytes pairs market audits =
     let on = audits.reads.2 in
+    let magic = journal_magic_of audits.version in
     let short = within limit bytes on.ends.1 in
     let same : audits.units ≡ map records_of pairs = audits.judged.parts ∙ append-nil (map records_of pairs) in
-    let whole : bytes ≡ journal_magic ++ spell_all journals.units (map records_of pairs) =
-    sym (take_all limit bytes short) ∙ audits.reads.1.1 ∙ ap (λ xs. xs ++ audits.reads.0) (one_magic audits.version)
-    ∙ ap (λ xs. journal_magic ++ xs) (on.whole ∙ ap (λ xs. spell_all journals.units audits.units ++ xs) on.ends.2 ∙ append-nil (spell_all journals.units audits.units) ∙ ap (spell_all journals.units) same)
+    let whole : bytes ≡ magic ++ spell_all journals.units (map records_of pairs) =
+    sym (take_all limit bytes short) ∙ audits.reads.1.1
+    ∙ ap (λ xs. magic ++ xs) (on.whole ∙ ap (λ xs. spell_all journals.units audits.units ++ xs) on.ends.2 ∙ append-nil (spell_all journals.units audits.units) ∙ ap (spell_all journals.units) same)
     in
-    (audits.judged.journal, whole ∙ sym (journal_is_file pairs), short)
+    (audits.version, audits.judged.journal, whole ∙ sym (journal_is_file.file audits.version pairs), short)
 
-of_legal : (limit : ℕ) (bytes : List ℕ) (pairs : List (Pair Record Outcome)) (market : Market) → IsLegalJournal pairs market × (bytes ≡ journal pairs) × (length bytes ≤ limit) → Audits limit bytes pairs [] End market
-of_legal limit bytes pairs market (legal, whole, short) = record {
-  version = One;
+of_legal : (limit : ℕ) (bytes : List ℕ) (pairs : List (Pair Record Outcome)) (market : Market) → LegalIn limit bytes pairs market → Audits limit bytes pairs [] End market
+of_legal limit bytes pairs market (version, legal, whole, short) = record {
+  version = version;
   units = map records_of pairs;
-  reads = subst (λ (b : List ℕ). Reads journals limit b (File One (map records_of pairs) End)) (sym whole) (journal_is_read limit pairs legal.each (rw whole at short));
+  reads = subst (λ (b : List ℕ). Reads journals limit b (File version (map records_of pairs) End)) (sym whole) (journal_is_read limit version pairs legal.each (rw whole at short));
   judged = record { parts = sym (append-nil (map records_of pairs)); journal = legal; stops = tt };
 }
 
@@ -53,19 +53,20 @@ pub audits_to_end : AuditsToEndAreOfLegalJournals
 audits_to_end limit bytes pairs market = (to_legal limit bytes pairs market, of_legal limit bytes pairs market)
 
 -- two files that are one have the same parts
-same_file : (v w : Version) (p q : List (Record × Record)) (e f : Ending) → File v p e ≡ File w q f → (p ≡ q) × (e ≡ f)
-same_file v w p q e f same = (cc, cc)
+same_file : (v w : Version) (p q : List (Record × Record)) (e f : Ending) → File v p e ≡ File w q f → (v ≡ w) × (p ≡ q) × (e ≡ f)
+same_file v w p q e f same = (cc, cc, cc)
 
 pub one_audit : OneAudit
 one_audit limit bytes p q x y e f m n a b =
     let one = same_file a.version b.version a.units b.units e f (reads_one journals journals_readable limit bytes (File a.version a.units e) (File b.version b.units f) a.reads b.reads) in
-    let judged = one_judgement b.units p q x y m n (subst (λ (all : List (Record × Record)). AreJudged all p x m) one.0 a.judged) b.judged in
-    (judged.0, judged.1, one.1, judged.2)
+    let here = subst (λ (all : List (Record × Record)). AreJudged a.version all p x m) one.1 a.judged in
+    let judged = one_judgement b.version b.units p q x y m n (subst (λ (v : Version). AreJudged v b.units p x m) one.0 here) b.judged in
+    (judged.0, judged.1, one.2, judged.2)
 
 pub markets_are : MarketsAreOfLegalJournals
 markets_are bytes market = (
-  λ replayed. let all = to_legal (length bytes) bytes replayed.0 market replayed.1 in (replayed.0, all.0, all.1),
-  λ legal. (legal.0, of_legal (length bytes) bytes legal.0 market (legal.1, legal.2, omega arith)),
+  λ replayed. let all = to_legal (length bytes) bytes replayed.0 market replayed.1 in (all.0, replayed.0, all.1, all.2),
+  λ legal. (legal.1, of_legal (length bytes) bytes legal.1 market (legal.0, legal.2, legal.3, omega arith)),
 )
 
 -- the answer to an audit of all bytes; none comes at a limit, and any stands here

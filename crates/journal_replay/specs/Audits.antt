@@ -4,24 +4,25 @@ use Rattle.std.specs.List.{sum_by}
 use Rattle.wire_records.specs.Records.{Record}
 use Rattle.wire_records.specs.Commands.{Answer, Plain, Batch, Pair}
 use Rattle.wire_records.specs.Reading.{Ending, File, Reads, ReadsOn}
-use Rattle.wire_records.specs.Formats.{Version}
+use Rattle.wire_records.specs.declared.version.Version.{Version}
 use Rattle.flow_orders.specs.Outcomes.{Outcome, Cleared, Skipped}
 use Rattle.journal_records.specs.Formats.{journals}
 use Rattle.market_core.specs.Market.{Market}
 use Rattle.batch_audit.specs.Legal.{AreJudged}
 
--- The bytes from a place on are these legal pairs and those behind them, of which the first is illegal; so the reading ends.
-pub record AuditsOn (place : ℕ) (More : Type 0) (bytes : List ℕ) (legal : List (Pair Record Outcome)) (behind : List (Record × Record)) (ending : Ending) (market : Market) : Type 0 where
+-- The bytes from a place on are in a version these legal pairs and those behind them, of which the first is illegal; so the reading
+-- ends.
+pub record AuditsOn (version : Version) (place : ℕ) (More : Type 0) (bytes : List ℕ) (legal : List (Pair Record Outcome)) (behind : List (Record × Record)) (ending : Ending) (market : Market) : Type 0 where
   pub units : List (Record × Record)
   pub reads : ReadsOn journals place More bytes units ending
-  pub judged : AreJudged units legal behind market
+  pub judged : AreJudged version units legal behind market
 
--- The first `limit` bytes are the magic of a journal, these legal pairs and those behind them.
+-- The first `limit` bytes are the magic of a journal of a version, these legal pairs and those behind them.
 pub record Audits (limit : ℕ) (bytes : List ℕ) (legal : List (Pair Record Outcome)) (behind : List (Record × Record)) (ending : Ending) (market : Market) : Type 0 where
   pub version : Version
   pub units : List (Record × Record)
   pub reads : Reads journals limit bytes (File version units ending)
-  pub judged : AreJudged units legal behind market
+  pub judged : AreJudged version units legal behind market
 
 -- 1 for a batch that cleared, and 0 for any other answer
 abbrev pub cleared_by : Answer Outcome → ℕ

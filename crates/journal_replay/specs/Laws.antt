@@ -3,8 +3,9 @@ use Rattle.std.specs.Prelude.{◌≡◌, ◌≢◌, ◌≤◌, ◌↔◌, ℕ, L
 use Rattle.wire_records.specs.Records.{Record}
 use Rattle.wire_records.specs.Commands.{Pair}
 use Rattle.wire_records.specs.Reading.{Ending, End}
+use Rattle.wire_records.specs.declared.version.Version.{Version}
 use Rattle.flow_orders.specs.Outcomes.{Outcome}
-use Rattle.journal_records.specs.Pairs.{journal}
+use Rattle.journal_records.specs.Formats.{journal_in}
 use Rattle.market_core.specs.Market.{Market}
 use Rattle.batch_audit.specs.Legal.{IsLegalJournal}
 use Rattle.journal_replay.specs.declared.replaying.ReplayFault.{ReplayFault}
@@ -12,20 +13,22 @@ use Rattle.journal_replay.specs.declared.replaying.ReplayFault.TheVariants.{Memo
 use Rattle.journal_replay.specs.Audits.{Audits}
 use Rattle.journal_replay.specs.Replays.{IsReplayed}
 
--- an audit in which no pair is left and that comes to the end is that of the spelling of a legal journal, with nothing past the limit
+-- an audit in which no pair is left and that comes to the end is that of the spelling of a legal journal of either
+-- version, with nothing past the limit
 abbrev pub AuditsToEndAreOfLegalJournals : Type 0
 AuditsToEndAreOfLegalJournals = (limit : ℕ) (bytes : List ℕ) (pairs : List (Pair Record Outcome)) (market : Market)
-    → Audits limit bytes pairs [] End market ↔ (IsLegalJournal pairs market × (bytes ≡ journal pairs) × (length bytes ≤ limit))
+    → Audits limit bytes pairs [] End market
+    ↔ ((version : Version) × IsLegalJournal version pairs market × (bytes ≡ journal_in version pairs) × (length bytes ≤ limit))
 
 -- bytes are audited in one way
 abbrev pub OneAudit : Type 0
 OneAudit = (limit : ℕ) (bytes : List ℕ) (p q : List (Pair Record Outcome)) (x y : List (Record × Record)) (e f : Ending) (m n : Market)
     → Audits limit bytes p x e m → Audits limit bytes q y f n → (p ≡ q) × (x ≡ y) × (e ≡ f) × (m ≡ n)
 
--- a replay answers a market exactly for the spellings of legal journals, and it is theirs
+-- a replay answers a market exactly for the spellings of legal journals of either version, and it is theirs
 abbrev pub MarketsAreOfLegalJournals : Type 0
 MarketsAreOfLegalJournals = (bytes : List ℕ) (market : Market)
-    → IsReplayed bytes (Ok market) ↔ ((pairs : List (Pair Record Outcome)) × IsLegalJournal pairs market × (bytes ≡ journal pairs))
+    → IsReplayed bytes (Ok market) ↔ ((version : Version) × (pairs : List (Pair Record Outcome)) × IsLegalJournal version pairs market × (bytes ≡ journal_in version pairs))
 
 -- but for want of memory, bytes are replayed to one answer
 abbrev pub OneReplay : Type 0

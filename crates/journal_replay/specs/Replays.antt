@@ -4,6 +4,7 @@ use Rattle.wire_records.specs.Records.{Record}
 use Rattle.wire_records.specs.Commands.{Pair}
 use Rattle.wire_records.specs.Reading.{Ending, End, NotFlow, Reads}
 use Rattle.wire_records.specs.Reading as reading
+use Rattle.wire_records.specs.declared.version.Version.{Version}
 use Rattle.file_units.specs.Units.{ending_of}
 use Rattle.flow_orders.specs.Outcomes.{Outcome}
 use Rattle.journal_records.specs.Formats.{journals}
@@ -16,27 +17,27 @@ use Rattle.journal_replay.specs.declared.replaying.ReplayFault.TheVariants.{NotJ
 use Rattle.journal_replay.specs.Audits.{AuditsOn, Audits, cleared_in, skipped_in}
 
 -- All whole pairs are legal: this is how the reading ends, the market that they make, and how many they are.
-pub record FindsLegal (place : ℕ) (More : Type 0) (bytes : List ℕ) (found : Audited) : Type 0 where
+pub record FindsLegal (version : Version) (place : ℕ) (More : Type 0) (bytes : List ℕ) (found : Audited) : Type 0 where
   pub legal : List (Pair Record Outcome)
-  pub audits : AuditsOn place More bytes legal [] (ending_of found.ending) found.market
+  pub audits : AuditsOn version place More bytes legal [] (ending_of found.ending) found.market
   pub pairs : found.pairs ≡ length legal
   pub cleared : found.cleared ≡ cleared_in legal
   pub skipped : found.skipped ≡ skipped_in legal
 
 -- A pair is illegal, and it is the first: this is its number, counted from 1.
-pub record FindsIllegal (place : ℕ) (More : Type 0) (bytes : List ℕ) (number : ℕ) : Type 0 where
+pub record FindsIllegal (version : Version) (place : ℕ) (More : Type 0) (bytes : List ℕ) (number : ℕ) : Type 0 where
   pub legal : List (Pair Record Outcome)
   pub bad : Record × Record
   pub more : List (Record × Record)
   pub ending : Ending
   pub market : Market
-  pub audits : AuditsOn place More bytes legal (bad ∷ more) ending market
+  pub audits : AuditsOn version place More bytes legal (bad ∷ more) ending market
   pub counted : number ≡ length legal + 1
 
 -- by the fault; want of memory is free
-abbrev pub FindsFault : ℕ → Type 0 → List ℕ → PairFault → Type 0
-FindsFault place More bytes (fault.Illegal number) = FindsIllegal place More bytes number
-FindsFault place More bytes fault.Memory = Unit {0}
+abbrev pub FindsFault : Version → ℕ → Type 0 → List ℕ → PairFault → Type 0
+FindsFault version place More bytes (fault.Illegal number) = FindsIllegal version place More bytes number
+FindsFault version place More bytes fault.Memory = Unit {0}
 
 -- the bytes are a journal in which some pair is illegal, and the first is that of this number, counted from 1
 pub record HasIllegal (limit : ℕ) (bytes : List ℕ) (number : ℕ) : Type 0 where

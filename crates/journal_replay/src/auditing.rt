@@ -10,6 +10,7 @@ use file_units::{Ending, Front, TakesUnits, take_units};
 use journal_records::{PairFramed, PairView, is_overlong, next_pair};
 use market_core::Market;
 use std::alloc::Global;
+use wire_records::Version;
 
 // The tags of the replies that tell of a batch.
 const CLEARED: u8 = 133;
@@ -112,24 +113,25 @@ impl TakesUnits<()> for Auditing {
     }
 }
 
-/// Goes through the pairs that stand in the bytes of a journal from a place on, one after the other from the empty market,
-/// and answers what it has found: how the reading ends, where all whole pairs are legal. `more` says whether the journal has
+/// Goes through the pairs that stand in the bytes of a journal from a place on, one after the other from the empty market
+/// of the journal's version, and answers what it has found: how the reading ends, where all whole pairs are legal. `more` says whether the journal has
 /// bytes behind these.
 ///
 /// `Illegal` where some whole pair isn't legal, with the number of the first, counted from 1 behind the place;
 /// `Memory` where there is none to audit a pair.
 pub fn audit_pairs(
     alloc: Global,
+    version: Version,
     bytes: &[u8],
     start: usize,
     more: bool,
 ) -> Result<Audited, PairFault>
     requires inside { start ≤ length bytes.now }
-    ensures legal { IfOk result (FindsLegal start (IsTrue more) (drop start bytes.now)) }
-    ensures fault { IfErr result (FindsFault start (IsTrue more) (drop start bytes.now)) }
+    ensures legal { IfOk result (FindsLegal version start (IsTrue more) (drop start bytes.now)) }
+    ensures fault { IfErr result (FindsFault version start (IsTrue more) (drop start bytes.now)) }
 {
     let mut auditing = Auditing {
-        audit: Audit::new(alloc),
+        audit: Audit::over(Market::new_in(alloc, version)),
         pairs: 0,
         cleared: 0,
         skipped: 0,

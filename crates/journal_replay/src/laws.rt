@@ -1,8 +1,8 @@
 //! What holds of audits and replays. Each law is the contract of a function that does nothing.
 ghost use Rattle.journal_replay.specs.Laws.{AuditsToEndAreOfLegalJournals, OneAudit, MarketsAreOfLegalJournals, OneReplay};
 
-/// An audit that finds no pair illegal and comes to the end is that of the spelling of a legal journal, with nothing past the
-/// limit; and each such spelling is audited so.
+/// An audit that finds no pair illegal and comes to the end is that of the spelling of a legal journal of either
+/// version, with nothing past the limit; and each such spelling is audited so.
 pub fn audits_to_end_are_of_legal_journals()
     ensures { AuditsToEndAreOfLegalJournals }
 {}
@@ -12,7 +12,8 @@ pub fn one_audit()
     ensures { OneAudit }
 {}
 
-/// A replay answers a market exactly for the spellings of legal journals, want of memory aside, and it is theirs.
+/// A replay answers a market exactly for the spellings of legal journals of either version, want of memory aside, and it is
+/// theirs.
 pub fn markets_are_of_legal_journals()
     ensures { MarketsAreOfLegalJournals }
 {}

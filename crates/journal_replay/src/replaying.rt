@@ -3,7 +3,7 @@ ghost use Rattle.journal_replay.specs.Replays.{IsReplayed};
 
 use crate::auditing::{PairFault, audit_pairs};
 use file_units::Ending;
-use journal_records::{JOURNAL_MAGIC, is_journal};
+use journal_records::{JOURNAL_MAGIC, journal_version};
 use market_core::Market;
 use std::alloc::Global;
 use thiserror::Error;
@@ -11,7 +11,7 @@ use thiserror::Error;
 /// Why bytes give no market.
 #[derive(Clone, Copy, Debug, PartialEq, Eq, Error)]
 pub enum ReplayFault {
-    /// They are no journal: they don't begin with the magic.
+    /// They are no journal: they don't begin with the magic of a version.
     #[error("not a journal")]
     NotJournal,
     /// They break off or state too long a record; the broken pair begins at this byte, from 0.
@@ -25,18 +25,20 @@ pub enum ReplayFault {
     Memory,
 }
 
-/// The market that a journal makes: `Ok` exactly for the bytes of a legal journal, want of memory aside, whoever wrote it.
+/// The market that a journal makes, of the journal's version: `Ok` exactly for the bytes of a legal journal, want of memory
+/// aside, whoever wrote it.
 ///
-/// `NotJournal` exactly where the first 8 bytes aren't the magic; `Torn` and `Illegal` where a pair isn't whole or isn't
+/// `NotJournal` exactly where the first 8 bytes are the magic of no version; `Torn` and `Illegal` where a pair isn't whole or isn't
 /// legal, whichever comes first in the bytes; `Memory` is free. Each pair is looked at where it lies, at the cost of its
 /// audit.
 pub fn replay(alloc: Global, bytes: &[u8]) -> Result<Market, ReplayFault>
     ensures { IsReplayed bytes.now result }
 {
-    if !is_journal(bytes) {
-        return Err(ReplayFault::NotJournal);
-    }
-    match audit_pairs(alloc, bytes, JOURNAL_MAGIC.len(), false) {
+    let version = match journal_version(bytes) {
+        None => return Err(ReplayFault::NotJournal),
+        Some(version) => version,
+    };
+    match audit_pairs(alloc, version, bytes, JOURNAL_MAGIC.len(), false) {
         Ok(found) => match found.ending {
             Ending::End => Ok(found.market),
             Ending::Torn(place) => Err(ReplayFault::Torn(place)),

@@ -1,21 +1,24 @@
 use Rattle.std.proofs.Common.{[]}
-use Rattle.journal_replay.proofs.Replayed.{begins_with_magic, audits_all}
+use Rattle.journal_replay.proofs.Replayed.{begins_with_eight, audits_all}
 use Rattle.journal_replay.proofs.replaying.replay.Goals as goal
+
+pub audit_pairs-requires : goal.audit_pairs-requires
+audit_pairs-requires c = record { inside = begins_with_eight c.in-Some.version c.args.bytes.now ((c.journal_version.ensures.exact c.in-Some.version).0 c.in-Some.is) }
 
 pub returns-in-End : goal.returns-in-End
 returns-in-End c =
-    let begins = begins_with_magic c.args.bytes.now (c.is_journal.ensures.0 c.if-not-is_journal.false) in
+    let begins = (c.journal_version.ensures.exact c.in-Some.version).0 c.in-Some.is in
     let found = c.in-Ok.ensures.legal in
-    (found.legal, rw c.in-End.is at (audits_all c.args.bytes.now found.legal [] _ _ begins found.audits))
+    (found.legal, rw c.in-End.is at (audits_all c.in-Some.version c.args.bytes.now found.legal [] _ _ begins found.audits))
 
 pub returns-in-Torn : goal.returns-in-Torn
 returns-in-Torn c =
-    let begins = begins_with_magic c.args.bytes.now (c.is_journal.ensures.0 c.if-not-is_journal.false) in
+    let begins = (c.journal_version.ensures.exact c.in-Some.version).0 c.in-Some.is in
     let found = c.in-Ok.ensures.legal in
-    (found.legal, c.in-Ok.found.market, rw c.in-Torn.is at (audits_all c.args.bytes.now found.legal [] _ _ begins found.audits))
+    (found.legal, c.in-Ok.found.market, rw c.in-Torn.is at (audits_all c.in-Some.version c.args.bytes.now found.legal [] _ _ begins found.audits))
 
 pub returns-in-Err-Illegal : goal.returns-in-Err-Illegal
 returns-in-Err-Illegal c =
-    let begins = begins_with_magic c.args.bytes.now (c.is_journal.ensures.0 c.if-not-is_journal.false) in
+    let begins = (c.journal_version.ensures.exact c.in-Some.version).0 c.in-Some.is in
     let found = rw c.in-Err-Illegal.field-0-is at c.in-Err-Illegal.ensures.fault in
-    record { legal = found.legal; bad = found.bad; more = found.more; ending = found.ending; market = found.market; audits = audits_all c.args.bytes.now found.legal _ _ _ begins found.audits; counted = found.counted }
+    record { legal = found.legal; bad = found.bad; more = found.more; ending = found.ending; market = found.market; audits = audits_all c.in-Some.version c.args.bytes.now found.legal _ _ _ begins found.audits; counted = found.counted }
