@@ -1,15 +1,17 @@
 -- A run comes to one end and one text, keeps the promises of the exchange, and is without an end for no bytes.
-use Rattle.std.proofs.Common.{◌≡◌, ℕ, List, [], ◌∷◌, ◌++◌, Result, Ok, Err, inl, refl, sym, ap, ◌∙◌, arith}
+use Rattle.std.proofs.Common.{◌≡◌, ℕ, List, [], ◌∷◌, ◌++◌, Result, Ok, Err, length, inl, inr, refl, sym, ap, ◌∙◌, arith}
 use Rattle.std.specs.List.{flat_map}
 use Rattle.wire_records.specs.Records.{Record}
 use Rattle.wire_records.specs.Commands.{Command, Answer, Pair}
 use Rattle.wire_records.specs.CommandRecords.{IsReadAs}
 use Rattle.wire_records.specs.declared.command.BodyFault.{BodyFault}
 use Rattle.wire_records.specs.declared.command.BodyFault.TheVariants.{UnknownTag, BadBody}
-use Rattle.wire_records.specs.Formats.{StatesOver}
-use Rattle.wire_records.proofs.Fronts.{states_none-from_few}
+use Rattle.wire_records.specs.Formats.{Version, One, StatesOver, command_magic_of, commands}
+use Rattle.wire_records.proofs.Fronts.{states_none-from_few, no_front-from_overlong}
 use Rattle.wire_records.proofs.Readings.{reading_unique}
 use Rattle.wire_records.proofs.RecordCode.{commands_readable}
+use Rattle.file_units.specs.Inputs.{HasLongest}
+use Rattle.file_units.proofs.Longest.{record_or_over, over_stays}
 use Rattle.flow_orders.specs.Outcomes.{Outcome}
 use Rattle.flow_orders.specs.Own.{IsOwnOutcome}
 use Rattle.journal_records.specs.Pairs.{journal_magic, pair_spelling}
@@ -36,10 +38,26 @@ one_answer s u t r x y a b =
     let pair : Answer Outcome → Pair Record Outcome = λ answer. record { asked = u; answer = answer } in
     (one.1, a.spelled ∙ ap (λ answer. pair_spelling (pair answer)) one.0 ∙ sym b.spelled)
 
+-- each magic has eight bytes
+eight : (version : Version) → length (command_magic_of version) ≡ 8
+eight One = refl
+
+-- the longest record
+longest : HasLongest commands 1029
+longest = record {
+  seen = λ bytes are long none. elim (record_or_over 1024 bytes are long) [ inl over ↦ over | inr (first, rest, begins, behind) ↦ absurd (none first rest begins.0 begins.1) ];
+  stays = over_stays 1024;
+  none = λ bytes over. no_front-from_overlong 1024 over.0 bytes (omega arith) over.1 over.2;
+}
+
 pub run_is_exact : IsExact run
 run_is_exact = record {
   readable = commands_readable;
   short = short;
+  magic = eight;
+  longest = longest;
+  some = omega arith;
+  few = omega arith;
   one_step = one_answer;
   one_stop = λ s at b c x y stops other. absurd stops;
   one_close = λ s x y a b. a ∙ sym b;

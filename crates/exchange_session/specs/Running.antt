@@ -21,6 +21,7 @@ RunWants market None = ⊥
 abbrev pub run : Word Record Market Never
 run = record {
   format = commands;
+  longest = 1029;
   opens = journal_magic_of;
   Steps = AnswersOne;
   Stops = λ market at why text. ⊥;

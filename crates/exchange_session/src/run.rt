@@ -10,6 +10,9 @@ use std::alloc::Global;
 use wire_records::{Framed, MOST_BODY, is_command_file, next_record};
 use word_driver::{Halt, Memory, Never, ServesWord};
 
+// As many bytes has the longest record: 5, and 1,024 of its body.
+const MOST_RECORD: usize = 1029;
+
 // As many bytes has the longest pair with a plain reply: 5 and 1,024 of the record, and 13 of the reply's.
 const MOST_PLAIN_PAIR: usize = 1042;
 
@@ -40,6 +43,10 @@ impl ServesWord for Run {
     const ROOM: usize = MOST_PLAIN_PAIR;
 
     ghost ROOM = { 1042 };
+
+    const LONGEST: usize = MOST_RECORD;
+
+    ghost LONGEST = { 1029 };
 
     ghost Unit = { Record };
 

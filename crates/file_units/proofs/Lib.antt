@@ -1,2 +1,4 @@
 mod Taking
 pub mod Endings
+pub mod Gone
+pub mod Longest

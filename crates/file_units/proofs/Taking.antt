@@ -31,19 +31,19 @@ module _ {V U S O : Type 0} (format : Format V U) (Steps : S → U → S → O �
   }
 
   -- units lead on by one more
-  leads_more : (old middle new : S) (before between after : O) (units : List U) (unit : U) → Leads format Steps old before units middle between → Steps middle unit new between after → Leads format Steps old before (units ++ unit ∷ []) new after
+  pub leads_more : (old middle new : S) (before between after : O) (units : List U) (unit : U) → Leads format Steps old before units middle between → Steps middle unit new between after → Leads format Steps old before (units ++ unit ∷ []) new after
   leads_more old middle new before between after [] unit leads step = rw (← leads.0, ← leads.1) (new, after, step, (refl, refl))
   leads_more old middle new before between after (u ∷ units) unit leads step = (leads.0, leads.1, leads.2, leads_more leads.0 middle new leads.1 between after units unit leads.3 step)
 
   -- one more unit was taken
   pub one_more_taken : (IsReady Ready : ℕ → Type 0) (bytes : List ℕ) (start place taken : ℕ) (old middle new : S) (before between after : O)
-      → HasTaken IsReady bytes start place old middle before between → TakesOne format Steps taken (drop place bytes) middle new between after → Ready (length (drop place bytes) - taken)
+      → HasTaken IsReady bytes start place old middle before between → TakesOne format Steps taken (drop place bytes) middle new between after → Ready ((length bytes - place) - taken)
       → HasTaken Ready bytes start (place + taken) old new before after × (0 < taken)
   one_more_taken IsReady Ready bytes start place taken old middle new before between after so one ready =
       let len = ap length one.front in
       let inside = length-append (format.units.spell one.unit) (drop taken (drop place bytes)) in
       let left = length-drop place bytes in
-      let same : length (drop place bytes) - taken ≡ length bytes - (place + taken) = omega (arith, left, so.within, len, inside, one.size) in (
+      let same : (length bytes - place) - taken ≡ length bytes - (place + taken) = omega (arith, left, so.within, len, inside, one.size) in (
         record {
           units = so.units ++ one.unit ∷ [];
           whole = so.whole ∙ ap (λ xs. spell_all format.units so.units ++ xs) (one.front ∙ ap (λ xs. format.units.spell one.unit ++ xs) (drop-drop taken place bytes))

@@ -73,6 +73,6 @@ module _ {V U S O F : Type 0} (format : Format V U) (Steps : S → U → S → O
 -- what can take units while so many bytes are left still can, behind the unit that was taken
 abbrev pub StaysReady : (ℕ → Type 0) → Front → ℕ → Type 0
 StaysReady IsReady (Taken n) left = IsReady (left - n)
-StaysReady IsReady NoBytes left = Unit {0}
-StaysReady IsReady Overlong left = Unit {0}
-StaysReady IsReady Short left = Unit {0}
+StaysReady IsReady NoBytes left = IsReady left
+StaysReady IsReady Overlong left = IsReady left
+StaysReady IsReady Short left = IsReady left

@@ -46,14 +46,14 @@ pub trait TakesUnits<O> {
     ghost steps: { State → Unit → State → O → O → Type 0 };
     // Taking a unit breaks off at a state, and leads from an output to another.
     ghost breaks: { State → Unit → Self.Fault → O → O → Type 0 };
-    // It can take units while so many bytes are left.
+    // It can take units while no more than so many bytes are left.
     ghost is_ready: { Self → ℕ → Type 0 };
 
     /// Takes the unit at the front of the bytes, if a whole one stands there.
     fn take(&mut self, bytes: &[u8], out: &mut O) -> Result<Front, Self::Fault>
-        requires ready { is_ready self.old (length bytes.now) }
+        requires ready { (left : ℕ) × (length bytes.now ≤ left) × is_ready self.old left }
         ensures taken { IfOk result (λ front. IsTaken format steps front bytes.now (state self.old) (state self.new) out.old out.new) }
-        ensures stays { IfOk result (λ front. StaysReady (is_ready self.new) front (length bytes.now)) }
+        ensures stays { IfOk result (λ front. (left : ℕ) → length bytes.now ≤ left → is_ready self.old left → StaysReady (is_ready self.new) front left) }
         ensures broken { IfErr result (λ fault. BreaksOff format breaks bytes.now (state self.old) fault out.old out.new) };
 }
 

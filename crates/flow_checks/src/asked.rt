@@ -12,6 +12,8 @@ pub(crate) struct Asked {
     pub(crate) out: u64,
     pub(crate) notes: u64,
     pub(crate) rows: u64,
+    // Whether it is told how many bytes are left in the source.
+    pub(crate) left: bool,
 }
 
 impl Asked {
@@ -25,6 +27,7 @@ impl Asked {
             out: 0,
             notes: 0,
             rows: 64,
+            left: false,
         }
     }
 
@@ -50,6 +53,7 @@ impl Asked {
             "out" => self.out = number,
             "notes" => self.notes = number,
             "rows" => self.rows = number,
+            "left" => self.left = number > 0,
             _ => return None,
         }
         Some(())

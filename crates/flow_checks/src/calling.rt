@@ -33,12 +33,18 @@ fn call(
     }
 }
 
-// How many bytes are left in the source, where nothing was to be read.
-fn left_in(alloc: Global, status: Status, source: &mut MemorySource) -> Option<Option<usize>> {
-    match status {
-        Status::Usage => Some(Some(read_all(alloc, source, 1 << 20).ok()?.bytes.len())),
-        _ => Some(None),
+// How many bytes are left in the source, where that is asked for or nothing was to be read.
+fn left_in(
+    alloc: Global,
+    asked: &Asked,
+    status: Status,
+    source: &mut MemorySource,
+) -> Option<Option<usize>> {
+    if asked.left || status == Status::Usage {
+        let rest = read_all(alloc, source, 1 << 20).ok()?;
+        return Some(Some(rest.bytes.len()));
     }
+    Some(None)
 }
 
 // Makes the call with these sinks, and appends what it comes to.
@@ -51,7 +57,7 @@ fn put_call_with(
     rows: &mut String,
 ) -> Option<()> {
     let status = call(alloc, asked, source, out, notes);
-    let left = left_in(alloc, status, source)?;
+    let left = left_in(alloc, asked, status, source)?;
     put_end(status.exit(), out.bytes().len(), left, notes.bytes(), rows)?;
     put_out(alloc, out.bytes(), asked.rows as usize, rows)
 }

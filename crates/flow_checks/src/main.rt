@@ -11,6 +11,7 @@
 //! | `piece=N` | a read gives at most so many bytes; else 65,536 |
 //! | `read=N`, `out=N`, `notes=N` | the read, the write to out or the write to notes that fails, counted from 1 |
 //! | `rows=N` | of the records in out only the last N are told; else 64 |
+//! | `left=1` | it is told how many bytes are left in the source |
 //!
 //! A write that fails writes the first half of its bytes. So
 //!

@@ -4,11 +4,13 @@ use Rattle.flow_io.specs.Faults.{Rose, Blames}
 use Rattle.flow_io.specs.Streams.{Grows, GrowsByFront}
 use Rattle.flow_io.specs.Changes.{Change}
 use Rattle.flow_exchange.specs.declared.form.Form.{Form}
+use Rattle.flow_exchange.specs.declared.form.Form.TheVariants.{Run}
 use Rattle.flow_exchange.specs.declared.status.Status.{Status}
 use Rattle.flow_exchange.specs.declared.status.Status.TheVariants as answer
 use Rattle.flow_exchange.specs.Forms.{Asks, AsksNothing}
 use Rattle.flow_exchange.specs.Statuses.{line_of}
 use Rattle.flow_exchange.specs.Program.{Determines, Meets, Does, Serves}
+use Rattle.flow_exchange.specs.Running.{KeepsPace}
 use Rattle.flow_exchange.proofs.Outcomes.{one_form, completes}
 
 -- where no count rose and memory was there, a form came to what the bytes determine
@@ -19,10 +21,11 @@ completes_form form told limit status before after reads reads_now writes writes
     completes told form limit status before after meets (λ e. no_read (read.rose e)) (λ e. no_write (written.rose e)) memory
 
 -- the words are a form, which was done
-pub serves_form : (limit : ℕ) (words : List (List ℕ)) (form : Form) (status : Status) (source out notes : Change) → Asks words form → status ≢ answer.Usage → Does form limit status source out → ((¬ Rose notes.faults notes.faults_after) → Grows notes.before notes.after (line_of status)) → GrowsByFront notes.before notes.after (line_of status) → Serves limit words status source out notes
-serves_form limit words form status source out notes asks asked does noted cut = record {
+pub serves_form : (limit : ℕ) (words : List (List ℕ)) (form : Form) (status : Status) (source out notes : Change) → Asks words form → status ≢ answer.Usage → Does form limit status source out → (form ≡ Run → KeepsPace limit status source out) → ((¬ Rose notes.faults notes.faults_after) → Grows notes.before notes.after (line_of status)) → GrowsByFront notes.before notes.after (line_of status) → Serves limit words status source out notes
+serves_form limit words form status source out notes asks asked does paced noted cut = record {
   usage = (λ e. absurd (asked e), λ none. absurd (none form asks));
   does = λ other also. rw (one_form words other form also asks) does;
+  paced = λ also. paced (one_form words form Run asks also);
   noted = noted;
   cut = cut;
 }
@@ -32,6 +35,7 @@ pub serves_none : (limit : ℕ) (words : List (List ℕ)) (source out notes : Ch
 serves_none limit words source out notes none noted cut = record {
   usage = (λ e. none, λ not. refl);
   does = λ form asks. absurd (none form asks);
+  paced = λ asks. absurd (none Run asks);
   noted = noted;
   cut = cut;
 }

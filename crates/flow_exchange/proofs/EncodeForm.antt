@@ -14,6 +14,7 @@ encode_form limit = record {
   not_done = λ why e. absurd cc;
   not_read = λ why e. absurd cc;
   not_write = λ why e. absurd cc;
+  not_memory = λ why e. absurd cc;
   not_usage = λ why e. absurd cc;
   most = refl;
   left = λ bytes. refl;

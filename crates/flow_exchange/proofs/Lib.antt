@@ -2,6 +2,7 @@ pub mod Outcomes
 pub mod RunWord
 pub mod FileOf
 pub mod Words
+pub mod Pace
 pub mod JournalForms
 pub mod AuditLaws
 pub mod EncodeForm

@@ -27,11 +27,11 @@ abbrev pub start : Version → Market
 start version = empty_market
 
 -- the opening is the magic
-journals : (records : List Record) (market : Market) (behind : List ℕ) (text : List ℕ) (version : Version) → Journals records market (journal_magic ++ behind) → text ≡ journal_magic_of version ++ behind → Journals records market text
+pub journals : (records : List Record) (market : Market) (behind : List ℕ) (text : List ℕ) (version : Version) → Journals records market (journal_magic ++ behind) → text ≡ journal_magic_of version ++ behind → Journals records market text
 journals records market behind text One so is = subst (λ (x : List ℕ). Journals records market x) (sym is) so
 
 -- nothing is written at the end
-ends_there : (version : Version) (text behind so_far last : List ℕ) → text ≡ journal_magic_of version ++ behind → behind ≡ so_far ++ last → last ≡ [] → text ≡ journal_magic_of version ++ so_far
+pub ends_there : (version : Version) (text behind so_far last : List ℕ) → text ≡ journal_magic_of version ++ behind → behind ≡ so_far ++ last → last ≡ [] → text ≡ journal_magic_of version ++ so_far
 ends_there version text behind so_far last is parts none = is ∙ ap (λ xs. journal_magic_of version ++ xs) (parts ∙ ap (λ xs. so_far ++ xs) none ∙ append-nil so_far)
 
 pub runs_to : (limit : ℕ) (bytes : List ℕ) (ended : Ended Never) (text : List ℕ) → (task run start).Comes limit bytes ended text → RunsTo limit bytes (ended_status limit no_reason ended) text
@@ -130,6 +130,7 @@ run_form limit = record {
   not_done = λ never. elim never [ ];
   not_read = λ never. elim never [ ];
   not_write = λ never. elim never [ ];
+  not_memory = λ never. elim never [ ];
   not_usage = λ never. elim never [ ];
   most = refl;
   left = λ bytes. refl;

@@ -31,6 +31,7 @@ pub record IsForm {B : Type 0} (t : Task B) (form : Form) (limit : ℕ) (own : B
   pub not_done : (why : B) → own why ≢ answer.Done
   pub not_read : (why : B) → own why ≢ answer.ReadFault
   pub not_write : (why : B) → own why ≢ answer.WriteFault
+  pub not_memory : (why : B) → own why ≢ answer.NoMemory
   pub not_usage : (why : B) → own why ≢ answer.Usage
   pub most : t.most_taken limit ≡ most_taken form limit
   pub left : (bytes : List ℕ) → t.left bytes ≡ left_by form bytes
@@ -41,30 +42,30 @@ module _ {B : Type 0} (t : Task B) (form : Form) (limit : ℕ) (own : B → Stat
       let here = is.to bytes ended text comes in
       (text, here, written, λ other words also. one_outcome form limit bytes other (ended_status limit own ended) words text also here)
 
-  meets : (bytes : List ℕ) (ended : Ended B) (before after : Option (List ℕ)) → driver.Meets t limit bytes ended before after → Meets form limit bytes (ended_status limit own ended) before after
-  meets bytes (Ok done) before after met = determines bytes (Ok done) before after met
-  meets bytes (Err word.NotFlow) before after met = determines bytes (Err word.NotFlow) before after met
-  meets bytes (Err (word.Torn n)) before after met = determines bytes (Err (word.Torn n)) before after met
-  meets bytes (Err word.TooLong) before after met = determines bytes (Err word.TooLong) before after met
-  meets bytes (Err (word.Stopped why)) before after met = is.met bytes why before after (determines bytes (Err (word.Stopped why)) before after met)
-  meets bytes (Err word.Read) before after (n, text, begins, written) =
+  meets : (bytes : List ℕ) (left : Option (List ℕ)) (ended : Ended B) (before after : Option (List ℕ)) → driver.Meets t limit bytes left ended before after → Meets form limit bytes (ended_status limit own ended) before after
+  meets bytes left (Ok done) before after met = determines bytes (Ok done) before after met
+  meets bytes left (Err word.NotFlow) before after met = determines bytes (Err word.NotFlow) before after met
+  meets bytes left (Err (word.Torn n)) before after met = determines bytes (Err (word.Torn n)) before after met
+  meets bytes left (Err word.TooLong) before after met = determines bytes (Err word.TooLong) before after met
+  meets bytes left (Err (word.Stopped why)) before after met = is.met bytes why before after (determines bytes (Err (word.Stopped why)) before after met)
+  meets bytes left (Err word.Read) before after (n, taken, text, begins, written) =
       elim (is.into bytes n text begins) [
         | inl none ↦ inl (subst (λ (x : List ℕ). Grows before after x) none written)
         | inr into ↦ inr (text, into, written)
       ]
-  meets bytes (Err word.Write) before after (text, inl (n, begins), written) =
+  meets bytes left (Err word.Write) before after (text, inl (n, begins), written) =
       elim (is.into bytes n text begins) [
         | inl none ↦ inl (nothing before after text none written)
         | inr into ↦ inr (text, inl into, written)
       ]
-  meets bytes (Err word.Write) before after (text, inr (ended, comes), written) = inr (text, inr (ended_status limit own ended, is.to bytes ended text comes), written)
-  meets bytes (Err word.Memory) before after (text, lacks, written) = (text, is.out bytes text lacks, written)
+  meets bytes left (Err word.Write) before after (text, inr (ended, comes), written) = inr (text, inr (ended_status limit own ended, is.to bytes ended text comes), written)
+  meets bytes left (Err word.Memory) before after (text, lacks, written) = (text, is.out bytes text lacks, written)
 
-  meets_told : (told : Option (List ℕ)) (ended : Ended B) (before after : Option (List ℕ)) → IfSome told (λ bytes. driver.Meets t limit bytes ended before after) → IfSome told (λ bytes. Meets form limit bytes (ended_status limit own ended) before after)
-  meets_told None ended before after met = tt
-  meets_told (Some bytes) ended before after met = meets bytes ended before after met
+  meets_told : (told left : Option (List ℕ)) (ended : Ended B) (before after : Option (List ℕ)) → IfSome told (λ bytes. driver.Meets t limit bytes left ended before after) → IfSome told (λ bytes. Meets form limit bytes (ended_status limit own ended) before after)
+  meets_told None left ended before after met = tt
+  meets_told (Some bytes) left ended before after met = meets bytes left ended before after met
 
-  read_back : (ended : Ended B) → ended_status limit own ended ≡ answer.ReadFault → ended ≡ Err word.Read
+  pub read_back : (ended : Ended B) → ended_status limit own ended ≡ answer.ReadFault → ended ≡ Err word.Read
   read_back (Err word.Read) e = refl
   read_back (Ok done) e = absurd cc
   read_back (Err word.Write) e = absurd cc
@@ -74,7 +75,7 @@ module _ {B : Type 0} (t : Task B) (form : Form) (limit : ℕ) (own : B → Stat
   read_back (Err word.TooLong) e = absurd cc
   read_back (Err (word.Stopped why)) e = absurd (is.not_read why e)
 
-  write_back : (ended : Ended B) → ended_status limit own ended ≡ answer.WriteFault → ended ≡ Err word.Write
+  pub write_back : (ended : Ended B) → ended_status limit own ended ≡ answer.WriteFault → ended ≡ Err word.Write
   write_back (Err word.Write) e = refl
   write_back (Ok done) e = absurd cc
   write_back (Err word.Read) e = absurd cc
@@ -83,6 +84,16 @@ module _ {B : Type 0} (t : Task B) (form : Form) (limit : ℕ) (own : B → Stat
   write_back (Err (word.Torn n)) e = absurd cc
   write_back (Err word.TooLong) e = absurd cc
   write_back (Err (word.Stopped why)) e = absurd (is.not_write why e)
+
+  pub memory_back : (ended : Ended B) → ended_status limit own ended ≡ answer.NoMemory → ended ≡ Err word.Memory
+  memory_back (Err word.Memory) e = refl
+  memory_back (Ok done) e = absurd cc
+  memory_back (Err word.Read) e = absurd cc
+  memory_back (Err word.Write) e = absurd cc
+  memory_back (Err word.NotFlow) e = absurd cc
+  memory_back (Err (word.Torn n)) e = absurd cc
+  memory_back (Err word.TooLong) e = absurd cc
+  memory_back (Err (word.Stopped why)) e = absurd (is.not_memory why e)
 
   pub not_asked : (ended : Ended B) → ended_status limit own ended ≢ answer.Usage
   not_asked (Err word.Write) e = absurd cc
@@ -110,7 +121,7 @@ module _ {B : Type 0} (t : Task B) (form : Form) (limit : ℕ) (own : B → Stat
 
   pub does : (ended : Ended B) (source out : Change) → driver.Does t limit ended source out → Does form limit (ended_status limit own ended) source out
   does ended source out done =
-      let met = meets_told source.before ended out.before out.after done.meets in
+      let met = meets_told source.before source.after ended out.before out.after done.meets in
       let reads : Blames (ended_status limit own ended ≡ answer.ReadFault) source.faults source.faults_after = record {
         later = done.reads.later;
         rose = λ e. done.reads.rose (read_back ended e);

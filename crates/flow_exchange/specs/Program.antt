@@ -11,7 +11,7 @@ use Rattle.flow_exchange.specs.declared.status.Status.{Status}
 use Rattle.flow_exchange.specs.declared.status.Status.TheVariants.{Done, Usage, NotFlow, Torn, ReadFault, WriteFault, NoMemory, Rejected, TooLong, BadText}
 use Rattle.flow_exchange.specs.Forms.{Asks, AsksNothing}
 use Rattle.flow_exchange.specs.Statuses.{line_of, ended_status, bad_text}
-use Rattle.flow_exchange.specs.Running.{RunsTo, RunsInto, RunsOut}
+use Rattle.flow_exchange.specs.Running.{RunsTo, RunsInto, RunsOut, KeepsPace}
 use Rattle.flow_exchange.specs.Auditing.{AuditsTo}
 use Rattle.flow_exchange.specs.Reporting.{ReportsTo, ReportsInto}
 
@@ -103,6 +103,8 @@ pub record Serves (limit : ℕ) (words : List (List ℕ)) (status : Status) (sou
   -- Usage comes exactly where the words are none of the forms.
   pub usage : (status ≡ Usage) ↔ AsksNothing words
   pub does : (form : Form) → Asks words form → Does form limit status source out
+  -- Where a run was cut short, how far it has read and what it has written.
+  pub paced : Asks words Run → KeepsPace limit status source out
   -- Notes grew by the line of the status, or by a front of it where a write of it failed. That changes nothing else.
   pub noted : (¬ Rose notes.faults notes.faults_after) → Grows notes.before notes.after (line_of status)
   pub cut : GrowsByFront notes.before notes.after (line_of status)

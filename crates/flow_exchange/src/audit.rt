@@ -12,7 +12,7 @@ use std::alloc::Global;
 use word_driver::go;
 
 /// Reads the source to its end or the limit, and audits its journal, pair after pair. Where all are legal and nothing
-/// stands behind them, a line with their counts is written by one call. The input is held whole.
+/// stands behind them, a line with their counts is written by one call. A window of 263,178 bytes is held.
 pub(crate) fn audit<S: Source, K: Sink>(
     alloc: Global,
     limit: u64,

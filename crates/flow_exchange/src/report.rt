@@ -12,7 +12,7 @@ use std::alloc::Global;
 use word_driver::go;
 
 /// Reads the source to its end or the limit, audits its journal, pair after pair, and writes the lines of each legal
-/// one by one call. The input is held whole; one buffer holds the lines of a pair at a time.
+/// one by one call. A window of 263,178 bytes is held, and one buffer for the lines of a pair.
 pub(crate) fn report<S: Source, K: Sink>(
     alloc: Global,
     limit: u64,

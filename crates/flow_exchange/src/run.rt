@@ -2,6 +2,7 @@
 ghost use Rattle.std.specs.Prelude.{◌≢◌};
 ghost use Rattle.flow_io.specs.Changes.{change};
 ghost use Rattle.flow_exchange.specs.Program.{Does};
+ghost use Rattle.flow_exchange.specs.Running.{KeepsPace};
 ghost use Rattle.flow_exchange.specs.declared.form.Form.TheVariants.{Run as run_form};
 
 use crate::Status;
@@ -11,9 +12,9 @@ use flow_io::{Sink, Source};
 use std::alloc::Global;
 use word_driver::go;
 
-/// Reads the source to its end or the limit, and writes the journal of its records. One write for the magic, and one
-/// for each pair. The input is held whole; one buffer, which is taken before anything is written, holds a pair at a
-/// time.
+/// Reads the source to its end or the limit, and writes the journal of its records: one write for the magic, and one
+/// for each pair. A record that has come is served, and its pair written, before the source is asked for more. A window
+/// of 1,029 bytes is held, and one buffer for a pair; both are taken before the first read.
 pub(crate) fn run<S: Source, K: Sink>(
     alloc: Global,
     limit: u64,
@@ -22,6 +23,8 @@ pub(crate) fn run<S: Source, K: Sink>(
 ) -> Status
     ensures asked { result ≢ Status.Usage }
     ensures does { Does run_form limit result (change S.rest S.faults source.old source.new)
+        (change K.held K.faults out.old out.new) }
+    ensures paced { KeepsPace limit result (change S.rest S.faults source.old source.new)
         (change K.held K.faults out.old out.new) }
 {
     let ended = go(alloc, limit, source, out, Run::new(alloc));

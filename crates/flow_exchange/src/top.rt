@@ -2,6 +2,7 @@
 ghost use Rattle.std.specs.Prelude.{◌≡◌, ◌≢◌, ◌^◌, Some, map, string_bytes};
 ghost use Rattle.flow_io.specs.Changes.{change};
 ghost use Rattle.flow_exchange.specs.Program.{Does, Serves};
+ghost use Rattle.flow_exchange.specs.Running.{KeepsPace};
 
 use crate::Status;
 use crate::audit::audit;
@@ -25,6 +26,8 @@ fn do_form<S: Source, K: Sink>(
 ) -> Status
     ensures asked { result ≢ Status.Usage }
     ensures does { Does form limit result (change S.rest S.faults source.old source.new)
+        (change K.held K.faults out.old out.new) }
+    ensures paced { form ≡ Form.Run → KeepsPace limit result (change S.rest S.faults source.old source.new)
         (change K.held K.faults out.old out.new) }
 {
     match form {
@@ -67,9 +70,13 @@ pub fn flow_limited<S: Source, K: Sink, N: Sink>(
 /// every status but `Done` it writes one line to notes; a fault of notes changes nothing.
 ///
 /// A command of `run` costs the same however many accounts and orders there are, but for the gap that a cancelled order leaves, which is
-/// closed by a block move. Memory: the input, one buffer for a pair, 528 bytes for each account, 64 bytes for each live
-/// order beside its entries, and the table of what orders need. Input, accounts and orders each stand in one block, which
-/// doubles as it grows: it has up to twice these bytes, and while it is moved the smaller one is there too.
+/// closed by a block move. Memory of `run`, `audit` and `report` is that of the market, whatever the length of the input: a window
+/// of 1,029 bytes (`run`) or 263,178, one buffer for a pair or its text, 528 bytes for each account, 64 bytes for each live order
+/// beside its entries, and the table of what orders need. Accounts and orders each stand in one block, which doubles as it grows: it
+/// has up to twice these bytes, and while it is moved the smaller one is there too. `encode` holds its input whole.
+///
+/// `run` answers a record before it asks for more: after a read fault the pairs of all whole records that came were written, and
+/// after a write fault no more than 1,030 bytes past the last of them were read.
 pub fn flow<S: Source, K: Sink, N: Sink>(
     alloc: Global,
     words: &[String],

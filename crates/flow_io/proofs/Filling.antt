@@ -125,32 +125,40 @@ still_open None not = refl
 still_open (Some end) not = absurd (not (λ e. absurd cc))
 
 -- What a window has read so far, from when it was `first`.
-pub record HasFilled {S : Type 0} (rest : S → Option (List ℕ)) (faults : S → ℕ) (first now : WindowState) (from source : S) : Type 0 where
+pub record HasFilled {S : Type 0} (rest : S → Option (List ℕ)) (faults : S → ℕ) (want : ℕ) (first now : WindowState) (from source : S) : Type 0 where
   pub fills : Fills first now (rest from) (rest source)
   pub ended : now.over ≡ Some Source → IfSome (rest source) (λ left. left ≡ [])
   pub quiet : faults source ≡ faults from
   pub over : first.over ≢ None → (now ≡ first) × (source ≡ from)
+  -- how the input ends is seen only where too few bytes are held
+  pub few : (now.over ≡ first.over) ⊎ (length now.held < want)
 
-module _ {S : Type 0} (rest : S → Option (List ℕ)) (faults : S → ℕ) where
-  pub filled_nothing : (w : WindowState) (s : S) → (w.over ≡ Some Source → IfSome (rest s) (λ left. left ≡ [])) → HasFilled rest faults w w s s
-  filled_nothing w s ended = record { fills = fills_nothing w (rest s); ended = ended; quiet = refl; over = λ not. (refl, refl) }
+-- where the end was seen by a read, as few bytes are held as before
+seen_where_few : (over first : Option InputEnd) (held less : List ℕ) (want : ℕ) → first ≡ None → (over ≢ None → held ≡ less) → length less < want → (over ≡ first) ⊎ (length held < want)
+seen_where_few None first held less want none same few = inl (sym none)
+seen_where_few (Some end) first held less want none same few = inr (omega (arith, ap length (same (λ e. absurd cc)), few))
 
-  first_open : (first now : WindowState) (from s : S) → HasFilled rest faults first now from s → now.over ≡ None → first.over ≡ None
+module _ {S : Type 0} (rest : S → Option (List ℕ)) (faults : S → ℕ) (want : ℕ) where
+  pub filled_nothing : (w : WindowState) (s : S) → (w.over ≡ Some Source → IfSome (rest s) (λ left. left ≡ [])) → HasFilled rest faults want w w s s
+  filled_nothing w s ended = record { fills = fills_nothing w (rest s); ended = ended; quiet = refl; over = λ not. (refl, refl); few = inl refl }
+
+  first_open : (first now : WindowState) (from s : S) → HasFilled rest faults want first now from s → now.over ≡ None → first.over ≡ None
   first_open first now from s so none = still_open first.over (λ not. not (ap (λ (w : WindowState). w.over) (sym (so.over not).0) ∙ none))
 
-  pub filled_more : (first a b : WindowState) (from s t : S) → HasFilled rest faults first a from s → a.over ≡ None → Fills a b (rest s) (rest t) → (b.over ≡ Some Source → IfSome (rest t) (λ left. left ≡ [])) → faults t ≡ faults s
-      → HasFilled rest faults first b from t
-  filled_more first a b from s t so none fills ended quiet =
+  pub filled_more : (first a b : WindowState) (from s t : S) → HasFilled rest faults want first a from s → a.over ≡ None → Fills a b (rest s) (rest t) → (b.over ≡ Some Source → IfSome (rest t) (λ left. left ≡ [])) → faults t ≡ faults s
+      → (b.over ≢ None → b.held ≡ a.held) → length a.held < want → HasFilled rest faults want first b from t
+  filled_more first a b from s t so none fills ended quiet still less =
       let open_first = first_open first a from s so none in
       record {
         fills = fills_more first a b (rest from) (rest s) (rest t) open_first none so.fills fills;
         ended = ended;
         quiet = quiet ∙ so.quiet;
         over = λ not. absurd (not open_first);
+        few = seen_where_few b.over first.over b.held a.held want open_first still less;
       }
 
   -- a read that failed
-  pub fills_to : (first a b : WindowState) (from s t : S) → HasFilled rest faults first a from s → a.over ≡ None → Fills a b (rest s) (rest t) → Fills first b (rest from) (rest t)
+  pub fills_to : (first a b : WindowState) (from s t : S) → HasFilled rest faults want first a from s → a.over ≡ None → Fills a b (rest s) (rest t) → Fills first b (rest from) (rest t)
   fills_to first a b from s t so none fills = fills_more first a b (rest from) (rest s) (rest t) (first_open first a from s so none) none so.fills fills
 
 -- each read but the last brings some bytes

@@ -103,6 +103,7 @@ impl Window {
         requires whole { self.old.place + length self.old.held ≡ self.old.limit }
         ensures fills { Fills self.old self.new (S.rest source.old) (S.rest source.new) }
         ensures seen { OnOk result (self.new.over ≢ None) }
+        ensures still { self.new.held ≡ self.old.held }
         ensures failed { OnErr result (self.new ≡ self.old) }
         ensures ended { self.new.over ≡ Some InputEnd.Source → IfSome (S.rest source.new) (λ left. left ≡ []) }
         ensures cause { Blames (IsErr result) (S.faults source.old) (S.faults source.new) }
@@ -124,6 +125,7 @@ impl Window {
         ensures fills { Fills self.old self.new (S.rest source.old) (S.rest source.new) }
         ensures further { OnOk result ((self.new.over ≢ None) ⊎ (length self.old.held < length self.new.held)) }
         ensures failed { OnErr result (self.new ≡ self.old) }
+        ensures still { self.new.over ≢ None → self.new.held ≡ self.old.held }
         ensures ended { self.new.over ≡ Some InputEnd.Source → IfSome (S.rest source.new) (λ left. left ≡ []) }
         ensures cause { Blames (IsErr result) (S.faults source.old) (S.faults source.new) }
     {
@@ -156,6 +158,7 @@ impl Window {
             ↔ ((length self.new.held < want) × (self.new.over ≡ Some InputEnd.Limit))) }
         ensures ended { IfOk result (λ filled. (filled ≡ Filled.Ended)
             ↔ ((length self.new.held < want) × (self.new.over ≡ Some InputEnd.Source))) }
+        ensures open { IfOk result (λ filled. filled ≡ Filled.Enough → self.new.over ≡ self.old.over) }
         ensures all { self.new.over ≡ Some InputEnd.Source → IfSome (S.rest source.new) (λ left. left ≡ []) }
         ensures within { IsWithin self.new.place (length self.new.held) self.new.limit self.new.over }
         ensures failed { OnErr result ((self.new.over ≡ None) × (length self.new.held < want)) }

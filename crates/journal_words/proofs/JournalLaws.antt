@@ -30,6 +30,7 @@ use Rattle.journal_words.specs.Line.{counted_line}
 use Rattle.journal_words.specs.Watching.{Watch, Watched, SeesOne, StopsOne, over_pairs}
 use Rattle.journal_words.specs.Words.{Counts, CountsOne, counting, telling, audit, report}
 use Rattle.journal_words.specs.Private.{HasRoom}
+use Rattle.journal_words.proofs.LongestPair.{longest}
 use Rattle.journal_words.proofs.SomeText.{some_text}
 
 -- What is watched is told by the pair: one is seen, one reason and one text where it isn't legal, and one at the end.
@@ -39,6 +40,10 @@ pub record IsExactWatch {S B : Type 0} (watch : Watch S B) : Type 0 where
   pub one_close : (m : Market) (n : ℕ) (s : S) (x y : List ℕ) → watch.Closes m n s x → watch.Closes m n s y → x ≡ y
   pub one_stop : (m : Market) (n : ℕ) (s : S) (b c : B) (x y : List ℕ) → watch.Stops m n s b x → watch.Stops m n s c y → (b ≡ c) × (x ≡ y)
   pub closes_or_stops : (m : Market) (n : ℕ) (s : S) (b : B) (x y : List ℕ) → watch.Closes m n s x → watch.Stops m n s b y → ⊥
+
+-- each magic has eight bytes
+eight : (version : Version) → length (journal_magic_of version) ≡ 8
+eight One = refl
 
 module _ {S B : Type 0} (watch : Watch S B) where
   abbrev watched : Market → ℕ → S → Watched S
@@ -62,6 +67,10 @@ module _ {S B : Type 0} (watch : Watch S B) where
     over_pairs_is_exact = record {
       readable = journals_readable;
       short = short_at_end;
+      magic = eight;
+      longest = longest;
+      some = omega arith;
+      few = omega arith;
       one_step = one_step;
       one_stop = one_stop;
       one_close = λ s x y a b. exact.one_close s.market s.pairs s.seen x y a b;
@@ -215,15 +224,14 @@ no_journal_there bytes journal One body e = absurd (let there = journal.1 (body,
 
 -- a journal begins, or none does
 pub opens_or_not : {S B : Type 0} (watch : Watch S B) (b : Bool) (bytes : List ℕ) (market : Market) (pairs : ℕ) (seen : S) (IsWithin : Type 0) (text : List ℕ)
-    → (IsTrue b ↔ ((body : List ℕ) × BeginsWith journals.magics bytes One body)) → length bytes < 2 ^ 64 → market ≡ empty_market → pairs ≡ 0 → IsWithin → text ≡ []
+    → (IsTrue b ↔ ((body : List ℕ) × BeginsWith journals.magics bytes One body)) → market ≡ empty_market → pairs ≡ 0 → IsWithin → text ≡ []
     → IsOpened (over_pairs watch) (λ version. record { market = empty_market; pairs = 0; seen = seen }) bytes (record { market = market; pairs = pairs; seen = seen }) (λ left. HasRoom market pairs left × IsWithin) text b
-opens_or_not watch true bytes market pairs seen IsWithin text journal fits new none within empty = record {
+opens_or_not watch true bytes market pairs seen IsWithin text journal new none within empty = record {
   version = One;
   magic = (tt, sym (take-append-drop 8 bytes) ∙ ap (λ xs. xs ++ drop 8 bytes) (begins_with_magic bytes (journal.0 refl)));
-  eight = refl;
   starts = same_watched watch (record { market = market; pairs = pairs; seen = seen }) (record { market = empty_market; pairs = 0; seen = seen }) new none refl;
   opening = empty;
-  ready = (record { orders = rw new (omega (arith, fits)); counts = omega (arith, fits, none) }, within);
+  ready = λ limit fits. (record { orders = rw new (omega (arith, fits)); counts = omega (arith, fits, none) }, within);
 }
-opens_or_not watch false bytes market pairs seen IsWithin text journal fits new none within empty =
+opens_or_not watch false bytes market pairs seen IsWithin text journal new none within empty =
     λ version body lawful e. absurd (no_journal_there bytes journal version body e)

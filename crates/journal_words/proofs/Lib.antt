@@ -1,2 +1,3 @@
+mod LongestPair
 mod SomeText
 pub mod JournalLaws

@@ -51,6 +51,7 @@ module _ {S B : Type 0} (watch : Watch S B) where
   abbrev pub over_pairs : Word (Record × Record) (Watched S) B
   over_pairs = record {
     format = journals;
+    longest = 263178;
     opens = λ version. [];
     Steps = SeesOne;
     Stops = StopsOne;

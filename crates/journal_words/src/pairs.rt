@@ -15,10 +15,12 @@ use journal_records::{PairFramed, PairView, is_journal, is_overlong, next_pair};
 use std::alloc::Global;
 use word_driver::{Halt, Memory, ServesWord};
 
-// Whether a journal stands there; its pairs can be numbered.
+// As many bytes has the longest pair: 5 and 1,024 of the command record, 5 and 262,144 of the reply's.
+const MOST_PAIR: usize = 263_178;
+
+// Whether a journal stands there.
 fn begins(bytes: &[u8]) -> bool
-    ensures journal { IsTrue result ↔ ((body : List ℕ) × BeginsWith journals.magics bytes.now One body) }
-    ensures fits { length bytes.now < 2 ^ 64 }
+    ensures { IsTrue result ↔ ((body : List ℕ) × BeginsWith journals.magics bytes.now One body) }
 {
     is_journal(bytes)
 }
@@ -91,6 +93,10 @@ impl<P: OnPair + Drop> ServesWord for Pairs<P> {
     const ROOM: usize = P::ROOM;
 
     ghost ROOM = { P.ROOM };
+
+    const LONGEST: usize = MOST_PAIR;
+
+    ghost LONGEST = { 263178 };
 
     ghost Unit = { Record × Record };
 

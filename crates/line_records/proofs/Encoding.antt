@@ -97,7 +97,7 @@ module _ (P Q : Type 0) (same : P ↔ Q) where
   ends_alike None ended (inl done) = inl (λ q. done.0 (same.1 q), done.1)
   ends_alike None ended (inr long) = inr (same.0 long.0, long.1)
 
-module _ (limit : ℕ) (left : List ℕ) (input : WholeInput) (whole : IsWholeInput limit left input) where
+module _ (limit : ℕ) (left : List ℕ) (after : Option (List ℕ)) (input : WholeInput) (whole : IsWholeInput limit left input) where
   -- the first lines of the input are those of what the source had
   encodes_into : (commands : List Command) → AreFirst (IsTrue input.more) input.bytes.items commands → EncodesInto limit left (command_magic ++ spell_commands commands)
   encodes_into commands first = record {
@@ -123,7 +123,7 @@ module _ (limit : ℕ) (left : List ℕ) (input : WholeInput) (whole : IsWholeIn
       (text, encodes, Grows-more before middle now command_magic (spell_commands encoded.commands) magic encoded.written, λ other words comes. encodes_one limit left other ended words text comes encodes)
 
   -- by the end
-  meets : (ended : Ended ℕ) (before middle now : Option (List ℕ)) → Grows before middle command_magic → EncodesAll (IsTrue input.more) input.bytes.items ended middle now → Meets encoding limit left ended before now
+  meets : (ended : Ended ℕ) (before middle now : Option (List ℕ)) → Grows before middle command_magic → EncodesAll (IsTrue input.more) input.bytes.items ended middle now → Meets encoding limit left after ended before now
   meets (Err fault.Write) before middle now magic encoded =
       (command_magic ++ spell_commands encoded.0, inl (0, inr (encodes_into encoded.0 encoded.1)), GrowsByFront-more before middle now command_magic (spell_commands encoded.0) magic encoded.2)
   meets (Err fault.Memory) before middle now magic encoded =
@@ -150,16 +150,16 @@ none_first input =
     }
 
 -- over what the source told
-pub encodes_lines : (told : Option (List ℕ)) (limit : ℕ) (input : WholeInput) (ended : Ended ℕ) (before middle now : Option (List ℕ)) → IfSome told (λ left. IsWholeInput limit left input) → Grows before middle command_magic
-    → EncodesAll (IsTrue input.more) input.bytes.items ended middle now → IfSome told (λ left. Meets encoding limit left ended before now)
-encodes_lines None limit input ended before middle now whole magic encoded = tt
-encodes_lines (Some left) limit input ended before middle now whole magic encoded = meets limit left input whole ended before middle now magic encoded
+pub encodes_lines : (told after : Option (List ℕ)) (limit : ℕ) (input : WholeInput) (ended : Ended ℕ) (before middle now : Option (List ℕ)) → IfSome told (λ left. IsWholeInput limit left input) → Grows before middle command_magic
+    → EncodesAll (IsTrue input.more) input.bytes.items ended middle now → IfSome told (λ left. Meets encoding limit left after ended before now)
+encodes_lines None after limit input ended before middle now whole magic encoded = tt
+encodes_lines (Some left) after limit input ended before middle now whole magic encoded = meets limit left after input whole ended before middle now magic encoded
 
 -- the write of the magic failed
-pub encodes_not : (told : Option (List ℕ)) (limit : ℕ) (input : WholeInput) (before now : Option (List ℕ)) → IfSome told (λ left. IsWholeInput limit left input) → GrowsByFront before now command_magic
-    → IfSome told (λ left. Meets encoding limit left (Err fault.Write) before now)
-encodes_not None limit input before now whole cut = tt
-encodes_not (Some left) limit input before now whole cut = (command_magic, inl (0, inr (encodes_into limit left input whole [] (none_first input))), cut)
+pub encodes_not : (told after : Option (List ℕ)) (limit : ℕ) (input : WholeInput) (before now : Option (List ℕ)) → IfSome told (λ left. IsWholeInput limit left input) → GrowsByFront before now command_magic
+    → IfSome told (λ left. Meets encoding limit left after (Err fault.Write) before now)
+encodes_not None after limit input before now whole cut = tt
+encodes_not (Some left) after limit input before now whole cut = (command_magic, inl (0, inr (encodes_into limit left after input whole [] (none_first input))), cut)
 
 -- where all was done, the input has no more
 pub left_told : (told after : Option (List ℕ)) (limit : ℕ) (input : WholeInput) (ended : Ended ℕ) (middle now : Option (List ℕ)) → IfSome told (λ left. IsWholeInput limit left input) → IfSome told (λ left. after ≡ Some (drop (limit + 1) left))

@@ -1,5 +1,5 @@
 -- `flow encode` as a task.
-use Rattle.std.specs.Prelude.{◌≡◌, ◌⊎◌, ◌+◌, ℕ, []}
+use Rattle.std.specs.Prelude.{◌≡◌, ◌⊎◌, ◌+◌, ℕ, [], ⊥}
 use Rattle.word_driver.specs.Does.{Task}
 use Rattle.line_records.specs.Encoding.{EncodesTo, EncodesInto}
 
@@ -10,6 +10,8 @@ encoding = record {
   Comes = EncodesTo;
   Begins = λ limit bytes n text. (text ≡ []) ⊎ EncodesInto limit bytes text;
   Lacks = λ limit bytes text. (text ≡ []) ⊎ EncodesInto limit bytes text;
+  Passed = λ limit bytes n text. ⊥;
+  ahead = λ limit. limit + 1;
   most_taken = λ limit. limit + 1;
   left = λ bytes. [];
 }

@@ -1,6 +1,6 @@
 -- What going through the units of a file has written, to its end or to where it breaks off.
-use Rattle.std.proofs.Common.{◌≡◌, ◌+◌, ℕ, List, [], ◌∷◌, ◌++◌, Option, Some, None, Result, Ok, Err, length, take, inl, inr, append-nil, append_assoc, refl, sym, ap, ◌∙◌, arith}
-use Rattle.std.proofs.lemmas.List.{flat_map_more, take_at}
+use Rattle.std.proofs.Common.{◌≡◌, ◌≢◌, ◌+◌, ◌<◌, ◌≤◌, ℕ, List, [], ◌∷◌, ◌++◌, Option, Some, None, IfSome, Result, Ok, Err, length, take, inl, inr, append-nil, append_assoc, length-append, refl, sym, ap, ◌∙◌, arith}
+use Rattle.std.proofs.lemmas.List.{flat_map_more, take_at, length-take}
 use Rattle.std.proofs.lemmas.List.Elements.{All-push}
 use Rattle.flow_io.specs.Faults.{Blames}
 use Rattle.flow_io.specs.Streams.{Grows}
@@ -9,12 +9,16 @@ use Rattle.wire_records.specs.Grammars.{spell_all}
 use Rattle.wire_records.specs.Reading as reading
 use Rattle.wire_records.proofs.ReadingLaws.{none_in_none}
 use Rattle.file_units.specs.Units.{Leads, GoesToEnd, GoesToBreak}
+use Rattle.file_units.specs.Inputs.{known}
+use Rattle.file_units.specs.declared.input.TakeFault.{TakeFault}
+use Rattle.file_units.specs.declared.input.TakeFault.TheVariants.{Broken}
+use Rattle.file_units.specs.declared.input.TakeFault.TheVariants as taking
 use Rattle.word_driver.specs.declared.fault.Fault.{Fault}
 use Rattle.word_driver.specs.declared.fault.Fault.TheVariants.{Read, Write, Memory, NotFlow, Torn, TooLong, Stopped}
 use Rattle.word_driver.specs.Ended.{Ended}
 use Rattle.word_driver.specs.Word.{Word, Goes, ComesOn}
 use Rattle.word_driver.specs.Laws.{IsExact}
-use Rattle.word_driver.specs.Private.{Closed, Ends}
+use Rattle.word_driver.specs.Private.{Closed, IsNear, Ends}
 use Rattle.word_driver.proofs.Pieces.{Writes, Breaks}
 
 -- where the count is as before, and nothing failed, nothing is to be blamed
@@ -33,13 +37,17 @@ blames_later before middle now same to back cause = record {
 same_fault : (T F : Type 0) (a b : F) → ◌≡◌ {A = Result T F} (Err a) (Err b) → a ≡ b
 same_fault T F a b e = cc
 
--- a call's fault is that of the call in it
-pub blames_fault : {T F : Type 0} (result : Result T F) (x fault why : F) (before now : ℕ) → result ≡ Err x → x ≡ fault → Blames (fault ≡ why) before now → Blames (result ≡ Err why) before now
-blames_fault {T} {F} result x fault why before now is same cause = record {
+-- a fault is to blame where the answer with it is
+pub err_alike : {T F : Type 0} (a why : F) (before now : ℕ) → Blames (a ≡ why) before now → Blames (◌≡◌ {A = Result T F} (Err a) (Err why)) before now
+err_alike {T} {F} a why before now cause = record {
   later = cause.later;
-  rose = λ e. cause.rose (sym same ∙ same_fault T F x why (sym is ∙ e));
-  quiet = λ not. cause.quiet (λ e. not (is ∙ ap (λ (f : F). Err f) (same ∙ e)));
+  rose = λ e. cause.rose (same_fault T F a why e);
+  quiet = λ not. cause.quiet (λ e. not (ap (λ (f : F). Err f) e));
 }
+
+-- breaking off is no failed read
+pub broken_is_no_read : {T F : Type 0} (fault : F) → ◌≡◌ {A = Result T (TakeFault F)} (Err (Broken fault)) (Err taking.Read) → ⊥
+broken_is_no_read {T} {F} fault e = absurd (let same = same_fault T (TakeFault F) (Broken fault) taking.Read e in cc)
 
 module _ {U S B : Type 0} (w : Word U S B) where
   -- units lead on by one more
@@ -54,6 +62,11 @@ module _ {U S B : Type 0} (w : Word U S B) where
     goes_more goes.0 middle new units unit goes.2 last goes.4 step,
     ap (λ xs. xs ++ last) goes.5 ∙ append_assoc goes.1 goes.2 last,
   )
+
+-- no fewer bytes are known than were taken
+no_fewer : (taken : List ℕ) (after : Option (List ℕ)) → length taken ≤ length (known taken after)
+no_fewer taken None = omega arith
+no_fewer taken (Some left) = omega (arith, length-append taken left)
 
 module _ {U S B O : Type 0} (w : Word U S B) (held : O → Option (List ℕ)) (faults : O → ℕ) where
   -- What units have written, and no fault came.
@@ -80,12 +93,30 @@ module _ {U S B O : Type 0} (w : Word U S B) (held : O → Option (List ℕ)) (f
         quiet = rest.quiet ∙ one.quiet;
       }
 
-  module _ (More : Type 0) (place : ℕ) (bytes : List ℕ) (start new : S) (before middle after : O) where
+  -- where the input ended, no more was seen than the units
+  pub near_where_ended : (limit place : ℕ) (front taken : List ℕ) (after : Option (List ℕ)) (start new : S) (before middle : O)
+      (goes : GoesToEnd w.format (Writes w held faults) place (limit < length (front ++ known taken after)) (take limit (front ++ known taken after)) reading.End start new before middle) (most : ℕ)
+      → length (front ++ taken) ≤ length (spell_all w.format.units goes.units) + most
+  near_where_ended limit place front taken after start new before middle goes most =
+      let reads = goes.reads in
+      omega (
+      arith,
+      reads.ends.1,
+      ap length reads.whole,
+      ap length reads.ends.2,
+      length-append (spell_all w.format.units goes.units) reads.rest,
+      length-take limit (front ++ known taken after),
+      length-append front (known taken after),
+      length-append front taken,
+      no_fewer taken after,
+      )
+
+  module _ (More : Type 0) (place : ℕ) (bytes : List ℕ) (start new : S) (before middle after : O) (most : ℕ) (seen : List ℕ) (left : Option (List ℕ)) where
     -- all units were taken, and no whole one is left
     abbrev pub ToEnd : reading.Ending → Type 0
     ToEnd ending = GoesToEnd w.format (Writes w held faults) place More bytes ending start new before middle
 
-    pub to_torn : (n : ℕ) → ToEnd (reading.Torn n) → Ends w More place bytes start (Err (Torn n)) (held before) (held middle)
+    pub to_torn : (n : ℕ) → ToEnd (reading.Torn n) → Ends w More place bytes start most seen left (Err (Torn n)) (held before) (held middle)
     to_torn n goes =
         let so = has_written start new before middle goes.units goes.leads in
         let reads = goes.reads in (
@@ -103,7 +134,7 @@ module _ {U S B O : Type 0} (w : Word U S B) (held : O → Option (List ℕ)) (f
           so.written,
         )
 
-    pub to_limit : ToEnd reading.TooLong → Ends w More place bytes start (Err TooLong) (held before) (held middle)
+    pub to_limit : ToEnd reading.TooLong → Ends w More place bytes start most seen left (Err TooLong) (held before) (held middle)
     to_limit goes =
         let so = has_written start new before middle goes.units goes.leads in
         let reads = goes.reads in (
@@ -120,6 +151,21 @@ module _ {U S B O : Type 0} (w : Word U S B) (held : O → Option (List ℕ)) (f
           },
           so.written,
         )
+
+    -- all units stand whole in out
+    near_end : (goes : ToEnd reading.End) (so : HasWritten start goes.units new before middle) (more : List ℕ) → Grows (held middle) (held after) more → length seen ≤ length (spell_all w.format.units goes.units) + most → IsNear w most bytes start seen (held before) (held after)
+    near_end goes so more written few =
+        let reads = goes.reads in
+        record {
+          units = goes.units;
+          left = reads.rest;
+          state = new;
+          text = so.text;
+          more = more;
+          passes = record { whole = reads.whole; each = reads.each; goes = so.goes };
+          written = Grows-more (held before) (held middle) (held after) so.text more so.written written;
+          near = few;
+        }
 
     -- it closed, and wrote this
     closed : (goes : ToEnd reading.End) (so : HasWritten start goes.units new before middle) (last : List ℕ) → w.Closes new last → ComesOn w More place bytes start (Ok tt) (so.text ++ last)
@@ -151,12 +197,13 @@ module _ {U S B O : Type 0} (w : Word U S B) (held : O → Option (List ℕ)) (f
           writes = refl;
         }
 
-    pub to_end : (result : Ended B) → ToEnd reading.End → Closed w new result (held middle) (held after) → Ends w More place bytes start result (held before) (held after)
-    to_end (Ok done) goes closes =
+    pub to_end : (result : Ended B) (goes : ToEnd reading.End) → IfSome left (λ rest. rest ≡ []) → length seen ≤ length (spell_all w.format.units goes.units) + most → Closed w new result (held middle) (held after) → Ends w More place bytes start most seen left result (held before) (held after)
+    to_end (Ok done) goes none few closes =
         let so = has_written start new before middle goes.units goes.leads in
-        (so.text ++ closes.0, closed goes so closes.0 closes.1, Grows-more (held before) (held middle) (held after) so.text closes.0 so.written closes.2)
-    to_end (Err Write) goes closes =
+        (none, so.text ++ closes.0, closed goes so closes.0 closes.1, Grows-more (held before) (held middle) (held after) so.text closes.0 so.written closes.2)
+    to_end (Err Write) goes none few closes =
         let so = has_written start new before middle goes.units goes.leads in (
+          near_end goes so (take closes.2.0 closes.0) closes.2.2 few,
           so.text ++ closes.0,
           elim closes.1 [
             | inl last ↦ inr (Ok tt, closed goes so closes.0 last)
@@ -164,9 +211,10 @@ module _ {U S B O : Type 0} (w : Word U S B) (held : O → Option (List ℕ)) (f
           ],
           GrowsByFront-more (held before) (held middle) (held after) so.text closes.0 so.written closes.2,
         )
-    to_end (Err Memory) goes closes =
+    to_end (Err Memory) goes none few closes =
         let so = has_written start new before middle goes.units goes.leads in
         let reads = goes.reads in (
+          near_end goes so [] (rw closes.1 (Grows-nothing (held middle))) few,
           so.text,
           record {
             units = goes.units;
@@ -177,15 +225,20 @@ module _ {U S B O : Type 0} (w : Word U S B) (held : O → Option (List ℕ)) (f
           },
           rw closes.1 so.written,
         )
-    to_end (Err (Stopped why)) goes closes =
+    to_end (Err (Stopped why)) goes none few closes =
         let so = has_written start new before middle goes.units goes.leads in
         (so.text ++ closes.0, stopped goes so why closes.0 closes.1, Grows-more (held before) (held middle) (held after) so.text closes.0 so.written closes.2)
-    to_end (Err Read) goes closes = absurd closes
-    to_end (Err NotFlow) goes closes = absurd closes
-    to_end (Err (Torn n)) goes closes = absurd closes
-    to_end (Err TooLong) goes closes = absurd closes
+    to_end (Err Read) goes none few closes = absurd closes
+    to_end (Err NotFlow) goes none few closes = absurd closes
+    to_end (Err (Torn n)) goes none few closes = absurd closes
+    to_end (Err TooLong) goes none few closes = absurd closes
 
-  module _ (exact : IsExact w) (More : Type 0) (place : ℕ) (bytes : List ℕ) (start : S) (before after : O) where
+  -- a read failed behind all units that were seen
+  pub to_unread : (More : Type 0) (place : ℕ) (bytes seen : List ℕ) (start new : S) (before after : O) (most : ℕ) (left : Option (List ℕ)) → GoesToEnd w.format (Writes w held faults) place (Unit {0}) (take (length seen) bytes) reading.TooLong start new before after
+      → Ends w More place bytes start most seen left (Err Read) (held before) (held after)
+  to_unread More place bytes seen start new before after most left goes = to_limit (Unit {0}) place (take (length seen) bytes) start new before after after most seen left goes
+
+  module _ (exact : IsExact w) (More : Type 0) (place : ℕ) (bytes : List ℕ) (start : S) (before after : O) (most : ℕ) (seen : List ℕ) (left : Option (List ℕ)) where
     -- going through the units broke off with a fault
     abbrev pub ToBreak : Fault B → Type 0
     ToBreak fault = GoesToBreak w.format (Writes w held faults) (Breaks w held faults) bytes fault start before after
@@ -235,10 +288,25 @@ module _ {U S B O : Type 0} (w : Word U S B) (held : O → Option (List ℕ)) (f
           writes = refl;
         }
 
-    pub to_break : (fault : Fault B) → ToBreak fault → Ends w More place bytes start (Err fault) (held before) (held after)
-    to_break Write goes =
+    -- the units before stand whole in out
+    near_break : {fault : Fault B} (goes : ToBreak fault) (so : HasWritten start goes.units goes.middle before goes.between) (more : List ℕ) → Grows (held goes.between) (held after) more → length seen ≤ length (spell_all w.format.units goes.units) + most
+        → IsNear w most bytes start seen (held before) (held after)
+    near_break goes so more written few = record {
+      units = goes.units;
+      left = goes.left;
+      state = goes.middle;
+      text = so.text;
+      more = more;
+      passes = record { whole = goes.begins; each = goes.each; goes = so.goes };
+      written = Grows-more (held before) (held goes.between) (held after) so.text more so.written written;
+      near = few;
+    }
+
+    pub to_break : (fault : Fault B) (goes : ToBreak fault) → length seen ≤ length (spell_all w.format.units goes.units) + most → Ends w More place bytes start most seen left (Err fault) (held before) (held after)
+    to_break Write goes few =
         let so = has_written start goes.middle before goes.between goes.units goes.leads in
         let broke = goes.breaks.broken.faults in (
+          near_break goes so (take broke.2.0 broke.0) broke.2.2 few,
           so.text ++ broke.0,
           elim broke.1 [
             | inl step ↦ inl (one_more goes so step.0 broke.0 step.1)
@@ -246,9 +314,10 @@ module _ {U S B O : Type 0} (w : Word U S B) (held : O → Option (List ℕ)) (f
           ],
           GrowsByFront-more (held before) (held goes.between) (held after) so.text broke.0 so.written broke.2,
         )
-    to_break Memory goes =
+    to_break Memory goes few =
         let so = has_written start goes.middle before goes.between goes.units goes.leads in
         let off = goes.breaks in (
+          near_break goes so [] (rw off.broken.faults.1 (Grows-nothing (held goes.between))) few,
           so.text,
           record {
             units = goes.units;
@@ -259,17 +328,30 @@ module _ {U S B O : Type 0} (w : Word U S B) (held : O → Option (List ℕ)) (f
           },
           rw off.broken.faults.1 so.written,
         )
-    to_break (Stopped why) goes =
+    to_break (Stopped why) goes few =
         let so = has_written start goes.middle before goes.between goes.units goes.leads in
         let broke = goes.breaks.broken.faults in
         (so.text ++ broke.0, stopped_at goes so why broke.0 broke.1, Grows-more (held before) (held goes.between) (held after) so.text broke.0 so.written broke.2)
-    to_break Read goes = absurd goes.breaks.broken.faults
-    to_break NotFlow goes = absurd goes.breaks.broken.faults
-    to_break (Torn n) goes = absurd goes.breaks.broken.faults
-    to_break TooLong goes = absurd goes.breaks.broken.faults
+    to_break Read goes few = absurd goes.breaks.broken.faults
+    to_break NotFlow goes few = absurd goes.breaks.broken.faults
+    to_break (Torn n) goes few = absurd goes.breaks.broken.faults
+    to_break TooLong goes few = absurd goes.breaks.broken.faults
 
     -- the fault of out is to be blamed, or nothing
     pub break_blames : (fault : Fault B) → ToBreak fault → Blames (fault ≡ Write) (faults before) (faults after)
     break_blames fault goes =
         let so = has_written start goes.middle before goes.between goes.units goes.leads in
         blames_later (faults before) (faults goes.between) (faults after) so.quiet (λ e. e) (λ e. e) goes.breaks.broken.cause
+
+    -- and no fault of the source
+    not_read : (fault : Fault B) → ToBreak fault → fault ≢ Read
+    not_read Write goes e = absurd cc
+    not_read Memory goes e = absurd cc
+    not_read NotFlow goes e = absurd cc
+    not_read TooLong goes e = absurd cc
+    not_read (Torn n) goes e = absurd cc
+    not_read (Stopped why) goes e = absurd cc
+    not_read Read goes e = absurd goes.breaks.broken.faults
+
+    pub no_read_broken : (fault : Fault B) → ToBreak fault → (was now : ℕ) → now ≡ was → Blames (◌≡◌ {A = Ended B} (Err fault) (Err Read)) was now
+    no_read_broken fault goes was now same = blames_nobody was now (λ e. not_read fault goes (same_fault (Unit {0}) (Fault B) fault Read e)) same

@@ -2,6 +2,7 @@ pub mod Pieces
 pub mod Going
 pub mod Ahead
 pub mod OneEnds
+mod Alike
 mod Doing
 pub mod Tasks
 mod Whole

@@ -1,140 +1,201 @@
 -- What a word does to its source and its output.
-use Rattle.std.proofs.Common.{◌≡◌, ◌≢◌, ◌+◌, ◌<◌, ◌≤◌, ◌↔◌, ℕ, List, [], Option, Some, None, Ok, Err, IfSome, OnOk, IsTrue, length, take, drop, inl, inr, refl, ap, ◌∙◌, subst, arith}
-use Rattle.std.proofs.lemmas.List.{drop_all}
-use Rattle.flow_io.specs.declared.whole.WholeInput.{WholeInput}
+use Rattle.std.proofs.Common.{◌≡◌, ◌≢◌, ◌+◌, ◌<◌, ◌≤◌, ◌⊎◌, ℕ, List, [], ◌++◌, Option, Some, None, Ok, Err, IfSome, OnOk, length, take, inl, inr, append-nil, append_assoc, length-append, refl, sym, ap, ◌∙◌, subst, arith}
+use Rattle.std.proofs.lemmas.List.{take_at, length-take}
 use Rattle.flow_io.specs.Faults.{Blames}
 use Rattle.flow_io.specs.Changes.{Change}
-use Rattle.flow_io.specs.Streams.{Grows, TakesAtMost}
-use Rattle.flow_io.specs.Whole.{IsWholeInput}
-use Rattle.wire_records.specs.Grammars.{spell_all}
-use Rattle.wire_records.proofs.ReadingLaws.{none_in_none}
-use Rattle.wire_records.specs.Reading.{Ending, End, EndsAs}
-use Rattle.wire_records.specs.Reading as reading
+use Rattle.flow_io.specs.Streams.{Takes, Grows, TakesAtMost}
+use Rattle.flow_io.specs.Windows.{WindowState, IsPast, IsWithin, Fills, empty_window}
+use Rattle.flow_io.specs.declared.window.InputEnd.{InputEnd}
+use Rattle.flow_io.specs.declared.window.InputEnd.TheVariants.{Source, Limit}
+use Rattle.flow_io.proofs.Growth.{Grows-nothing}
+use Rattle.flow_io.proofs.Reading.{Takes-more}
+use Rattle.wire_records.specs.Grammars.{BeginsWithNone}
 use Rattle.wire_records.specs.Formats.{Version}
+use Rattle.wire_records.proofs.ReadingLaws.{none_in_none}
+use Rattle.file_units.specs.Inputs.{known}
+use Rattle.file_units.proofs.Gone.{within_limit}
 use Rattle.word_driver.specs.declared.fault.Fault.TheVariants.{Read, Write, Memory, NotFlow, Torn, TooLong, Stopped}
 use Rattle.word_driver.specs.Ended.{Ended}
-use Rattle.word_driver.specs.Word.{Word, ComesOn, LacksOn, AtEnd, Halts, Comes, Lacks}
-use Rattle.word_driver.specs.Does.{task, Determines, Meets, Does}
+use Rattle.word_driver.specs.Word.{Word, Comes}
+use Rattle.word_driver.specs.Does.{task, IsTaken, Determines, Meets, KeepsUp, Does}
 use Rattle.word_driver.specs.Laws.{IsExact}
-use Rattle.word_driver.specs.Private.{Finds}
+use Rattle.word_driver.specs.Private.{IsNearAll, Finds, GoesOver}
 use Rattle.word_driver.proofs.OneEnds.{one_end}
 use Rattle.word_driver.proofs.Tasks as tasks
 
--- ---- whether there is more may be said in another way
+-- what was taken is no more than so many bytes
+pub took : (told after : Option (List ℕ)) (taken : List ℕ) (most : ℕ) → Takes told after taken → length taken ≤ most → TakesAtMost told after most
+took None after taken most takes few = tt
+took (Some bytes) None taken most takes few = absurd takes
+took (Some bytes) (Some left) taken most takes few = omega (arith, ap length takes, length-append taken left, few)
 
-module _ {U S B : Type 0} (w : Word U S B) (start : Version → S) (P Q : Type 0) (same : P ↔ Q) where
-  ends_alike : (rest : List ℕ) (place : ℕ) (ending : Ending) → EndsAs w.format P rest place ending → EndsAs w.format Q rest place ending
-  ends_alike rest place End ends = (ends.0, λ q. ends.1 (same.1 q), ends.2)
-  ends_alike rest place reading.TooLong ends = (ends.0, same.0 ends.1)
-  ends_alike rest place (reading.Torn n) ends =
-      (ends.0, elim ends.1 [ inl over ↦ inl over | inr short ↦ inr (λ q. short.0 (same.1 q), short.1) ])
-
-  at_end_alike : (place : ℕ) (rest : List ℕ) (ending : Ending) → AtEnd w P place rest ending → AtEnd w Q place rest ending
-  at_end_alike place rest ending at = (at.0, ends_alike rest place ending at.1)
-
-  halts_alike : (place : ℕ) (rest : List ℕ) (state : S) (ended : Ended B) (last : List ℕ) → Halts w P place rest state ended last → Halts w Q place rest state ended last
-  halts_alike place rest state (Ok done) last halts = (at_end_alike place rest End halts.0, halts.1)
-  halts_alike place rest state (Err (Torn n)) last halts = (at_end_alike place rest (reading.Torn n) halts.0, halts.1)
-  halts_alike place rest state (Err TooLong) last halts = (at_end_alike place rest reading.TooLong halts.0, halts.1)
-  halts_alike place rest state (Err (Stopped why)) last (inl at) = inl at
-  halts_alike place rest state (Err (Stopped why)) last (inr halts) = inr (at_end_alike place rest End halts.0, halts.1)
-  halts_alike place rest state (Err NotFlow) last halts = halts
-  halts_alike place rest state (Err Read) last halts = halts
-  halts_alike place rest state (Err Write) last halts = halts
-  halts_alike place rest state (Err Memory) last halts = halts
-
-  comes_alike : (bytes : List ℕ) (ended : Ended B) (text : List ℕ) → Comes w start bytes P ended text → Comes w start bytes Q ended text
-  comes_alike bytes ended text (inl none) = inl none
-  comes_alike bytes ended text (inr (version, body, behind, magic, is, (on, keeps))) =
-      let moved : ComesOn w Q (length (w.format.magics.spell version)) body (start version) ended behind = record {
-        units = on.units;
-        rest = on.rest;
-        state = on.state;
-        so_far = on.so_far;
-        last = on.last;
-        passes = on.passes;
-        halts = halts_alike (length (w.format.magics.spell version) + length (spell_all w.format.units on.units)) on.rest on.state ended on.last on.halts;
-        writes = on.writes;
-      } in
-      inr (version, body, behind, magic, is, (moved, keeps))
-
-  lacks_alike : (bytes : List ℕ) (text : List ℕ) → Lacks w start bytes P text → Lacks w start bytes Q text
-  lacks_alike bytes text (inl none) = inl none
-  lacks_alike bytes text (inr (version, body, behind, magic, is, (on, keeps))) =
-      let moved : LacksOn w Q (length (w.format.magics.spell version)) body (start version) behind = record {
-        units = on.units;
-        rest = on.rest;
-        state = on.state;
-        passes = on.passes;
-        wants = elim on.wants [ inl at ↦ inl at | inr (at, wants) ↦ inr (at_end_alike (length (w.format.magics.spell version) + length (spell_all w.format.units on.units)) on.rest End at, wants) ];
-      } in
-      inr (version, body, behind, magic, is, (moved, keeps))
-
--- ---- what was found is what the source's bytes come to
+-- nothing was taken
+pub nothing_taken : (told : Option (List ℕ)) → Takes told told [] × ((most : ℕ) → TakesAtMost told told most)
+nothing_taken None = (tt, λ most. tt)
+nothing_taken (Some left) = (refl, λ most. omega arith)
 
 module _ {U S B : Type 0} (w : Word U S B) (start : Version → S) (exact : IsExact w) (limit : ℕ) where
-  determines : (left : List ℕ) (input : WholeInput) (ended : Ended B) (before after : Option (List ℕ)) → IsWholeInput limit left input
-      → (text : List ℕ) × Comes w start input.bytes.items (IsTrue input.more) ended text × Grows before after text → Determines (task w start) limit left ended before after
-  determines left input ended before after whole (text, comes, written) =
-      let moved : Comes w start (take limit left) (limit < length left) ended text =
-      subst (λ (xs : List ℕ). Comes w start xs (limit < length left) ended text) whole.bytes (comes_alike w start (IsTrue input.more) (limit < length left) whole.more input.bytes.items ended text comes)
+  -- ---- what was found is what the source's bytes come to
+
+  module _ (bytes seen left : List ℕ) (whole : bytes ≡ seen ++ left) where
+    determines : (ended : Ended B) (before after : Option (List ℕ)) → (text : List ℕ) × Comes w start (take limit bytes) (limit < length bytes) ended text × Grows before after text → Determines (task w start) limit bytes ended before after
+    determines ended before after (text, comes, written) = (text, comes, written, λ other words also. one_end w start exact limit bytes other ended words text also comes)
+
+    all_seen : IsTaken bytes (Some left) (length seen)
+    all_seen = omega (arith, ap length whole, length-append seen left)
+
+    found : (ended : Ended B) (before after : Option (List ℕ)) → Finds w start (limit < length bytes) (take limit bytes) (w.longest + 1) seen (Some left) ended before after → Meets (task w start) limit bytes (Some left) ended before after
+    found (Ok done) before after (none, text, comes, written) = determines (Ok done) before after (text, comes, written)
+    found (Err NotFlow) before after finds = determines (Err NotFlow) before after finds
+    found (Err (Torn n)) before after finds = determines (Err (Torn n)) before after finds
+    found (Err TooLong) before after finds = determines (Err TooLong) before after finds
+    found (Err (Stopped why)) before after finds = determines (Err (Stopped why)) before after finds
+    found (Err Memory) before after (near, text, lacks, written) = (text, lacks, written)
+    found (Err Write) before after (near, text, gets, written) = (text, elim gets [ inl (n, ended, comes) ↦ inl (n, (ended, comes)) | inr (ended, comes) ↦ inr (ended, comes) ], written)
+    found (Err Read) before after (ended, text, comes, written) = (length seen, all_seen, text, (ended, comes), written)
+
+    near : (before after : Option (List ℕ)) → IsNearAll w start (limit < length bytes) (take limit bytes) (w.longest + 1) seen (Some left) before after → KeepsUp (task w start) limit bytes (Some left) before after
+    near before after (n, few, stands) = (n, length seen, all_seen, few, stands)
+
+    keeps_up : (ended : Ended B) (before after : Option (List ℕ)) → Finds w start (limit < length bytes) (take limit bytes) (w.longest + 1) seen (Some left) ended before after → (ended ≡ Err Write) ⊎ (ended ≡ Err Memory) → KeepsUp (task w start) limit bytes (Some left) before after
+    keeps_up (Err Write) before after finds why = near before after finds.0
+    keeps_up (Err Memory) before after finds why = near before after finds.0
+    keeps_up (Ok done) before after finds why = absurd (elim why [ inl e ↦ cc | inr e ↦ cc ])
+    keeps_up (Err NotFlow) before after finds why = absurd (elim why [ inl e ↦ cc | inr e ↦ cc ])
+    keeps_up (Err Read) before after finds why = absurd (elim why [ inl e ↦ cc | inr e ↦ cc ])
+    keeps_up (Err TooLong) before after finds why = absurd (elim why [ inl e ↦ cc | inr e ↦ cc ])
+    keeps_up (Err (Torn n)) before after finds why = absurd (elim why [ inl e ↦ cc | inr e ↦ cc ])
+    keeps_up (Err (Stopped b)) before after finds why = absurd (elim why [ inl e ↦ cc | inr e ↦ cc ])
+
+    none_left : (ended : Ended B) (before after : Option (List ℕ)) → Finds w start (limit < length bytes) (take limit bytes) (w.longest + 1) seen (Some left) ended before after → OnOk ended (◌≡◌ {A = Option (List ℕ)} (Some left) (Some []))
+    none_left (Ok done) before after finds = ap (λ (xs : List ℕ). Some xs) finds.0
+    none_left (Err why) before after finds = tt
+
+  -- over what the source told
+  abbrev FindsAll : (held taken : List ℕ) → Option (List ℕ) → Ended B → Change → Type 0
+  FindsAll held taken after ended out = Finds w start (limit < length (held ++ known taken after)) (take limit (held ++ known taken after)) (w.longest + 1) (held ++ taken) after ended out.before out.after
+
+  record AreTold (told after : Option (List ℕ)) (ended : Ended B) (out : Change) : Type 0 where
+    meets : IfSome told (λ bytes. Meets (task w start) limit bytes after ended out.before out.after)
+    keeps_up : (ended ≡ Err Write) ⊎ (ended ≡ Err Memory) → IfSome told (λ bytes. KeepsUp (task w start) limit bytes after out.before out.after)
+    left : OnOk ended (IfSome told (λ bytes. after ≡ Some []))
+
+  nothing_told : (after : Option (List ℕ)) (ended : Ended B) → OnOk ended (IfSome None (λ (bytes : List ℕ). after ≡ Some []))
+  nothing_told after (Ok done) = tt
+  nothing_told after (Err why) = tt
+
+  told_left : (bytes left : List ℕ) (ended : Ended B) → OnOk ended (◌≡◌ {A = Option (List ℕ)} (Some left) (Some [])) → OnOk ended (IfSome (Some bytes) (λ bytes. ◌≡◌ {A = Option (List ℕ)} (Some left) (Some [])))
+  told_left bytes left (Ok done) none = none
+  told_left bytes left (Err why) none = tt
+
+  are_told : (told after : Option (List ℕ)) (held taken : List ℕ) (ended : Ended B) (out : Change) → Takes told after (held ++ taken) → FindsAll held taken after ended out → AreTold told after ended out
+  are_told None after held taken ended out takes finds = record { meets = tt; keeps_up = λ why. tt; left = nothing_told after ended }
+  are_told (Some bytes) None held taken ended out takes finds = absurd takes
+  are_told (Some bytes) (Some left) held taken ended out takes finds =
+      let whole : bytes ≡ held ++ (taken ++ left) = takes ∙ append_assoc held taken left in
+      let all : Finds w start (limit < length bytes) (take limit bytes) (w.longest + 1) (held ++ taken) (Some left) ended out.before out.after =
+      subst (λ (xs : List ℕ). Finds w start (limit < length xs) (take limit xs) (w.longest + 1) (held ++ taken) (Some left) ended out.before out.after) (sym whole) finds
       in
-      (text, moved, written, λ other words also. one_end w start exact limit left other ended words text also moved)
+      record {
+        meets = found bytes (held ++ taken) left takes ended out.before out.after all;
+        keeps_up = keeps_up bytes (held ++ taken) left takes ended out.before out.after all;
+        left = told_left bytes left ended (none_left bytes (held ++ taken) left takes ended out.before out.after all);
+      }
 
-  meets_of : (left : List ℕ) (input : WholeInput) (ended : Ended B) (before after : Option (List ℕ)) → IsWholeInput limit left input → Finds w start (IsTrue input.more) input.bytes.items ended before after → Meets (task w start) limit left ended before after
-  meets_of left input (Ok done) before after whole finds = determines left input (Ok done) before after whole finds
-  meets_of left input (Err NotFlow) before after whole finds = determines left input (Err NotFlow) before after whole finds
-  meets_of left input (Err (Torn n)) before after whole finds = determines left input (Err (Torn n)) before after whole finds
-  meets_of left input (Err TooLong) before after whole finds = determines left input (Err TooLong) before after whole finds
-  meets_of left input (Err (Stopped why)) before after whole finds = determines left input (Err (Stopped why)) before after whole finds
-  meets_of left input (Err Memory) before after whole (text, lacks, written) = (
-    text,
-    subst (λ (xs : List ℕ). Lacks w start xs (limit < length left) text) whole.bytes (lacks_alike w start (IsTrue input.more) (limit < length left) whole.more input.bytes.items text lacks),
-    written,
-  )
-  meets_of left input (Err Write) before after whole (text, gets, written) = (
-    text,
-    elim gets [
-      | inl (n, ended, comes) ↦ inl (n, (ended, subst (λ (xs : List ℕ). Comes w start (take n xs) (Unit {0}) ended text) whole.bytes comes))
-      | inr (ended, comes) ↦ inr (
-        ended,
-        subst (λ (xs : List ℕ). Comes w start xs (limit < length left) ended text) whole.bytes (comes_alike w start (IsTrue input.more) (limit < length left) whole.more input.bytes.items ended text comes),
-      )
-    ],
-    written,
-  )
-  meets_of left input (Err Read) before after whole finds = absurd finds
+  -- from what a window that was filled once held
+  module _ (before middle after : Option (List ℕ)) (room : ℕ) (window : WindowState) (fills : Fills (empty_window room limit) window before middle) where
+    joined : window.held ≡ fills.joined
+    joined = ap (λ (w : WindowState). w.held) fills.holds
 
-  meets_told : (told : Option (List ℕ)) (input : WholeInput) (ended : Ended B) (before after : Option (List ℕ)) → IfSome told (λ left. IsWholeInput limit left input) → Finds w start (IsTrue input.more) input.bytes.items ended before after → IfSome told (λ left. Meets (task w start) limit left ended before after)
-  meets_told None input ended before after whole finds = tt
-  meets_told (Some left) input ended before after whole finds = meets_of left input ended before after whole finds
+    all_joined : window.over ≡ None → Takes before middle window.held
+    all_joined unended =
+        let none : fills.past ≡ [] = subst (λ (o : Option InputEnd). IsPast None o fills.past) unended fills.beyond in
+        subst (λ (xs : List ℕ). Takes before middle xs) (ap (λ xs. fills.joined ++ xs) none ∙ append-nil fills.joined ∙ sym joined) fills.taken
 
-  -- where all was done, nothing is left of the source
-  no_more : (left : List ℕ) (before after : Option (List ℕ)) (done : Unit {0}) → Determines (task w start) limit left (Ok done) before after → ¬ (limit < length left)
-  no_more left before after done (text, inl none, written, one) = absurd (let e = none.0 in cc)
-  no_more left before after done (text, inr (version, body, behind, magic, is, on), written, one) = on.0.halts.0.1.1
+    pub does : (ended : Ended B) (faults later : ℕ) (out : Change) → window.over ≡ None → GoesOver w start window.limit window.held ended (record { before = middle; after = after; faults = faults; faults_after = later }) out
+        → (first : ℕ) → faults ≡ first → Blames (ended ≡ Err Read) faults later → Blames (ended ≡ Err Write) out.faults out.faults_after
+        → Does (task w start) limit ended (record { before = before; after = after; faults = first; faults_after = later }) out
+    does ended faults later out unended goes first quiet reads writes =
+        let same : window.limit ≡ limit = ap (λ (w : WindowState). w.limit) fills.holds in
+        let over = subst (λ (n : ℕ). GoesOver w start n window.held ended (record { before = middle; after = after; faults = faults; faults_after = later }) out) same goes in
+        let taken = Takes-more before middle after window.held over.taken (all_joined unended) over.takes in
+        let told = are_told before after window.held over.taken ended out taken over.finds in
+        tasks.does (task w start) limit ended (record { before = before; after = after; faults = first; faults_after = later }) out told.meets told.keeps_up
+        (took before after (window.held ++ over.taken) (limit + 1) taken (omega (arith, over.few, length-append window.held over.taken))) told.left (subst (λ (n : ℕ). Blames (ended ≡ Err Read) n later) quiet reads) writes
 
-  left_told : (told rest : Option (List ℕ)) (ended : Ended B) (before after : Option (List ℕ)) → IfSome told (λ left. Meets (task w start) limit left ended before after) → IfSome told (λ left. rest ≡ Some (drop (limit + 1) left)) → OnOk ended (IfSome told (λ left. rest ≡ Some []))
-  left_told None rest (Ok done) before after meets taken = tt
-  left_told (Some left) rest (Ok done) before after meets taken =
-      let few : length left ≤ limit = omega (arith, no_more left before after done meets) in
-      taken ∙ ap (λ (xs : List ℕ). Some xs) (drop_all (limit + 1) left (omega arith))
-  left_told told rest (Err fault) before after meets taken = tt
+  -- ---- fewer bytes than a magic were read
 
-  -- from what was read and found
-  pub does : (input : WholeInput) (ended : Ended B) (source out : Change) → IfSome source.before (λ left. IsWholeInput limit left input) → IfSome source.before (λ left. source.after ≡ Some (drop (limit + 1) left))
-      → TakesAtMost source.before source.after (limit + 1) → ended ≢ Err Read → source.faults_after ≡ source.faults → Finds w start (IsTrue input.more) input.bytes.items ended out.before out.after → Blames (ended ≡ Err Write) out.faults out.faults_after → Does (task w start) limit ended source out
-  does input ended source out whole taken most read quiet finds cause =
-      let meets = meets_told source.before input ended out.before out.after whole finds in
-      tasks.does (task w start) limit ended source out meets most (left_told source.before source.after ended out.before out.after meets taken) (record { later = omega (arith, quiet); rose = λ e. absurd (read e); quiet = λ _. quiet }) cause
+  module _ (before after : Option (List ℕ)) (room : ℕ) (window : WindowState) (fills : Fills (empty_window room limit) window before after) (within : IsWithin window.place (length window.held) window.limit window.over) (few : length window.held < 8) (faults later : ℕ) (held : Option (List ℕ)) (out_faults : ℕ) where
+    abbrev pub out : Change
+    out = record { before = held; after = held; faults = out_faults; faults_after = out_faults }
 
-  -- what was found is no fault of the source
-  pub found_read : (More : Type 0) (bytes : List ℕ) (ended : Ended B) (before after : Option (List ℕ)) → Finds w start More bytes ended before after → ended ≢ Err Read
-  found_read More bytes ended before after finds e = subst (λ (z : Ended B). Finds w start More bytes z before after) e finds
+    abbrev pub source : Change
+    source = record { before = before; after = after; faults = faults; faults_after = later }
 
-  -- nothing stands in out before the first byte was read, and nothing where there was no memory at all
-  pub none_begun : (left : List ℕ) → (n : ℕ) × (task w start).Begins limit left n []
-  none_begun left = (0, (Err NotFlow, inl (refl, none_in_none w.format.magics exact.readable.magics, refl)))
+    short_of : (bytes : List ℕ) → length bytes < 8 → BeginsWithNone w.format.magics bytes
+    short_of bytes short version rest lawful e = omega (arith, short, ap length e, length-append (w.format.magics.spell version) rest, exact.magic version)
 
+    held_within : length window.held ≤ limit
+    held_within =
+        let place : window.place ≡ 0 = ap (λ (w : WindowState). w.place) fills.holds in
+        let same : window.limit ≡ limit = ap (λ (w : WindowState). w.limit) fills.holds in
+        omega (arith, place, same, within_limit window.place (length window.held) window.limit window.over within)
+
+    past_one : (over : Option InputEnd) (past : List ℕ) → IsPast None over past → length past ≤ 1
+    past_one None past none = omega (arith, ap length none)
+    past_one (Some Source) past none = omega (arith, ap length none)
+    past_one (Some Limit) past one = omega (arith, one)
+
+    most : TakesAtMost before after (limit + 1)
+    most = took before after (fills.joined ++ fills.past) (limit + 1) fills.taken (omega (arith, held_within, ap length (joined before after after room window fills), length-append fills.joined fills.past, past_one window.over fills.past fills.beyond))
+
+    quietly : Blames (◌≡◌ {A = Ended B} (Err NotFlow) (Err Write)) out_faults out_faults
+    quietly = record { later = omega arith; rose = λ e. absurd cc; quiet = λ _. refl }
+
+    -- and no more are there, or within the limit
+    considered_few : (bytes left : List ℕ) → bytes ≡ (fills.joined ++ fills.past) ++ left → (over : InputEnd) → window.over ≡ Some over → (over ≡ Source → left ≡ []) → length (take limit bytes) < 8
+    considered_few bytes left whole Source is ended =
+        let none : fills.past ≡ [] = subst (λ (o : Option InputEnd). IsPast None o fills.past) is fills.beyond in
+        omega (arith, few, ap length (joined before after after room window fills), ap length whole, ap length (ended refl), ap length none, length-append (fills.joined ++ fills.past) left, length-append fills.joined fills.past, length-take limit bytes)
+    considered_few bytes left whole Limit is ended =
+        let place : window.place ≡ 0 = ap (λ (w : WindowState). w.place) fills.holds in
+        let same : window.limit ≡ limit = ap (λ (w : WindowState). w.limit) fills.holds in
+        let full : window.place + length window.held ≡ window.limit = subst (λ (o : Option InputEnd). IsWithin window.place (length window.held) window.limit o) is within in
+        omega (arith, few, place, same, full, length-take limit bytes)
+
+    not_flow_told : (told rest : Option (List ℕ)) → Takes told rest (fills.joined ++ fills.past) → (over : InputEnd) → window.over ≡ Some over → (over ≡ Source → IfSome rest (λ left. left ≡ [])) → IfSome told (λ bytes. Meets (task w start) limit bytes rest (Err NotFlow) held held)
+    not_flow_told None rest takes over is ended = tt
+    not_flow_told (Some bytes) None takes over is ended = absurd takes
+    not_flow_told (Some bytes) (Some left) takes over is ended =
+        determines bytes (fills.joined ++ fills.past) left takes (Err NotFlow) held held ([], inl (refl, short_of (take limit bytes) (considered_few bytes left takes over is ended), refl), Grows-nothing held)
+
+    not_written : (told rest : Option (List ℕ)) → (◌≡◌ {A = Ended B} (Err NotFlow) (Err Write)) ⊎ (◌≡◌ {A = Ended B} (Err NotFlow) (Err Memory)) → IfSome told (λ bytes. KeepsUp (task w start) limit bytes rest held held)
+    not_written told rest why = absurd (elim why [ inl e ↦ cc | inr e ↦ cc ])
+
+    pub does_not_flow : (over : InputEnd) → window.over ≡ Some over → (window.over ≡ Some Source → IfSome after (λ left. left ≡ [])) → later ≡ faults → Does (task w start) limit (Err NotFlow) source out
+    does_not_flow over is ended quiet =
+        tasks.does (task w start) limit (Err NotFlow) source out (not_flow_told before after fills.taken over is (λ e. ended (is ∙ ap (λ (o : InputEnd). Some o) e))) (not_written before after) most tt
+        (record { later = omega (arith, quiet); rose = λ e. absurd cc; quiet = λ _. quiet }) quietly
+
+    begun_told : (told rest : Option (List ℕ)) → Takes told rest window.held → IfSome told (λ bytes. Meets (task w start) limit bytes rest (Err Read) held held)
+    begun_told None rest takes = tt
+    begun_told (Some bytes) None takes = absurd takes
+    begun_told (Some bytes) (Some left) takes = (
+      length window.held,
+      all_seen bytes window.held left takes,
+      [],
+      (Err NotFlow, inl (refl, short_of (take (length window.held) (take limit bytes)) (omega (arith, few, length-take (length window.held) (take limit bytes))), refl)),
+      Grows-nothing held,
+    )
+
+    read_not_written : (told rest : Option (List ℕ)) → (◌≡◌ {A = Ended B} (Err Read) (Err Write)) ⊎ (◌≡◌ {A = Ended B} (Err Read) (Err Memory)) → IfSome told (λ bytes. KeepsUp (task w start) limit bytes rest held held)
+    read_not_written told rest why = absurd (elim why [ inl e ↦ cc | inr e ↦ cc ])
+
+    pub does_not_read : window.over ≡ None → Blames (Unit {0}) faults later → Does (task w start) limit (Err Read) source out
+    does_not_read unended cause =
+        tasks.does (task w start) limit (Err Read) source out (begun_told before after (all_joined before after after room window fills unended)) (read_not_written before after) most tt
+        (record { later = cause.later; rose = λ e. cause.rose tt; quiet = λ not. absurd (not refl) }) (record { later = omega arith; rose = λ e. absurd cc; quiet = λ _. refl })
+
+  -- nothing stands in out where there was no memory at all
   pub none_lacking : (left : List ℕ) → (task w start).Lacks limit left []
   none_lacking left = inl refl

@@ -1,16 +1,21 @@
 -- What holds of words, whatever code there is.
-use Rattle.std.specs.Prelude.{◌≡◌, ◌⊎◌, ℕ, List, [], ◌++◌, All, Option, Some, None}
+use Rattle.std.specs.Prelude.{◌≡◌, ◌⊎◌, ◌≤◌, ◌^◌, ℕ, List, [], ◌++◌, length, All, Option, Some, None}
 use Rattle.wire_records.specs.Formats.{Version}
 use Rattle.wire_records.proofs.ReadingLaws.{IsReadable}
+use Rattle.file_units.specs.Inputs.{HasLongest}
 use Rattle.word_driver.specs.Ended.{Ended}
 use Rattle.word_driver.specs.Word.{Word, Goes}
 use Rattle.word_driver.specs.Does.{task}
 
 -- A word is exact where its files can be read, and a unit leads to one state and one text, or makes it stop for one reason and with
--- one text; and so the end of the input.
+-- one text; and so the end of the input. Each magic has eight bytes, and a window has room for the longest unit.
 pub record IsExact {U S B : Type 0} (w : Word U S B) : Type 0 where
   pub readable : IsReadable w.format
   pub short : ¬ w.format.IsOverlong []
+  pub magic : (version : Version) → length (w.format.magics.spell version) ≡ 8
+  pub longest : HasLongest w.format w.longest
+  pub some : 8 ≤ w.longest
+  pub few : w.longest ≤ 2 ^ 20
   pub one_step : (s : S) (u : U) (t r : S) (x y : List ℕ) → w.Steps s u t x → w.Steps s u r y → (t ≡ r) × (x ≡ y)
   pub one_stop : (s : S) (at : Option U) (b c : B) (x y : List ℕ) → w.Stops s at b x → w.Stops s at c y → (b ≡ c) × (x ≡ y)
   pub one_close : (s : S) (x y : List ℕ) → w.Closes s x → w.Closes s y → x ≡ y

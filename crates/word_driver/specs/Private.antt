@@ -1,27 +1,28 @@
 -- Words of the driver's own: what the parts of a word at work answer, and what going through units has written.
-use Rattle.std.specs.Prelude.{◌≡◌, ◌⊎◌, ◌-◌, ◌+◌, ℕ, List, [], ◌++◌, length, take, drop, Bool, true, false, Option, Some, None, Result, Ok, Err}
+use Rattle.std.specs.Prelude.{◌≡◌, ◌⊎◌, ◌-◌, ◌+◌, ◌<◌, ◌≤◌, ◌^◌, ℕ, List, [], ◌++◌, length, take, drop, Bool, true, false, Option, Some, None, IfSome, Result, Ok, Err}
 use Rattle.flow_io.specs.Faults.{Blames}
-use Rattle.flow_io.specs.Streams.{Grows, GrowsByFront}
+use Rattle.flow_io.specs.Streams.{Takes, Grows, GrowsByFront}
+use Rattle.flow_io.specs.Windows.{WindowState}
 use Rattle.flow_io.specs.Changes.{Change}
-use Rattle.wire_records.specs.Grammars.{BeginsWith, BeginsWithNone}
+use Rattle.wire_records.specs.Grammars.{BeginsWith, BeginsWithNone, spell_all}
 use Rattle.wire_records.specs.Formats.{Version}
 use Rattle.file_units.specs.declared.walk.Front.{Front}
 use Rattle.file_units.specs.Units.{IsTaken}
+use Rattle.file_units.specs.Inputs.{known}
 use Rattle.word_driver.specs.declared.fault.Fault.{Fault}
 use Rattle.word_driver.specs.declared.fault.Fault.TheVariants.{Read, Write, Memory, NotFlow, Torn, TooLong, Stopped}
 use Rattle.word_driver.specs.declared.fault.Halt.{Halt}
 use Rattle.word_driver.specs.declared.fault.Halt.TheVariants as halt
 use Rattle.word_driver.specs.Ended.{Ended}
-use Rattle.word_driver.specs.Word.{Word, ComesOn, LacksOn, Comes, Lacks}
+use Rattle.word_driver.specs.Word.{Word, Passes, ComesOn, LacksOn, Comes, Lacks, Passed}
 
 -- the bytes begin with the magic of this version, of eight bytes, and the word is at its start
 pub record OpensAt {U S B : Type 0} (w : Word U S B) (start : Version → S) (bytes : List ℕ) (state : S) (IsReady : ℕ → Type 0) (text : List ℕ) : Type 0 where
   pub version : Version
   pub magic : BeginsWith w.format.magics bytes version (drop 8 bytes)
-  pub eight : length (w.format.magics.spell version) ≡ 8
   pub starts : state ≡ start version
   pub opening : text ≡ w.opens version
-  pub ready : IsReady (length bytes - 8)
+  pub ready : (limit : ℕ) → limit < 2 ^ 64 → IsReady (limit - 8)
 
 -- by whether a magic stands there
 abbrev pub IsOpened : {U S B : Type 0} → Word U S B → (Version → S) → List ℕ → S → (ℕ → Type 0) → List ℕ → Bool → Type 0
@@ -88,30 +89,64 @@ module _ {U S B : Type 0} (w : Word U S B) where
   GetsTo More place bytes start text =
       ((n : ℕ) × (ended : Ended B) × ComesOn w (Unit {0}) place (take n bytes) start ended text) ⊎ ((ended : Ended B) × ComesOn w More place bytes start ended text)
 
-  -- it came to its end from a place on, and wrote this; by the end
-  abbrev pub Ends : Type 0 → ℕ → List ℕ → S → Ended B → Option (List ℕ) → Option (List ℕ) → Type 0
-  Ends More place bytes start (Ok done) before after = (text : List ℕ) × ComesOn w More place bytes start (Ok done) text × Grows before after text
-  Ends More place bytes start (Err (Torn n)) before after = (text : List ℕ) × ComesOn w More place bytes start (Err (Torn n)) text × Grows before after text
-  Ends More place bytes start (Err TooLong) before after = (text : List ℕ) × ComesOn w More place bytes start (Err TooLong) text × Grows before after text
-  Ends More place bytes start (Err (Stopped why)) before after = (text : List ℕ) × ComesOn w More place bytes start (Err (Stopped why)) text × Grows before after text
-  Ends More place bytes start (Err Write) before after = (text : List ℕ) × GetsTo More place bytes start text × GrowsByFront before after text
-  Ends More place bytes start (Err Memory) before after = (text : List ℕ) × LacksOn w More place bytes start text × Grows before after text
-  Ends More place bytes start (Err Read) before after = ⊥
-  Ends More place bytes start (Err NotFlow) before after = ⊥
+  -- units stand whole in out, and at most so many bytes were seen behind them
+  pub record IsNear (most : ℕ) (bytes : List ℕ) (start : S) (seen : List ℕ) (before after : Option (List ℕ)) : Type 0 where
+    pub units : List U
+    pub left : List ℕ
+    pub state : S
+    pub text : List ℕ
+    pub more : List ℕ
+    pub passes : Passes w bytes start units left state text
+    pub written : Grows before after (text ++ more)
+    pub near : length seen ≤ length (spell_all w.format.units units) + most
+
+  -- it came to its end from a place on, and wrote this; by the end, by the bytes that were seen, and by what is left of the source
+  module _ (More : Type 0) (place : ℕ) (bytes : List ℕ) (start : S) (most : ℕ) (seen : List ℕ) (left : Option (List ℕ)) where
+    abbrev pub Ends : Ended B → Option (List ℕ) → Option (List ℕ) → Type 0
+    Ends (Ok done) before after = IfSome left (λ rest. rest ≡ []) × (text : List ℕ) × ComesOn w More place bytes start (Ok done) text × Grows before after text
+    Ends (Err (Torn n)) before after = (text : List ℕ) × ComesOn w More place bytes start (Err (Torn n)) text × Grows before after text
+    Ends (Err TooLong) before after = (text : List ℕ) × ComesOn w More place bytes start (Err TooLong) text × Grows before after text
+    Ends (Err (Stopped why)) before after = (text : List ℕ) × ComesOn w More place bytes start (Err (Stopped why)) text × Grows before after text
+    Ends (Err Write) before after = IsNear most bytes start seen before after × (text : List ℕ) × GetsTo More place bytes start text × GrowsByFront before after text
+    Ends (Err Memory) before after = IsNear most bytes start seen before after × (text : List ℕ) × LacksOn w More place bytes start text × Grows before after text
+    Ends (Err Read) before after = (text : List ℕ) × ComesOn w (Unit {0}) place (take (length seen) bytes) start (Err TooLong) text × Grows before after text
+    Ends (Err NotFlow) before after = ⊥
+
+-- It went on from what a window held: it took these bytes of the source, and came to an end.
+pub record GoesOn {U S B : Type 0} (w : Word U S B) (most : ℕ) (window : WindowState) (start : S) (result : Ended B) (source out : Change) : Type 0 where
+  pub taken : List ℕ
+  pub takes : Takes source.before source.after taken
+  pub few : length window.held + length taken ≤ (window.limit - window.place) + 1
+  pub ends : Ends w (window.limit - window.place < length (window.held ++ known taken source.after)) window.place (take (window.limit - window.place) (window.held ++ known taken source.after)) start most
+      (window.held ++ taken) source.after result out.before out.after
 
 -- what was written where a word goes no further, by why
 abbrev pub Halted : {B : Type 0} → Halt B → List ℕ → Fault B → Option (List ℕ) → Option (List ℕ) → Type 0
 Halted halt.Memory text fault before after = (fault ≡ Memory) × (after ≡ before)
 Halted (halt.Stopped why) text fault before after = ((fault ≡ Stopped why) × Grows before after text) ⊎ ((fault ≡ Write) × GrowsByFront before after text)
 
--- what the considered bytes came to, by the end, and what was written
-abbrev pub Finds : {U S B : Type 0} → Word U S B → (Version → S) → Type 0 → List ℕ → Ended B → Option (List ℕ) → Option (List ℕ) → Type 0
-Finds w start More bytes (Ok done) before after = (text : List ℕ) × Comes w start bytes More (Ok done) text × Grows before after text
-Finds w start More bytes (Err NotFlow) before after = (text : List ℕ) × Comes w start bytes More (Err NotFlow) text × Grows before after text
-Finds w start More bytes (Err (Torn n)) before after = (text : List ℕ) × Comes w start bytes More (Err (Torn n)) text × Grows before after text
-Finds w start More bytes (Err TooLong) before after = (text : List ℕ) × Comes w start bytes More (Err TooLong) text × Grows before after text
-Finds w start More bytes (Err (Stopped why)) before after = (text : List ℕ) × Comes w start bytes More (Err (Stopped why)) text × Grows before after text
-Finds {B} w start More bytes (Err Write) before after =
-    (text : List ℕ) × (((n : ℕ) × (ended : Ended B) × Comes w start (take n bytes) (Unit {0}) ended text) ⊎ ((ended : Ended B) × Comes w start bytes More ended text)) × GrowsByFront before after text
-Finds w start More bytes (Err Memory) before after = (text : List ℕ) × Lacks w start bytes More text × Grows before after text
-Finds w start More bytes (Err Read) before after = ⊥
+-- what the considered bytes came to, by the end, by the bytes that were seen, and by what is left of the source; and what was written
+module _ {U S B : Type 0} (w : Word U S B) (start : Version → S) (More : Type 0) (bytes : List ℕ) (most : ℕ) (seen : List ℕ) (left : Option (List ℕ)) where
+  -- how far the source was read
+  abbrev pub IsNearAll : Option (List ℕ) → Option (List ℕ) → Type 0
+  IsNearAll before after =
+      (n : ℕ) × (length seen ≤ n + most) × ((n ≡ 8) ⊎ ((text : List ℕ) × (more : List ℕ) × Passed w start bytes n text × Grows before after (text ++ more)))
+
+  abbrev pub Finds : Ended B → Option (List ℕ) → Option (List ℕ) → Type 0
+  Finds (Ok done) before after = IfSome left (λ rest. rest ≡ []) × (text : List ℕ) × Comes w start bytes More (Ok done) text × Grows before after text
+  Finds (Err NotFlow) before after = (text : List ℕ) × Comes w start bytes More (Err NotFlow) text × Grows before after text
+  Finds (Err (Torn n)) before after = (text : List ℕ) × Comes w start bytes More (Err (Torn n)) text × Grows before after text
+  Finds (Err TooLong) before after = (text : List ℕ) × Comes w start bytes More (Err TooLong) text × Grows before after text
+  Finds (Err (Stopped why)) before after = (text : List ℕ) × Comes w start bytes More (Err (Stopped why)) text × Grows before after text
+  Finds (Err Write) before after =
+      IsNearAll before after × (text : List ℕ)
+      × (((n : ℕ) × (ended : Ended B) × Comes w start (take n bytes) (Unit {0}) ended text) ⊎ ((ended : Ended B) × Comes w start bytes More ended text)) × GrowsByFront before after text
+  Finds (Err Memory) before after = IsNearAll before after × (text : List ℕ) × Lacks w start bytes More text × Grows before after text
+  Finds (Err Read) before after = (ended : Ended B) × (text : List ℕ) × Comes w start (take (length seen) bytes) (Unit {0}) ended text × Grows before after text
+
+-- It took these bytes of the source, and the considered ones came to an end.
+pub record GoesOver {U S B : Type 0} (w : Word U S B) (start : Version → S) (limit : ℕ) (held : List ℕ) (result : Ended B) (source out : Change) : Type 0 where
+  pub taken : List ℕ
+  pub takes : Takes source.before source.after taken
+  pub few : length held + length taken ≤ limit + 1
+  pub finds : Finds w start (limit < length (held ++ known taken source.after)) (take limit (held ++ known taken source.after)) (w.longest + 1) (held ++ taken) source.after result out.before out.after

@@ -9,8 +9,9 @@ use Rattle.word_driver.specs.Ended.{Ended}
 
 -- A word goes over the units U of a file, from state to state S, and may stop for a reason B.
 pub record Word (U S B : Type 0) : Type 1 where
-  -- Which files it reads, and what it writes before the first unit, by their version.
+  -- Which files it reads, how many bytes their longest unit has, and what it writes before the first one, by the version.
   pub format : Format Version U
+  pub longest : ℕ
   pub opens : Version → List ℕ
   -- What taking a unit leads to and writes; why it stops, at a unit or at the end of the input, and what it writes there; and what
   -- it writes at the end where it doesn't.
@@ -85,6 +86,12 @@ module _ {U S B : Type 0} (w : Word U S B) where
     Comes bytes More ended text =
         ((ended ≡ Err NotFlow) × BeginsWithNone w.format.magics bytes × (text ≡ []))
         ⊎ Opens (λ version place body behind. (on : ComesOn More place body (start version) ended behind) × w.Keeps on.units on.state on.so_far) bytes text
+
+    -- the first so many bytes are a magic and whole units, and this is their text
+    abbrev pub Passed : List ℕ → ℕ → List ℕ → Type 0
+    Passed bytes n text =
+        Opens (λ version place body behind. (units : List U) × (rest : List ℕ) × (state : S) × Passes body (start version) units rest state behind × w.Keeps units state behind
+            × (n ≡ place + length (spell_all w.format.units units))) bytes text
 
     -- where memory may be wanted, and what was written there: nothing, or the text of the units before
     abbrev pub Lacks : List ℕ → Type 0 → List ℕ → Type 0

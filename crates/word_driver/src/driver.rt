@@ -1,16 +1,16 @@
 //! The driver.
-ghost use Rattle.std.specs.Prelude.{◌≡◌, ◌-◌, ◌≤◌, Err, IsTrue, length, drop, vec_capacity};
+ghost use Rattle.std.specs.Prelude.{◌≡◌, ◌-◌, ◌+◌, ◌≤◌, ◌<◌, ◌^◌, Err, None, [], length, vec_capacity};
 ghost use Rattle.flow_io.specs.Faults.{Blames};
 ghost use Rattle.flow_io.specs.Changes.{change};
 ghost use Rattle.word_driver.specs.Does.{Does, task};
 ghost use Rattle.word_driver.specs.Laws.{IsExact, IsKept};
-ghost use Rattle.word_driver.specs.Private.{Closed, Ends, Finds};
+ghost use Rattle.word_driver.specs.Private.{Closed, GoesOn, GoesOver};
 
 use crate::fault::Fault;
 use crate::serves::ServesWord;
 use crate::writing::{Writing, halt_with, put};
-use file_units::{Ending, take_units};
-use flow_io::{ReadAllFault, Sink, Source, WholeInput, read_all};
+use file_units::{Ending, TakeFault, take_from};
+use flow_io::{Filled, Sink, Source, Window};
 use std::alloc::Global;
 
 // As many bytes has the magic of each file.
@@ -34,66 +34,82 @@ fn close<K: Sink, W: ServesWord + Drop>(
     }
 }
 
-// Hands the units behind the magic to the word, one after the other, to its end.
-fn go_on<K: Sink, W: ServesWord + Drop>(
-    input: &WholeInput,
+// Hands the units from what the window holds on to the word, one after the other, to its end.
+fn go_on<S: Source, K: Sink, W: ServesWord + Drop>(
+    window: Window,
+    source: &mut S,
     word: W,
     text: Vec<u8>,
     out: &mut K,
 ) -> Result<(), Fault<W::Stop>>
     requires exact { IsExact W.word }
-    requires begins { 8 ≤ length input.now.bytes.items }
+    requires wide { window.room ≡ W.word.longest }
+    requires open { window.over ≡ None }
     requires room { W.ROOM ≤ vec_capacity text }
-    requires ready { W.is_ready word (length input.now.bytes.items - 8) }
-    ensures ended { Ends W.word (IsTrue input.now.more) 8 (drop 8 input.now.bytes.items) (W.state word) result
-        (K.held out.old) (K.held out.new) }
-    ensures cause { Blames (result ≡ Err Fault.Write) (K.faults out.old) (K.faults out.new) }
+    requires ready { W.is_ready word (window.limit - window.place) }
+    ensures goes { GoesOn W.word (W.word.longest + 1) window (W.state word) result
+        (change S.rest S.faults source.old source.new) (change K.held K.faults out.old out.new) }
+    ensures reads { Blames (result ≡ Err Fault.Read) (S.faults source.old) (S.faults source.new) }
+    ensures writes { Blames (result ≡ Err Fault.Write) (K.faults out.old) (K.faults out.new) }
 {
+    let mut window = window;
     let mut writing = Writing { word, text };
-    match take_units(&input.bytes, MAGIC, input.more, &mut writing, out)? {
-        Ending::End => close(&mut writing, out),
-        Ending::Torn(place) => Err(Fault::Torn(place)),
-        Ending::TooLong => Err(Fault::TooLong),
+    match take_from(&mut window, source, &mut writing, out) {
+        Ok(Ending::End) => close(&mut writing, out),
+        Ok(Ending::Torn(place)) => Err(Fault::Torn(place)),
+        Ok(Ending::TooLong) => Err(Fault::TooLong),
+        Err(TakeFault::Read) => Err(Fault::Read),
+        Err(TakeFault::Broken(fault)) => Err(fault),
     }
 }
 
-// Opens the word at the front of the input, and goes on from there.
-fn go_over<K: Sink, W: ServesWord + Drop>(
-    alloc: Global,
-    input: &WholeInput,
+// Opens the word at what a new window holds, and goes on from there.
+fn go_over<S: Source, K: Sink, W: ServesWord + Drop>(
+    window: Window,
+    source: &mut S,
     word: W,
+    text: Vec<u8>,
     out: &mut K,
 ) -> Result<(), Fault<W::Stop>>
     requires exact { IsExact W.word }
     requires kept { IsKept W.word (W.start word) }
     requires new { W.is_new word }
-    ensures finds { Finds W.word (W.start word) (IsTrue input.now.more) input.now.bytes.items result
-        (K.held out.old) (K.held out.new) }
-    ensures cause { Blames (result ≡ Err Fault.Write) (K.faults out.old) (K.faults out.new) }
+    requires wide { window.room ≡ W.word.longest }
+    requires open { window.over ≡ None }
+    requires first { window.place ≡ 0 }
+    requires some { 8 ≤ length window.held }
+    requires few { window.limit < 2 ^ 64 }
+    requires empty { text.items ≡ [] }
+    requires room { W.ROOM ≤ vec_capacity text }
+    ensures goes { GoesOver W.word (W.start word) window.limit window.held result
+        (change S.rest S.faults source.old source.new) (change K.held K.faults out.old out.new) }
+    ensures reads { Blames (result ≡ Err Fault.Read) (S.faults source.old) (S.faults source.new) }
+    ensures writes { Blames (result ≡ Err Fault.Write) (K.faults out.old) (K.faults out.new) }
 {
+    let mut window = window;
     let mut word = word;
-    let mut text = match Vec::with_capacity(alloc, W::ROOM) {
-        Ok(text) => text,
-        Err(_) => return Err(Fault::Memory),
-    };
-    match word.open(&input.bytes, &mut text) {
+    let mut text = text;
+    match word.open(window.held(), &mut text) {
         Ok(true) => {}
         Ok(false) => return Err(Fault::NotFlow),
         Err(_) => return Err(Fault::Memory),
     }
+    window.advance(MAGIC);
     match put(out, &text) {
-        Ok(()) => go_on(input, word, text, out),
+        Ok(()) => go_on(window, source, word, text, out),
         Err(_) => Err(Fault::Write),
     }
 }
 
-/// Does a word: reads the source to its end or the limit, and hands the units behind the magic to the word, one after
-/// the other. What the word puts into its buffer is written by one call, for the opening, for each unit, and at the
-/// end; nothing is written where there is nothing.
+/// Does a word: reads the source as the word takes it, to its end or the limit, and hands the units behind the magic to the
+/// word, one after the other. What the word puts into its buffer is written by one call, for the opening, for each unit, and
+/// at the end; nothing is written where there is nothing. A unit that has come is taken, and its text written, before the
+/// source is asked for more.
 ///
 /// That the word is exact and keeps what it promises are laws of it, which the caller cites.
 ///
-/// The input is held whole, and one buffer beside it.
+/// A window of the bytes of the longest unit is held, and one buffer beside it; both are taken before the first read. Each
+/// read asks for as many bytes as there is room for.
 pub fn go<S: Source, K: Sink, W: ServesWord + Drop>(
     alloc: Global,
     limit: u64,
@@ -102,15 +118,24 @@ pub fn go<S: Source, K: Sink, W: ServesWord + Drop>(
     word: W,
 ) -> Result<(), Fault<W::Stop>>
     requires exact { IsExact W.word }
+    requires longest { W.LONGEST ≡ W.word.longest }
     requires kept { IsKept W.word (W.start word) }
     requires new { W.is_new word }
     ensures does { Does (task W.word (W.start word)) limit result (change S.rest S.faults source.old source.new)
         (change K.held K.faults out.old out.new) }
 {
-    let input = match read_all(alloc, source, limit) {
-        Ok(input) => input,
-        Err(ReadAllFault::Read) => return Err(Fault::Read),
-        Err(ReadAllFault::Memory) => return Err(Fault::Memory),
+    let mut window = match Window::new(alloc, W::LONGEST, limit) {
+        Ok(window) => window,
+        Err(_) => return Err(Fault::Memory),
     };
-    go_over(alloc, &input, word, out)
+    let text = match Vec::with_capacity(alloc, W::ROOM) {
+        Ok(text) => text,
+        Err(_) => return Err(Fault::Memory),
+    };
+    match window.fill(source, MAGIC) {
+        Ok(Filled::Enough) => go_over(window, source, word, text, out),
+        Ok(Filled::Ended) => Err(Fault::NotFlow),
+        Ok(Filled::Limited) => Err(Fault::NotFlow),
+        Err(_) => Err(Fault::Read),
+    }
 }

@@ -29,6 +29,11 @@ pub trait ServesWord {
 
     ghost ROOM: { ℕ };
 
+    /// As many bytes has its longest unit.
+    const LONGEST: usize;
+
+    ghost LONGEST: { ℕ };
+
     ghost Unit: { Type 0 };
 
     ghost State: { Type 0 };
@@ -40,7 +45,7 @@ pub trait ServesWord {
     ghost start: { Self → Version → State };
 
     ghost state: { Self → State };
-    // It can take units while so many bytes are left.
+    // It can take units while no more than so many bytes are left.
     ghost is_ready: { Self → ℕ → Type 0 };
 
     /// Whether the bytes begin with a magic of the word. Then it is at its start, and the opening stands in the buffer.
@@ -55,14 +60,15 @@ pub trait ServesWord {
 
     /// Takes the unit at the front of the bytes, if a whole one stands there, and puts its text into the buffer.
     fn take(&mut self, bytes: &[u8], text: &mut Vec<u8>) -> Result<Front, Halt<Self::Stop>>
-        requires ready { is_ready self.old (length bytes.now) }
+        requires ready { (left : ℕ) × (length bytes.now ≤ left) × is_ready self.old left }
         requires empty { text.old.items ≡ [] }
         requires none { vec_len text.old ≡ 0 }
         requires room { ROOM ≤ vec_capacity text.old }
         ensures room { vec_capacity text.old ≤ vec_capacity text.new }
         ensures taken { IfOk result
             (λ front. IsTakenBy word front bytes.now (state self.old) (state self.new) text.new.items) }
-        ensures stays { IfOk result (λ front. StaysReady (is_ready self.new) front (length bytes.now)) }
+        ensures stays { IfOk result
+            (λ front. (left : ℕ) → length bytes.now ≤ left → is_ready self.old left → StaysReady (is_ready self.new) front left) }
         ensures halted { IfErr result (λ halt. HaltsAt word bytes.now (state self.old) halt text.new.items) };
 
     /// Ends with the input, and puts what is to be written then into the buffer.

@@ -18,7 +18,7 @@ abbrev counted : Counts → Version → Watched Counts
 counted seen version = record { market = empty_market; pairs = 0; seen = seen }
 
 pub go-ended-requires : goal.go-ended-requires
-go-ended-requires g c = record { exact = audit_is_exact; kept = over_pairs_is_kept counting _ (λ version. (refl, refl)); new = c.new-2.ensures.new }
+go-ended-requires g c = record { exact = audit_is_exact; longest = refl; kept = over_pairs_is_kept counting _ (λ version. (refl, refl)); new = c.new-2.ensures.new }
 
 pub returns : goal.returns
 returns g c =

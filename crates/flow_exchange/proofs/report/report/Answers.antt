@@ -13,7 +13,7 @@ use Rattle.flow_exchange.proofs.JournalForms.{report_form, report_start}
 use Rattle.flow_exchange.proofs.report.report.Goals as goal
 
 pub go-ended-requires : goal.go-ended-requires
-go-ended-requires g c = record { exact = report_is_exact; kept = over_pairs_is_kept telling _ (λ version. (refl, refl)); new = c.new.ensures.new }
+go-ended-requires g c = record { exact = report_is_exact; longest = refl; kept = over_pairs_is_kept telling _ (λ version. (refl, refl)); new = c.new.ensures.new }
 
 pub returns : goal.returns
 returns g c =

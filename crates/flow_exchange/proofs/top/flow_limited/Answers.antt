@@ -27,7 +27,7 @@ returns-clause-serves g c =
           let form = w.do_form-status.ensures in
           let line = rw w.status-is at noted in
           let some = rw w.status-is at front in
-          rw (w.status-is, w.source-is, w.out-is) (serves_form c.args.limit _ w.in-Some.form w.do_form-status.result _ _ _ w.in-Some.ensures.form form.asked form.does line some)
+          rw (w.status-is, w.source-is, w.out-is) (serves_form c.args.limit _ w.in-Some.form w.do_form-status.result _ _ _ w.in-Some.ensures.form form.asked form.does form.paced line some)
       | in-None w ↦
           let line = rw w.status-is at noted in
           let some = rw w.status-is at front in

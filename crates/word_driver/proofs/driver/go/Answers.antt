@@ -1,36 +1,65 @@
-use Rattle.std.proofs.Common.{IsTrue, Err, ap}
+use Rattle.std.proofs.Common.{◌≡◌, ◌+◌, ◌≤◌, [], Some, Err, length, refl, ap, sym, ◌∙◌, arith}
 use Rattle.flow_io.specs.Changes.{change}
+use Rattle.flow_io.specs.Windows.{WindowState}
+use Rattle.flow_io.specs.declared.window.InputEnd.TheVariants.{Source, Limit}
+use Rattle.file_units.proofs.Gone.{went_well}
 use Rattle.word_driver.specs.Does.{task}
-use Rattle.word_driver.proofs.Tasks.{does_not_read, does_not_fit}
-use Rattle.word_driver.proofs.Whole.{does, found_read, none_begun, none_lacking}
+use Rattle.word_driver.proofs.Tasks.{does_not_fit, keeps_up_at_once}
+use Rattle.word_driver.proofs.Whole.{does, does_not_flow, does_not_read, none_lacking, nothing_taken}
 use Rattle.word_driver.proofs.Pieces.{blamed}
 use Rattle.word_driver.proofs.driver.go.Goals as goal
 
-pub returns-in-Err-Read : goal.returns-in-Err-Read
-returns-in-Err-Read g c =
+pub returns-in-Err : goal.returns-in-Err
+returns-in-Err g c =
     let W = g.W.ServesWord in
-    let read = c.in-Err-Read.ensures in
+    let source = change g.S.Source.rest g.S.Source.faults c.args.source.now c.args.source.now in
+    record { does = does_not_fit (task W.word (W.start c.args.word)) c.args.limit (none_lacking W.word (W.start c.args.word) c.requires.exact c.args.limit) source (g.K.Sink.held c.args.out.now) (g.K.Sink.faults c.args.out.now) (keeps_up_at_once (task W.word (W.start c.args.word)) c.args.limit source.before source.before [] (g.K.Sink.held c.args.out.now) (g.K.Sink.held c.args.out.now) (nothing_taken source.before).0 (omega arith)) ((nothing_taken source.before).1 (c.args.limit + 1)) refl }
+
+pub returns-in-Err-with_capacity : goal.returns-in-Err-with_capacity
+returns-in-Err-with_capacity g c =
+    let W = g.W.ServesWord in
+    let source = change g.S.Source.rest g.S.Source.faults c.args.source.now c.args.source.now in
+    record { does = does_not_fit (task W.word (W.start c.args.word)) c.args.limit (none_lacking W.word (W.start c.args.word) c.requires.exact c.args.limit) source (g.K.Sink.held c.args.out.now) (g.K.Sink.faults c.args.out.now) (keeps_up_at_once (task W.word (W.start c.args.word)) c.args.limit source.before source.before [] (g.K.Sink.held c.args.out.now) (g.K.Sink.held c.args.out.now) (nothing_taken source.before).0 (omega arith)) ((nothing_taken source.before).1 (c.args.limit + 1)) refl }
+
+pub returns-in-Ok-Enough : goal.returns-in-Ok-Enough
+returns-in-Ok-Enough g c =
+    let W = g.W.ServesWord in
+    let filled = c.in-Ok-Enough.ensures in
+    let fills = rw c.in-Ok.ensures at filled.fills in
+    let new = ap (λ (w : WindowState). w.over) c.in-Ok.ensures in
     record {
-      does = does_not_read (task W.word (W.start c.args.word)) c.args.limit (none_begun W.word (W.start c.args.word) c.requires.exact c.args.limit) (change g.S.Source.rest g.S.Source.faults c.args.source.now c.read_all.new.source) (g.K.Sink.held c.args.out.now) (g.K.Sink.faults c.args.out.now) read.most
-          (blamed _ _ (ap Err c.in-Err-Read.field-0-is) read.cause);
+      does = does W.word (W.start c.args.word) c.requires.exact c.args.limit (g.S.Source.rest c.args.source.now) (g.S.Source.rest c.fill.new.source) (g.S.Source.rest c.go_over.new.source) c.LONGEST.result c.fill.new.self fills
+          c.go_over.result (g.S.Source.faults c.fill.new.source) (g.S.Source.faults c.go_over.new.source) (change g.K.Sink.held g.K.Sink.faults c.args.out.now c.go_over.new.out) (filled.open c.in-Ok-Enough.field-0-is ∙ new) c.go_over.ensures.goes (g.S.Source.faults c.args.source.now) (filled.cause.quiet went_well) c.go_over.ensures.reads c.go_over.ensures.writes;
     }
 
-pub returns-in-Err-Memory : goal.returns-in-Err-Memory
-returns-in-Err-Memory g c =
+pub returns-in-Ok-Ended : goal.returns-in-Ok-Ended
+returns-in-Ok-Ended g c =
     let W = g.W.ServesWord in
-    let read = c.in-Err-Memory.ensures in
+    let filled = c.in-Ok-Ended.ensures in
+    let fills = rw c.in-Ok.ensures at filled.fills in
+    let ended = filled.ended.0 c.in-Ok-Ended.field-0-is in
     record {
-      does = does_not_fit (task W.word (W.start c.args.word)) c.args.limit (none_lacking W.word (W.start c.args.word) c.requires.exact c.args.limit) (change g.S.Source.rest g.S.Source.faults c.args.source.now c.read_all.new.source) (g.K.Sink.held c.args.out.now) (g.K.Sink.faults c.args.out.now) read.most
-          (read.cause.quiet (λ e. cc));
+      does = does_not_flow W.word (W.start c.args.word) c.requires.exact c.args.limit (g.S.Source.rest c.args.source.now) (g.S.Source.rest c.fill.new.source) c.LONGEST.result c.fill.new.self fills filled.within ended.0
+          (g.S.Source.faults c.args.source.now) (g.S.Source.faults c.fill.new.source) (g.K.Sink.held c.args.out.now) (g.K.Sink.faults c.args.out.now) Source ended.1 filled.all (filled.cause.quiet went_well);
     }
 
-pub returns : goal.returns
-returns g c =
+pub returns-in-Ok-Limited : goal.returns-in-Ok-Limited
+returns-in-Ok-Limited g c =
     let W = g.W.ServesWord in
-    let read = c.in-Ok.ensures in
-    let found = c.go_over.ensures in
+    let filled = c.in-Ok-Limited.ensures in
+    let fills = rw c.in-Ok.ensures at filled.fills in
+    let ended = filled.limited.0 c.in-Ok-Limited.field-0-is in
     record {
-      does = does W.word (W.start c.args.word) c.requires.exact c.args.limit c.in-Ok.input c.go_over.result
-          (change g.S.Source.rest g.S.Source.faults c.args.source.now c.read_all.new.source) (change g.K.Sink.held g.K.Sink.faults c.args.out.now c.go_over.new.out) read.whole read.taken read.most
-          (found_read W.word (W.start c.args.word) c.requires.exact c.args.limit (IsTrue c.in-Ok.input.more) c.in-Ok.input.bytes.items c.go_over.result (g.K.Sink.held c.args.out.now) (g.K.Sink.held c.go_over.new.out) found.finds) (read.cause.quiet (λ e. cc)) found.finds found.cause;
+      does = does_not_flow W.word (W.start c.args.word) c.requires.exact c.args.limit (g.S.Source.rest c.args.source.now) (g.S.Source.rest c.fill.new.source) c.LONGEST.result c.fill.new.self fills filled.within ended.0
+          (g.S.Source.faults c.args.source.now) (g.S.Source.faults c.fill.new.source) (g.K.Sink.held c.args.out.now) (g.K.Sink.faults c.args.out.now) Limit ended.1 filled.all (filled.cause.quiet went_well);
+    }
+
+pub returns-in-Err-fill : goal.returns-in-Err-fill
+returns-in-Err-fill g c =
+    let W = g.W.ServesWord in
+    let filled = c.in-Err-fill.ensures in
+    let fills = rw c.in-Ok.ensures at filled.fills in
+    record {
+      does = does_not_read W.word (W.start c.args.word) c.requires.exact c.args.limit (g.S.Source.rest c.args.source.now) (g.S.Source.rest c.fill.new.source) c.LONGEST.result c.fill.new.self fills filled.within filled.failed.1
+          (g.S.Source.faults c.args.source.now) (g.S.Source.faults c.fill.new.source) (g.K.Sink.held c.args.out.now) (g.K.Sink.faults c.args.out.now) filled.failed.0 (blamed _ _ refl filled.cause);
     }

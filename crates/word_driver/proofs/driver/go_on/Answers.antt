@@ -1,51 +1,129 @@
-use Rattle.std.proofs.Common.{IsTrue, drop}
-use Rattle.std.proofs.lemmas.Result.{err_from_is_err_and}
-use Rattle.word_driver.specs.declared.fault.Fault.TheVariants.{Write}
-use Rattle.word_driver.proofs.Going.{blames_nobody, blames_later, blames_fault, has_written, to_torn, to_limit, to_end, to_break, break_blames}
+use Rattle.std.proofs.Common.{◌≡◌, ◌-◌, ◌+◌, ◌<◌, ◌≤◌, ◌++◌, Err, length, take, refl, arith}
+use Rattle.flow_io.specs.Changes.{change}
+use Rattle.file_units.specs.Inputs.{known}
+use Rattle.word_driver.specs.declared.fault.Fault.TheVariants.{Read, Write}
+use Rattle.word_driver.proofs.Going.{blames_nobody, blames_later, has_written, to_torn, to_limit, to_unread, to_end, to_break, break_blames, near_where_ended, no_read_broken, err_alike, broken_is_no_read}
 use Rattle.word_driver.proofs.driver.go_on.Goals as goal
 
-pub returns-in_err-take_units-clause-ended : goal.returns-in_err-take_units-clause-ended
-returns-in_err-take_units-clause-ended g c =
-    let p = err_from_is_err_and c.from_residual.result c.from_residual.ensures.1 in
-    let broken = rw c.deref.ensures.value at c.in_err-take_units.ensures.broken in
-    rw (p.1, p.2) (to_break g.W.ServesWord.word g.K.Sink.held g.K.Sink.faults c.requires.exact (IsTrue c.args.input.now.more) 8 (drop 8 c.args.input.now.bytes.items) (g.W.ServesWord.state c.args.word) c.args.out.now c.take_units.new.out c.in_err-take_units.field-0.0 broken)
+pub returns-in-Ok-End-clause-goes : goal.returns-in-Ok-End-clause-goes
+returns-in-Ok-End-clause-goes g c =
+    let W = g.W.ServesWord in
+    let w = c.args.window in
+    let goes = c.in-Ok-End.ensures.goes in
+    let done = rw c.in-Ok-End.field-0-is at goes.goes in
+    let after = g.S.Source.rest c.take_from.new.source in
+    let all = w.held ++ known goes.taken after in
+    let more = w.limit - w.place < length all in
+    let bytes = take (w.limit - w.place) all in
+    let seen = w.held ++ goes.taken in
+    record { taken = goes.taken; takes = goes.takes; few = goes.few; ends = to_end W.word g.K.Sink.held g.K.Sink.faults more w.place bytes (W.state c.args.word) (W.state c.take_from.new.taker.word) c.args.out.now c.take_from.new.out c.close.new.out (W.word.longest + 1) seen after c.close.result done.0 (done.1 refl) (near_where_ended W.word g.K.Sink.held g.K.Sink.faults (w.limit - w.place) w.place w.held goes.taken after (W.state c.args.word) (W.state c.take_from.new.taker.word) c.args.out.now c.take_from.new.out done.0 (W.word.longest + 1)) c.close.ensures.closed }
 
-pub returns-in_err-take_units-clause-cause : goal.returns-in_err-take_units-clause-cause
-returns-in_err-take_units-clause-cause g c =
-    let p = err_from_is_err_and c.from_residual.result c.from_residual.ensures.1 in
-    let broken = rw c.deref.ensures.value at c.in_err-take_units.ensures.broken in
-    let cause = break_blames g.W.ServesWord.word g.K.Sink.held g.K.Sink.faults c.requires.exact (IsTrue c.args.input.now.more) 8 (drop 8 c.args.input.now.bytes.items) (g.W.ServesWord.state c.args.word) c.args.out.now c.take_units.new.out c.in_err-take_units.field-0.0 broken in
-    blames_fault c.from_residual.result p.0 c.in_err-take_units.field-0.0 Write _ _ p.1 p.2 cause
+pub returns-in-Ok-Torn-clause-goes : goal.returns-in-Ok-Torn-clause-goes
+returns-in-Ok-Torn-clause-goes g c =
+    let W = g.W.ServesWord in
+    let w = c.args.window in
+    let goes = c.in-Ok-Torn.ensures.goes in
+    let done = rw c.in-Ok-Torn.field-0-is at goes.goes in
+    let after = g.S.Source.rest c.take_from.new.source in
+    let all = w.held ++ known goes.taken after in
+    let more = w.limit - w.place < length all in
+    let bytes = take (w.limit - w.place) all in
+    let seen = w.held ++ goes.taken in
+    record { taken = goes.taken; takes = goes.takes; few = goes.few; ends = to_torn W.word g.K.Sink.held g.K.Sink.faults more w.place bytes (W.state c.args.word) (W.state c.take_from.new.taker.word) c.args.out.now c.take_from.new.out c.take_from.new.out (W.word.longest + 1) seen after c.in-Ok-Torn.place done.0 }
 
-pub returns-in-End-clause-ended : goal.returns-in-End-clause-ended
-returns-in-End-clause-ended g c =
-    let ended = rw (c.deref.ensures.value, c.in-End.is) at c.in_ok-take_units.ensures.ended in
-    to_end g.W.ServesWord.word g.K.Sink.held g.K.Sink.faults (IsTrue c.args.input.now.more) 8 (drop 8 c.args.input.now.bytes.items) (g.W.ServesWord.state c.args.word) (g.W.ServesWord.state c.take_units.new.taker.word) c.args.out.now c.take_units.new.out c.close.new.out c.close.result ended c.close.ensures.closed
+pub returns-in-Ok-TooLong-clause-goes : goal.returns-in-Ok-TooLong-clause-goes
+returns-in-Ok-TooLong-clause-goes g c =
+    let W = g.W.ServesWord in
+    let w = c.args.window in
+    let goes = c.in-Ok-TooLong.ensures.goes in
+    let done = rw c.in-Ok-TooLong.field-0-is at goes.goes in
+    let after = g.S.Source.rest c.take_from.new.source in
+    let all = w.held ++ known goes.taken after in
+    let more = w.limit - w.place < length all in
+    let bytes = take (w.limit - w.place) all in
+    let seen = w.held ++ goes.taken in
+    record { taken = goes.taken; takes = goes.takes; few = goes.few; ends = to_limit W.word g.K.Sink.held g.K.Sink.faults more w.place bytes (W.state c.args.word) (W.state c.take_from.new.taker.word) c.args.out.now c.take_from.new.out c.take_from.new.out (W.word.longest + 1) seen after done.0 }
 
-pub returns-in-End-clause-cause : goal.returns-in-End-clause-cause
-returns-in-End-clause-cause g c =
-    let ended = rw (c.deref.ensures.value, c.in-End.is) at c.in_ok-take_units.ensures.ended in
-    let so = has_written g.W.ServesWord.word g.K.Sink.held g.K.Sink.faults (g.W.ServesWord.state c.args.word) (g.W.ServesWord.state c.take_units.new.taker.word) c.args.out.now c.take_units.new.out ended.units ended.leads in
+pub returns-in-Err-Read-clause-goes : goal.returns-in-Err-Read-clause-goes
+returns-in-Err-Read-clause-goes g c =
+    let W = g.W.ServesWord in
+    let w = c.args.window in
+    let goes = c.in-Err-Read.ensures.goes in
+    let done = rw c.in-Err-Read.field-0-is at goes.goes in
+    let after = g.S.Source.rest c.take_from.new.source in
+    let all = w.held ++ known goes.taken after in
+    let more = w.limit - w.place < length all in
+    let bytes = take (w.limit - w.place) all in
+    let seen = w.held ++ goes.taken in
+    record { taken = goes.taken; takes = goes.takes; few = goes.few; ends = to_unread W.word g.K.Sink.held g.K.Sink.faults more w.place bytes seen (W.state c.args.word) (W.state c.take_from.new.taker.word) c.args.out.now c.take_from.new.out (W.word.longest + 1) after done }
+
+pub returns-clause-goes : goal.returns-clause-goes
+returns-clause-goes g c =
+    let W = g.W.ServesWord in
+    let w = c.args.window in
+    let goes = c.in-Err-Broken.ensures.goes in
+    let done = rw c.in-Err-Broken.field-0-is at goes.goes in
+    let after = g.S.Source.rest c.take_from.new.source in
+    let all = w.held ++ known goes.taken after in
+    let more = w.limit - w.place < length all in
+    let bytes = take (w.limit - w.place) all in
+    let seen = w.held ++ goes.taken in
+    record { taken = goes.taken; takes = goes.takes; few = goes.few; ends = to_break W.word g.K.Sink.held g.K.Sink.faults c.requires.exact more w.place bytes (W.state c.args.word) c.args.out.now c.take_from.new.out (W.word.longest + 1) seen after c.in-Err-Broken.fault done.0 (omega (arith, done.1, c.requires.wide)) }
+
+pub returns-in-Ok-End-clause-writes : goal.returns-in-Ok-End-clause-writes
+returns-in-Ok-End-clause-writes g c =
+    let W = g.W.ServesWord in
+    let goes = c.in-Ok-End.ensures.goes in
+    let done = rw c.in-Ok-End.field-0-is at goes.goes in
+    let so = has_written W.word g.K.Sink.held g.K.Sink.faults (W.state c.args.word) (W.state c.take_from.new.taker.word) c.args.out.now c.take_from.new.out done.0.units done.0.leads in
     blames_later _ _ _ so.quiet (λ e. e) (λ e. e) c.close.ensures.cause
 
-pub returns-in-Torn-clause-ended : goal.returns-in-Torn-clause-ended
-returns-in-Torn-clause-ended g c =
-    let ended = rw (c.deref.ensures.value, c.in-Torn.is) at c.in_ok-take_units.ensures.ended in
-    to_torn g.W.ServesWord.word g.K.Sink.held g.K.Sink.faults (IsTrue c.args.input.now.more) 8 (drop 8 c.args.input.now.bytes.items) (g.W.ServesWord.state c.args.word) (g.W.ServesWord.state c.take_units.new.taker.word) c.args.out.now c.take_units.new.out c.take_units.new.out c.in-Torn.place ended
-
-pub returns-in-Torn-clause-cause : goal.returns-in-Torn-clause-cause
-returns-in-Torn-clause-cause g c =
-    let ended = rw (c.deref.ensures.value, c.in-Torn.is) at c.in_ok-take_units.ensures.ended in
-    let so = has_written g.W.ServesWord.word g.K.Sink.held g.K.Sink.faults (g.W.ServesWord.state c.args.word) (g.W.ServesWord.state c.take_units.new.taker.word) c.args.out.now c.take_units.new.out ended.units ended.leads in
+pub returns-in-Ok-Torn-clause-writes : goal.returns-in-Ok-Torn-clause-writes
+returns-in-Ok-Torn-clause-writes g c =
+    let W = g.W.ServesWord in
+    let goes = c.in-Ok-Torn.ensures.goes in
+    let done = rw c.in-Ok-Torn.field-0-is at goes.goes in
+    let so = has_written W.word g.K.Sink.held g.K.Sink.faults (W.state c.args.word) (W.state c.take_from.new.taker.word) c.args.out.now c.take_from.new.out done.0.units done.0.leads in
     blames_nobody _ _ (λ e. absurd cc) so.quiet
 
-pub returns-clause-ended : goal.returns-clause-ended
-returns-clause-ended g c =
-    let ended = rw (c.deref.ensures.value, c.in-TooLong.is) at c.in_ok-take_units.ensures.ended in
-    to_limit g.W.ServesWord.word g.K.Sink.held g.K.Sink.faults (IsTrue c.args.input.now.more) 8 (drop 8 c.args.input.now.bytes.items) (g.W.ServesWord.state c.args.word) (g.W.ServesWord.state c.take_units.new.taker.word) c.args.out.now c.take_units.new.out c.take_units.new.out ended
-
-pub returns-clause-cause : goal.returns-clause-cause
-returns-clause-cause g c =
-    let ended = rw (c.deref.ensures.value, c.in-TooLong.is) at c.in_ok-take_units.ensures.ended in
-    let so = has_written g.W.ServesWord.word g.K.Sink.held g.K.Sink.faults (g.W.ServesWord.state c.args.word) (g.W.ServesWord.state c.take_units.new.taker.word) c.args.out.now c.take_units.new.out ended.units ended.leads in
+pub returns-in-Ok-TooLong-clause-writes : goal.returns-in-Ok-TooLong-clause-writes
+returns-in-Ok-TooLong-clause-writes g c =
+    let W = g.W.ServesWord in
+    let goes = c.in-Ok-TooLong.ensures.goes in
+    let done = rw c.in-Ok-TooLong.field-0-is at goes.goes in
+    let so = has_written W.word g.K.Sink.held g.K.Sink.faults (W.state c.args.word) (W.state c.take_from.new.taker.word) c.args.out.now c.take_from.new.out done.0.units done.0.leads in
     blames_nobody _ _ (λ e. absurd cc) so.quiet
+
+pub returns-in-Err-Read-clause-writes : goal.returns-in-Err-Read-clause-writes
+returns-in-Err-Read-clause-writes g c =
+    let W = g.W.ServesWord in
+    let goes = c.in-Err-Read.ensures.goes in
+    let done = rw c.in-Err-Read.field-0-is at goes.goes in
+    let so = has_written W.word g.K.Sink.held g.K.Sink.faults (W.state c.args.word) (W.state c.take_from.new.taker.word) c.args.out.now c.take_from.new.out done.units done.leads in
+    blames_nobody _ _ (λ e. absurd cc) so.quiet
+
+pub returns-clause-writes : goal.returns-clause-writes
+returns-clause-writes g c =
+    let W = g.W.ServesWord in
+    let w = c.args.window in
+    let goes = c.in-Err-Broken.ensures.goes in
+    let done = rw c.in-Err-Broken.field-0-is at goes.goes in
+    let after = g.S.Source.rest c.take_from.new.source in
+    let all = w.held ++ known goes.taken after in
+    let more = w.limit - w.place < length all in
+    let bytes = take (w.limit - w.place) all in
+    let seen = w.held ++ goes.taken in
+    err_alike c.in-Err-Broken.fault Write _ _ (break_blames W.word g.K.Sink.held g.K.Sink.faults c.requires.exact more w.place bytes (W.state c.args.word) c.args.out.now c.take_from.new.out (W.word.longest + 1) seen after c.in-Err-Broken.fault done.0)
+
+pub returns-clause-reads : goal.returns-clause-reads
+returns-clause-reads g c =
+    let W = g.W.ServesWord in
+    let w = c.args.window in
+    let goes = c.in-Err-Broken.ensures.goes in
+    let done = rw c.in-Err-Broken.field-0-is at goes.goes in
+    let after = g.S.Source.rest c.take_from.new.source in
+    let all = w.held ++ known goes.taken after in
+    let more = w.limit - w.place < length all in
+    let bytes = take (w.limit - w.place) all in
+    let seen = w.held ++ goes.taken in
+    no_read_broken W.word g.K.Sink.held g.K.Sink.faults c.requires.exact more w.place bytes (W.state c.args.word) c.args.out.now c.take_from.new.out (W.word.longest + 1) seen after c.in-Err-Broken.fault done.0 _ _ ((rw c.in-Err-Broken.field-0-is at c.in-Err-Broken.ensures.cause).quiet (broken_is_no_read c.in-Err-Broken.fault))

@@ -7,7 +7,7 @@ use Rattle.exchange_session.proofs.run.RunServesWord.take.Goals as goal
 pub serve-requires : goal.serve-requires
 serve-requires c =
     let within = record_within c.args.bytes.now c.in-Whole.asked c.in-Whole.taken c.in-Whole.ensures.1 c.in-Whole.ensures.2 in
-    record { next = omega (arith, within.0, within.1, c.requires.ready) }
+    record { next = omega (arith, within.0, within.1, c.requires.ready.1, c.requires.ready.2) }
 
 pub returns-in-Ok-clause-taken : goal.returns-in-Ok-clause-taken
 returns-in-Ok-clause-taken c =
@@ -23,10 +23,10 @@ returns-in-Ok-clause-taken c =
     }
 
 pub returns-in-Ok-clause-stays : goal.returns-in-Ok-clause-stays
-returns-in-Ok-clause-stays c =
+returns-in-Ok-clause-stays c = λ left inside ready.
     let within = record_within c.args.bytes.now c.in-Whole.asked c.in-Whole.taken c.in-Whole.ensures.1 c.in-Whole.ensures.2 in
     let step = c.in-Ok.ensures.served.1 in
-    omega (arith, within.0, within.1, c.requires.ready, steps_number_one c.args.self.now.session c.in-Whole.asked step.answer c.serve.new.self step.step)
+    omega (arith, within.0, within.1, inside, ready, steps_number_one c.args.self.now.session c.in-Whole.asked step.answer c.serve.new.self step.step)
 
 pub returns-in-Err-clause-halted : goal.returns-in-Err-clause-halted
 returns-in-Err-clause-halted c = record {

@@ -9,7 +9,7 @@ use Rattle.journal_replay.proofs.auditing.AuditingTakesUnitsUnit.take.Goals as g
 pub take_pair-requires : goal.take_pair-requires
 take_pair-requires c =
     let within = pair_within c.args.bytes.now c.in-Whole.pair c.in-Whole.taken c.in-Whole.ensures.1 c.in-Whole.ensures.2 in
-    record { room = (length c.args.bytes.now, omega (arith, within.0, within.1), c.requires.ready) }
+    record { room = (c.requires.ready.0, omega (arith, within.0, within.1, c.requires.ready.1), c.requires.ready.2) }
 
 pub returns-in_ok-take_pair-in-Whole-clause-taken : goal.returns-in_ok-take_pair-in-Whole-clause-taken
 returns-in_ok-take_pair-in-Whole-clause-taken c = record {
@@ -22,9 +22,9 @@ returns-in_ok-take_pair-in-Whole-clause-taken c = record {
 }
 
 pub returns-in_ok-take_pair-in-Whole-clause-stays : goal.returns-in_ok-take_pair-in-Whole-clause-stays
-returns-in_ok-take_pair-in-Whole-clause-stays c =
+returns-in_ok-take_pair-in-Whole-clause-stays c = λ left inside ready.
     let within = pair_within c.args.bytes.now c.in-Whole.pair c.in-Whole.taken c.in-Whole.ensures.1 c.in-Whole.ensures.2 in
-    room_more (state_of c.args.self.now) c.in-Whole.pair (state_of c.take_pair.new.self) (length c.args.bytes.now) c.in-Whole.taken c.requires.ready c.in_ok-take_pair-in-Whole.ensures.counted within.0 within.1
+    room_more (state_of c.args.self.now) c.in-Whole.pair (state_of c.take_pair.new.self) left c.in-Whole.taken ready c.in_ok-take_pair-in-Whole.ensures.counted (omega (arith, within.0, inside)) within.1
 
 pub returns-in-End-clause-taken : goal.returns-in-End-clause-taken
 returns-in-End-clause-taken c =

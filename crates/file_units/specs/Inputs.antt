@@ -1,0 +1,42 @@
+-- Going through the units of an input that is read as they are taken.
+use Rattle.std.specs.Prelude.{◌≡◌, ◌+◌, ◌-◌, ◌<◌, ◌≤◌, ℕ, List, [], ◌++◌, length, take, Option, Some, None, IfSome, Result, Ok, Err}
+use Rattle.flow_io.specs.Streams.{Takes}
+use Rattle.flow_io.specs.Windows.{WindowState}
+use Rattle.wire_records.specs.Records.{AreBytes}
+use Rattle.wire_records.specs.Grammars.{BeginsWithNone, spell_all}
+use Rattle.wire_records.specs.Reading.{Format}
+use Rattle.wire_records.specs.Reading as reading
+use Rattle.file_units.specs.declared.walk.Ending.{Ending}
+use Rattle.file_units.specs.declared.walk.Ending.TheVariants.{End}
+use Rattle.file_units.specs.declared.input.TakeFault.{TakeFault}
+use Rattle.file_units.specs.declared.input.TakeFault.TheVariants.{Read, Broken}
+use Rattle.file_units.specs.Units.{ending_of, GoesToEnd, GoesToBreak}
+
+-- In so many bytes it is seen whether a unit stands at the front or states too much. What states too much does so whatever follows,
+-- and is no unit.
+pub record HasLongest {V U : Type 0} (format : Format V U) (most : ℕ) : Type 0 where
+  pub seen : (bytes : List ℕ) → AreBytes bytes → most ≤ length bytes → BeginsWithNone format.units bytes → format.IsOverlong bytes
+  pub stays : (bytes more : List ℕ) → format.IsOverlong bytes → format.IsOverlong (bytes ++ more)
+  pub none : (bytes : List ℕ) → format.IsOverlong bytes → BeginsWithNone format.units bytes
+
+-- the bytes that were taken of a source, and those that it has left, where it tells them
+abbrev pub known : List ℕ → Option (List ℕ) → List ℕ
+known taken None = taken
+known taken (Some left) = taken ++ left
+
+module _ {V U S O F : Type 0} (format : Format V U) (Steps : S → U → S → O → O → Type 0) (Breaks : S → U → F → O → O → Type 0) where
+  -- All units within so many bytes were taken, or taking them broke off: no more than the room and one byte are taken behind the
+  -- units before. Where a read failed, all units of the bytes seen so far were taken.
+  abbrev pub GoesBy : (limit place room : ℕ) → List ℕ → Option (List ℕ) → List ℕ → Result Ending (TakeFault F) → S → S → O → O → Type 0
+  GoesBy limit place room seen after all (Ok ending) old new before now =
+      GoesToEnd format Steps place (limit < length all) (take limit all) (ending_of ending) old new before now × (ending ≡ End → IfSome after (λ left. left ≡ []))
+  GoesBy limit place room seen after all (Err Read) old new before now = GoesToEnd format Steps place (Unit {0}) (take (length seen) (take limit all)) reading.TooLong old new before now
+  GoesBy limit place room seen after all (Err (Broken fault)) old new before now =
+      (goes : GoesToBreak format Steps Breaks (take limit all) fault old before now) × (length seen ≤ length (spell_all format.units goes.units) + (room + 1))
+
+  -- The bytes that a window held, and those that were taken of its source, went by: within its limit, and one byte more at most.
+  pub record GoesFrom (window : WindowState) (before after : Option (List ℕ)) (result : Result Ending (TakeFault F)) (old new : S) (out now : O) : Type 0 where
+    pub taken : List ℕ
+    pub takes : Takes before after taken
+    pub few : length window.held + length taken ≤ (window.limit - window.place) + 1
+    pub goes : GoesBy (window.limit - window.place) window.place window.room (window.held ++ taken) after (window.held ++ known taken after) result old new out now

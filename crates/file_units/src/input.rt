@@ -1,0 +1,87 @@
+//! The loop over the units of an input that is read as they are taken.
+ghost use Rattle.std.specs.Prelude.{◌≡◌, ◌-◌, ◌<◌, Some, None, [], length, Err, IfOk, OnErr, IfSome, IsErr};
+ghost use Rattle.flow_io.specs.Faults.{Blames};
+ghost use Rattle.flow_io.specs.Windows.{Fills, IsWithin};
+ghost use Rattle.flow_io.specs.declared.window.InputEnd.TheVariants.{Source as source_end, Limit as limit_end};
+ghost use Rattle.wire_records.specs.Records.{AreBytes};
+ghost use Rattle.file_units.specs.Inputs.{HasLongest, GoesFrom};
+
+use crate::walk::{Ending, Front, TakesUnits};
+use flow_io::{Filled, ReadFailed, Source, Window};
+
+/// Why the units of an input weren't taken to its end.
+#[derive(Clone, Copy, PartialEq, Eq)]
+pub enum TakeFault<F> {
+    /// A read failed.
+    Read,
+    /// Taking a unit broke off.
+    Broken(F),
+}
+
+// The bytes that a window holds, with what their type says of them as a clause.
+fn bytes_of(held: &[u8]) -> &[u8]
+    ensures value { result.now ≡ held.now }
+    ensures bytes { AreBytes held.now }
+{
+    held
+}
+
+// Reads once more behind the held bytes, of which there are fewer than the room.
+fn read_on<S: Source>(window: &mut Window, source: &mut S) -> Result<Filled, ReadFailed>
+    requires room { length window.old.held < window.old.room }
+    requires same { window.old.over ≡ Some source_end → IfSome (S.rest source.old) (λ left. left ≡ []) }
+    ensures fills { Fills window.old window.new (S.rest source.old) (S.rest source.new) }
+    ensures more { IfOk result (λ filled. filled ≡ Filled.Enough → (length window.old.held < length window.new.held) × (window.new.over ≡ window.old.over)) }
+    ensures limited { IfOk result (λ filled. filled ≡ Filled.Limited → (window.new.held ≡ window.old.held) × (window.new.over ≡ Some limit_end)) }
+    ensures ended { IfOk result (λ filled. filled ≡ Filled.Ended → (window.new.held ≡ window.old.held) × (window.new.over ≡ Some source_end)) }
+    ensures all { window.new.over ≡ Some source_end → IfSome (S.rest source.new) (λ left. left ≡ []) }
+    ensures within { IsWithin window.new.place (length window.new.held) window.new.limit window.new.over }
+    ensures failed { OnErr result ((window.new.held ≡ window.old.held) × (window.new.over ≡ None)) }
+    ensures cause { Blames (IsErr result) (S.faults source.old) (S.faults source.new) }
+{
+    let want = window.held().len() + 1;
+    window.fill(source, want)
+}
+
+/// Takes the units of an input from the held bytes of a window on, one after the other, and answers how the reading ends,
+/// or why it broke off. The source is read only where no whole unit is held, and then once: so each unit that has come is
+/// taken before more is asked for.
+///
+/// The window has room for the longest unit. Each unit is looked at where it lies, and again for each read that ended
+/// within it.
+pub fn take_from<S: Source, O, T: TakesUnits<O>>(
+    window: &mut Window,
+    source: &mut S,
+    taker: &mut T,
+    out: &mut O,
+) -> Result<Ending, TakeFault<T::Fault>>
+    requires longest { HasLongest T.format window.old.room }
+    requires open { window.old.over ≡ None }
+    requires ready { T.is_ready taker.old (window.old.limit - window.old.place) }
+    ensures goes { GoesFrom T.format T.steps T.breaks window.old (S.rest source.old) (S.rest source.new) result
+        (T.state taker.old) (T.state taker.new) out.old out.new }
+    ensures cause { Blames (result ≡ Err TakeFault.Read) (S.faults source.old) (S.faults source.new) }
+{
+    'units: loop {
+        let front = match taker.take(bytes_of(window.held()), out) {
+            Ok(front) => front,
+            Err(fault) => return Err(TakeFault::Broken(fault)),
+        };
+        match front {
+            Front::Taken(taken) => window.advance(taken),
+            Front::Overlong => return Ok(Ending::Torn(window.place())),
+            Front::Short => match read_on(window, source) {
+                Ok(Filled::Enough) => {}
+                Ok(Filled::Limited) => return Ok(Ending::TooLong),
+                Ok(Filled::Ended) => return Ok(Ending::Torn(window.place())),
+                Err(_) => return Err(TakeFault::Read),
+            },
+            Front::NoBytes => match read_on(window, source) {
+                Ok(Filled::Enough) => {}
+                Ok(Filled::Limited) => return Ok(Ending::TooLong),
+                Ok(Filled::Ended) => return Ok(Ending::End),
+                Err(_) => return Err(TakeFault::Read),
+            },
+        }
+    }
+}
