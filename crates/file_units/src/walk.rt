@@ -1,7 +1,7 @@
 //! The loop over the units, and what is handed in to it.
 ghost use Rattle.std.specs.Prelude.{◌≡◌, ◌-◌, ◌≤◌, IfOk, IfErr, IsTrue, drop, length};
 ghost use Rattle.wire_records.specs.Reading.{Format};
-ghost use Rattle.wire_records.specs.Formats.{Version};
+ghost use Rattle.wire_records.specs.declared.version.Version.{Version};
 ghost use Rattle.file_units.specs.Units.{ending_of, IsTaken, StaysReady, BreaksOff, GoesToEnd, GoesToBreak};
 
 /// What stands at the front of the rest of a file, once a whole unit there has been taken.

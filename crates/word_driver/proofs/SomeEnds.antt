@@ -6,7 +6,7 @@ use Rattle.std.proofs.lemmas.List.Elements.{All-nil, All-push, All-head, All-tai
 use Rattle.wire_records.specs.Grammars.{spell_all}
 use Rattle.wire_records.specs.Reading.{Ending, End}
 use Rattle.wire_records.specs.Reading as reading
-use Rattle.wire_records.specs.Formats.{Version}
+use Rattle.wire_records.specs.declared.version.Version.{Version}
 use Rattle.wire_records.proofs.ReadingLaws.{reads_on_some}
 use Rattle.word_driver.specs.declared.fault.Fault.TheVariants.{NotFlow, Torn, TooLong, Stopped}
 use Rattle.word_driver.specs.Ended.{Ended}

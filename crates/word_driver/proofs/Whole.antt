@@ -10,7 +10,7 @@ use Rattle.flow_io.specs.declared.window.InputEnd.TheVariants.{Source, Limit}
 use Rattle.flow_io.proofs.Growth.{Grows-nothing}
 use Rattle.flow_io.proofs.Reading.{Takes-more}
 use Rattle.wire_records.specs.Grammars.{BeginsWithNone}
-use Rattle.wire_records.specs.Formats.{Version}
+use Rattle.wire_records.specs.declared.version.Version.{Version}
 use Rattle.wire_records.proofs.ReadingLaws.{none_in_none}
 use Rattle.file_units.specs.Inputs.{known}
 use Rattle.file_units.proofs.Gone.{within_limit}

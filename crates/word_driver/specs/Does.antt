@@ -3,7 +3,7 @@ use Rattle.std.specs.Prelude.{◌≡◌, ◌≢◌, ◌⊎◌, ◌+◌, ◌<◌,
 use Rattle.flow_io.specs.Faults.{Rose, Blames}
 use Rattle.flow_io.specs.Streams.{Grows, GrowsByFront, TakesAtMost}
 use Rattle.flow_io.specs.Changes.{Change}
-use Rattle.wire_records.specs.Formats.{Version}
+use Rattle.wire_records.specs.declared.version.Version.{Version}
 use Rattle.word_driver.specs.declared.fault.Fault.TheVariants.{Read, Write, Memory, NotFlow, Torn, TooLong, Stopped}
 use Rattle.word_driver.specs.Ended.{Ended}
 use Rattle.word_driver.specs.Word.{Word, Comes, Lacks, Passed}

@@ -1,6 +1,6 @@
 -- What holds of words, whatever code there is.
 use Rattle.std.specs.Prelude.{◌≡◌, ◌⊎◌, ◌≤◌, ◌^◌, ℕ, List, [], ◌++◌, length, All, Option, Some, None}
-use Rattle.wire_records.specs.Formats.{Version}
+use Rattle.wire_records.specs.declared.version.Version.{Version}
 use Rattle.wire_records.proofs.ReadingLaws.{IsReadable}
 use Rattle.file_units.specs.Inputs.{HasLongest}
 use Rattle.word_driver.specs.Ended.{Ended}

@@ -3,7 +3,7 @@ use Rattle.std.specs.Prelude.{◌≡◌, ◌⊎◌, ◌+◌, ℕ, List, [], ◌�
 use Rattle.wire_records.specs.Grammars.{BeginsWith, BeginsWithNone, spell_all}
 use Rattle.wire_records.specs.Reading.{Format, Ending, EndsAs}
 use Rattle.wire_records.specs.Reading as reading
-use Rattle.wire_records.specs.Formats.{Version}
+use Rattle.wire_records.specs.declared.version.Version.{Version}
 use Rattle.word_driver.specs.declared.fault.Fault.TheVariants.{Read, Write, Memory, NotFlow, Torn, TooLong, Stopped}
 use Rattle.word_driver.specs.Ended.{Ended}
 

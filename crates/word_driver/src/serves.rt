@@ -1,6 +1,6 @@
 //! What a word is for the driver.
 ghost use Rattle.std.specs.Prelude.{◌≡◌, ◌≤◌, ◌-◌, ℕ, [], IfOk, IfErr, length, vec_len, vec_capacity};
-ghost use Rattle.wire_records.specs.Formats.{Version};
+ghost use Rattle.wire_records.specs.declared.version.Version.{Version};
 ghost use Rattle.file_units.specs.Units.{StaysReady};
 ghost use Rattle.word_driver.specs.Word.{Word};
 ghost use Rattle.word_driver.specs.Private.{IsOpened, IsTakenBy, HaltsAt, IsClosed};
