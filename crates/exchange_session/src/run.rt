@@ -8,7 +8,7 @@ use file_units::Front;
 use journal_records::JOURNAL_MAGIC;
 use std::alloc::Global;
 use wire_records::{Framed, MOST_BODY, is_command_file, next_record};
-use word_driver::{Halt, Memory, Never, ServesWord};
+use word_driver::{Halt, Never, ServesWord};
 
 // As many bytes has the longest record: 5, and 1,024 of its body.
 const MOST_RECORD: usize = 1029;
@@ -62,12 +62,12 @@ impl ServesWord for Run {
 
     ghost is_ready = { λ r left. r.session.next_order + left < 2 ^ 64 };
 
-    fn open(&mut self, bytes: &[u8], text: &mut Vec<u8>) -> Result<bool, Memory> {
+    fn open(&mut self, bytes: &[u8], text: &mut Vec<u8>) -> bool {
         if !is_command_file(bytes) {
-            return Ok(false);
+            return false;
         }
         text.extend_from_slice(&JOURNAL_MAGIC).unwrap();
-        Ok(true)
+        true
     }
 
     fn take(&mut self, bytes: &[u8], text: &mut Vec<u8>) -> Result<Front, Halt<Never>> {
