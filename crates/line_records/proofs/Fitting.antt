@@ -1,7 +1,7 @@
 -- The commands that lines ask for fit their records.
 use Rattle.std.proofs.Common.{ℕ, List, [], ◌∷◌, All, inl, inr, arith}
 use Rattle.std.proofs.lemmas.List.Elements.{All-nil, All-cons}
-use Rattle.wire_records.specs.Commands.{Command, AddAsset, OpenAccount, DepositMoney, DepositAsset, WithdrawMoney, WithdrawAsset, PlaceOrder, CancelOrder, RunBatch}
+use Rattle.wire_records.specs.Commands.{Command, AddAsset, OpenAccount, DepositMoney, DepositAsset, WithdrawMoney, WithdrawAsset, PlaceOrder, CancelOrder, RunBatch, PlaceUntil, SetMoneyCredit, SetUnitCredit}
 use Rattle.wire_records.specs.CommandRecords.{IsCommand, HasShortRow}
 use Rattle.ticker_table.specs.Tickers.{IsTicker, AreTickers}
 use Rattle.ticker_table.proofs.Places.{AreTickers-push}
@@ -26,6 +26,9 @@ tickers_after tickers (WithdrawAsset account asset units) after are leaves = rw 
 tickers_after tickers (PlaceOrder request) after are leaves = rw leaves are
 tickers_after tickers (CancelOrder account order) after are leaves = rw leaves are
 tickers_after tickers (RunBatch budget) after are leaves = rw leaves are
+tickers_after tickers (PlaceUntil last request) after are leaves = rw leaves are
+tickers_after tickers (SetMoneyCredit account ticks) after are leaves = rw leaves are
+tickers_after tickers (SetUnitCredit account asset units) after are leaves = rw leaves are
 
 -- what lines ask for, from some tickers on
 all_fit : (tickers : List (List ℕ)) (lines : List (List ℕ)) (commands : List Command) (after : List (List ℕ)) → AreTickers tickers → Say tickers lines commands after → All IsCommand commands × All HasShortRow commands
