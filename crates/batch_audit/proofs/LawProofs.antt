@@ -2,7 +2,7 @@
 use Rattle.std.proofs.Common.{◌≡◌, suc, List, [], ◌∷◌, ◌++◌, map, refl, sym, ap, subst, ◌∙◌, arith}
 use Rattle.wire_records.specs.Records.{Record}
 use Rattle.wire_records.specs.Commands.{Answer, Pair}
-use Rattle.wire_records.specs.CommandRecords.{IsReadAs}
+use Rattle.wire_records.specs.Versions.{IsReadAs}
 use Rattle.flow_orders.specs.Outcomes.{Outcome, IsRightOutcome}
 use Rattle.journal_records.specs.Pairs.{IsPair}
 use Rattle.journal_records.specs.Formats.{records_of}
@@ -66,8 +66,8 @@ judged_once start (v ∷ p) (w ∷ q) x y m n e i j a b s t =
     (ap (λ z. z ∷ p) same ∙ ap (λ z. w ∷ z) rest.0, rest.1, rest.2)
 
 pub one_judgement : OneJudgement
-one_judgement all p q x y m n first other =
-    judged_once empty_market p q x y m n (sym first.parts ∙ other.parts) first.journal.each other.journal.each first.journal.steps other.journal.steps first.stops other.stops
+one_judgement version all p q x y m n first other =
+    judged_once (empty_market version) p q x y m n (sym first.parts ∙ other.parts) first.journal.each other.journal.each first.journal.steps other.journal.steps first.stops other.stops
 
 -- ---- numbers of orders
 

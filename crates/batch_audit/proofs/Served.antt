@@ -4,7 +4,7 @@ use Rattle.std.specs.Prelude.{IfOk}
 use Rattle.std.proofs.lemmas.Bool.{false≢true}
 use Rattle.wire_records.specs.Records.{Record}
 use Rattle.wire_records.specs.Commands.{Command, RunBatch, Answer, Plain}
-use Rattle.wire_records.specs.CommandRecords.{IsReadAs}
+use Rattle.wire_records.specs.Versions.{IsReadAs}
 use Rattle.wire_records.specs.declared.command.BodyFault.{BodyFault}
 use Rattle.wire_records.specs.declared.reply.Reply.{Reply}
 use Rattle.wire_records.specs.declared.reply.Reply.TheVariants.{Refused}
@@ -55,11 +55,11 @@ module _ (m : Market) (c : Command) (none : (budget : ℕ) → ¬ (c ≡ RunBatc
 -- ---- records and pairs
 
 -- what a record is read as judges the record
-pub record_judged : (legality : Legality) (old : Market) (asked : Record) (read : Result Command BodyFault) (a : Answer Outcome) (new : Market) → IsReadAs asked read
+pub record_judged : (legality : Legality) (old : Market) (asked : Record) (read : Result Command BodyFault) (a : Answer Outcome) (new : Market) → IsReadAs old.version asked read
     → IsServed legality old read a new → IsAnswerJudged legality old asked a new
 record_judged Legal old asked read a new spelled served = record { read = read; spelled = spelled; served = served }
 record_judged Illegal old asked read a new spelled served = (
-  λ made step. served.0 made (subst (λ r. ServesRead IsRightOutcome old r a made) (reading_unique asked step.read read step.spelled spelled) step.served),
+  λ made step. served.0 made (subst (λ r. ServesRead IsRightOutcome old r a made) (reading_unique old.version asked step.read read step.spelled spelled) step.served),
   served.1,
 )
 

@@ -2,6 +2,7 @@
 use Rattle.std.specs.Prelude.{◌≡◌, ◌≤◌, ◌+◌, List}
 use Rattle.wire_records.specs.Records.{Record}
 use Rattle.wire_records.specs.Commands.{Pair}
+use Rattle.wire_records.specs.declared.version.Version.{Version}
 use Rattle.flow_orders.specs.Outcomes.{Outcome}
 use Rattle.market_core.specs.Market.{Market}
 use Rattle.batch_audit.specs.Legal.{IsLegalPair, AreJudged}
@@ -10,10 +11,10 @@ use Rattle.batch_audit.specs.Legal.{IsLegalPair, AreJudged}
 abbrev pub OneMarket : Type 0
 OneMarket = (old : Market) (pair : Record × Record) (m n : Market) → IsLegalPair old pair m → IsLegalPair old pair n → m ≡ n
 
--- pairs of records have one verdict: the legal ones, those behind them, and the market
+-- pairs of records have one verdict in a version: the legal ones, those behind them, and the market
 abbrev pub OneJudgement : Type 0
-OneJudgement = (all : List (Record × Record)) (p q : List (Pair Record Outcome)) (x y : List (Record × Record)) (m n : Market)
-    → AreJudged all p x m → AreJudged all q y n → (p ≡ q) × (x ≡ y) × (m ≡ n)
+OneJudgement = (version : Version) (all : List (Record × Record)) (p q : List (Pair Record Outcome)) (x y : List (Record × Record)) (m n : Market)
+    → AreJudged version all p x m → AreJudged version all q y n → (p ≡ q) × (x ≡ y) × (m ≡ n)
 
 -- a legal pair gives out at most one number of an order
 abbrev pub PairsNumberOne : Type 0

@@ -2,7 +2,8 @@
 use Rattle.std.specs.Prelude.{◌≡◌, List, [], ◌∷◌, ◌++◌, map, All}
 use Rattle.wire_records.specs.Records.{Record}
 use Rattle.wire_records.specs.Commands.{Answer, Pair}
-use Rattle.wire_records.specs.CommandRecords.{IsReadAs}
+use Rattle.wire_records.specs.Versions.{IsReadAs}
+use Rattle.wire_records.specs.declared.version.Version.{Version}
 use Rattle.flow_orders.specs.Outcomes.{Outcome, IsRightOutcome}
 use Rattle.journal_records.specs.Replies.{SpellsAnswer}
 use Rattle.journal_records.specs.Pairs.{IsPair}
@@ -21,18 +22,18 @@ pub record IsLegalPair (old : Market) (pair : Record × Record) (new : Market) :
 abbrev pub IsIllegalPair : Market → Record × Record → Type 0
 IsIllegalPair old pair = (new : Market) → ¬ IsLegalPair old pair new
 
--- the pairs are a legal journal, and lead to this market
-pub record IsLegalJournal (pairs : List (Pair Record Outcome)) (market : Market) : Type 0 where
+-- the pairs are a legal journal of a version, and lead to this market
+pub record IsLegalJournal (version : Version) (pairs : List (Pair Record Outcome)) (market : Market) : Type 0 where
   pub each : All IsPair pairs
-  pub steps : Follows IsReadAs IsRightOutcome empty_market pairs market
+  pub steps : Follows IsReadAs IsRightOutcome (empty_market version) pairs market
 
 -- no pair of records is left, or the first of those that are left is no step of the market
 abbrev pub StopsAt : Market → List (Record × Record) → Type 0
 StopsAt market [] = Unit {0}
 StopsAt market (bad ∷ more) = IsIllegalPair market bad
 
--- Pairs of records are these legal ones, and those behind them, of which the first is illegal.
-pub record AreJudged (all : List (Record × Record)) (legal : List (Pair Record Outcome)) (behind : List (Record × Record)) (market : Market) : Type 0 where
+-- Pairs of records are in a version these legal ones, and those behind them, of which the first is illegal.
+pub record AreJudged (version : Version) (all : List (Record × Record)) (legal : List (Pair Record Outcome)) (behind : List (Record × Record)) (market : Market) : Type 0 where
   pub parts : all ≡ map records_of legal ++ behind
-  pub journal : IsLegalJournal legal market
+  pub journal : IsLegalJournal version legal market
   pub stops : StopsAt market behind

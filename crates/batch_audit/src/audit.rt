@@ -2,6 +2,7 @@
 ghost use Rattle.std.specs.Prelude.{◌≡◌, ◌+◌, ◌^◌, ◌<◌, ◌↔◌, ℕ, IsTrue, if◌then◌else◌, Ok, IfOk, OnErr};
 ghost use Rattle.wire_records.specs.Commands.{RunBatch, Plain};
 ghost use Rattle.wire_records.specs.CommandRecords.{IsCommand};
+ghost use Rattle.wire_records.specs.Versions.{IsOfVersion};
 ghost use Rattle.wire_records.specs.Views.{command_of};
 ghost use Rattle.journal_records.specs.Views.{answer_of};
 ghost use Rattle.market_core.specs.Wanting.{MayWant, RecordMayWant};
@@ -68,6 +69,7 @@ fn serve_plain(
     seen: &ReplyView<'_>,
 ) -> Result<Legality, Memory>
     requires command { IsCommand (command_of command.now) }
+    requires version { IsOfVersion market.old.version (command_of command.now) }
     requires no_batch { (budget : ℕ) → ¬ (command_of command.now ≡ RunBatch budget) }
     requires next { market.old.next_order + 1 < 2 ^ 64 }
     ensures served { IfOk result (λ legality. IsServed legality market.old (Ok (command_of command.now))
@@ -130,16 +132,25 @@ fn serve(
 }
 
 impl Audit {
+    ghost use Rattle.wire_records.specs.declared.version.Version.TheVariants.{One};
     ghost use Rattle.market_core.specs.Market.{empty_market, IsSound};
     ghost use Rattle.batch_audit.specs.Judging.{IsJudged};
 
-    /// An audit of a journal from its first pair on. Takes no memory.
+    /// An audit of a journal of version One from its first pair on. Takes no memory.
     pub fn new(alloc: Global) -> Audit
-        ensures { result ≡ empty_market }
+        ensures { result ≡ empty_market One }
+    {
+        Audit::over(Market::new(alloc))
+    }
+
+    /// An audit of the pairs that stand behind those that have made this market; over the empty market of a version, of a
+    /// journal of that version from its first pair on. Takes no memory.
+    pub fn over(market: Market) -> Audit
+        ensures { result ≡ market }
     {
         Audit {
-            alloc,
-            market: Market::new(alloc),
+            alloc: market.alloc(),
+            market,
         }
     }
 
