@@ -1,10 +1,10 @@
 -- A pair has one text.
 use Rattle.std.proofs.Common.{◌≡◌, ℕ, List, ◌++◌, codes, decimal, Ok, sym, ap, subst, ◌∙◌}
 use Rattle.wire_records.specs.Records.{Record}
-use Rattle.wire_records.specs.Commands.{Request, Command, AddAsset, OpenAccount, DepositMoney, DepositAsset, WithdrawMoney, WithdrawAsset, PlaceOrder, CancelOrder, RunBatch, Answer, Plain, Batch}
-use Rattle.wire_records.specs.CommandRecords.{IsReadAs}
+use Rattle.wire_records.specs.Commands.{Request, Command, AddAsset, OpenAccount, DepositMoney, DepositAsset, WithdrawMoney, WithdrawAsset, PlaceOrder, CancelOrder, RunBatch, PlaceUntil, SetMoneyCredit, SetUnitCredit, Answer, Plain, Batch}
+use Rattle.wire_records.specs.CommandRecords.{IsRead}
 use Rattle.wire_records.specs.declared.reply.Reply.TheVariants.{Done, Asset, Account, Order, Refused}
-use Rattle.wire_records.proofs.Readings.{reading_unique}
+use Rattle.wire_records.proofs.Readings.{seen_unique}
 use Rattle.flow_orders.specs.Outcomes.{Outcome, Cleared, Skipped}
 use Rattle.journal_records.proofs.Spelled.{answer_unique}
 use Rattle.batch_report.specs.Reports.{order_text, TellsDone, Tells}
@@ -21,13 +21,16 @@ one_done tickers (AddAsset ticker) x y a b = absurd a
 one_done tickers OpenAccount x y a b = absurd a
 one_done tickers (PlaceOrder request) x y a b = absurd a
 one_done tickers (RunBatch budget) x y a b = absurd a
+one_done tickers (PlaceUntil last request) x y a b = absurd a
+one_done tickers (SetMoneyCredit account ticks) x y a b = absurd a
+one_done tickers (SetUnitCredit account asset units) x y a b = absurd a
 
 -- a record asks for one command
-one_command : (asked : Record) (c d : Command) → IsReadAs asked (Ok c) → IsReadAs asked (Ok d) → c ≡ d
-one_command asked c d a b = let same = reading_unique asked (Ok c) (Ok d) a b in cc
+one_command : (asked : Record) (c d : Command) → IsRead asked (Ok c) → IsRead asked (Ok d) → c ≡ d
+one_command asked c d a b = let same = seen_unique asked (Ok c) (Ok d) a b in cc
 
 -- and for one order
-one_request : (asked : Record) (r s : Request) → IsReadAs asked (Ok (PlaceOrder r)) → IsReadAs asked (Ok (PlaceOrder s)) → r ≡ s
+one_request : (asked : Record) (r s : Request) → IsRead asked (Ok (PlaceOrder r)) → IsRead asked (Ok (PlaceOrder s)) → r ≡ s
 one_request asked r s a b = let same = one_command asked (PlaceOrder r) (PlaceOrder s) a b in cc
 
 one_told : (tickers : List (List ℕ)) (asked : Record) (answer : Answer Outcome) (x y : List ℕ) → Tells tickers asked answer x → Tells tickers asked answer y → x ≡ y

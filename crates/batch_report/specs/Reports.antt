@@ -4,8 +4,8 @@ use Rattle.std.specs.Fmt.{signed_decimal}
 use Rattle.std.specs.List.{flat_map, range_with_len}
 use Rattle.weight_rows.specs.declared.entries.Entry.{Entry}
 use Rattle.wire_records.specs.Records.{Record}
-use Rattle.wire_records.specs.Commands.{Request, Command, AddAsset, OpenAccount, DepositMoney, DepositAsset, WithdrawMoney, WithdrawAsset, PlaceOrder, CancelOrder, RunBatch, Answer, Plain, Batch}
-use Rattle.wire_records.specs.CommandRecords.{IsReadAs}
+use Rattle.wire_records.specs.Commands.{Request, Command, AddAsset, OpenAccount, DepositMoney, DepositAsset, WithdrawMoney, WithdrawAsset, PlaceOrder, CancelOrder, RunBatch, PlaceUntil, SetMoneyCredit, SetUnitCredit, Answer, Plain, Batch}
+use Rattle.wire_records.specs.CommandRecords.{IsRead}
 use Rattle.wire_records.specs.Refusals.{code_of}
 use Rattle.wire_records.specs.declared.reply.Reply.TheVariants.{Done, Asset, Account, Order, Refused}
 use Rattle.flow_orders.specs.Outcomes.{Fill, Clearing, Skipping, Outcome, Cleared, Skipped}
@@ -68,7 +68,7 @@ skipped_line batch s =
     codes "batch " then decimal batch then codes " skipped moves " then decimal (length s.trace)
     then codes " duals " then signed_decimal s.start_dual then codes " " then signed_decimal s.end_dual then codes "\n"
 
--- what is told of a command that was done, in one line without its end
+-- what is told of a command that was done, in one line without its end; commands of version Two aren't told
 abbrev pub TellsDone : List (List ℕ) → Command → List ℕ → Type 0
 TellsDone tickers (DepositMoney account ticks) text = text ≡ money_text (codes "deposit") account ticks
 TellsDone tickers (DepositAsset account asset units) text = text ≡ units_text (codes "deposit") tickers account asset units
@@ -79,13 +79,16 @@ TellsDone tickers (AddAsset ticker) text = ⊥
 TellsDone tickers OpenAccount text = ⊥
 TellsDone tickers (PlaceOrder request) text = ⊥
 TellsDone tickers (RunBatch budget) text = ⊥
+TellsDone tickers (PlaceUntil last request) text = ⊥
+TellsDone tickers (SetMoneyCredit account ticks) text = ⊥
+TellsDone tickers (SetUnitCredit account asset units) text = ⊥
 
 -- what is told of a record and its answer, behind the pair's number, under the tickers of the market after the pair
 abbrev pub Tells : List (List ℕ) → Record → Answer Outcome → List ℕ → Type 0
-Tells tickers asked (Plain Done) text = (command : Command) × (line : List ℕ) × IsReadAs asked (Ok command) × TellsDone tickers command line × (text ≡ line then codes "\n")
+Tells tickers asked (Plain Done) text = (command : Command) × (line : List ℕ) × IsRead asked (Ok command) × TellsDone tickers command line × (text ≡ line then codes "\n")
 Tells tickers asked (Plain (Asset asset)) text = text ≡ codes "asset " then decimal asset then codes " " then asset_name tickers asset then codes "\n"
 Tells tickers asked (Plain (Account account)) text = text ≡ codes "account " then decimal account then codes "\n"
-Tells tickers asked (Plain (Order order)) text = (request : Request) × IsReadAs asked (Ok (PlaceOrder request)) × (text ≡ order_text tickers order request then codes "\n")
+Tells tickers asked (Plain (Order order)) text = (request : Request) × IsRead asked (Ok (PlaceOrder request)) × (text ≡ order_text tickers order request then codes "\n")
 Tells tickers asked (Plain (Refused refusal)) text = text ≡ codes "refused " then decimal (code_of refusal) then codes "\n"
 Tells tickers asked (Batch batch (Cleared c)) text = text ≡ cleared_lines tickers batch c
 Tells tickers asked (Batch batch (Skipped s)) text = text ≡ skipped_line batch s

@@ -5,7 +5,7 @@ ghost use Rattle.weight_rows.specs.declared.entries.Entry.{Entry};
 ghost use Rattle.wire_records.specs.Commands.{Request, PlaceOrder, Plain};
 ghost use Rattle.wire_records.specs.Refusals.{code_of};
 ghost use Rattle.wire_records.specs.declared.reply.Reply.TheVariants as reply;
-ghost use Rattle.wire_records.specs.CommandRecords.{IsReadAs};
+ghost use Rattle.wire_records.specs.CommandRecords.{IsRead};
 ghost use Rattle.wire_records.specs.Views.{command_of};
 ghost use Rattle.batch_report.specs.Reports.{◌then◌, money_text, units_text, entry_text, order_text, asset_name, TellsDone, Tells};
 ghost use Rattle.batch_report.specs.Private.{IsAnswered, IsDone, IsPlacing, no_entry};
@@ -71,13 +71,16 @@ fn put_command(
         CommandView::OpenAccount => unreachable!(),
         CommandView::PlaceOrder(_) => unreachable!(),
         CommandView::RunBatch { .. } => unreachable!(),
+        CommandView::PlaceUntil { .. } => unreachable!(),
+        CommandView::SetMoneyCredit { .. } => unreachable!(),
+        CommandView::SetUnitCredit { .. } => unreachable!(),
     }
 }
 
 // The command of a record that was answered by `Done`.
 fn done_command<'a>(asked: &RecordView<'a>) -> CommandView<'a>
     requires { IsAnswered asked.now (Plain reply.Done) }
-    ensures read { IsReadAs asked.now (Ok (command_of result)) }
+    ensures read { IsRead asked.now (Ok (command_of result)) }
     ensures done { IsDone (command_of result) }
 {
     match asked.command() {
@@ -89,7 +92,7 @@ fn done_command<'a>(asked: &RecordView<'a>) -> CommandView<'a>
 // The command of a record that was answered by an order's number.
 fn placing_command<'a>(asked: &RecordView<'a>) -> CommandView<'a>
     requires { (number : ℕ) × IsAnswered asked.now (Plain (reply.Order number)) }
-    ensures read { IsReadAs asked.now (Ok (command_of result)) }
+    ensures read { IsRead asked.now (Ok (command_of result)) }
     ensures placing { IsPlacing (command_of result) }
 {
     match asked.command() {
@@ -173,6 +176,9 @@ fn put_placing(
         CommandView::WithdrawAsset { .. } => unreachable!(),
         CommandView::CancelOrder { .. } => unreachable!(),
         CommandView::RunBatch { .. } => unreachable!(),
+        CommandView::PlaceUntil { .. } => unreachable!(),
+        CommandView::SetMoneyCredit { .. } => unreachable!(),
+        CommandView::SetUnitCredit { .. } => unreachable!(),
     }
 }
 
