@@ -10,7 +10,13 @@ use Rattle.flow_accounts.specs.Lawful.{most_accounts, most_credit, money_limit, 
 abbrev pub RefusesAccount : Balances → AccountFault → Type 0
 RefusesAccount b Full = account_count b ≡ most_accounts
 RefusesAccount b Memory = account_count b < most_accounts
-RefusesAccount b _ = ⊥
+RefusesAccount b NoAccount = ⊥
+RefusesAccount b NoAsset = ⊥
+RefusesAccount b Zero = ⊥
+RefusesAccount b TotalLimit = ⊥
+RefusesAccount b (NotFree free) = ⊥
+RefusesAccount b CreditLimit = ⊥
+RefusesAccount b (InUse used) = ⊥
 
 -- a deposit of money is accepted: its account is there, it isn't 0, and the total stays within its
 -- limit
@@ -25,7 +31,12 @@ RefusesMoneyDeposit b account ticks NoAccount = ¬ IsAccount b account
 RefusesMoneyDeposit b account ticks Zero = IsAccount b account × (ticks ≡ 0)
 RefusesMoneyDeposit b account ticks TotalLimit =
     IsAccount b account × (0 < ticks) × (money_limit <ℤ (b.total_money +ℤ grains ticks))
-RefusesMoneyDeposit b account ticks _ = ⊥
+RefusesMoneyDeposit b account ticks NoAsset = ⊥
+RefusesMoneyDeposit b account ticks Full = ⊥
+RefusesMoneyDeposit b account ticks (NotFree free) = ⊥
+RefusesMoneyDeposit b account ticks CreditLimit = ⊥
+RefusesMoneyDeposit b account ticks (InUse used) = ⊥
+RefusesMoneyDeposit b account ticks Memory = ⊥
 
 -- a deposit of units is accepted: its account and asset are there, it isn't 0, and the total stays
 -- within its limit
@@ -44,7 +55,11 @@ RefusesUnitDeposit b account asset units Zero =
 RefusesUnitDeposit b account asset units TotalLimit =
     IsAccount b account × IsAsset b asset × (0 < units) ×
     (unit_limit <ℤ (total_units_of b asset +ℤ pos units))
-RefusesUnitDeposit b account asset units _ = ⊥
+RefusesUnitDeposit b account asset units Full = ⊥
+RefusesUnitDeposit b account asset units (NotFree free) = ⊥
+RefusesUnitDeposit b account asset units CreditLimit = ⊥
+RefusesUnitDeposit b account asset units (InUse used) = ⊥
+RefusesUnitDeposit b account asset units Memory = ⊥
 
 -- a withdrawal of money is accepted: its account is there, it isn't 0, and so much isn't reserved
 pub record AcceptsMoneyWithdrawal (b : Balances) (account ticks : ℕ) (reserved : ℤ) : Type 0 where
@@ -58,7 +73,12 @@ RefusesMoneyWithdrawal b account ticks reserved NoAccount = ¬ IsAccount b accou
 RefusesMoneyWithdrawal b account ticks reserved Zero = IsAccount b account × (ticks ≡ 0)
 RefusesMoneyWithdrawal b account ticks reserved (NotFree free) =
     IsAccount b account × (0 < ticks) × (free ≡ money_of b account -ℤ reserved) × (free <ℤ grains ticks)
-RefusesMoneyWithdrawal b account ticks reserved _ = ⊥
+RefusesMoneyWithdrawal b account ticks reserved NoAsset = ⊥
+RefusesMoneyWithdrawal b account ticks reserved TotalLimit = ⊥
+RefusesMoneyWithdrawal b account ticks reserved Full = ⊥
+RefusesMoneyWithdrawal b account ticks reserved CreditLimit = ⊥
+RefusesMoneyWithdrawal b account ticks reserved (InUse used) = ⊥
+RefusesMoneyWithdrawal b account ticks reserved Memory = ⊥
 
 -- a withdrawal of units is accepted: its account and asset are there, it isn't 0, and so much isn't
 -- reserved
@@ -78,7 +98,11 @@ RefusesUnitWithdrawal b account asset units reserved Zero =
 RefusesUnitWithdrawal b account asset units reserved (NotFree free) =
     IsAccount b account × IsAsset b asset × (0 < units) ×
     (free ≡ units_of b account asset -ℤ reserved) × (free <ℤ pos units)
-RefusesUnitWithdrawal b account asset units reserved _ = ⊥
+RefusesUnitWithdrawal b account asset units reserved TotalLimit = ⊥
+RefusesUnitWithdrawal b account asset units reserved Full = ⊥
+RefusesUnitWithdrawal b account asset units reserved CreditLimit = ⊥
+RefusesUnitWithdrawal b account asset units reserved (InUse used) = ⊥
+RefusesUnitWithdrawal b account asset units reserved Memory = ⊥
 
 -- a credit in money is given: its account is there, it isn't above its limit, and with the balance it covers what is reserved
 pub record AcceptsMoneyCredit (b : Balances) (account ticks : ℕ) (reserved : ℤ) : Type 0 where
@@ -92,7 +116,12 @@ RefusesMoneyCredit b account ticks reserved NoAccount = ¬ IsAccount b account
 RefusesMoneyCredit b account ticks reserved CreditLimit = IsAccount b account × (most_credit < ticks)
 RefusesMoneyCredit b account ticks reserved (InUse used) =
     IsAccount b account × (ticks ≤ most_credit) × (used ≡ reserved -ℤ money_of b account) × (grains ticks <ℤ used)
-RefusesMoneyCredit b account ticks reserved _ = ⊥
+RefusesMoneyCredit b account ticks reserved NoAsset = ⊥
+RefusesMoneyCredit b account ticks reserved Zero = ⊥
+RefusesMoneyCredit b account ticks reserved TotalLimit = ⊥
+RefusesMoneyCredit b account ticks reserved Full = ⊥
+RefusesMoneyCredit b account ticks reserved (NotFree free) = ⊥
+RefusesMoneyCredit b account ticks reserved Memory = ⊥
 
 -- a credit in an asset is given
 pub record AcceptsUnitCredit (b : Balances) (account asset units : ℕ) (reserved : ℤ) : Type 0 where
@@ -109,4 +138,8 @@ RefusesUnitCredit b account asset units reserved CreditLimit = IsAccount b accou
 RefusesUnitCredit b account asset units reserved (InUse used) =
     IsAccount b account × IsAsset b asset × (units ≤ most_credit) ×
     (used ≡ reserved -ℤ units_of b account asset) × (pos units <ℤ used)
-RefusesUnitCredit b account asset units reserved _ = ⊥
+RefusesUnitCredit b account asset units reserved Zero = ⊥
+RefusesUnitCredit b account asset units reserved TotalLimit = ⊥
+RefusesUnitCredit b account asset units reserved Full = ⊥
+RefusesUnitCredit b account asset units reserved (NotFree free) = ⊥
+RefusesUnitCredit b account asset units reserved Memory = ⊥
