@@ -100,10 +100,10 @@ unserved_by version old new asked (Ok d) a why plain spelled serves seen = absur
 unserved_by version old new asked (Err other) a why plain spelled serves seen = plain (refusal_of other) serves.0
 
 -- Done and the number of an order are no refusals
-done_plain : (refusal : Refusal) → ◌≡◌ {A = Answer Outcome} (Plain Done) (Plain (Refused refusal)) → ⊥
+pub done_plain : (refusal : Refusal) → ◌≡◌ {A = Answer Outcome} (Plain Done) (Plain (Refused refusal)) → ⊥
 done_plain refusal same = subst says_done same tt
 
-order_plain : (number : ℕ) (refusal : Refusal) → ◌≡◌ {A = Answer Outcome} (Plain (Order number)) (Plain (Refused refusal)) → ⊥
+pub order_plain : (number : ℕ) (refusal : Refusal) → ◌≡◌ {A = Answer Outcome} (Plain (Order number)) (Plain (Refused refusal)) → ⊥
 order_plain number refusal same = subst says_order same tt
 
 pub done_command : (asked : Record) (c : Command) → IsRead asked (Ok c) → IsAnswered asked (Plain Done) → IsDone c

@@ -9,7 +9,8 @@ use Rattle.wire_records.specs.Commands.{Pair}
 use Rattle.wire_records.specs.Reading.{Ending, End, Torn, TooLong}
 use Rattle.flow_orders.specs.Outcomes.{Outcome}
 use Rattle.wire_records.specs.Grammars.{spell_all}
-use Rattle.wire_records.specs.Formats.{Version, One}
+use Rattle.wire_records.specs.declared.version.Version.{Version}
+use Rattle.wire_records.specs.declared.version.Version.TheVariants.{One}
 use Rattle.journal_records.specs.Pairs.{journal_magic, journal}
 use Rattle.journal_records.specs.Formats.{journal_magic_of, journals, records_of}
 use Rattle.journal_records.proofs.Files.{journal_is_file}

@@ -7,7 +7,9 @@ use Rattle.wire_records.specs.Commands.{Command}
 use Rattle.wire_records.specs.CommandRecords.{record_of, IsCommand, HasShortRow, IsReadAs}
 use Rattle.wire_records.specs.Grammars.{spell_all}
 use Rattle.wire_records.specs.Reading.{Reading, File, End, Reads}
-use Rattle.wire_records.specs.Formats.{Version, One, commands}
+use Rattle.wire_records.specs.declared.version.Version.{Version}
+use Rattle.wire_records.specs.declared.version.Version.TheVariants.{One}
+use Rattle.wire_records.specs.Formats.{commands}
 use Rattle.wire_records.proofs.Fronts.{states_none-from_few}
 use Rattle.wire_records.proofs.Readings.{command_short}
 use Rattle.wire_records.proofs.ReadingLaws.{file_read, reads_one}

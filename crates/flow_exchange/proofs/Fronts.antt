@@ -6,10 +6,12 @@ use Rattle.std.proofs.lemmas.List.Elements.{All-head, All-tail, All-take}
 use Rattle.std.proofs.lemmas.List.{flat_map_more, take_at}
 use Rattle.wire_records.specs.Records.{Record, command_magic, spelling}
 use Rattle.wire_records.specs.Commands.{Pair}
-use Rattle.wire_records.specs.CommandRecords.{record_of, IsReadAs}
+use Rattle.wire_records.specs.CommandRecords.{record_of}
+use Rattle.wire_records.specs.Versions.{IsReadAs}
 use Rattle.wire_records.specs.Grammars.{spell_all}
 use Rattle.wire_records.specs.Reading.{Reading, NotFlow, File, Reads, StartsWith}
-use Rattle.wire_records.specs.Formats.{Version, commands}
+use Rattle.wire_records.specs.declared.version.Version.{Version}
+use Rattle.wire_records.specs.Formats.{commands}
 use Rattle.wire_records.proofs.Readings.{reading_unique}
 use Rattle.wire_records.proofs.ReadingLaws.{starts_first}
 use Rattle.wire_records.proofs.RecordCode.{commands_readable}

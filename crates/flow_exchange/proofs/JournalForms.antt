@@ -6,11 +6,11 @@ use Rattle.std.proofs.lemmas.List.Sums.{sum_by-cons}
 use Rattle.std.proofs.lemmas.List.Elements.{All-nil, All-cons, All-head, All-tail, All-push}
 use Rattle.wire_records.specs.Records.{Record}
 use Rattle.wire_records.specs.Commands.{Answer, Pair}
-use Rattle.wire_records.specs.CommandRecords.{IsReadAs}
+use Rattle.wire_records.specs.Versions.{IsReadAs}
 use Rattle.wire_records.specs.Grammars.{BeginsWith, BeginsWithNone, spell_all}
 use Rattle.wire_records.specs.Reading.{Ending, End, EndsAs}
 use Rattle.wire_records.specs.Reading as reading
-use Rattle.wire_records.specs.Formats.{Version}
+use Rattle.wire_records.specs.declared.version.Version.{Version}
 use Rattle.flow_orders.specs.Outcomes.{Outcome, IsRightOutcome}
 use Rattle.journal_records.specs.Pairs.{IsPair}
 use Rattle.journal_records.specs.Formats.{journals, records_of}

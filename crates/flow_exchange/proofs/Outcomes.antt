@@ -1,10 +1,11 @@
 -- Bytes determine one status and one text, to which a call comes that no fault broke off.
 use Rattle.std.proofs.Common.{◌≡◌, ◌≢◌, ◌+◌, ℕ, List, [], ◌∷◌, ◌++◌, length, get_or, codes, inl, inr, Option, Some, None, IfSome, refl, sym, ap, subst, ◌∙◌, arith}
 use Rattle.wire_records.specs.Records.{Record}
-use Rattle.wire_records.specs.CommandRecords.{IsReadAs}
+use Rattle.wire_records.specs.Versions.{IsReadAs}
 use Rattle.wire_records.specs.Commands.{Pair}
 use Rattle.wire_records.specs.Reading.{Reading, Ending, NotFlow, File}
-use Rattle.wire_records.specs.Formats.{Version, commands}
+use Rattle.wire_records.specs.declared.version.Version.{Version}
+use Rattle.wire_records.specs.Formats.{commands}
 use Rattle.wire_records.proofs.Readings.{reading_unique}
 use Rattle.wire_records.proofs.ReadingLaws.{reads_one}
 use Rattle.wire_records.proofs.RecordCode.{commands_readable}

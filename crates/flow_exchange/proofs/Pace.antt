@@ -5,7 +5,8 @@ use Rattle.flow_io.specs.Changes.{Change}
 use Rattle.flow_io.specs.Streams.{Grows}
 use Rattle.wire_records.specs.Grammars.{spell_all}
 use Rattle.wire_records.specs.Reading.{Format, Ending, End, Torn, TooLong, EndsAs, NotFlow, File}
-use Rattle.wire_records.specs.Formats.{Version, commands}
+use Rattle.wire_records.specs.declared.version.Version.{Version}
+use Rattle.wire_records.specs.Formats.{commands}
 use Rattle.word_driver.specs.declared.fault.Fault.TheVariants as word
 use Rattle.word_driver.specs.declared.fault.Never.{Never}
 use Rattle.word_driver.specs.Ended.{Ended}

@@ -6,7 +6,9 @@ use Rattle.std.proofs.lemmas.List.Elements.{All-push}
 use Rattle.wire_records.specs.Records.{Record, IsRecord, spelling}
 use Rattle.wire_records.specs.Reading.{End, NotFlow, File}
 use Rattle.wire_records.specs.Reading as reading
-use Rattle.wire_records.specs.Formats.{Version, One, commands}
+use Rattle.wire_records.specs.declared.version.Version.{Version}
+use Rattle.wire_records.specs.declared.version.Version.TheVariants.{One}
+use Rattle.wire_records.specs.Formats.{commands}
 use Rattle.journal_records.specs.Pairs.{journal_magic}
 use Rattle.journal_records.specs.Formats.{journal_magic_of}
 use Rattle.market_core.specs.Market.{Market, empty_market}

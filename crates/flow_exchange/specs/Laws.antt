@@ -2,9 +2,11 @@
 use Rattle.std.specs.Prelude.{◌≡◌, ◌⊎◌, ◌≤◌, ◌+◌, ◌↔◌, ℕ, List, [], ◌++◌, length, take, map, All, Ok}
 use Rattle.wire_records.specs.Records.{Record}
 use Rattle.wire_records.specs.Commands.{Pair}
-use Rattle.wire_records.specs.CommandRecords.{record_of, IsReadAs}
+use Rattle.wire_records.specs.CommandRecords.{record_of}
+use Rattle.wire_records.specs.Versions.{IsReadAs}
 use Rattle.wire_records.specs.Reading.{Reads, File, End}
-use Rattle.wire_records.specs.Formats.{One, commands}
+use Rattle.wire_records.specs.declared.version.Version.TheVariants.{One}
+use Rattle.wire_records.specs.Formats.{commands}
 use Rattle.flow_orders.specs.Outcomes.{Outcome}
 use Rattle.journal_records.specs.Pairs.{journal}
 use Rattle.journal_records.specs.Formats.{journals}

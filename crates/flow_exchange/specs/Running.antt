@@ -5,7 +5,8 @@ use Rattle.flow_io.specs.Changes.{Change}
 use Rattle.flow_io.specs.Streams.{Grows}
 use Rattle.wire_records.specs.Records.{Record, spelling}
 use Rattle.wire_records.specs.Reading.{Reading, NotFlow, File, Reads, StartsWith}
-use Rattle.wire_records.specs.Formats.{Version, commands}
+use Rattle.wire_records.specs.declared.version.Version.{Version}
+use Rattle.wire_records.specs.Formats.{commands}
 use Rattle.market_core.specs.Market.{Market}
 use Rattle.market_core.specs.Wanting.{RecordMayWant}
 use Rattle.exchange_session.specs.Journals.{Journals}

@@ -1,8 +1,5 @@
 //! The audit of a journal as a word, with what is done with its pairs.
 ghost use Rattle.std.specs.Prelude.{◌≡◌, ◌≤◌, ◌<◌, ◌+◌, ◌^◌, ◌↔◌, ℕ, List, [], length, IsTrue, OnOk, IfErr, Some, vec_len, vec_capacity};
-ghost use Rattle.wire_records.specs.Grammars.{BeginsWith};
-ghost use Rattle.wire_records.specs.Formats.{One};
-ghost use Rattle.journal_records.specs.Formats.{journals};
 ghost use Rattle.market_core.specs.Market.{empty_market};
 ghost use Rattle.word_driver.specs.Private.{HaltsWith};
 ghost use Rattle.journal_words.specs.Watching.{SeesOne, over_pairs};
@@ -11,23 +8,18 @@ ghost use Rattle.journal_words.specs.Private.{HasRoom};
 use crate::on_pair::OnPair;
 use batch_audit::{Audit, Legality};
 use file_units::Front;
-use journal_records::{PairFramed, PairView, is_journal, is_overlong, next_pair};
+use journal_records::{PairFramed, PairView, is_overlong, journal_version, next_pair};
+use market_core::Market;
 use std::alloc::Global;
 use word_driver::{Halt, ServesWord};
 
 // As many bytes has the longest pair: 5 and 1,024 of the command record, 5 and 262,144 of the reply's.
 const MOST_PAIR: usize = 263_178;
 
-// Whether a journal stands there.
-fn begins(bytes: &[u8]) -> bool
-    ensures { IsTrue result ↔ ((body : List ℕ) × BeginsWith journals.magics bytes.now One body) }
-{
-    is_journal(bytes)
-}
-
-/// A word over the pairs of a journal, which it audits one after the other from the empty market.
+/// A word over the pairs of a journal, which it audits one after the other from the empty market of the journal's version.
 #[derive(Drop)]
 pub struct Pairs<P> {
+    alloc: Global,
     audit: Audit,
     pairs: u64,
     on: P,
@@ -39,9 +31,10 @@ impl<P: OnPair + Drop> Pairs<P> {
         requires { P.is_within on 0 }
         ensures new { ⟦<Pairs<P> as ServesWord>⟧.is_new result }
         ensures starts { ⟦<Pairs<P> as ServesWord>⟧.start result
-            ≡ (λ version. record { market = empty_market; pairs = 0; seen = P.seen on }) }
+            ≡ (λ version. record { market = empty_market version; pairs = 0; seen = P.seen on }) }
     {
         Pairs {
+            alloc,
             audit: Audit::new(alloc),
             pairs: 0,
             on,
@@ -53,6 +46,7 @@ impl<P: OnPair + Drop> Pairs<P> {
         requires next { self.old.audit.next_order + 1 < 2 ^ 64 }
         requires few { self.old.pairs + 1 < 2 ^ 64 }
         requires within { P.is_within self.old.on self.old.pairs }
+        requires version { P.watch.IsFor self.old.audit.version }
         requires empty { text.old.items ≡ [] }
         requires none { vec_len text.old ≡ 0 }
         requires room { P.ROOM ≤ vec_capacity text.old }
@@ -61,6 +55,7 @@ impl<P: OnPair + Drop> Pairs<P> {
             (record { market = self.old.audit; pairs = self.old.pairs; seen = P.seen self.old.on }) pair.now
             (record { market = self.new.audit; pairs = self.new.pairs; seen = P.seen self.new.on }) text.new.items) }
         ensures within { OnOk result (P.is_within self.new.on self.new.pairs) }
+        ensures version { OnOk result (P.watch.IsFor self.new.audit.version) }
         ensures halted { IfErr result (λ halt. HaltsWith (over_pairs P.watch)
             (record { market = self.old.audit; pairs = self.old.pairs; seen = P.seen self.old.on })
             (Some pair.now) halt text.new.items) }
@@ -104,16 +99,23 @@ impl<P: OnPair + Drop> ServesWord for Pairs<P> {
 
     ghost word = { over_pairs P.watch };
 
-    ghost is_new = { λ p. (p.audit ≡ empty_market) × (p.pairs ≡ 0) × P.is_within p.on p.pairs };
+    ghost is_new = { λ p. (p.pairs ≡ 0) × P.is_within p.on p.pairs };
 
-    ghost start = { λ p version. record { market = empty_market; pairs = 0; seen = P.seen p.on } };
+    ghost start = { λ p version. record { market = empty_market version; pairs = 0; seen = P.seen p.on } };
 
     ghost state = { λ p. record { market = p.audit; pairs = p.pairs; seen = P.seen p.on } };
 
-    ghost is_ready = { λ p left. HasRoom p.audit p.pairs left × P.is_within p.on p.pairs };
+    ghost is_ready = { λ p left. HasRoom p.audit p.pairs left × P.is_within p.on p.pairs × P.watch.IsFor p.audit.version };
 
     fn open(&mut self, bytes: &[u8], _text: &mut Vec<u8>) -> bool {
-        begins(bytes)
+        match journal_version(bytes) {
+            Some(version) if self.on.is_for(version) => {
+                self.audit = Audit::over(Market::new_in(self.alloc, version));
+                true
+            }
+            Some(_) => false,
+            None => false,
+        }
     }
 
     fn take(&mut self, bytes: &[u8], text: &mut Vec<u8>) -> Result<Front, Halt<P::Stop>> {

@@ -1,6 +1,6 @@
 use Rattle.std.proofs.Common.{◌∙◌, ap, refl, subst}
 use Rattle.flow_io.specs.Changes.{change}
-use Rattle.wire_records.specs.Formats.{Version}
+use Rattle.wire_records.specs.declared.version.Version.{Version}
 use Rattle.market_core.specs.Market.{empty_market}
 use Rattle.word_driver.specs.Does.{task}
 use Rattle.word_driver.specs.Does as driver

@@ -1,5 +1,5 @@
 use Rattle.std.proofs.Common.{refl, subst}
-use Rattle.wire_records.specs.Formats.{Version}
+use Rattle.wire_records.specs.declared.version.Version.{Version}
 use Rattle.word_driver.specs.Does as driver
 use Rattle.journal_words.specs.Watching.{Watched}
 use Rattle.flow_io.specs.Changes.{change}
