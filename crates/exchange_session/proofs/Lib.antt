@@ -1,3 +1,4 @@
 mod Writable
 mod Frames
+pub mod Opening
 pub mod RunLaws

@@ -1,12 +1,14 @@
 -- A run comes to one end and one text, keeps the promises of the exchange, and is without an end for no bytes.
-use Rattle.std.proofs.Common.{◌≡◌, ℕ, List, [], ◌∷◌, ◌++◌, Result, Ok, Err, length, inl, inr, refl, sym, ap, ◌∙◌, arith}
+use Rattle.std.proofs.Common.{◌≡◌, ℕ, List, [], ◌∷◌, ◌++◌, Result, Ok, Err, length, inl, inr, refl, sym, ap, subst, ◌∙◌, arith}
 use Rattle.std.specs.List.{flat_map}
 use Rattle.wire_records.specs.Records.{Record}
 use Rattle.wire_records.specs.Commands.{Command, Answer, Pair}
-use Rattle.wire_records.specs.CommandRecords.{IsReadAs}
+use Rattle.wire_records.specs.Versions.{IsReadAs}
 use Rattle.wire_records.specs.declared.command.BodyFault.{BodyFault}
 use Rattle.wire_records.specs.declared.command.BodyFault.TheVariants.{UnknownTag, BadBody}
-use Rattle.wire_records.specs.Formats.{Version, One, StatesOver, command_magic_of, commands}
+use Rattle.wire_records.specs.declared.version.Version.{Version}
+use Rattle.wire_records.specs.declared.version.Version.TheVariants.{One, Two}
+use Rattle.wire_records.specs.Formats.{StatesOver, commands}
 use Rattle.wire_records.proofs.Fronts.{states_none-from_few, no_front-from_overlong}
 use Rattle.wire_records.proofs.Readings.{reading_unique}
 use Rattle.wire_records.proofs.RecordCode.{commands_readable}
@@ -14,18 +16,22 @@ use Rattle.file_units.specs.Inputs.{HasLongest}
 use Rattle.file_units.proofs.Longest.{record_or_over, over_stays}
 use Rattle.flow_orders.specs.Outcomes.{Outcome}
 use Rattle.flow_orders.specs.Own.{IsOwnOutcome}
-use Rattle.journal_records.specs.Pairs.{journal_magic, pair_spelling}
+use Rattle.journal_records.specs.Pairs.{pair_spelling}
+use Rattle.journal_records.specs.Formats.{journal_magic_of}
 use Rattle.market_core.specs.Market.{Market, empty_market}
 use Rattle.market_core.specs.Journal.{IsAnswered}
 use Rattle.market_core.proofs.OneJournal.{own_step}
 use Rattle.market_core.proofs.Exists.{step_is_there}
-use Rattle.market_core.proofs.LawProofs.{own_journals_are_legal, journals_hold_deposits}
+use Rattle.market_core.proofs.LawProofs.{own_journals_are_legal, journals_hold_deposits, steps_keep_soundness}
+use Rattle.market_core.proofs.Versions.{follows_version}
 use Rattle.market_core.proofs.Promised.{legal_journal_keeps_promises, own_journal_clears_near}
 use Rattle.word_driver.specs.Word.{Goes}
 use Rattle.word_driver.specs.Laws.{IsExact, IsKept, IsNotDenied, HasNext}
 use Rattle.word_driver.proofs.Denying.{not_denied, follows}
 use Rattle.exchange_session.specs.Serving.{AnswersOne}
+use Rattle.exchange_session.specs.Journals.{Journals}
 use Rattle.exchange_session.specs.Running.{run}
+use Rattle.exchange_session.proofs.Opening.{eight}
 
 -- no bytes state a length
 short : StatesOver 1024 [] → ⊥
@@ -37,10 +43,6 @@ one_answer s u t r x y a b =
     let one = own_step IsReadAs reading_unique s u a.answer b.answer t r a.step b.step in
     let pair : Answer Outcome → Pair Record Outcome = λ answer. record { asked = u; answer = answer } in
     (one.1, a.spelled ∙ ap (λ answer. pair_spelling (pair answer)) one.0 ∙ sym b.spelled)
-
--- each magic has eight bytes
-eight : (version : Version) → length (command_magic_of version) ≡ 8
-eight One = refl
 
 -- the longest record
 longest : HasLongest commands 1029
@@ -83,35 +85,52 @@ answers start market (r ∷ records) text goes =
       spelled = goes.5 ∙ ap (λ xs. xs ++ goes.2) one.spelled ∙ ap (λ xs. pair_spelling pair ++ xs) rest.spelled;
     }
 
-pub run_is_kept : IsKept run (λ version. empty_market)
+-- a run from a market on is of the market's version
+pub run_version : (start market : Market) (records : List Record) (text : List ℕ) → Goes run start records market text → market.version ≡ start.version
+run_version start market records text goes =
+    let so = answers start market records text goes in
+    follows_version IsOwnOutcome IsReadAs start so.pairs market so.answered.steps
+
+pub run_is_kept : IsKept run empty_market
 run_is_kept version records market text each goes =
-    let so = answers empty_market market records text goes in
-    record {
+    let start = empty_market version in
+    let so = answers start market records text goes in
+    let legal = (own_journals_are_legal version records so.pairs market so.answered).steps in
+    let sound = steps_keep_soundness.0 version in
+    subst (λ (v : Version). Journals v records market (journal_magic_of v ++ text)) (sym (run_version start market records text goes)) (record {
       pairs = so.pairs;
       journal_of = so.answered;
-      deposits = journals_hold_deposits records so.pairs market (own_journals_are_legal records so.pairs market so.answered);
-      keeps = legal_journal_keeps_promises so.pairs market (own_journals_are_legal records so.pairs market so.answered).steps;
-      near = own_journal_clears_near records so.pairs market so.answered;
-      spelled = ap (λ xs. journal_magic ++ xs) so.spelled;
-    }
+      deposits = journals_hold_deposits start so.pairs market sound legal;
+      keeps = legal_journal_keeps_promises start so.pairs market sound legal;
+      near = own_journal_clears_near start so.pairs market sound so.answered.steps;
+      spelled = ap (λ xs. journal_magic_of version ++ xs) so.spelled;
+    })
 
 -- ---- a run has a next step
 
--- what a record is read as
+-- what a record is read as in each version
 abbrev CanBeRead : Record → Type 0
-CanBeRead asked = (read : Result Command BodyFault) × IsReadAs asked read
+CanBeRead asked = (version : Version) → (read : Result Command BodyFault) × IsReadAs version asked read
 
--- no record is without a reading: it spells a command, or its tag is none, or its body is bad
+-- no record is without a reading in a version: it spells a command, or its tag is none, or its body is bad
+read_in : (version : Version) (asked : Record) → IsNotDenied ((read : Result Command BodyFault) × IsReadAs version asked read)
+read_in version asked none = none (Err UnknownTag, λ tag. none (Err BadBody, (tag, λ command spells. none (Ok command, (tag, spells)))))
+
+-- what holds of both versions holds of each
+of_both : (P : Version → Type 0) → P One → P Two → (version : Version) → P version
+of_both P one two One = one
+of_both P one two Two = two
+
 can_be_read : (asked : Record) → IsNotDenied (CanBeRead asked)
-can_be_read asked none = none (Err UnknownTag, λ tag. none (Err BadBody, (tag, λ command spells. none (Ok command, spells))))
+can_be_read asked none = read_in One asked (λ one. read_in Two asked (λ two. none (of_both (λ version. (read : Result Command BodyFault) × IsReadAs version asked read) one two)))
 
 -- so each has a step, from any market
 has_step : (s : Market) (asked : Record) → CanBeRead asked → (t : Market) × (text : List ℕ) × AnswersOne s asked t text
 has_step s asked readable =
-    let there = step_is_there IsReadAs CanBeRead (λ r some. some) s asked readable in
+    let there = step_is_there IsReadAs CanBeRead (λ version r some. some version) s asked readable in
     (there.1, pair_spelling (record { asked = asked; answer = there.0 }), record { answer = there.0; step = there.2; spelled = refl })
 
-pub run_has_next : HasNext run (λ version. empty_market)
+pub run_has_next : HasNext run empty_market
 run_has_next = record {
   some_step = λ version records s x asked goes lawful. follows (λ readable. not_denied (inl (has_step s asked readable))) (can_be_read asked);
   some_close = λ version records s x goes. not_denied (inl ([], refl));

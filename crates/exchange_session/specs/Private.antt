@@ -2,7 +2,7 @@
 use Rattle.std.specs.Prelude.{◌≡◌, ◌<◌, ◌≤◌, ℕ, List, length, None, Ok}
 use Rattle.wire_records.specs.Records.{Record}
 use Rattle.wire_records.specs.Commands.{RunBatch, Plain}
-use Rattle.wire_records.specs.CommandRecords.{IsReadAs}
+use Rattle.wire_records.specs.Versions.{IsReadAs}
 use Rattle.flow_orders.specs.Orders.{Order}
 use Rattle.flow_orders.specs.Outcomes.{most_budget}
 use Rattle.batch_certificate.specs.declared.outcome.Outcome.{Outcome}
@@ -16,7 +16,7 @@ use Rattle.exchange_session.specs.declared.session.Asked.TheVariants as asks
 
 -- the record asks for a batch of this market, which no refusal stops
 pub record AsksBatch (old : Market) (asked : Record) (budget : ℕ) : Type 0 where
-  pub read : IsReadAs asked (Ok (RunBatch budget))
+  pub read : IsReadAs old.version asked (Ok (RunBatch budget))
   pub first : FirstRefusal old (RunBatch budget) None
   pub more : old.batches < most_batches
 

@@ -2,7 +2,6 @@
 use Rattle.std.specs.Prelude.{◌≡◌, ◌++◌, [], Option, Some, None}
 use Rattle.wire_records.specs.Records.{Record}
 use Rattle.wire_records.specs.Formats.{commands}
-use Rattle.journal_records.specs.Pairs.{journal_magic}
 use Rattle.journal_records.specs.Formats.{journal_magic_of}
 use Rattle.market_core.specs.Market.{Market}
 use Rattle.market_core.specs.Wanting.{RecordMayWant}
@@ -16,8 +15,8 @@ abbrev pub RunWants : Market → Option Record → Type 0
 RunWants market (Some asked) = RecordMayWant market asked
 RunWants market None = ⊥
 
--- a run: each record is answered by one step of the market, and its pair is written behind the magic of a journal; what was
--- written so far is the journal of the records so far
+-- a run: each record is answered by one step of the market, and its pair is written behind the magic of a journal of the
+-- file's version, which is the market's; what was written so far is the journal of the records so far
 abbrev pub run : Word Record Market Never
 run = record {
   format = commands;
@@ -27,5 +26,5 @@ run = record {
   Stops = λ market at why text. ⊥;
   Closes = λ market text. text ≡ [];
   Wants = RunWants;
-  Keeps = λ records market text. Journals records market (journal_magic ++ text);
+  Keeps = λ records market text. Journals market.version records market (journal_magic_of market.version ++ text);
 }

@@ -2,7 +2,7 @@
 use Rattle.std.specs.Prelude.{◌≡◌, ℕ, List}
 use Rattle.wire_records.specs.Records.{Record}
 use Rattle.wire_records.specs.Commands.{Answer}
-use Rattle.wire_records.specs.CommandRecords.{IsReadAs}
+use Rattle.wire_records.specs.Versions.{IsReadAs}
 use Rattle.journal_records.specs.Pairs.{pair_spelling}
 use Rattle.flow_orders.specs.Outcomes.{Outcome}
 use Rattle.flow_orders.specs.Own.{IsOwnOutcome}

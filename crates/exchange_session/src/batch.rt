@@ -1,7 +1,7 @@
 //! A batch: its outcome, the pair that tells it, and its settlement.
 ghost use Rattle.std.specs.Prelude.{◌≡◌, ◌++◌, ◌+◌, ◌<◌, ◌≤◌, ℕ, true, List, None, Ok, IfOk, OnErr, OnOk, length, vec_capacity};
 ghost use Rattle.wire_records.specs.Commands.{RunBatch, Batch};
-ghost use Rattle.wire_records.specs.CommandRecords.{IsReadAs};
+ghost use Rattle.wire_records.specs.Versions.{IsReadAs};
 ghost use Rattle.flow_orders.specs.Orders.{most_orders};
 ghost use Rattle.flow_orders.specs.Own.{IsOwnOutcome};
 ghost use Rattle.batch_certificate.specs.Published.{outcome_of};
@@ -68,7 +68,7 @@ pub(crate) fn hold_batch(
 ) -> Result<(), Memory>
     requires first { FirstRefusal market.old (RunBatch budget) None }
     requires more { market.old.batches < most_batches }
-    requires read { IsReadAs asked.now (Ok (RunBatch budget)) }
+    requires read { IsReadAs market.old.version asked.now (Ok (RunBatch budget)) }
     ensures served { OnOk result ((text : List ℕ) × AnswersOne market.old asked.now market.new text
         × (out.new.items ≡ out.old.items ++ text)) }
     ensures stays { OnErr result ((market.new ≡ market.old) × (out.new.items ≡ out.old.items)) }

@@ -1,13 +1,16 @@
 //! `run` as a word: records in, pairs out.
 ghost use Rattle.std.specs.Prelude.{◌≡◌, ◌+◌, ◌^◌, ◌<◌};
+ghost use Rattle.wire_records.specs.declared.version.Version.TheVariants.{One};
+ghost use Rattle.journal_records.specs.Formats.{journal_magic_of};
 ghost use Rattle.market_core.specs.Market.{empty_market};
 ghost use Rattle.exchange_session.specs.Running.{run};
 
 use crate::Session;
 use file_units::Front;
-use journal_records::JOURNAL_MAGIC;
+use journal_records::{JOURNAL_MAGIC, JOURNAL_MAGIC_2};
+use market_core::Market;
 use std::alloc::Global;
-use wire_records::{Framed, MOST_BODY, is_command_file, next_record};
+use wire_records::{Framed, MOST_BODY, Version, command_version, next_record};
 use word_driver::{Halt, Never, ServesWord};
 
 // As many bytes has the longest record: 5, and 1,024 of its body.
@@ -16,19 +19,31 @@ const MOST_RECORD: usize = 1029;
 // As many bytes has the longest pair with a plain reply: 5 and 1,024 of the record, and 13 of the reply's.
 const MOST_PLAIN_PAIR: usize = 1042;
 
-/// A run: it serves the records of a command file, one after the other, over a session of its own. Only the pair of a
-/// batch makes the buffer grow.
+// The magic of a journal of a version.
+fn magic_of(version: Version) -> [u8; 8]
+    ensures { result ≡ journal_magic_of version }
+{
+    match version {
+        Version::One => JOURNAL_MAGIC,
+        Version::Two => JOURNAL_MAGIC_2,
+    }
+}
+
+/// A run: it serves the records of a command file, one after the other, over a session of its own, whose market is of the
+/// file's version. Only the pair of a batch makes the buffer grow.
 #[derive(Drop)]
 pub struct Run {
+    alloc: Global,
     session: Session,
 }
 
 impl Run {
-    /// A run over the empty market. Takes no memory.
+    /// A run that hasn't begun. Takes no memory.
     pub fn new(alloc: Global) -> Run
         ensures { ⟦<Run as ServesWord>⟧.is_new result }
     {
         Run {
+            alloc,
             session: Session::new(alloc),
         }
     }
@@ -54,20 +69,23 @@ impl ServesWord for Run {
 
     ghost word = { run };
 
-    ghost is_new = { λ r. r.session ≡ empty_market };
+    ghost is_new = { λ r. r.session ≡ empty_market One };
 
-    ghost start = { λ r version. empty_market };
+    ghost start = { λ r version. empty_market version };
 
     ghost state = { λ r. r.session };
 
     ghost is_ready = { λ r left. r.session.next_order + left < 2 ^ 64 };
 
     fn open(&mut self, bytes: &[u8], text: &mut Vec<u8>) -> bool {
-        if !is_command_file(bytes) {
-            return false;
+        match command_version(bytes) {
+            None => false,
+            Some(version) => {
+                self.session = Session::over(Market::new_in(self.alloc, version));
+                text.extend_from_slice(&magic_of(version)).unwrap();
+                true
+            }
         }
-        text.extend_from_slice(&JOURNAL_MAGIC).unwrap();
-        true
     }
 
     fn take(&mut self, bytes: &[u8], text: &mut Vec<u8>) -> Result<Front, Halt<Never>> {

@@ -1,7 +1,7 @@
 //! One command record, and the pair that it gives.
 ghost use Rattle.std.specs.Prelude.{◌≡◌, ◌++◌, ◌+◌, ◌^◌, ◌<◌, ◌≤◌, ◌⊎◌, ℕ, List, IfOk, OnErr, OnOk, vec_len, vec_capacity};
 ghost use Rattle.wire_records.specs.Commands.{Plain};
-ghost use Rattle.wire_records.specs.CommandRecords.{IsReadAs};
+ghost use Rattle.wire_records.specs.Versions.{IsReadAs};
 ghost use Rattle.journal_records.specs.Pairs.{plain_room};
 ghost use Rattle.flow_orders.specs.Own.{IsOwnOutcome};
 ghost use Rattle.market_core.specs.Journal.{Step};
@@ -54,16 +54,24 @@ fn reply_to(market: &mut Market, asked: &RecordView<'_>) -> Result<Asked, Memory
 }
 
 impl Session {
+    ghost use Rattle.wire_records.specs.declared.version.Version.TheVariants.{One};
     ghost use Rattle.market_core.specs.Market.{empty_market, IsSound};
     ghost use Rattle.exchange_session.specs.Serving.{AnswersOne};
 
-    /// A session over the empty market. Takes no memory.
+    /// A session over the empty market of version One. Takes no memory.
     pub fn new(alloc: Global) -> Session
-        ensures { result ≡ empty_market }
+        ensures { result ≡ empty_market One }
+    {
+        Session::over(Market::new(alloc))
+    }
+
+    /// A session over this market: it serves the records that come next, of the market's version. Takes no memory.
+    pub fn over(market: Market) -> Session
+        ensures { result ≡ market }
     {
         Session {
-            alloc,
-            market: Market::new(alloc),
+            alloc: market.alloc(),
+            market,
         }
     }
 
