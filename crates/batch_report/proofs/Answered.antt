@@ -1,22 +1,20 @@
 -- Which commands are answered by Done, and which by the number of an order.
-use Rattle.std.proofs.Common.{◌≡◌, ◌≤◌, ◌++◌, ℕ, List, codes, decimal, refl, Result, Ok, Err, Option, Some, None, sym, subst, ◌∙◌, arith}
+use Rattle.std.proofs.Common.{◌≡◌, ◌++◌, ℕ, List, codes, decimal, refl, Result, Ok, Err, Option, Some, None, sym, subst, ◌∙◌}
 use Rattle.wire_records.specs.Records.{Record}
 use Rattle.wire_records.specs.Commands.{Command, AddAsset, OpenAccount, DepositMoney, DepositAsset, WithdrawMoney, WithdrawAsset, PlaceOrder, CancelOrder, RunBatch, PlaceUntil, SetMoneyCredit, SetUnitCredit, Answer, Plain, Batch}
 use Rattle.wire_records.specs.CommandRecords.{IsRead}
-use Rattle.wire_records.specs.Versions.{IsOfVersion, IsReadAs}
+use Rattle.wire_records.specs.Versions.{IsReadAs}
 use Rattle.wire_records.specs.declared.version.Version.{Version}
-use Rattle.wire_records.specs.declared.version.Version.TheVariants.{One}
 use Rattle.wire_records.specs.declared.command.BodyFault.{BodyFault}
 use Rattle.wire_records.specs.declared.reply.Reply.TheVariants.{Done, Asset, Account, Order, Refused}
 use Rattle.wire_records.specs.declared.reply.Refusal.{Refusal}
-use Rattle.wire_records.proofs.Readings.{command_seen, read_own}
+use Rattle.wire_records.proofs.Readings.{command_seen}
 use Rattle.flow_orders.specs.Outcomes.{Outcome, IsRightOutcome}
 use Rattle.market_core.specs.Market.{Market}
 use Rattle.market_core.specs.Step.{Answers, Serves, ServesRead, refusal_of}
 use Rattle.journal_records.specs.Replies.{SpellsAnswer}
 use Rattle.journal_records.proofs.Spelled.{answer_unique}
 use Rattle.market_core.specs.Journal.{Step}
-use Rattle.market_core.proofs.Versions.{step_version}
 use Rattle.batch_audit.specs.Legal.{IsLegalPair}
 use Rattle.batch_report.specs.Reports.{◌then◌, Tells, IsReport}
 use Rattle.batch_report.proofs.Joining.{joined}
@@ -39,59 +37,57 @@ says_order (Plain (Order order)) = Unit {0}
 says_order (Plain (Refused refusal)) = ⊥
 says_order (Batch number outcome) = ⊥
 
--- what is answered so in version One
-done_answers : (m : Market) (c : Command) (first : Option Refusal) (a : Answer Outcome) (n : Market) → IsOfVersion One c → says_done a → Answers IsRightOutcome m c first a n → IsDone c
-done_answers m c (Some refusal) a n own says answers = absurd (subst says_done answers.0 says)
-done_answers m (AddAsset ticker) None a n own says answers = absurd (subst says_done answers.0 says)
-done_answers m OpenAccount None a n own says answers = absurd (subst says_done answers.0 says)
-done_answers m (DepositMoney account ticks) None a n own says answers = tt
-done_answers m (DepositAsset account asset units) None a n own says answers = tt
-done_answers m (WithdrawMoney account ticks) None a n own says answers = tt
-done_answers m (WithdrawAsset account asset units) None a n own says answers = tt
-done_answers m (PlaceOrder request) None a n own says answers = absurd (subst says_done answers.0 says)
-done_answers m (CancelOrder account number) None a n own says answers = tt
-done_answers m (RunBatch budget) None a n own says answers = absurd (subst says_done answers.2.0 says)
-done_answers m (PlaceUntil last request) None a n own says answers = absurd (subst says_done answers.0 says)
-done_answers m (SetMoneyCredit account ticks) None a n own says answers = let late : 11 ≤ 9 = own.1 in absurd (omega (arith, late))
-done_answers m (SetUnitCredit account asset units) None a n own says answers = let late : 12 ≤ 9 = own.1 in absurd (omega (arith, late))
+-- what is answered so
+done_answers : (m : Market) (c : Command) (first : Option Refusal) (a : Answer Outcome) (n : Market) → says_done a → Answers IsRightOutcome m c first a n → IsDone c
+done_answers m c (Some refusal) a n says answers = absurd (subst says_done answers.0 says)
+done_answers m (AddAsset ticker) None a n says answers = absurd (subst says_done answers.0 says)
+done_answers m OpenAccount None a n says answers = absurd (subst says_done answers.0 says)
+done_answers m (DepositMoney account ticks) None a n says answers = tt
+done_answers m (DepositAsset account asset units) None a n says answers = tt
+done_answers m (WithdrawMoney account ticks) None a n says answers = tt
+done_answers m (WithdrawAsset account asset units) None a n says answers = tt
+done_answers m (PlaceOrder request) None a n says answers = absurd (subst says_done answers.0 says)
+done_answers m (CancelOrder account number) None a n says answers = tt
+done_answers m (RunBatch budget) None a n says answers = absurd (subst says_done answers.2.0 says)
+done_answers m (PlaceUntil last request) None a n says answers = absurd (subst says_done answers.0 says)
+done_answers m (SetMoneyCredit account ticks) None a n says answers = tt
+done_answers m (SetUnitCredit account asset units) None a n says answers = tt
 
-order_answers : (m : Market) (c : Command) (first : Option Refusal) (a : Answer Outcome) (n : Market) → IsOfVersion One c → says_order a → Answers IsRightOutcome m c first a n → IsPlacing c
-order_answers m c (Some refusal) a n own says answers = absurd (subst says_order answers.0 says)
-order_answers m (AddAsset ticker) None a n own says answers = absurd (subst says_order answers.0 says)
-order_answers m OpenAccount None a n own says answers = absurd (subst says_order answers.0 says)
-order_answers m (DepositMoney account ticks) None a n own says answers = absurd (subst says_order answers.0 says)
-order_answers m (DepositAsset account asset units) None a n own says answers = absurd (subst says_order answers.0 says)
-order_answers m (WithdrawMoney account ticks) None a n own says answers = absurd (subst says_order answers.0 says)
-order_answers m (WithdrawAsset account asset units) None a n own says answers = absurd (subst says_order answers.0 says)
-order_answers m (PlaceOrder request) None a n own says answers = tt
-order_answers m (CancelOrder account number) None a n own says answers = absurd (subst says_order answers.0 says)
-order_answers m (RunBatch budget) None a n own says answers = absurd (subst says_order answers.2.0 says)
-order_answers m (PlaceUntil last request) None a n own says answers = let late : 10 ≤ 9 = own.1 in absurd (omega (arith, late))
-order_answers m (SetMoneyCredit account ticks) None a n own says answers = absurd (subst says_order answers.0 says)
-order_answers m (SetUnitCredit account asset units) None a n own says answers = absurd (subst says_order answers.0 says)
+order_answers : (m : Market) (c : Command) (first : Option Refusal) (a : Answer Outcome) (n : Market) → says_order a → Answers IsRightOutcome m c first a n → IsPlacing c
+order_answers m c (Some refusal) a n says answers = absurd (subst says_order answers.0 says)
+order_answers m (AddAsset ticker) None a n says answers = absurd (subst says_order answers.0 says)
+order_answers m OpenAccount None a n says answers = absurd (subst says_order answers.0 says)
+order_answers m (DepositMoney account ticks) None a n says answers = absurd (subst says_order answers.0 says)
+order_answers m (DepositAsset account asset units) None a n says answers = absurd (subst says_order answers.0 says)
+order_answers m (WithdrawMoney account ticks) None a n says answers = absurd (subst says_order answers.0 says)
+order_answers m (WithdrawAsset account asset units) None a n says answers = absurd (subst says_order answers.0 says)
+order_answers m (PlaceOrder request) None a n says answers = tt
+order_answers m (CancelOrder account number) None a n says answers = absurd (subst says_order answers.0 says)
+order_answers m (RunBatch budget) None a n says answers = absurd (subst says_order answers.2.0 says)
+order_answers m (PlaceUntil last request) None a n says answers = tt
+order_answers m (SetMoneyCredit account ticks) None a n says answers = absurd (subst says_order answers.0 says)
+order_answers m (SetUnitCredit account asset units) None a n says answers = absurd (subst says_order answers.0 says)
 
--- What a market of version One reads a record as, and serves, where it doesn't refuse it for that.
+-- What a market reads a record as, and serves, where it doesn't refuse it for that.
 pub record IsServedAs (asked : Record) (a : Answer Outcome) (c : Command) : Type 0 where
   pub old : Market
   pub new : Market
-  pub own : IsOfVersion One c
   pub serves : Serves IsRightOutcome old c a new
 
 -- the command that a record spells is the one that is served
-served_by : (version : Version) (old new : Market) (asked : Record) (read : Result Command BodyFault) (a : Answer Outcome) (c : Command) → version ≡ One → (((refusal : Refusal) → a ≡ Plain (Refused refusal) → ⊥))
+served_by : (version : Version) (old new : Market) (asked : Record) (read : Result Command BodyFault) (a : Answer Outcome) (c : Command) → ((refusal : Refusal) → a ≡ Plain (Refused refusal) → ⊥)
     → IsReadAs version asked read → ServesRead IsRightOutcome old read a new → IsRead asked (Ok c) → IsServedAs asked a c
-served_by version old new asked (Ok d) a c one plain spelled serves seen =
+served_by version old new asked (Ok d) a c plain spelled serves seen =
     let same : d ≡ c = (let both = command_seen d asked (Ok c) spelled.1 seen in cc) in
     record {
       old = old;
       new = new;
-      own = subst (λ (x : Command). IsOfVersion One x) same (subst (λ (v : Version). IsOfVersion v d) one (read_own version asked d spelled));
       serves = subst (λ (x : Command). Serves IsRightOutcome old x a new) same serves;
     }
-served_by version old new asked (Err why) a c one plain spelled serves seen = absurd (plain (refusal_of why) serves.0)
+served_by version old new asked (Err why) a c plain spelled serves seen = absurd (plain (refusal_of why) serves.0)
 
 served : (asked : Record) (c : Command) (a : Answer Outcome) → ((refusal : Refusal) → a ≡ Plain (Refused refusal) → ⊥) → IsRead asked (Ok c) → IsAnswered asked a → IsServedAs asked a c
-served asked c a plain seen answered = served_by answered.0.version answered.0 answered.1 asked answered.3.read a c answered.2 plain answered.3.spelled answered.3.served seen
+served asked c a plain seen answered = served_by answered.0.version answered.0 answered.1 asked answered.2.read a c plain answered.2.spelled answered.2.served seen
 
 -- a record that spells no command isn't answered but by a refusal
 unserved_by : (version : Version) (old new : Market) (asked : Record) (read : Result Command BodyFault) (a : Answer Outcome) (why : BodyFault) → ((refusal : Refusal) → a ≡ Plain (Refused refusal) → ⊥)
@@ -109,27 +105,27 @@ order_plain number refusal same = subst says_order same tt
 pub done_command : (asked : Record) (c : Command) → IsRead asked (Ok c) → IsAnswered asked (Plain Done) → IsDone c
 done_command asked c seen answered =
     let by = served asked c (Plain Done) done_plain seen answered in
-    done_answers by.old c by.serves.first (Plain Done) by.new by.own tt by.serves.answered
+    done_answers by.old c by.serves.first (Plain Done) by.new tt by.serves.answered
 
 pub placing_command : (asked : Record) (c : Command) (number : ℕ) → IsRead asked (Ok c) → IsAnswered asked (Plain (Order number)) → IsPlacing c
 placing_command asked c number seen answered =
     let by = served asked c (Plain (Order number)) (order_plain number) seen answered in
-    order_answers by.old c by.serves.first (Plain (Order number)) by.new by.own tt by.serves.answered
+    order_answers by.old c by.serves.first (Plain (Order number)) by.new tt by.serves.answered
 
 -- a record that spells no command is refused
 pub done_is_read : (asked : Record) (why : BodyFault) → IsRead asked (Err why) → IsAnswered asked (Plain Done) → ⊥
-done_is_read asked why seen answered = unserved_by answered.0.version answered.0 answered.1 asked answered.3.read (Plain Done) why done_plain answered.3.spelled answered.3.served seen
+done_is_read asked why seen answered = unserved_by answered.0.version answered.0 answered.1 asked answered.2.read (Plain Done) why done_plain answered.2.spelled answered.2.served seen
 
 pub order_is_read : (asked : Record) (why : BodyFault) (number : ℕ) → IsRead asked (Err why) → IsAnswered asked (Plain (Order number)) → ⊥
-order_is_read asked why number seen answered = unserved_by answered.0.version answered.0 answered.1 asked answered.3.read (Plain (Order number)) why (order_plain number) answered.3.spelled answered.3.served seen
+order_is_read asked why number seen answered = unserved_by answered.0.version answered.0 answered.1 asked answered.2.read (Plain (Order number)) why (order_plain number) answered.2.spelled answered.2.served seen
 
 -- the answer that a legal pair's second record spells is that of its first
 pub answered : (pair : Record × Record) (asked told : Record) (a : Answer Outcome) → asked ≡ pair.0 → told ≡ pair.1 → SpellsAnswer told a
-    → (old : Market) × (new : Market) × (new.version ≡ One) × IsLegalPair old pair new → IsAnswered asked a
+    → (old : Market) × (new : Market) × IsLegalPair old pair new → IsAnswered asked a
 answered pair asked told a asked_is told_is spelled made =
-    let legal = made.3 in
+    let legal = made.2 in
     let same = answer_unique legal.answer a legal.spelled.fits spelled.fits (sym legal.spelled.spelled ∙ sym told_is ∙ spelled.spelled) in
-    (made.0, made.1, sym (step_version IsRightOutcome IsReadAs made.0 pair.0 legal.answer made.1 legal.step) ∙ made.2, subst (λ r. Step IsReadAs IsRightOutcome made.0 r a made.1) (sym asked_is) (subst (λ x. Step IsReadAs IsRightOutcome made.0 pair.0 x made.1) same legal.step))
+    (made.0, made.1, subst (λ r. Step IsReadAs IsRightOutcome made.0 r a made.1) (sym asked_is) (subst (λ x. Step IsReadAs IsRightOutcome made.0 pair.0 x made.1) same legal.step))
 
 -- what is told of it, behind the pair's number
 pub reported : (tickers : List (List ℕ)) (number : ℕ) (pair : Record × Record) (asked answered : Record) (a : Answer Outcome) (old one two three : List ℕ)

@@ -1,10 +1,9 @@
 -- Words that only private functions of the report use.
-use Rattle.std.specs.Prelude.{◌≡◌, ℕ, List, pos, slice_index_or, ⊤}
+use Rattle.std.specs.Prelude.{ℕ, List, pos, slice_index_or, ⊤}
 use Rattle.weight_rows.specs.declared.entries.Entry.{Entry}
 use Rattle.wire_records.specs.Records.{Record}
 use Rattle.wire_records.specs.Commands.{Command, AddAsset, OpenAccount, DepositMoney, DepositAsset, WithdrawMoney, WithdrawAsset, PlaceOrder, CancelOrder, RunBatch, PlaceUntil, SetMoneyCredit, SetUnitCredit, Answer}
 use Rattle.wire_records.specs.Versions.{IsReadAs}
-use Rattle.wire_records.specs.declared.version.Version.TheVariants.{One}
 use Rattle.flow_orders.specs.Outcomes.{Fill, Outcome, IsRightOutcome}
 use Rattle.market_core.specs.Market.{Market}
 use Rattle.market_core.specs.Journal.{Step}
@@ -17,11 +16,11 @@ fill_at fills place = slice_index_or fills place (record { order = 0; rate = 0 }
 abbrev pub no_entry : Entry
 no_entry = record { asset = 0; weight = pos 0 }
 
--- some market of version One answers a record so
+-- some market answers a record so
 abbrev pub IsAnswered : Record → Answer Outcome → Type 0
-IsAnswered asked answer = (old : Market) × (new : Market) × (old.version ≡ One) × Step IsReadAs IsRightOutcome old asked answer new
+IsAnswered asked answer = (old : Market) × (new : Market) × Step IsReadAs IsRightOutcome old asked answer new
 
--- a command of version One that is answered by Done where it is accepted
+-- a command that is answered by Done where it is accepted
 abbrev pub IsDone : Command → Type 0
 IsDone (AddAsset ticker) = ⊥
 IsDone OpenAccount = ⊥
@@ -33,10 +32,10 @@ IsDone (PlaceOrder request) = ⊥
 IsDone (CancelOrder account number) = ⊤
 IsDone (RunBatch budget) = ⊥
 IsDone (PlaceUntil last request) = ⊥
-IsDone (SetMoneyCredit account ticks) = ⊥
-IsDone (SetUnitCredit account asset units) = ⊥
+IsDone (SetMoneyCredit account ticks) = ⊤
+IsDone (SetUnitCredit account asset units) = ⊤
 
--- a command of version One that places an order
+-- a command that places an order
 abbrev pub IsPlacing : Command → Type 0
 IsPlacing (AddAsset ticker) = ⊥
 IsPlacing OpenAccount = ⊥
@@ -47,6 +46,6 @@ IsPlacing (WithdrawAsset account asset units) = ⊥
 IsPlacing (PlaceOrder request) = ⊤
 IsPlacing (CancelOrder account number) = ⊥
 IsPlacing (RunBatch budget) = ⊥
-IsPlacing (PlaceUntil last request) = ⊥
+IsPlacing (PlaceUntil last request) = ⊤
 IsPlacing (SetMoneyCredit account ticks) = ⊥
 IsPlacing (SetUnitCredit account asset units) = ⊥

@@ -1,6 +1,5 @@
 //! The lines of a pair.
 ghost use Rattle.std.specs.Prelude.{◌≡◌, ◌≤◌, ◌++◌, ℕ, List, OnOk, OnErr, vec_capacity};
-ghost use Rattle.wire_records.specs.declared.version.Version.TheVariants.{One};
 ghost use Rattle.journal_records.specs.Views.{answer_of};
 ghost use Rattle.market_core.specs.Market.{Market};
 ghost use Rattle.batch_audit.specs.Legal.{IsLegalPair};
@@ -40,7 +39,7 @@ fn put_pair(
     number: u64,
     out: &mut Vec<u8>,
 ) -> Result<(), Memory>
-    requires { (old new : Market) × (new.version ≡ One) × IsLegalPair old pair.now new }
+    requires { (old new : Market) × IsLegalPair old pair.now new }
     ensures { OnOk result ((text : List ℕ) × IsReport tickers.now number pair.now text
         × (out.new.items ≡ out.old.items ++ text)) }
 {
@@ -52,7 +51,7 @@ fn put_pair(
     }
 }
 
-/// Appends the lines of a pair that an audit of version One has just found legal, under its number, counted from 1. They name assets by
+/// Appends the lines of a pair that the audit has just found legal, under its number, counted from 1. They name assets by
 /// the tickers of the market after the pair, without spaces. Prices, gaps and duals are in grains, limits in ticks, all
 /// other amounts in whole units; numbers are plain decimal, with `-` before a negative one, and each line ends with a line
 /// feed.
@@ -66,7 +65,6 @@ pub fn report_pair(
     number: u64,
     out: &mut Vec<u8>,
 ) -> Result<(), Memory>
-    requires version { audit.now.version ≡ One }
     requires legal { (old : Market) × IsLegalPair old pair.now audit.now }
     ensures reported { OnOk result ((text : List ℕ) × IsReport audit.now.tickers number pair.now text
         × (out.new.items ≡ out.old.items ++ text)) }
