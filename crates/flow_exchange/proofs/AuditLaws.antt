@@ -10,9 +10,7 @@ use Rattle.wire_records.specs.Reading.{Ending, End, Torn, TooLong}
 use Rattle.flow_orders.specs.Outcomes.{Outcome}
 use Rattle.wire_records.specs.Grammars.{spell_all}
 use Rattle.wire_records.specs.declared.version.Version.{Version}
-use Rattle.wire_records.specs.declared.version.Version.TheVariants.{One}
-use Rattle.journal_records.specs.Pairs.{journal_magic, journal}
-use Rattle.journal_records.specs.Formats.{journal_magic_of, journals, records_of}
+use Rattle.journal_records.specs.Formats.{journal_magic_of, journal_in, journals, records_of}
 use Rattle.journal_records.proofs.Files.{journal_is_file}
 use Rattle.market_core.specs.Market.{Market}
 use Rattle.batch_audit.specs.Legal.{IsLegalJournal}
@@ -31,22 +29,22 @@ done_all limit (Torn n) legal [] e = absurd cc
 done_all limit TooLong legal [] e = absurd cc
 done_all limit ending legal (bad ∷ more) e = absurd cc
 
-done_file : (limit : ℕ) (bytes text : List ℕ) (file : AuditsFile limit bytes answer.Done text) → IsLegalJournal file.legal file.market × (bytes ≡ journal file.legal) × (length bytes ≤ limit) × (text ≡ legal_line file.legal)
+done_file : (limit : ℕ) (bytes text : List ℕ) (file : AuditsFile limit bytes answer.Done text) → (version : Version) × IsLegalJournal version file.legal file.market × (bytes ≡ journal_in version file.legal) × (length bytes ≤ limit) × (text ≡ legal_line file.legal)
 done_file limit bytes text file =
     let all = done_all limit file.ending file.legal file.behind file.ends in
     let audits : Audits limit bytes file.legal [] End file.market = rw (all.0, all.1) at file.audits in
     let legal = (audits_to_end limit bytes file.legal file.market).0 audits in
-    (legal.0, legal.1, legal.2, file.writes)
+    (legal.0, legal.1, legal.2, legal.3, file.writes)
 
 pub done_is_for_legal : DoneIsForLegalJournals
 done_is_for_legal limit bytes text = (
   λ comes.
       elim comes [
         | inl none ↦ absurd (let no = none.1 in cc)
-        | inr file ↦ let all = done_file limit bytes text file in (file.legal, file.market, all.0, all.1, all.2, all.3)
+        | inr file ↦ let all = done_file limit bytes text file in (all.0, file.legal, file.market, all.1, all.2, all.3, all.4)
       ],
   λ legal.
-      inr (rw legal.5 (file_of limit bytes answer.Done legal.0 [] End legal.1 ((audits_to_end limit bytes legal.0 legal.1).1 (legal.2, legal.3, legal.4)) refl)),
+      inr (rw legal.6 (file_of limit bytes answer.Done legal.1 [] End legal.2 ((audits_to_end limit bytes legal.1 legal.2).1 (legal.0, legal.3, legal.4, legal.5)) refl)),
 )
 
 -- one of a list's elements is lawful where all are
@@ -54,9 +52,9 @@ lawful_at : (units : List (Record × Record)) (bad : Record × Record) (more : L
 lawful_at [] bad more each = All-head journals.units.IsLawful bad more each
 lawful_at (u ∷ units) bad more each = lawful_at units bad more (All-tail journals.units.IsLawful u (units ++ bad ∷ more) each)
 
--- there is one magic
-one_magic : (version : Version) → journal_magic_of version ≡ journal_magic
-one_magic One = refl
+-- the pairs of a journal are spelled as their records are
+file_in : (version : Version) (pairs : List (Pair Record Outcome)) → journal_in version pairs ≡ journal_magic_of version ++ spell_all journals.units (map records_of pairs)
+file_in version pairs = journal_is_file.file version pairs
 
 -- the pair behind the legal ones stands behind their journal
 first_illegal : (limit number : ℕ) (bytes : List ℕ) (legal : List (Pair Record Outcome)) (bad : Record × Record) (more : List (Record × Record)) (ending : Ending) (market : Market)
@@ -65,22 +63,24 @@ first_illegal limit number bytes legal bad more ending market audits counted =
     let on = audits.reads.2 in
     let first = map records_of legal in
     let spell = journals.units.spell in
+    let magic = journal_magic_of audits.version in
     let parts = audits.judged.parts in
     let opened : spell_all journals.units audits.units ≡ spell_all journals.units first ++ (spell bad ++ spell_all journals.units more) =
     ap (spell_all journals.units) parts ∙ flat_map-append spell first (bad ∷ more)
     in
     record {
+      version = audits.version;
       pairs = legal;
       market = market;
       bad = bad;
       rest = spell_all journals.units more ++ on.rest;
       legal = audits.judged.journal;
-      whole = audits.reads.1.1 ∙ ap (λ xs. xs ++ audits.reads.0) (one_magic audits.version)
-          ∙ ap (λ xs. journal_magic ++ xs) (on.whole ∙ ap (λ xs. xs ++ on.rest) opened
+      whole = audits.reads.1.1
+          ∙ ap (λ xs. magic ++ xs) (on.whole ∙ ap (λ xs. xs ++ on.rest) opened
           ∙ append_assoc (spell_all journals.units first) (spell bad ++ spell_all journals.units more) on.rest
           ∙ ap (λ xs. spell_all journals.units first ++ xs) (append_assoc (spell bad) (spell_all journals.units more) on.rest))
-          ∙ sym (append_assoc journal_magic (spell_all journals.units first) (spell bad ++ (spell_all journals.units more ++ on.rest)))
-          ∙ ap (λ xs. xs ++ (spell bad ++ (spell_all journals.units more ++ on.rest))) (sym (journal_is_file legal));
+          ∙ sym (append_assoc magic (spell_all journals.units first) (spell bad ++ (spell_all journals.units more ++ on.rest)))
+          ∙ ap (λ xs. xs ++ (spell bad ++ (spell_all journals.units more ++ on.rest))) (sym (file_in audits.version legal));
       lawful = lawful_at first bad more (rw parts at on.each);
       illegal = audits.judged.stops;
       counted = counted;
@@ -105,12 +105,12 @@ audits_first limit number bytes first =
     let units = map records_of first.pairs in
     let left = journals.units.spell first.bad ++ first.rest in
     let each = All-map journals.units.IsLawful records_of first.pairs (λ k d inside. ((first.legal.each k d inside).asked, (first.legal.each k d inside).answered)) in
-    let on = read_more 8 (limit < length bytes) (more_or_not limit (length bytes)) (spell_all journals.units units ++ left) left first.rest units first.bad refl each first.lawful refl in
-    let whole = first.whole ∙ ap (λ xs. xs ++ left) (journal_is_file first.pairs) ∙ append_assoc journal_magic (spell_all journals.units units) left in (
+    let on = read_more (length (journals.magics.spell first.version)) (limit < length bytes) (more_or_not limit (length bytes)) (spell_all journals.units units ++ left) left first.rest units first.bad refl each first.lawful refl in
+    let whole = first.whole ∙ ap (λ xs. xs ++ left) (file_in first.version first.pairs) ∙ append_assoc (journal_magic_of first.version) (spell_all journals.units units) left in (
       on.0,
       on.1,
       record {
-        version = One;
+        version = first.version;
         units = units ++ first.bad ∷ on.0;
         reads = (spell_all journals.units units ++ left, (tt, whole), on.2);
         judged = record { parts = refl; journal = first.legal; stops = first.illegal };

@@ -4,9 +4,10 @@ use Rattle.std.proofs.lemmas.List.Elements.{All-map}
 use Rattle.std.proofs.lemmas.List.Folds.{flat_map-map}
 use Rattle.wire_records.specs.Records.{Record, IsRecord, spelling, command_magic, most_body}
 use Rattle.wire_records.specs.Commands.{Command}
-use Rattle.wire_records.specs.CommandRecords.{record_of, IsCommand, HasShortRow, IsReadAs}
+use Rattle.wire_records.specs.CommandRecords.{record_of, IsCommand, HasShortRow}
 use Rattle.wire_records.specs.Grammars.{spell_all}
 use Rattle.wire_records.specs.Reading.{Reading, File, End, Reads}
+use Rattle.wire_records.specs.Versions.{IsOfVersion, IsReadAs}
 use Rattle.wire_records.specs.declared.version.Version.{Version}
 use Rattle.wire_records.specs.declared.version.Version.TheVariants.{One}
 use Rattle.wire_records.specs.Formats.{commands}
@@ -29,8 +30,8 @@ all_within : (cs : List Command) → All IsCommand cs → All HasShortRow cs →
 all_within cs fit short = All-map (IsRecord most_body) record_of cs (λ k d within. command_short (slice_index_or cs k d) (fit k d within) (short k d within))
 
 -- each record is read as its command
-all_read : (cs : List Command) → All IsCommand cs → All (λ c. IsReadAs (record_of c) (Ok c)) cs
-all_read cs fit = λ k d within. record { fits = fit k d within; spelled = refl }
+all_read : (cs : List Command) → All IsCommand cs → All (IsOfVersion One) cs → All (λ c. IsReadAs One (record_of c) (Ok c)) cs
+all_read cs fit own = λ k d within. (own k d within, record { fits = fit k d within; spelled = refl })
 
 -- the file is read as the records
 file_of : (most : ℕ) (text : List ℕ) (cs : List Command) → All (IsRecord most_body) (map record_of cs) → text ≡ command_magic ++ spell_commands cs → length text ≤ most → Reads commands most text (File One (map record_of cs) End)
@@ -43,11 +44,11 @@ pub encoded_is_read : EncodedIsRead
 encoded_is_read limit most bytes text ended encoded fits =
     let fit = commands_fit encoded.reads.read encoded.commands encoded.reads.tickers encoded.reads.say in (
       file_of most text encoded.commands (all_within encoded.commands fit.0 fit.1) encoded.writes fits,
-      all_read encoded.commands fit.0,
+      all_read encoded.commands fit.0 fit.2,
     )
 
 -- what a run of a file that is read to its end comes to
-run_of : (most : ℕ) (text journal : List ℕ) (ran : Status) (records : List Record) → Reads commands most text (File One records End) → (runs : RunsTo most text ran journal) → (ran ≡ answer.Done) × (market : Market) × Journals records market journal
+run_of : (most : ℕ) (text journal : List ℕ) (ran : Status) (records : List Record) → Reads commands most text (File One records End) → (runs : RunsTo most text ran journal) → (ran ≡ answer.Done) × (market : Market) × Journals One records market journal
 run_of most text journal ran records reads runs =
     let one = reads_one commands commands_readable most text runs.reading (File One records End) runs.reads reads in
     let writes = subst (λ (reading : Reading Version Record). WritesOf reading journal) one runs.writes in

@@ -4,7 +4,8 @@ use Rattle.wire_records.specs.Records.{Record}
 use Rattle.wire_records.specs.Commands.{Pair}
 use Rattle.wire_records.specs.Reading.{Ending}
 use Rattle.flow_orders.specs.Outcomes.{Outcome}
-use Rattle.market_core.specs.Market.{Market}
+use Rattle.market_core.specs.Market.{Market, empty_market}
+use Rattle.market_core.proofs.Soundness.{sound-empty}
 use Rattle.market_core.proofs.LawProofs.{journals_hold_deposits}
 use Rattle.market_core.proofs.Promised.{legal_journal_keeps_promises}
 use Rattle.journal_replay.specs.Audits.{Audits}
@@ -16,14 +17,15 @@ pub file_of : (limit : ℕ) (bytes : List ℕ) (status : Status) (legal : List (
     → status ≡ audit_status limit ending legal behind → AuditsFile limit bytes status (audit_text status legal)
 file_of limit bytes status legal behind ending market audits ends =
     let steps = audits.judged.journal.steps in
+    let sound = sound-empty audits.version in
     record {
       legal = legal;
       behind = behind;
       ending = ending;
       market = market;
       audits = audits;
-      deposits = journals_hold_deposits (map (λ (pair : Pair Record Outcome). pair.asked) legal) legal market (record { asked = refl; steps = steps });
-      keeps = legal_journal_keeps_promises legal market steps;
+      deposits = journals_hold_deposits (empty_market audits.version) legal market sound steps;
+      keeps = legal_journal_keeps_promises (empty_market audits.version) legal market sound steps;
       ends = ends;
       writes = refl;
     }

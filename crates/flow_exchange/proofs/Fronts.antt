@@ -17,8 +17,8 @@ use Rattle.wire_records.proofs.ReadingLaws.{starts_first}
 use Rattle.wire_records.proofs.RecordCode.{commands_readable}
 use Rattle.flow_orders.specs.Outcomes.{Outcome, IsRightOutcome}
 use Rattle.flow_orders.specs.Own.{IsOwnOutcome}
-use Rattle.journal_records.specs.Pairs.{IsPair, pair_spelling, journal_magic}
-use Rattle.journal_records.specs.Formats.{journals, records_of}
+use Rattle.journal_records.specs.Pairs.{IsPair, pair_spelling}
+use Rattle.journal_records.specs.Formats.{journal_magic_of, journals, records_of}
 use Rattle.journal_records.proofs.Files.{journals_readable}
 use Rattle.market_core.specs.Market.{Market, empty_market}
 use Rattle.market_core.specs.Journal.{Step}
@@ -82,22 +82,23 @@ parts_of f (a ∷ xs) (b ∷ front) back e =
     record { first = a ∷ rest.first; more = rest.more; parts = ap (λ ys. a ∷ ys) rest.parts; mapped = ap (λ ys. f a ∷ ys) rest.mapped ∙ ap (λ y. y ∷ front) both.0 }
 
 -- the journal of records begins with that of the first of them
-journal_begins : (all first more : List Record) (m n : Market) (text begun : List ℕ) → all ≡ first ++ more → Journals all m text → Journals first n begun → Begins text begun
-journal_begins all first more m n text begun parts whole front =
+journal_begins : (version : Version) (all first more : List Record) (m n : Market) (text begun : List ℕ) → all ≡ first ++ more → Journals version all m text → Journals version first n begun → Begins text begun
+journal_begins version all first more m n text begun parts whole front =
     let asked = λ (pair : Pair Record Outcome). pair.asked in
     let split = parts_of asked whole.pairs first more (whole.journal_of.asked ∙ parts) in
-    let steps = follows-parts IsReadAs reading_unique IsOwnOutcome empty_market m split.first split.more (rw split.parts at whole.journal_of.steps) in
-    let same = one_own_journal IsReadAs reading_unique first split.first front.pairs steps.0 n (record { asked = split.mapped; steps = steps.1 }) front.journal_of in
-    begins-spelled journal_magic pair_spelling whole.pairs front.pairs split.more text begun (split.parts ∙ ap (λ pairs. pairs ++ split.more) same.0) whole.spelled front.spelled
+    let steps = follows-parts IsReadAs reading_unique IsOwnOutcome (empty_market version) m split.first split.more (rw split.parts at whole.journal_of.steps) in
+    let same = one_own_journal IsReadAs reading_unique version first split.first front.pairs steps.0 n (record { asked = split.mapped; steps = steps.1 }) front.journal_of in
+    begins-spelled (journal_magic_of version) pair_spelling whole.pairs front.pairs split.more text begun (split.parts ∙ ap (λ pairs. pairs ++ split.more) same.0) whole.spelled front.spelled
 
 -- over the reading, of a file that starts with the records, and may have some of those behind them in view
 reading_begins : (limit : ℕ) (bytes : List ℕ) (version : Version) (units records later : List Record) (market : Market) (text begun : List ℕ) (reading : Reading Version Record)
-    → Reads commands limit bytes reading → WritesOf reading text → StartsWith commands limit bytes version units → units ≡ records ++ later → Journals records market begun → Begins text begun
+    → Reads commands limit bytes reading → WritesOf reading text → StartsWith commands limit bytes version units → units ≡ records ++ later → Journals version records market begun → Begins text begun
 reading_begins limit bytes version units records later market text begun NotFlow reads writes starts parts front =
     absurd (reads version starts.body starts.magic.0 starts.magic.1)
 reading_begins limit bytes version units records later market text begun (File other all ending) reads writes starts parts front =
     let on = starts_first commands commands_readable limit bytes version other units all ending starts reads in
-    journal_begins all records (later ++ on.1) writes.0 market text begun (on.2 ∙ ap (λ xs. xs ++ on.1) parts ∙ append_assoc records later on.1) writes.1 front
+    let same = (commands_readable.magics.one other version reads.0 starts.body reads.1.0 starts.magic.0 (sym reads.1.1 ∙ starts.magic.1)).0 in
+    journal_begins version all records (later ++ on.1) writes.0 market text begun (on.2 ∙ ap (λ xs. xs ++ on.1) parts ∙ append_assoc records later on.1) (subst (λ (v : Version). Journals v all writes.0 text) same writes.1) front
 
 -- where a run is at work
 run_begins : (limit : ℕ) (bytes : List ℕ) (status : Status) (text begun : List ℕ) → RunsTo limit bytes status text → RunsInto limit bytes begun → Begins text begun
@@ -143,7 +144,9 @@ report_begins-file limit bytes status text begun (inl none) first =
 report_begins-file limit bytes status text begun (inr all) first =
     let audits = all.audits in
     let on = starts_first journals journals_readable limit bytes first.version audits.version (map records_of first.legal) audits.units all.ending first.starts audits.reads in
-    report_begins empty_market 1 all.legal first.legal all.behind on.1 all.market first.market text begun (sym audits.judged.parts ∙ on.2) audits.judged.journal.each first.fits audits.judged.stops all.writes first.writes
+    let same = (journals_readable.magics.one audits.version first.version audits.reads.0 first.starts.body audits.reads.1.0 first.starts.magic.0 (sym audits.reads.1.1 ∙ first.starts.magic.1)).0 in
+    let writes = subst (λ (v : Version). AreReported (empty_market v) 1 all.legal all.market text) same all.writes in
+    report_begins (empty_market first.version) 1 all.legal first.legal all.behind on.1 all.market first.market text begun (sym audits.judged.parts ∙ on.2) audits.judged.journal.each first.fits audits.judged.stops writes first.writes
 
 -- up to a pair that may want memory
 report_begun : (limit : ℕ) (bytes begun : List ℕ) → ReportsShort limit bytes begun → ReportsInto limit bytes begun

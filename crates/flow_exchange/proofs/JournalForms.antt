@@ -134,7 +134,7 @@ more_or_not : (limit n : ℕ) → (limit < n) ⊎ (¬ (limit < n))
 more_or_not limit n = elim (cases_lt limit n) [ inl more ↦ inl more | inr not ↦ inr (λ more. omega (arith, more, not)) ]
 
 module _ (limit : ℕ) (bytes body : List ℕ) (version : Version) (magic : BeginsWith journals.magics (take limit bytes) version body) (units : List (Record × Record)) (rest : List ℕ) (whole : body ≡ spell_all journals.units units ++ rest) (lawful : All journals.units.IsLawful units)
-    (legal : List (Pair Record Outcome)) (parts : units ≡ map records_of legal) (each : All IsPair legal) (market : Market) (steps : Follows IsReadAs IsRightOutcome empty_market legal market) where
+    (legal : List (Pair Record Outcome)) (parts : units ≡ map records_of legal) (each : All IsPair legal) (market : Market) (steps : Follows IsReadAs IsRightOutcome (empty_market version) legal market) where
   -- all are legal
   judged_all : (ending : Ending) → BeginsWithNone journals.units rest → EndsAs journals (limit < length bytes) rest (length (journals.magics.spell version) + length (spell_all journals.units units)) ending → Audits limit bytes legal [] ending market
   judged_all ending none ends = record {
@@ -161,7 +161,7 @@ module _ (limit : ℕ) (bytes body : List ℕ) (version : Version) (magic : Begi
 -- ---- audit
 
 abbrev pub audit_start : Version → Watched Counts
-audit_start version = record { market = empty_market; pairs = 0; seen = record { cleared = 0; skipped = 0 } }
+audit_start version = record { market = empty_market version; pairs = 0; seen = record { cleared = 0; skipped = 0 } }
 
 -- the text behind the magic
 behind_only : (text behind so_far last : List ℕ) → text ≡ [] ++ behind → behind ≡ so_far ++ last → so_far ≡ [] → text ≡ last
@@ -229,7 +229,7 @@ audit_into limit bytes n text (ended, inr (version, body, behind, magic, is, on)
 
 -- the units that were passed are legal pairs, and then comes another one
 at_pair : (limit : ℕ) (bytes body : List ℕ) (version : Version) (magic : BeginsWith journals.magics (take limit bytes) version body) (units : List (Record × Record)) (rest more : List ℕ) (next : Record × Record) (legal : List (Pair Record Outcome)) (market : Market)
-    → body ≡ spell_all journals.units units ++ rest → All journals.units.IsLawful units → BeginsWith journals.units rest next more → units ≡ map records_of legal → IsLegalJournal legal market → IsAtPair limit bytes legal market next
+    → body ≡ spell_all journals.units units ++ rest → All journals.units.IsLawful units → BeginsWith journals.units rest next more → units ≡ map records_of legal → IsLegalJournal version legal market → IsAtPair limit bytes legal market next
 at_pair limit bytes body version magic units rest more next legal market whole each front parts journal = record {
   version = version;
   starts = record {
@@ -246,7 +246,7 @@ at_pair limit bytes body version magic units rest more next legal market whole e
 audit_out : (limit : ℕ) (bytes : List ℕ) (text : List ℕ) → (task audit audit_start).Lacks limit bytes text → AuditsShort limit bytes text
 audit_out limit bytes text (version, body, behind, magic, is, (way, keeps)) =
     let are = are_counted (audit_start version) way.state way.units behind way.passes.each way.passes.goes in
-    let journal : IsLegalJournal are.legal way.state.market = record { each = are.each; steps = are.steps } in
+    let journal : IsLegalJournal version are.legal way.state.market = record { each = are.each; steps = are.steps } in
     elim way.wants [
       | inl (next, more, front, wants) ↦
           let at = at_pair limit bytes body version magic way.units way.rest more next are.legal way.state.market way.passes.whole way.passes.each front are.parts journal in
@@ -275,16 +275,17 @@ audit_form limit = record {
 -- ---- report
 
 abbrev pub report_start : Version → Watched (Unit {0})
-report_start version = record { market = empty_market; pairs = 0; seen = tt }
+report_start version = record { market = empty_market version; pairs = 0; seen = tt }
 
 -- the text of the pairs, where nothing is written behind them
-told_as : (legal : List (Pair Record Outcome)) (market : Market) (text behind so_far last : List ℕ) → text ≡ [] ++ behind → behind ≡ so_far ++ last → last ≡ [] → AreReported empty_market 1 legal market so_far → AreReported empty_market 1 legal market text
-told_as legal market text behind so_far last is parts none told =
-    subst (λ (x : List ℕ). AreReported empty_market 1 legal market x) (sym (is ∙ parts ∙ ap (λ xs. so_far ++ xs) none ∙ append-nil so_far)) told
+told_as : (version : Version) (legal : List (Pair Record Outcome)) (market : Market) (text behind so_far last : List ℕ) → text ≡ [] ++ behind → behind ≡ so_far ++ last → last ≡ [] → AreReported (empty_market version) 1 legal market so_far → AreReported (empty_market version) 1 legal market text
+told_as version legal market text behind so_far last is parts none told =
+    subst (λ (x : List ℕ). AreReported (empty_market version) 1 legal market x) (sym (is ∙ parts ∙ ap (λ xs. so_far ++ xs) none ∙ append-nil so_far)) told
 
 report_stopped : (limit : ℕ) (bytes : List ℕ) (number : ℕ) (text : List ℕ) (version : Version) (body behind : List ℕ) → BeginsWith journals.magics (take limit bytes) version body → text ≡ [] ++ behind
     → (way : ComesOn report (limit < length bytes) (length (journals.magics.spell version)) body (report_start version) (Err (word.Stopped number)) behind)
     → Halts report (limit < length bytes) (length (journals.magics.spell version) + length (spell_all journals.units way.units)) way.rest way.state (Err (word.Stopped number)) way.last → ReportsTo limit bytes (answer.Rejected number) text
+unfolding judged_some
 report_stopped limit bytes number text version body behind magic is way (inl (bad, more, front, stops)) =
     let are = are_told (report_start version) way.state way.units way.so_far way.passes.each way.passes.goes in
     let on = judged_some limit bytes body version magic way.units way.rest way.passes.whole way.passes.each are.legal are.parts are.each way.state.market are.steps bad more front stops.0 in
@@ -295,11 +296,12 @@ report_stopped limit bytes number text version body behind magic is way (inl (ba
       market = way.state.market;
       audits = on.2;
       ends = ap (λ (k : ℕ). answer.Rejected k) (omega (arith, stops.1.0, are.pairs));
-      writes = told_as are.legal way.state.market text behind way.so_far way.last is way.writes stops.1.1 are.told;
+      writes = told_as version are.legal way.state.market text behind way.so_far way.last is way.writes stops.1.1 are.told;
     })
 report_stopped limit bytes number text version body behind magic is way (inr at) = absurd at.1
 
 report_to : (limit : ℕ) (bytes : List ℕ) (ended : Ended ℕ) (text : List ℕ) → (task report report_start).Comes limit bytes ended text → ReportsTo limit bytes (ended_status limit rejected ended) text
+unfolding judged_all
 report_to limit bytes ended text (inl none) = rw none.0 (inl (none.1, refl, none.2))
 report_to limit bytes (Ok done) text (inr (version, body, behind, magic, is, on)) =
     let way = on.0 in
@@ -311,7 +313,7 @@ report_to limit bytes (Ok done) text (inr (version, body, behind, magic, is, on)
       market = way.state.market;
       audits = judged_all limit bytes body version magic way.units way.rest way.passes.whole way.passes.each are.legal are.parts are.each way.state.market are.steps End way.halts.0.0 way.halts.0.1;
       ends = refl;
-      writes = told_as are.legal way.state.market text behind way.so_far way.last is way.writes way.halts.1 are.told;
+      writes = told_as version are.legal way.state.market text behind way.so_far way.last is way.writes way.halts.1 are.told;
     })
 report_to limit bytes (Err (word.Torn n)) text (inr (version, body, behind, magic, is, on)) =
     let way = on.0 in
@@ -323,7 +325,7 @@ report_to limit bytes (Err (word.Torn n)) text (inr (version, body, behind, magi
       market = way.state.market;
       audits = judged_all limit bytes body version magic way.units way.rest way.passes.whole way.passes.each are.legal are.parts are.each way.state.market are.steps (reading.Torn n) way.halts.0.0 way.halts.0.1;
       ends = refl;
-      writes = told_as are.legal way.state.market text behind way.so_far way.last is way.writes way.halts.1 are.told;
+      writes = told_as version are.legal way.state.market text behind way.so_far way.last is way.writes way.halts.1 are.told;
     })
 report_to limit bytes (Err word.TooLong) text (inr (version, body, behind, magic, is, on)) =
     let way = on.0 in
@@ -335,7 +337,7 @@ report_to limit bytes (Err word.TooLong) text (inr (version, body, behind, magic
       market = way.state.market;
       audits = judged_all limit bytes body version magic way.units way.rest way.passes.whole way.passes.each are.legal are.parts are.each way.state.market are.steps reading.TooLong way.halts.0.0 way.halts.0.1;
       ends = refl;
-      writes = told_as are.legal way.state.market text behind way.so_far way.last is way.writes way.halts.1 are.told;
+      writes = told_as version are.legal way.state.market text behind way.so_far way.last is way.writes way.halts.1 are.told;
     })
 report_to limit bytes (Err (word.Stopped number)) text (inr (version, body, behind, magic, is, on)) = report_stopped limit bytes number text version body behind magic is on.0 on.0.halts
 report_to limit bytes (Err word.NotFlow) text (inr (version, body, behind, magic, is, on)) = absurd on.0.halts
@@ -371,7 +373,7 @@ first_pairs limit bytes body more behind version units rest s text so_far last m
         each = rw (← are.parts) passes.each;
       };
       fits = are.each;
-      writes = told_as are.legal s.market text behind so_far last is parts none are.told;
+      writes = told_as version are.legal s.market text behind so_far last is parts none are.told;
     }
 
 report_into : (limit : ℕ) (bytes : List ℕ) (n : ℕ) (text : List ℕ) → (task report report_start).Begins limit bytes n text → (text ≡ []) ⊎ ReportsInto limit bytes text
@@ -383,10 +385,11 @@ report_into limit bytes n text (ended, inr (version, body, behind, magic, is, on
     (sym (take-append-drop n (take limit bytes)) ∙ ap (λ xs. xs ++ more) magic.1 ∙ append_assoc (journals.magics.spell version) body more) way.passes is way.writes (report_last _ way.rest way.state ended way.last way.halts))
 
 report_out : (limit : ℕ) (bytes : List ℕ) (text : List ℕ) → (task report report_start).Lacks limit bytes text → ReportsShort limit bytes text
+unfolding at_pair
 report_out limit bytes text (version, body, behind, magic, is, (way, keeps)) =
     let are = are_told (report_start version) way.state way.units behind way.passes.each way.passes.goes in
-    let journal : IsLegalJournal are.legal way.state.market = record { each = are.each; steps = are.steps } in
-    let told = subst (λ (x : List ℕ). AreReported empty_market 1 are.legal way.state.market x) (sym is) are.told in
+    let journal : IsLegalJournal version are.legal way.state.market = record { each = are.each; steps = are.steps } in
+    let told = told_as version are.legal way.state.market text behind behind [] is (sym (append-nil behind)) refl are.told in
     elim way.wants [
       | inl (next, more, front, wants) ↦
           let at = at_pair limit bytes body version magic way.units way.rest more next are.legal way.state.market way.passes.whole way.passes.each front are.parts journal in

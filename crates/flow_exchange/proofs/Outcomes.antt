@@ -10,8 +10,7 @@ use Rattle.wire_records.proofs.Readings.{reading_unique}
 use Rattle.wire_records.proofs.ReadingLaws.{reads_one}
 use Rattle.wire_records.proofs.RecordCode.{commands_readable}
 use Rattle.flow_orders.specs.Outcomes.{Outcome}
-use Rattle.journal_records.specs.Pairs.{journal}
-use Rattle.journal_records.specs.Formats.{journals, records_of}
+use Rattle.journal_records.specs.Formats.{journals, journal_in, records_of}
 use Rattle.journal_records.proofs.Files.{journals_readable}
 use Rattle.journal_replay.proofs.LawProofs.{one_audit}
 use Rattle.market_core.specs.Market.{Market, empty_market}
@@ -63,15 +62,15 @@ one_form words Encode Audit a b = absurd (two_words words (codes "encode") (code
 one_form words Encode Report a b = absurd (two_words words (codes "encode") (codes "report") (λ e. omega (arith, e)) a b)
 
 -- records have one journal, and so one text
-journals_one : (records : List Record) (m n : Market) (x y : List ℕ) → Journals records m x → Journals records n y → x ≡ y
-journals_one records m n x y a b =
-    let one = one_own_journal IsReadAs reading_unique records a.pairs b.pairs m n a.journal_of b.journal_of in
-    a.spelled ∙ ap journal one.0 ∙ sym b.spelled
+journals_one : (version : Version) (records : List Record) (m n : Market) (x y : List ℕ) → Journals version records m x → Journals version records n y → x ≡ y
+journals_one version records m n x y a b =
+    let one = one_own_journal IsReadAs reading_unique version records a.pairs b.pairs m n a.journal_of b.journal_of in
+    a.spelled ∙ ap (journal_in version) one.0 ∙ sym b.spelled
 
 -- one text is written for a reading
 writes_one : (reading : Reading Version Record) (x y : List ℕ) → WritesOf reading x → WritesOf reading y → x ≡ y
 writes_one NotFlow x y a b = a ∙ sym b
-writes_one (File version records ending) x y a b = journals_one records a.0 b.0 x y a.1 b.1
+writes_one (File version records ending) x y a b = journals_one version records a.0 b.0 x y a.1 b.1
 
 -- a run comes to one status and one text
 runs_one : (limit : ℕ) (bytes : List ℕ) (s t : Status) (x y : List ℕ) → RunsTo limit bytes s x → RunsTo limit bytes t y → (s ≡ t) × (x ≡ y)
@@ -109,15 +108,17 @@ one_text old number (pair ∷ pairs) m n x y a b =
 -- a report comes to one status and one text
 reports_one : (limit : ℕ) (bytes : List ℕ) (s t : Status) (x y : List ℕ) → ReportsTo limit bytes s x → ReportsTo limit bytes t y → (s ≡ t) × (x ≡ y)
 reports_one limit bytes s t x y (inl a) (inl b) = (a.1 ∙ sym b.1, a.2 ∙ sym b.2)
-reports_one limit bytes s t x y (inl a) (inr b) = absurd (no_file _ _ _ (reads_one journals journals_readable limit bytes NotFlow (File b.audits.version b.audits.units b.ending) a.0 b.audits.reads))
-reports_one limit bytes s t x y (inr a) (inl b) = absurd (no_file _ _ _ (reads_one journals journals_readable limit bytes NotFlow (File a.audits.version a.audits.units a.ending) b.0 a.audits.reads))
+reports_one limit bytes s t x y (inl a) (inr b) = absurd (a.0 b.audits.version b.audits.reads.0 b.audits.reads.1.0 b.audits.reads.1.1)
+reports_one limit bytes s t x y (inr a) (inl b) = absurd (b.0 a.audits.version a.audits.reads.0 a.audits.reads.1.0 a.audits.reads.1.1)
 reports_one limit bytes s t x y (inr a) (inr b) =
     let one = one_audit limit bytes a.legal b.legal a.behind b.behind a.ending b.ending a.market b.market a.audits b.audits in
+    let version = (journals_readable.magics.one a.audits.version b.audits.version a.audits.reads.0 b.audits.reads.0 a.audits.reads.1.0 b.audits.reads.1.0 (sym a.audits.reads.1.1 ∙ b.audits.reads.1.1)).0 in
     let same : s ≡ t =
     a.ends ∙ ap (λ (p : List (Pair Record Outcome)). audit_status limit a.ending p a.behind) one.0 ∙ ap (λ (u : List (Record × Record)). audit_status limit a.ending b.legal u) one.1
     ∙ ap (λ (e : Ending). audit_status limit e b.legal b.behind) one.2 ∙ sym b.ends
     in
-    (same, one_text empty_market 1 b.legal a.market b.market x y (subst (λ (p : List (Pair Record Outcome)). AreReported empty_market 1 p a.market x) one.0 a.writes) b.writes)
+    let writes = subst (λ (v : Version). AreReported (empty_market v) 1 b.legal a.market x) version (subst (λ (p : List (Pair Record Outcome)). AreReported (empty_market a.audits.version) 1 p a.market x) one.0 a.writes) in
+    (same, one_text (empty_market b.audits.version) 1 b.legal a.market b.market x y writes b.writes)
 
 -- an encoding comes to one status and one text
 lines_one : (limit : ℕ) (bytes : List ℕ) (s t : Status) (x y : List ℕ) → ComesTo Encode limit bytes s x → ComesTo Encode limit bytes t y → (s ≡ t) × (x ≡ y)

@@ -14,7 +14,7 @@ use Rattle.word_driver.specs.Word.{AtEnd, Halts, Comes}
 use Rattle.word_driver.specs.Does.{task, IsTaken, Meets, KeepsUp}
 use Rattle.word_driver.specs.Does as driver
 use Rattle.exchange_session.specs.Running.{run}
-use Rattle.exchange_session.proofs.RunLaws.{run_is_exact}
+use Rattle.exchange_session.proofs.RunLaws.{run_is_exact, run_version}
 use Rattle.flow_exchange.specs.declared.form.Form.TheVariants.{Run}
 use Rattle.flow_exchange.specs.declared.status.Status.{Status}
 use Rattle.flow_exchange.specs.declared.status.Status.TheVariants as answer
@@ -63,7 +63,7 @@ runs_through n bytes ended text (inr (version, body, behind, magic, is, (way, ke
         reading = File version way.units ending.0;
         reads = (body, magic, record { rest = way.rest; whole = way.passes.whole; each = way.passes.each; none = at.0.1.0; ends = ending.1 });
         ends = refl;
-        writes = (way.state, journals way.units way.state way.so_far text version kept (ends_there version text behind way.so_far way.last is way.writes at.1));
+        writes = (way.state, journals way.units way.state way.so_far text version (run_version (start version) way.state way.units way.so_far way.passes.goes) kept (ends_there version text behind way.so_far way.last is way.writes at.1));
       },
     )
 
@@ -89,7 +89,7 @@ module _ (limit : ℕ) where
       text = text;
       more = more;
       starts = record { body = body; rest = rest; magic = magic; whole = passes.whole; each = passes.each };
-      writes = journals units state behind text version keeps is;
+      writes = journals units state behind text version (run_version (start version) state units behind passes.goes) keeps is;
       stands = written;
       near = omega (arith, few, size, run_is_exact.magic version);
     }),

@@ -7,9 +7,7 @@ use Rattle.wire_records.specs.Records.{Record, IsRecord, spelling}
 use Rattle.wire_records.specs.Reading.{End, NotFlow, File}
 use Rattle.wire_records.specs.Reading as reading
 use Rattle.wire_records.specs.declared.version.Version.{Version}
-use Rattle.wire_records.specs.declared.version.Version.TheVariants.{One}
 use Rattle.wire_records.specs.Formats.{commands}
-use Rattle.journal_records.specs.Pairs.{journal_magic}
 use Rattle.journal_records.specs.Formats.{journal_magic_of}
 use Rattle.market_core.specs.Market.{Market, empty_market}
 use Rattle.word_driver.specs.declared.fault.Fault.TheVariants as word
@@ -18,6 +16,7 @@ use Rattle.word_driver.specs.Ended.{Ended}
 use Rattle.word_driver.specs.Word.{ComesOn}
 use Rattle.word_driver.specs.Does.{task}
 use Rattle.exchange_session.specs.Running.{run}
+use Rattle.exchange_session.proofs.RunLaws.{run_version}
 use Rattle.exchange_session.specs.Journals.{Journals}
 use Rattle.flow_exchange.specs.declared.form.Form.TheVariants.{Run}
 use Rattle.flow_exchange.specs.Statuses.{ended_status}
@@ -26,11 +25,13 @@ use Rattle.flow_exchange.specs.Running.{RunsTo, RunsInto, RunsShort}
 use Rattle.flow_exchange.proofs.Words.{IsForm}
 
 abbrev pub start : Version → Market
-start version = empty_market
+start version = empty_market version
 
--- the opening is the magic
-pub journals : (records : List Record) (market : Market) (behind : List ℕ) (text : List ℕ) (version : Version) → Journals records market (journal_magic ++ behind) → text ≡ journal_magic_of version ++ behind → Journals records market text
-journals records market behind text One so is = subst (λ (x : List ℕ). Journals records market x) (sym is) so
+-- the opening is the magic of the file's version
+pub journals : (records : List Record) (market : Market) (behind : List ℕ) (text : List ℕ) (version : Version) → market.version ≡ version → Journals market.version records market (journal_magic_of market.version ++ behind) → text ≡ journal_magic_of version ++ behind
+    → Journals version records market text
+journals records market behind text version same so is =
+    subst (λ (x : List ℕ). Journals version records market x) (sym is) (subst (λ (v : Version). Journals v records market (journal_magic_of v ++ behind)) same so)
 
 -- nothing is written at the end
 pub ends_there : (version : Version) (text behind so_far last : List ℕ) → text ≡ journal_magic_of version ++ behind → behind ≡ so_far ++ last → last ≡ [] → text ≡ journal_magic_of version ++ so_far
@@ -44,7 +45,7 @@ runs_to limit bytes (Ok done) text (inr (version, body, behind, magic, is, on)) 
       reading = File version way.units End;
       reads = (body, magic, record { rest = way.rest; whole = way.passes.whole; each = way.passes.each; none = way.halts.0.0; ends = way.halts.0.1 });
       ends = refl;
-      writes = (way.state, journals way.units way.state way.so_far text version on.1 (ends_there version text behind way.so_far way.last is way.writes way.halts.1));
+      writes = (way.state, journals way.units way.state way.so_far text version (run_version (start version) way.state way.units way.so_far way.passes.goes) on.1 (ends_there version text behind way.so_far way.last is way.writes way.halts.1));
     }
 runs_to limit bytes (Err (word.Torn n)) text (inr (version, body, behind, magic, is, on)) =
     let way = on.0 in
@@ -52,7 +53,7 @@ runs_to limit bytes (Err (word.Torn n)) text (inr (version, body, behind, magic,
       reading = File version way.units (reading.Torn n);
       reads = (body, magic, record { rest = way.rest; whole = way.passes.whole; each = way.passes.each; none = way.halts.0.0; ends = way.halts.0.1 });
       ends = refl;
-      writes = (way.state, journals way.units way.state way.so_far text version on.1 (ends_there version text behind way.so_far way.last is way.writes way.halts.1));
+      writes = (way.state, journals way.units way.state way.so_far text version (run_version (start version) way.state way.units way.so_far way.passes.goes) on.1 (ends_there version text behind way.so_far way.last is way.writes way.halts.1));
     }
 runs_to limit bytes (Err word.TooLong) text (inr (version, body, behind, magic, is, on)) =
     let way = on.0 in
@@ -60,7 +61,7 @@ runs_to limit bytes (Err word.TooLong) text (inr (version, body, behind, magic, 
       reading = File version way.units reading.TooLong;
       reads = (body, magic, record { rest = way.rest; whole = way.passes.whole; each = way.passes.each; none = way.halts.0.0; ends = way.halts.0.1 });
       ends = refl;
-      writes = (way.state, journals way.units way.state way.so_far text version on.1 (ends_there version text behind way.so_far way.last is way.writes way.halts.1));
+      writes = (way.state, journals way.units way.state way.so_far text version (run_version (start version) way.state way.units way.so_far way.passes.goes) on.1 (ends_there version text behind way.so_far way.last is way.writes way.halts.1));
     }
 runs_to limit bytes (Err (word.Stopped never)) text (inr on) = elim never [ ]
 runs_to limit bytes (Err word.NotFlow) text (inr (version, body, behind, magic, is, on)) = absurd on.0.halts
@@ -95,7 +96,7 @@ runs_into limit bytes n text (ended, inr (version, body, behind, magic, is, on))
         whole = ap (λ xs. xs ++ more) way.passes.whole ∙ append_assoc (flat_map spelling way.units) way.rest more;
         each = way.passes.each;
       };
-      writes = journals way.units way.state way.so_far text version on.1 (ends_there version text behind way.so_far way.last is way.writes (last_is_none (Unit {0}) (length (commands.magics.spell version)) body empty_market ended behind way));
+      writes = journals way.units way.state way.so_far text version (run_version (start version) way.state way.units way.so_far way.passes.goes) on.1 (ends_there version text behind way.so_far way.last is way.writes (last_is_none (Unit {0}) (length (commands.magics.spell version)) body (start version) ended behind way));
     })
 
 pub runs_out : (limit : ℕ) (bytes : List ℕ) (text : List ℕ) → (task run start).Lacks limit bytes text → RunsShort limit bytes text
@@ -115,7 +116,7 @@ runs_out limit bytes text (version, body, behind, magic, is, on) =
               ∙ ap (λ xs. xs ++ more) (flat_map_more spelling [] way.units next);
           each = All-push (IsRecord 1024) way.units next way.passes.each front.0;
         };
-        writes = journals way.units way.state behind text version on.1 is;
+        writes = journals way.units way.state behind text version (run_version (start version) way.state way.units behind way.passes.goes) on.1 is;
         wants = wants;
       }
       | inr at ↦ absurd at.1

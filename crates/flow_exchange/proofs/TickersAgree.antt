@@ -3,8 +3,11 @@ use Rattle.std.proofs.Common.{◌≡◌, ℕ, List, [], ◌∷◌, length, All, 
 use Rattle.std.proofs.lemmas.List.Elements.{All-head, All-tail}
 use Rattle.ticker_table.specs.Adding.{IsAddable}
 use Rattle.wire_records.specs.Records.{Record}
-use Rattle.wire_records.specs.Commands.{Command, AddAsset, OpenAccount, DepositMoney, DepositAsset, WithdrawMoney, WithdrawAsset, PlaceOrder, CancelOrder, RunBatch, Answer, Pair}
-use Rattle.wire_records.specs.CommandRecords.{record_of, IsCommand, IsReadAs, Spells}
+use Rattle.wire_records.specs.Commands.{Command, AddAsset, OpenAccount, DepositMoney, DepositAsset, WithdrawMoney, WithdrawAsset, PlaceOrder, CancelOrder, RunBatch, PlaceUntil, SetMoneyCredit, SetUnitCredit, Answer, Pair}
+use Rattle.wire_records.specs.CommandRecords.{record_of, IsCommand, Spells}
+use Rattle.wire_records.specs.Versions.{IsOfVersion, IsReadAs}
+use Rattle.wire_records.specs.declared.version.Version.{Version}
+use Rattle.wire_records.specs.declared.version.Version.TheVariants.{One, Two}
 use Rattle.wire_records.specs.declared.reply.Refusal.{Refusal}
 use Rattle.wire_records.specs.declared.command.BodyFault.{BodyFault}
 use Rattle.wire_records.proofs.Readings.{command_read}
@@ -55,6 +58,14 @@ refused_tickers m (WithdrawAsset account asset units) first refused = refl
 refused_tickers m (PlaceOrder request) first refused = refl
 refused_tickers m (CancelOrder account order) first refused = refl
 refused_tickers m (RunBatch budget) first refused = refl
+refused_tickers m (PlaceUntil last request) first refused = refl
+refused_tickers m (SetMoneyCredit account ticks) first refused = refl
+refused_tickers m (SetUnitCredit account asset units) first refused = refl
+
+-- a command of version One is one of either version
+of_any : (version : Version) (command : Command) → IsOfVersion One command → IsOfVersion version command
+of_any One command of = of
+of_any Two command of = (of.0, omega (arith, of.1))
 
 -- how a batch may end
 module _ (Rule : BatchRule) where
@@ -68,6 +79,9 @@ module _ (Rule : BatchRule) where
   accepted_tickers m (WithdrawAsset account asset units) answer new none accepts = made_tickers new _ accepts.1
   accepted_tickers m (PlaceOrder request) answer new none accepts = made_tickers new _ accepts.1
   accepted_tickers m (CancelOrder account order) answer new none accepts = made_tickers new _ accepts.1
+  accepted_tickers m (PlaceUntil last request) answer new none accepts = made_tickers new _ accepts.1
+  accepted_tickers m (SetMoneyCredit account ticks) answer new none accepts = made_tickers new _ accepts.1
+  accepted_tickers m (SetUnitCredit account asset units) answer new none accepts = made_tickers new _ accepts.1
   accepted_tickers m (RunBatch budget) answer new none accepts = made_tickers new (after_batch m accepts.0) accepts.2.1 ∙ batch_tickers m accepts.0
 
   -- either way the tickers are those after the command
@@ -81,9 +95,9 @@ module _ (Rule : BatchRule) where
   served_tickers m command answer new served = answered_tickers m command served.first answer new served.refused served.answered
 
   -- the same of a step of the command's record
-  pub step_tickers : (m : Market) (command : Command) (asked : Record) (answer : Answer Outcome) (new : Market) → Spells command asked → Step IsReadAs Rule m asked answer new → AreAfter m.tickers command new.tickers
-  step_tickers m command asked answer new spells step =
-      let served = subst (λ (read : Result Command BodyFault). ServesRead Rule m read answer new) (command_read command asked step.read spells step.spelled) step.served in
+  pub step_tickers : (m : Market) (command : Command) (asked : Record) (answer : Answer Outcome) (new : Market) → IsOfVersion One command → Spells command asked → Step IsReadAs Rule m asked answer new → AreAfter m.tickers command new.tickers
+  step_tickers m command asked answer new of spells step =
+      let served = subst (λ (read : Result Command BodyFault). ServesRead Rule m read answer new) (command_read m.version command asked step.read (of_any m.version command of) spells step.spelled) step.served in
       served_tickers m command answer new served
 
   -- lists that are one have the same first record and the same rest
@@ -91,25 +105,27 @@ module _ (Rule : BatchRule) where
   heads a b x y e = (cc, cc)
 
   -- lines and steps of their commands' records, from the same tickers on, lead to the same tickers
-  pub steps_tickers : (lines : List (List ℕ)) (commands : List Command) (after : List (List ℕ)) (m market : Market) (pairs : List (Pair Record Outcome)) → Say m.tickers lines commands after → All IsCommand commands
+  pub steps_tickers : (lines : List (List ℕ)) (commands : List Command) (after : List (List ℕ)) (m market : Market) (pairs : List (Pair Record Outcome)) → Say m.tickers lines commands after → All IsCommand commands → All (IsOfVersion One) commands
       → map (λ (pair : Pair Record Outcome). pair.asked) pairs ≡ map record_of commands → Follows IsReadAs Rule m pairs market → market.tickers ≡ after
-  steps_tickers [] commands after m market [] say fit asked steps = made_tickers market m steps ∙ sym say.1
-  steps_tickers [] commands after m market (pair ∷ pairs) say fit asked steps =
+  steps_tickers [] commands after m market [] say fit own asked steps = made_tickers market m steps ∙ sym say.1
+  steps_tickers [] commands after m market (pair ∷ pairs) say fit own asked steps =
       let none = asked ∙ ap (map record_of) say.0 in
       absurd cc
-  steps_tickers (line ∷ lines) commands after m market pairs (inl blank) fit asked steps = steps_tickers lines commands after m market pairs blank.1 fit asked steps
-  steps_tickers (line ∷ lines) commands after m market [] (inr said) fit asked steps =
+  steps_tickers (line ∷ lines) commands after m market pairs (inl blank) fit own asked steps = steps_tickers lines commands after m market pairs blank.1 fit own asked steps
+  steps_tickers (line ∷ lines) commands after m market [] (inr said) fit own asked steps =
       let some = asked ∙ ap (map record_of) said.5 in
       absurd cc
-  steps_tickers (line ∷ lines) commands after m market (pair ∷ pairs) (inr said) fit asked steps =
+  steps_tickers (line ∷ lines) commands after m market (pair ∷ pairs) (inr said) fit own asked steps =
       let fits = subst (All IsCommand) said.5 fit in
+      let owned = subst (All (IsOfVersion One)) said.5 own in
       let both = heads pair.asked (record_of said.0) (map (λ (p : Pair Record Outcome). p.asked) pairs) (map record_of said.1) (asked ∙ ap (map record_of) said.5) in
-      let leaves = step_tickers m said.0 pair.asked pair.answer steps.0 (record { fits = All-head IsCommand said.0 said.1 fits; spelled = both.0 }) steps.1 in
+      let leaves = step_tickers m said.0 pair.asked pair.answer steps.0 (All-head (IsOfVersion One) said.0 said.1 owned) (record { fits = All-head IsCommand said.0 said.1 fits; spelled = both.0 }) steps.1 in
       let same = one_saying m.tickers line said.0 said.0 said.2 steps.0.tickers said.3 (record { asks = said.3.asks; leaves = leaves }) in
-      steps_tickers lines said.1 after steps.0 market pairs (subst (λ tickers. Say tickers lines said.1 after) same.1 said.4) (All-tail IsCommand said.0 said.1 fits) both.1 steps.2
+      steps_tickers lines said.1 after steps.0 market pairs (subst (λ tickers. Say tickers lines said.1 after) same.1 said.4) (All-tail IsCommand said.0 said.1 fits) (All-tail (IsOfVersion One) said.0 said.1 owned) both.1 steps.2
 
 pub tickers_agree : TickersAgree
 tickers_agree limit bytes text journal ended encoded market journals =
     let reads = encoded.reads in
-    steps_tickers IsOwnOutcome reads.read encoded.commands reads.tickers empty_market market journals.pairs reads.say (commands_fit reads.read encoded.commands reads.tickers reads.say).0
+    let fit = commands_fit reads.read encoded.commands reads.tickers reads.say in
+    steps_tickers IsOwnOutcome reads.read encoded.commands reads.tickers (empty_market One) market journals.pairs reads.say fit.0 fit.2
     journals.journal_of.asked journals.journal_of.steps

@@ -8,7 +8,7 @@ use Rattle.wire_records.specs.Reading as reading
 use Rattle.flow_orders.specs.Outcomes.{Outcome}
 use Rattle.wire_records.specs.declared.version.Version.{Version}
 use Rattle.journal_records.specs.Formats.{journals, records_of}
-use Rattle.market_core.specs.Market.{Market}
+use Rattle.market_core.specs.Market.{Market, empty_market}
 use Rattle.market_core.specs.Journal.{HoldsDeposits}
 use Rattle.market_core.specs.Promises.{KeepsPromises}
 use Rattle.market_core.specs.Wanting.{RecordMayWant}
@@ -49,8 +49,8 @@ pub record AuditsFile (limit : ℕ) (bytes : List ℕ) (status : Status) (text :
   pub ending : Ending
   pub market : Market
   pub audits : Audits limit bytes legal behind ending market
-  pub deposits : HoldsDeposits IsReadAs legal market
-  pub keeps : KeepsPromises IsReadAs legal
+  pub deposits : HoldsDeposits IsReadAs (empty_market audits.version) legal market
+  pub keeps : KeepsPromises IsReadAs (empty_market audits.version) legal
   pub ends : status ≡ audit_status limit ending legal behind
   pub writes : text ≡ audit_text status legal
 
@@ -58,7 +58,7 @@ pub record AuditsFile (limit : ℕ) (bytes : List ℕ) (status : Status) (text :
 pub record IsAtPair (limit : ℕ) (bytes : List ℕ) (legal : List (Pair Record Outcome)) (market : Market) (next : Record × Record) : Type 0 where
   pub version : Version
   pub starts : StartsWith journals limit bytes version (map records_of legal ++ next ∷ [])
-  pub journal : IsLegalJournal legal market
+  pub journal : IsLegalJournal version legal market
 
 -- where memory may run out: at a pair whose command may want some
 abbrev pub AuditsShort : ℕ → List ℕ → List ℕ → Type 0

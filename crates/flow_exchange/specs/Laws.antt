@@ -5,11 +5,11 @@ use Rattle.wire_records.specs.Commands.{Pair}
 use Rattle.wire_records.specs.CommandRecords.{record_of}
 use Rattle.wire_records.specs.Versions.{IsReadAs}
 use Rattle.wire_records.specs.Reading.{Reads, File, End}
+use Rattle.wire_records.specs.declared.version.Version.{Version}
 use Rattle.wire_records.specs.declared.version.Version.TheVariants.{One}
 use Rattle.wire_records.specs.Formats.{commands}
 use Rattle.flow_orders.specs.Outcomes.{Outcome}
-use Rattle.journal_records.specs.Pairs.{journal}
-use Rattle.journal_records.specs.Formats.{journals}
+use Rattle.journal_records.specs.Formats.{journals, journal_in}
 use Rattle.market_core.specs.Market.{Market}
 use Rattle.batch_audit.specs.Legal.{IsLegalJournal, IsIllegalPair}
 use Rattle.word_driver.specs.Ended.{Ended}
@@ -32,21 +32,22 @@ abbrev pub OneOutcome : Type 0
 OneOutcome =
     (form : Form) (limit : ℕ) (bytes : List ℕ) (s t : Status) (x y : List ℕ) → ComesTo form limit bytes s x → ComesTo form limit bytes t y → (s ≡ t) × (x ≡ y)
 
--- an audit is done exactly for the spelling of a legal journal with nothing past the limit, and the line counts its pairs
+-- an audit is done exactly for the spelling of a legal journal of either version with nothing past the limit, and the line counts its pairs
 abbrev pub DoneIsForLegalJournals : Type 0
 DoneIsForLegalJournals = (limit : ℕ) (bytes text : List ℕ)
     → ComesTo Audit limit bytes Done text
-    ↔ ((pairs : List (Pair Record Outcome)) × (market : Market) × IsLegalJournal pairs market × (bytes ≡ journal pairs) × (length bytes ≤ limit) × (text ≡ legal_line pairs))
+    ↔ ((version : Version) × (pairs : List (Pair Record Outcome)) × (market : Market) × IsLegalJournal version pairs market × (bytes ≡ journal_in version pairs) × (length bytes ≤ limit) × (text ≡ legal_line pairs))
 
 -- The first `limit` bytes are the spelling of a legal journal, of a pair of records behind it that is no step of its market, and
 -- of some rest; the pair has this number, counted from 1.
 pub record HasFirstIllegal (limit : ℕ) (bytes : List ℕ) (number : ℕ) : Type 0 where
+  pub version : Version
   pub pairs : List (Pair Record Outcome)
   pub market : Market
   pub bad : Record × Record
   pub rest : List ℕ
-  pub legal : IsLegalJournal pairs market
-  pub whole : take limit bytes ≡ journal pairs ++ (journals.units.spell bad ++ rest)
+  pub legal : IsLegalJournal version pairs market
+  pub whole : take limit bytes ≡ journal_in version pairs ++ (journals.units.spell bad ++ rest)
   pub lawful : journals.units.IsLawful bad
   pub illegal : IsIllegalPair market bad
   pub counted : number ≡ length pairs + 1
@@ -60,12 +61,12 @@ RejectedIsFirstIllegal = (limit number : ℕ) (bytes text : List ℕ)
 -- of these records as its command
 abbrev pub EncodedIsRead : Type 0
 EncodedIsRead = (limit most : ℕ) (bytes text : List ℕ) (ended : Ended ℕ) (encoded : EncodesTo limit bytes ended text) → length text ≤ most
-    → Reads commands most text (File One (map record_of encoded.commands) End) × All (λ command. IsReadAs (record_of command) (Ok command)) encoded.commands
+    → Reads commands most text (File One (map record_of encoded.commands) End) × All (λ command. IsReadAs One (record_of command) (Ok command)) encoded.commands
 
 -- and a run of it is done, and writes the journal of these records, each with its reply
 abbrev pub EncodedIsServed : Type 0
 EncodedIsServed = (limit most : ℕ) (bytes text journal : List ℕ) (ended : Ended ℕ) (ran : Status) (encoded : EncodesTo limit bytes ended text) → length text ≤ most
-    → ComesTo Run most text ran journal → (ran ≡ Done) × (market : Market) × Journals (map record_of encoded.commands) market journal
+    → ComesTo Run most text ran journal → (ran ≡ Done) × (market : Market) × Journals One (map record_of encoded.commands) market journal
 
 -- no bytes are without an outcome, whatever the form
 abbrev pub NoneIsWithoutOutcome : Type 0
@@ -79,4 +80,4 @@ BegunIsAFront = (form : Form) (limit : ℕ) (bytes : List ℕ) (status : Status)
 -- the tickers by which lines name assets are those of the market that a run of their file leads to
 abbrev pub TickersAgree : Type 0
 TickersAgree = (limit : ℕ) (bytes text journal : List ℕ) (ended : Ended ℕ) (encoded : EncodesTo limit bytes ended text) (market : Market)
-    → Journals (map record_of encoded.commands) market journal → market.tickers ≡ encoded.reads.tickers
+    → Journals One (map record_of encoded.commands) market journal → market.tickers ≡ encoded.reads.tickers

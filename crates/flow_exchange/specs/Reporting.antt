@@ -34,7 +34,7 @@ pub record ReportsFile (limit : ℕ) (bytes : List ℕ) (status : Status) (text 
   pub market : Market
   pub audits : Audits limit bytes legal behind ending market
   pub ends : status ≡ audit_status limit ending legal behind
-  pub writes : AreReported empty_market 1 legal market text
+  pub writes : AreReported (empty_market audits.version) 1 legal market text
 
 -- the status and the text that the first `limit` bytes come to
 abbrev pub ReportsTo : ℕ → List ℕ → Status → List ℕ → Type 0
@@ -48,10 +48,10 @@ pub record ReportsInto (limit : ℕ) (bytes : List ℕ) (text : List ℕ) : Type
   pub market : Market
   pub starts : StartsWith journals limit bytes version (map records_of legal)
   pub fits : All IsPair legal
-  pub writes : AreReported empty_market 1 legal market text
+  pub writes : AreReported (empty_market version) 1 legal market text
 
 -- where memory may run out: at a pair whose command may want some, or at a legal one, for its text
 abbrev pub ReportsShort : ℕ → List ℕ → List ℕ → Type 0
 ReportsShort limit bytes text =
-    (legal : List (Pair Record Outcome)) × (market : Market) × (next : Record × Record) × IsAtPair limit bytes legal market next
-    × (RecordMayWant market next.0 ⊎ ((new : Market) × IsLegalPair market next new)) × AreReported empty_market 1 legal market text
+    (legal : List (Pair Record Outcome)) × (market : Market) × (next : Record × Record) × (at : IsAtPair limit bytes legal market next)
+    × (RecordMayWant market next.0 ⊎ ((new : Market) × IsLegalPair market next new)) × AreReported (empty_market at.version) 1 legal market text

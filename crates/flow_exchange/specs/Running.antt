@@ -14,10 +14,10 @@ use Rattle.flow_exchange.specs.declared.status.Status.{Status}
 use Rattle.flow_exchange.specs.declared.status.Status.TheVariants.{ReadFault, WriteFault, NoMemory}
 use Rattle.flow_exchange.specs.Statuses.{reading_status}
 
--- what is written for a reading: the journal of its records
+-- what is written for a reading: the journal of its records, in the version of the file
 abbrev pub WritesOf : Reading Version Record → List ℕ → Type 0
 WritesOf NotFlow text = text ≡ []
-WritesOf (File version records ending) text = (market : Market) × Journals records market text
+WritesOf (File version records ending) text = (market : Market) × Journals version records market text
 
 -- The bytes are read, the status says how that ends, and the text is written.
 pub record RunsTo (limit : ℕ) (bytes : List ℕ) (status : Status) (text : List ℕ) : Type 0 where
@@ -32,7 +32,7 @@ pub record RunsInto (limit : ℕ) (bytes : List ℕ) (text : List ℕ) : Type 0 
   pub records : List Record
   pub market : Market
   pub starts : StartsWith commands limit bytes version records
-  pub writes : Journals records market text
+  pub writes : Journals version records market text
 
 -- The text is the journal of the records before one that may want memory.
 pub record RunsShort (limit : ℕ) (bytes : List ℕ) (text : List ℕ) : Type 0 where
@@ -41,7 +41,7 @@ pub record RunsShort (limit : ℕ) (bytes : List ℕ) (text : List ℕ) : Type 0
   pub next : Record
   pub market : Market
   pub starts : StartsWith commands limit bytes version (records ++ next ∷ [])
-  pub writes : Journals records market text
+  pub writes : Journals version records market text
   pub wants : RecordMayWant market next
 
 -- so many of these bytes were taken, where the source tells those that it had and those that are left
@@ -60,7 +60,7 @@ pub record IsNearPairs (limit : ℕ) (before after : Option (List ℕ)) (bytes :
   pub text : List ℕ
   pub more : List ℕ
   pub starts : StartsWith commands limit bytes version records
-  pub writes : Journals records market text
+  pub writes : Journals version records market text
   pub stands : Grows before after (text ++ more)
   pub near : taken ≤ 8 + length (flat_map spelling records) + 1030
 

@@ -6,8 +6,7 @@ use Rattle.std.proofs.lemmas.List.Elements.{All-nil, All-cons, All-head, All-tai
 use Rattle.wire_records.specs.Records.{Record}
 use Rattle.wire_records.specs.Commands.{Answer, Pair}
 use Rattle.wire_records.specs.Versions.{IsReadAs}
-use Rattle.wire_records.proofs.ReadingLaws.{IsReadable}
-use Rattle.wire_records.specs.Grammars.{BeginsWith, BeginsWithNone}
+use Rattle.wire_records.specs.Grammars.{BeginsWith}
 use Rattle.wire_records.specs.declared.version.Version.{Version}
 use Rattle.wire_records.specs.declared.version.Version.TheVariants.{One, Two}
 use Rattle.word_driver.specs.Private.{IsOpened}
@@ -20,7 +19,7 @@ use Rattle.market_core.specs.Market.{Market, empty_market}
 use Rattle.market_core.specs.Journal.{Follows}
 use Rattle.market_core.proofs.LawProofs.{journals_hold_deposits}
 use Rattle.market_core.proofs.Soundness.{sound-empty}
-use Rattle.market_core.proofs.Versions.{step_version, follows_version}
+use Rattle.market_core.proofs.Versions.{follows_version}
 use Rattle.market_core.proofs.Promised.{legal_journal_keeps_promises}
 use Rattle.batch_audit.proofs.LawProofs.{one_market, pairs_number_one}
 use Rattle.batch_audit.specs.Legal.{IsLegalPair, IsIllegalPair}
@@ -30,7 +29,7 @@ use Rattle.word_driver.specs.Word.{Goes}
 use Rattle.word_driver.specs.Laws.{IsExact, IsKept, HasNext}
 use Rattle.word_driver.proofs.Denying.{not_denied, follows, one_of}
 use Rattle.journal_words.specs.Line.{counted_line}
-use Rattle.journal_words.specs.Watching.{Watch, Watched, SeesOne, StopsOne, journals_for, over_pairs}
+use Rattle.journal_words.specs.Watching.{Watch, Watched, SeesOne, StopsOne, over_pairs}
 use Rattle.journal_words.specs.Words.{Counts, CountsOne, counting, telling, audit, report}
 use Rattle.journal_words.specs.Private.{HasRoom}
 use Rattle.journal_words.proofs.LongestPair.{longest}
@@ -38,7 +37,6 @@ use Rattle.journal_words.proofs.SomeText.{some_text}
 
 -- What is watched is told by the pair: one is seen, one reason and one text where it isn't legal, and one at the end.
 pub record IsExactWatch {S B : Type 0} (watch : Watch S B) : Type 0 where
-  pub which : (version : Version) → watch.IsFor version ⊎ (¬ watch.IsFor version)
   pub one_sight : (m : Market) (n : ℕ) (pair : Record × Record) (s t r : S) (x y : List ℕ) → watch.Sees m n pair s t x → watch.Sees m n pair s r y → (t ≡ r) × (x ≡ y)
   pub one_reject : (m : Market) (n : ℕ) (pair : Record × Record) (s : S) (b c : B) (x y : List ℕ) → watch.Rejects m n pair s b x → watch.Rejects m n pair s c y → (b ≡ c) × (x ≡ y)
   pub one_close : (m : Market) (n : ℕ) (s : S) (x y : List ℕ) → watch.Closes m n s x → watch.Closes m n s y → x ≡ y
@@ -49,25 +47,6 @@ pub record IsExactWatch {S B : Type 0} (watch : Watch S B) : Type 0 where
 eight : (version : Version) → length (journal_magic_of version) ≡ 8
 eight One = refl
 eight Two = refl
-
--- journals of some versions can be read as all journals are, where it is told which these are
-readable_for : (IsFor : Version → Type 0) → ((version : Version) → IsFor version ⊎ (¬ IsFor version)) → IsReadable (journals_for IsFor)
-readable_for IsFor which = record {
-  magics = record {
-    some = λ v lawful. journals_readable.magics.some v tt;
-    one = λ v w x y a b same. journals_readable.magics.one v w x y tt tt same;
-    told = λ bytes. elim (journals_readable.magics.told bytes) [
-      | inl (v, rest, begins) ↦
-          elim (which v) [
-            | inl is ↦ inl (v, rest, (is, begins.1))
-            | inr not ↦ inr (λ w more lawful e. not (subst IsFor (sym (journals_readable.magics.one v w rest more tt tt (sym begins.1 ∙ e)).0) lawful))
-          ]
-      | inr none ↦ inr (λ w more lawful e. none w more tt e)
-    ];
-  };
-  units = journals_readable.units;
-  overlong = journals_readable.overlong;
-}
 
 module _ {S B : Type 0} (watch : Watch S B) where
   abbrev watched : Market → ℕ → S → Watched S
@@ -89,10 +68,10 @@ module _ {S B : Type 0} (watch : Watch S B) where
 
     pub over_pairs_is_exact : IsExact (over_pairs watch)
     over_pairs_is_exact = record {
-      readable = readable_for watch.IsFor exact.which;
+      readable = journals_readable;
       short = short_at_end;
       magic = eight;
-      longest = longest watch.IsFor;
+      longest = longest;
       some = omega arith;
       few = omega arith;
       one_step = one_step;
@@ -150,7 +129,7 @@ module _ {S B : Type 0} (watch : Watch S B) where
 
 -- What is watched is there: a legal pair is seen, why it stops at one that isn't, and how it ends.
 pub record HasSight {S B : Type 0} (watch : Watch S B) : Type 0 where
-  pub some_sight : (old new : Market) (n : ℕ) (pair : Record × Record) (s : S) → watch.IsFor old.version → IsLegalPair old pair new → (t : S) × (x : List ℕ) × watch.Sees new n pair s t x
+  pub some_sight : (old new : Market) (n : ℕ) (pair : Record × Record) (s : S) → IsLegalPair old pair new → (t : S) × (x : List ℕ) × watch.Sees new n pair s t x
   pub some_reject : (m : Market) (n : ℕ) (pair : Record × Record) (s : S) → IsIllegalPair m pair → (why : B) × (x : List ℕ) × watch.Rejects m n pair s why x
   pub some_close : (m : Market) (n : ℕ) (s : S) → ((x : List ℕ) × watch.Closes m n s x) ⊎ ((why : B) × (x : List ℕ) × watch.Stops m n s why x)
 
@@ -158,29 +137,20 @@ module _ {S B : Type 0} (watch : Watch S B) (sight : HasSight watch) where
   abbrev HasStep : Watched S → Record × Record → Type 0
   HasStep s u = ((t : Watched S) × (y : List ℕ) × SeesOne watch s u t y) ⊎ ((why : B) × (y : List ℕ) × StopsOne watch s (Some u) why y)
 
-  -- the version stays
-  goes_version : (s t : Watched S) (units : List (Record × Record)) (x : List ℕ) → Goes (over_pairs watch) s units t x → t.market.version ≡ s.market.version
-  goes_version s t [] x goes = ap (λ (w : Watched S). w.market.version) goes.0
-  goes_version s t (u ∷ units) x goes =
-      let step = goes.3.legal in
-      goes_version goes.0 t units goes.2 goes.4 ∙ step_version IsRightOutcome IsReadAs s.market u.0 step.answer goes.0.market step.step
-
   -- a legal pair leads on, and any other stops it
-  has_step : (s : Watched S) (u : Record × Record) → watch.IsFor s.market.version → (((m : Market) × IsLegalPair s.market u m) ⊎ (((m : Market) × IsLegalPair s.market u m) → ⊥)) → HasStep s u
-  has_step s u is (inl (m, legal)) =
-      let seen = sight.some_sight s.market m s.pairs u s.seen is legal in
+  has_step : (s : Watched S) (u : Record × Record) → (((m : Market) × IsLegalPair s.market u m) ⊎ (((m : Market) × IsLegalPair s.market u m) → ⊥)) → HasStep s u
+  has_step s u (inl (m, legal)) =
+      let seen = sight.some_sight s.market m s.pairs u s.seen legal in
       inl (watched watch m (s.pairs + 1) seen.0, seen.1, record { legal = legal; counted = refl; sees = seen.2 })
-  has_step s u is (inr not) =
+  has_step s u (inr not) =
       let illegal : IsIllegalPair s.market u = λ m legal. not (m, legal) in
       let why = sight.some_reject s.market s.pairs u s.seen illegal in
       inr (why.0, why.1, (illegal, why.2))
 
-  pub over_pairs_has_next : (start : Version → Watched S) → ((version : Version) → (start version).market ≡ empty_market version) → HasNext (over_pairs watch) start
-  over_pairs_has_next start begins = record {
-    some_step = λ version units s x u is goes lawful.
-        let same : s.market.version ≡ version = goes_version (start version) s units x goes ∙ ap (λ (m : Market). m.version) (begins version) in
-        follows (λ legal. not_denied (has_step s u (subst watch.IsFor (sym same) is) legal)) (one_of ((m : Market) × IsLegalPair s.market u m));
-    some_close = λ version units s x is goes. not_denied (sight.some_close s.market s.pairs s.seen);
+  pub over_pairs_has_next : (start : Version → Watched S) → HasNext (over_pairs watch) start
+  over_pairs_has_next start = record {
+    some_step = λ version units s x u goes lawful. follows (λ legal. not_denied (has_step s u legal)) (one_of ((m : Market) × IsLegalPair s.market u m));
+    some_close = λ version units s x goes. not_denied (sight.some_close s.market s.pairs s.seen);
   }
 
 -- ---- audit and report
@@ -197,7 +167,6 @@ one_count pair s t r a b =
 
 counting_is_exact : IsExactWatch counting
 counting_is_exact = record {
-  which = λ version. inl tt;
   one_sight = λ m n pair s t r x y a b. (one_count pair s t r a.0 b.0, a.1 ∙ sym b.1);
   one_reject = λ m n pair s b c x y p q. (p.0 ∙ sym q.0, p.1 ∙ sym q.1);
   one_close = λ m n s x y a b. a ∙ sym b;
@@ -208,13 +177,8 @@ counting_is_exact = record {
 one_unit : (t r : Unit {0}) → t ≡ r
 one_unit t r = refl
 
-one_or_not : (version : Version) → (version ≡ One) ⊎ (¬ (version ≡ One))
-one_or_not One = inl refl
-one_or_not Two = inr (λ e. absurd cc)
-
 telling_is_exact : IsExactWatch telling
 telling_is_exact = record {
-  which = one_or_not;
   one_sight = λ m n pair s t r x y a b. (one_unit t r, one_report m.tickers (n + 1) pair x y a b);
   one_reject = λ m n pair s b c x y p q. (p.0 ∙ sym q.0, p.1 ∙ sym q.1);
   one_close = λ m n s x y a b. a ∙ sym b;
@@ -230,7 +194,7 @@ report_is_exact = over_pairs_is_exact telling telling_is_exact
 
 counting_has_sight : HasSight counting
 counting_has_sight = record {
-  some_sight = λ old new n pair s is legal. (
+  some_sight = λ old new n pair s legal. (
     record { cleared = s.cleared + cleared_by legal.answer; skipped = s.skipped + skipped_by legal.answer },
     [],
     (record { answer = legal.answer; spelled = legal.spelled; cleared = refl; skipped = refl }, refl),
@@ -241,15 +205,15 @@ counting_has_sight = record {
 
 telling_has_sight : HasSight telling
 telling_has_sight = record {
-  some_sight = λ old new n pair s is legal. let text = some_text old new (n + 1) pair is legal in (s, text.0, text.1);
+  some_sight = λ old new n pair s legal. let text = some_text old new (n + 1) pair legal in (s, text.0, text.1);
   some_reject = λ m n pair s illegal. (n + 1, [], (refl, refl));
   some_close = λ m n s. inl ([], refl);
 }
 
-pub audit_has_next : (start : Version → Watched Counts) → ((version : Version) → (start version).market ≡ empty_market version) → HasNext audit start
+pub audit_has_next : (start : Version → Watched Counts) → HasNext audit start
 audit_has_next = over_pairs_has_next counting counting_has_sight
 
-pub report_has_next : (start : Version → Watched (Unit {0})) → ((version : Version) → (start version).market ≡ empty_market version) → HasNext report start
+pub report_has_next : (start : Version → Watched (Unit {0})) → HasNext report start
 report_has_next = over_pairs_has_next telling telling_has_sight
 
 -- ---- room
@@ -261,26 +225,14 @@ room_more old new pair pairs later left taken room legal number within some = re
   counts = omega (arith, room.counts, number, within, some);
 }
 
--- a legal pair leaves the version
-pub legal_version : {S B : Type 0} (watch : Watch S B) (old new : Market) (pair : Record × Record) → watch.IsFor old.version → IsLegalPair old pair new → watch.IsFor new.version
-legal_version watch old new pair is legal = subst watch.IsFor (sym (step_version IsRightOutcome IsReadAs old pair.0 legal.answer new legal.step)) is
-
--- a journal begins, of a version that is watched
+-- a journal of this version begins
 pub opens : {S B : Type 0} (watch : Watch S B) (version : Version) (bytes body : List ℕ) (market : Market) (pairs : ℕ) (seen : S) (IsWithin : Type 0) (text : List ℕ)
-    → bytes ≡ journal_magic_of version ++ body → watch.IsFor version → market ≡ empty_market version → pairs ≡ 0 → IsWithin → text ≡ []
-    → IsOpened (over_pairs watch) (λ version. record { market = empty_market version; pairs = 0; seen = seen }) bytes (record { market = market; pairs = pairs; seen = seen }) (λ left. HasRoom market pairs left × IsWithin × watch.IsFor market.version) text true
-opens watch version bytes body market pairs seen IsWithin text e is new none within empty = record {
+    → bytes ≡ journal_magic_of version ++ body → market ≡ empty_market version → pairs ≡ 0 → IsWithin → text ≡ []
+    → IsOpened (over_pairs watch) (λ version. record { market = empty_market version; pairs = 0; seen = seen }) bytes (record { market = market; pairs = pairs; seen = seen }) (λ left. HasRoom market pairs left × IsWithin) text true
+opens watch version bytes body market pairs seen IsWithin text e new none within empty = record {
   version = version;
-  magic = (is, e ∙ ap (λ xs. journal_magic_of version ++ xs) (sym (ap (drop 8) e ∙ drop_at (journal_magic_of version) body 8 (eight version))));
+  magic = (tt, e ∙ ap (λ xs. journal_magic_of version ++ xs) (sym (ap (drop 8) e ∙ drop_at (journal_magic_of version) body 8 (eight version))));
   starts = same_watched watch (record { market = market; pairs = pairs; seen = seen }) (record { market = empty_market version; pairs = 0; seen = seen }) new none refl;
   opening = empty;
-  ready = λ limit fits. (record { orders = rw new (omega (arith, fits)); counts = omega (arith, fits, none) }, within, rw new is);
+  ready = λ limit fits. (record { orders = rw new (omega (arith, fits)); counts = omega (arith, fits, none) }, within);
 }
-
--- or none that is
-pub opens_not : {S B : Type 0} (watch : Watch S B) (found : Version) (bytes : List ℕ) → ((body : List ℕ) × BeginsWith journals.magics bytes found body) → (¬ watch.IsFor found) → BeginsWithNone (journals_for watch.IsFor).magics bytes
-opens_not watch found bytes begins not version rest lawful e =
-    not (subst watch.IsFor (sym (journals_readable.magics.one found version begins.0 rest tt tt (sym begins.1.1 ∙ e)).0) lawful)
-
-pub opens_none : {S B : Type 0} (watch : Watch S B) (bytes : List ℕ) → BeginsWithNone journals.magics bytes → BeginsWithNone (journals_for watch.IsFor).magics bytes
-opens_none watch bytes none version rest lawful e = none version rest tt e

@@ -5,11 +5,9 @@ use Rattle.wire_records.specs.Grammars.{BeginsWithNone}
 use Rattle.wire_records.specs.Formats.{EitherStatesOver}
 use Rattle.wire_records.proofs.Fronts.{no_front-from_overlong}
 use Rattle.wire_records.proofs.Spelled.{length-spelling}
-use Rattle.wire_records.specs.declared.version.Version.{Version}
 use Rattle.file_units.specs.Inputs.{HasLongest}
 use Rattle.file_units.proofs.Longest.{record_or_over, over_stays}
 use Rattle.journal_records.specs.Formats.{journals}
-use Rattle.journal_words.specs.Watching.{journals_for}
 use Rattle.journal_records.proofs.PairFronts.{no_pair-from_first, no_pair-from_second}
 
 -- a whole first record, and then the second or too long a one
@@ -36,5 +34,5 @@ no_pair bytes (inl over) = no_pair-from_first 1024 262144 bytes (no_front-from_o
 no_pair bytes (inr (first, rest, begins, over)) =
     no_pair-from_second 1024 262144 bytes rest first (omega arith) begins.0 begins.1 (no_front-from_overlong 262144 over.0 rest (omega arith) over.1 over.2)
 
-pub longest : (IsFor : Version → Type 0) → HasLongest (journals_for IsFor) 263178
-longest IsFor = record { seen = seen; stays = stays; none = no_pair }
+pub longest : HasLongest journals 263178
+longest = record { seen = seen; stays = stays; none = no_pair }

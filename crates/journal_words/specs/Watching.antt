@@ -2,11 +2,9 @@
 use Rattle.std.specs.Prelude.{◌≡◌, ◌⊎◌, ◌+◌, ℕ, List, [], length, map, Option, Some, None}
 use Rattle.wire_records.specs.Records.{Record}
 use Rattle.wire_records.specs.Commands.{Pair}
-use Rattle.wire_records.specs.Reading.{Format}
 use Rattle.wire_records.specs.Versions.{IsReadAs}
-use Rattle.wire_records.specs.declared.version.Version.{Version}
 use Rattle.flow_orders.specs.Outcomes.{Outcome}
-use Rattle.journal_records.specs.Formats.{journal_magic_of, journals, records_of}
+use Rattle.journal_records.specs.Formats.{journals, records_of}
 use Rattle.market_core.specs.Market.{Market, empty_market}
 use Rattle.market_core.specs.Journal.{HoldsDeposits}
 use Rattle.market_core.specs.Promises.{KeepsPromises}
@@ -22,8 +20,6 @@ pub data Sight : Type 0 where
 
 -- What is seen of the pairs of a journal, S, and written. Each is told by the market and by how many legal pairs stand before it.
 pub record Watch (S B : Type 0) : Type 1 where
-  -- The versions whose journals are watched.
-  pub IsFor : Version → Type 0
   -- Of a legal pair, which made the market; of the first illegal one; and at the end, where it closes or stops.
   pub Sees : Market → ℕ → Record × Record → S → S → List ℕ → Type 0
   pub Rejects : Market → ℕ → Record × Record → S → B → List ℕ → Type 0
@@ -48,10 +44,6 @@ pub record KeepsJournal (units : List (Record × Record)) (market : Market) (pai
   pub deposits : HoldsDeposits IsReadAs (empty_market market.version) legal market
   pub keeps : KeepsPromises IsReadAs (empty_market market.version) legal
 
--- journals of these versions alone
-abbrev pub journals_for : (Version → Type 0) → Format Version (Record × Record)
-journals_for IsFor = record { magics = record { IsLawful = IsFor; spell = journal_magic_of }; units = journals.units; IsOverlong = journals.IsOverlong }
-
 module _ {S B : Type 0} (watch : Watch S B) where
   -- a legal pair
   pub record SeesOne (old : Watched S) (pair : Record × Record) (new : Watched S) (text : List ℕ) : Type 0 where
@@ -75,7 +67,7 @@ module _ {S B : Type 0} (watch : Watch S B) where
   -- the word: it goes over the legal pairs, and stops at the first that isn't
   abbrev pub over_pairs : Word (Record × Record) (Watched S) B
   over_pairs = record {
-    format = journals_for watch.IsFor;
+    format = journals;
     longest = 263178;
     opens = λ version. [];
     Steps = SeesOne;

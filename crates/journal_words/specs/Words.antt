@@ -2,7 +2,6 @@
 use Rattle.std.specs.Prelude.{◌≡◌, ◌+◌, ℕ, []}
 use Rattle.wire_records.specs.Records.{Record}
 use Rattle.wire_records.specs.Commands.{Answer}
-use Rattle.wire_records.specs.declared.version.Version.TheVariants.{One}
 use Rattle.flow_orders.specs.Outcomes.{Outcome}
 use Rattle.journal_records.specs.Replies.{SpellsAnswer}
 use Rattle.journal_replay.specs.Audits.{cleared_by, skipped_by}
@@ -32,7 +31,6 @@ WantsText End = ⊥
 -- An audit counts, names the first illegal pair by its number, counted from 1, and writes the line at the end.
 abbrev pub counting : Watch Counts ℕ
 counting = record {
-  IsFor = λ version. Unit {0};
   Sees = λ market before pair old new text. CountsOne pair old new × (text ≡ []);
   Rejects = λ market before pair counts number text. (number ≡ before + 1) × (text ≡ []);
   Closes = λ market pairs counts text. text ≡ counted_line pairs counts.cleared counts.skipped;
@@ -44,10 +42,9 @@ counting = record {
 abbrev pub audit : Word (Record × Record) (Watched Counts) ℕ
 audit = over_pairs counting
 
--- A report writes the lines of each pair under its number, counted from 1. It tells journals of version One.
+-- A report writes the lines of each pair under its number, counted from 1.
 abbrev pub telling : Watch (Unit {0}) ℕ
 telling = record {
-  IsFor = λ version. version ≡ One;
   Sees = λ market before pair old new text. IsReport market.tickers (before + 1) pair text;
   Rejects = λ market before pair seen number text. (number ≡ before + 1) × (text ≡ []);
   Closes = λ market pairs seen text. text ≡ [];

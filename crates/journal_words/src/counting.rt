@@ -7,7 +7,6 @@ use crate::on_pair::OnPair;
 use batch_audit::Audit;
 use itoa::Buffer;
 use journal_records::PairView;
-use wire_records::Version;
 use word_driver::{Halt, Memory};
 
 // The tags of the replies that tell of a batch.
@@ -87,10 +86,6 @@ impl OnPair for Counting {
     ghost seen = { λ c. record { cleared = c.cleared; skipped = c.skipped } };
 
     ghost is_within = { λ c pairs. (c.cleared ≤ pairs) × (c.skipped ≤ pairs) };
-
-    fn is_for(&self, _version: Version) -> bool {
-        true
-    }
 
     fn legal(
         &mut self,

@@ -1,5 +1,5 @@
 //! What is done with the pairs of a journal.
-ghost use Rattle.std.specs.Prelude.{◌≡◌, ◌≤◌, ◌<◌, ◌+◌, ◌^◌, ◌↔◌, ℕ, [], IsTrue, IfOk, OnOk, OnErr, vec_len, vec_capacity};
+ghost use Rattle.std.specs.Prelude.{◌≡◌, ◌≤◌, ◌<◌, ◌+◌, ◌^◌, ℕ, [], IfOk, OnOk, OnErr, vec_len, vec_capacity};
 ghost use Rattle.market_core.specs.Market.{Market};
 ghost use Rattle.batch_audit.specs.Legal.{IsLegalPair, IsIllegalPair};
 ghost use Rattle.journal_words.specs.Watching.{Watch, Legal, Illegal};
@@ -7,7 +7,6 @@ ghost use Rattle.journal_words.specs.Private.{IsClosedBy};
 
 use batch_audit::Audit;
 use journal_records::PairView;
-use wire_records::Version;
 use word_driver::{Halt, Memory};
 
 /// What is done with each legal pair of a journal, with the first that isn't, and at the end. The text is put into a
@@ -29,10 +28,6 @@ pub trait OnPair {
     // It is so after so many pairs.
     ghost is_within: { Self → ℕ → Type 0 };
 
-    /// Whether journals of this version are watched.
-    fn is_for(&self, version: Version) -> bool
-        ensures { IsTrue result ↔ watch.IsFor version };
-
     /// A pair that the audit has just found legal.
     fn legal(
         &mut self,
@@ -42,7 +37,6 @@ pub trait OnPair {
         text: &mut Vec<u8>,
     ) -> Result<(), Memory>
         requires legal { (old : Market) × IsLegalPair old pair.now audit.now }
-        requires version { watch.IsFor audit.now.version }
         requires within { is_within self.old pairs }
         requires few { pairs + 1 < 2 ^ 64 }
         requires empty { text.old.items ≡ [] }

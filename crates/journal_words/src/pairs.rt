@@ -46,7 +46,6 @@ impl<P: OnPair + Drop> Pairs<P> {
         requires next { self.old.audit.next_order + 1 < 2 ^ 64 }
         requires few { self.old.pairs + 1 < 2 ^ 64 }
         requires within { P.is_within self.old.on self.old.pairs }
-        requires version { P.watch.IsFor self.old.audit.version }
         requires empty { text.old.items ≡ [] }
         requires none { vec_len text.old ≡ 0 }
         requires room { P.ROOM ≤ vec_capacity text.old }
@@ -55,7 +54,6 @@ impl<P: OnPair + Drop> Pairs<P> {
             (record { market = self.old.audit; pairs = self.old.pairs; seen = P.seen self.old.on }) pair.now
             (record { market = self.new.audit; pairs = self.new.pairs; seen = P.seen self.new.on }) text.new.items) }
         ensures within { OnOk result (P.is_within self.new.on self.new.pairs) }
-        ensures version { OnOk result (P.watch.IsFor self.new.audit.version) }
         ensures halted { IfErr result (λ halt. HaltsWith (over_pairs P.watch)
             (record { market = self.old.audit; pairs = self.old.pairs; seen = P.seen self.old.on })
             (Some pair.now) halt text.new.items) }
@@ -105,16 +103,15 @@ impl<P: OnPair + Drop> ServesWord for Pairs<P> {
 
     ghost state = { λ p. record { market = p.audit; pairs = p.pairs; seen = P.seen p.on } };
 
-    ghost is_ready = { λ p left. HasRoom p.audit p.pairs left × P.is_within p.on p.pairs × P.watch.IsFor p.audit.version };
+    ghost is_ready = { λ p left. HasRoom p.audit p.pairs left × P.is_within p.on p.pairs };
 
     fn open(&mut self, bytes: &[u8], _text: &mut Vec<u8>) -> bool {
         match journal_version(bytes) {
-            Some(version) if self.on.is_for(version) => {
+            None => false,
+            Some(version) => {
                 self.audit = Audit::over(Market::new_in(self.alloc, version));
                 true
             }
-            Some(_) => false,
-            None => false,
         }
     }
 

@@ -5,7 +5,6 @@ use crate::on_pair::OnPair;
 use batch_audit::Audit;
 use batch_report::report_pair;
 use journal_records::PairView;
-use wire_records::Version;
 use word_driver::{Halt, Memory};
 
 /// It writes the lines of each legal pair.
@@ -26,10 +25,6 @@ impl OnPair for Telling {
     ghost seen = { λ t. tt };
 
     ghost is_within = { λ t pairs. Unit {0} };
-
-    fn is_for(&self, version: Version) -> bool {
-        version == Version::One
-    }
 
     fn legal(
         &mut self,

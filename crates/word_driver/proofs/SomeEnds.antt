@@ -15,7 +15,7 @@ use Rattle.word_driver.specs.Laws.{IsExact, IsKept, IsNotDenied, HasNext, SomeEn
 use Rattle.word_driver.proofs.Going.{goes_more}
 use Rattle.word_driver.proofs.Denying.{not_denied, follows}
 
-module _ {U S B : Type 0} (w : Word U S B) (start : Version → S) (exact : IsExact w) (kept : IsKept w start) (next : HasNext w start) (version : Version) (lawful_version : w.format.magics.IsLawful version) (More : Type 0) (place : ℕ) (body : List ℕ) where
+module _ {U S B : Type 0} (w : Word U S B) (start : Version → S) (exact : IsExact w) (kept : IsKept w start) (next : HasNext w start) (version : Version) (More : Type 0) (place : ℕ) (body : List ℕ) where
   -- there is an end from the start on
   abbrev HasEnd : Type 0
   HasEnd = (ended : Ended B) × (text : List ℕ) × ComesOn w More place body (start version) ended text
@@ -31,7 +31,7 @@ module _ {U S B : Type 0} (w : Word U S B) (start : Version → S) (exact : IsEx
       follows (λ found. elim found [
         | inl (last, closes) ↦ not_denied (ends (Ok tt) units rest s x last passes (at, closes))
         | inr (why, last, stops) ↦ not_denied (ends (Err (Stopped why)) units rest s x last passes (inr (at, stops)))
-      ]) (next.some_close version units s x lawful_version passes.goes)
+      ]) (next.some_close version units s x passes.goes)
 
   -- unit after unit
   goes_to_end : (ending : Ending) (units done todo : List U) (rest : List ℕ) (s : S) (x : List ℕ) → units ≡ done ++ todo → All w.format.units.IsLawful todo → AtEnd w More (place + length (spell_all w.format.units units)) rest ending
@@ -50,7 +50,7 @@ module _ {U S B : Type 0} (w : Word U S B) (start : Version → S) (exact : IsEx
           goes = goes_more w (start version) s t done u x y passes.goes step;
         })
         | inr (why, last, stops) ↦ not_denied (ends (Err (Stopped why)) done (spell_all g (u ∷ todo) ++ rest) s x last passes (inl (u, spell_all g todo ++ rest, (first, front), stops)))
-      ]) (next.some_step version done s x u lawful_version passes.goes first)
+      ]) (next.some_step version done s x u passes.goes first)
 
   comes_to_some : More ⊎ (¬ More) → IsNotDenied HasEnd
   comes_to_some more =
@@ -66,7 +66,7 @@ module _ {U S B : Type 0} (w : Word U S B) (start : Version → S) (exact : IsEx
   some_end limit bytes none =
       elim (exact.readable.magics.told (take limit bytes)) [
         | inl (version, body, magic) ↦
-            comes_to_some w start exact kept next version magic.0 (limit < length bytes) (length (w.format.magics.spell version)) body (more_or_not limit (length bytes))
+            comes_to_some w start exact kept next version (limit < length bytes) (length (w.format.magics.spell version)) body (more_or_not limit (length bytes))
             (λ found. none found.0 (w.opens version ++ found.1) (inr (version, body, found.1, magic, refl, (found.2, kept version found.2.units found.2.state found.2.so_far found.2.passes.each found.2.passes.goes))))
         | inr not ↦ none (Err NotFlow) [] (inl (refl, not, refl))
       ]

@@ -43,9 +43,9 @@ IsNotDenied A = (A → ⊥) → ⊥
 
 -- A word has a next step where it gets to: a unit leads on or makes it stop, and at the end it closes or stops.
 pub record HasNext {U S B : Type 0} (w : Word U S B) (start : Version → S) : Type 0 where
-  pub some_step : (version : Version) (units : List U) (s : S) (x : List ℕ) (u : U) → w.format.magics.IsLawful version → Goes w (start version) units s x → w.format.units.IsLawful u
+  pub some_step : (version : Version) (units : List U) (s : S) (x : List ℕ) (u : U) → Goes w (start version) units s x → w.format.units.IsLawful u
       → IsNotDenied (((t : S) × (y : List ℕ) × w.Steps s u t y) ⊎ ((why : B) × (y : List ℕ) × w.Stops s (Some u) why y))
-  pub some_close : (version : Version) (units : List U) (s : S) (x : List ℕ) → w.format.magics.IsLawful version → Goes w (start version) units s x
+  pub some_close : (version : Version) (units : List U) (s : S) (x : List ℕ) → Goes w (start version) units s x
       → IsNotDenied (((y : List ℕ) × w.Closes s y) ⊎ ((why : B) × (y : List ℕ) × w.Stops s None why y))
 
 -- no bytes are without an end

@@ -15,7 +15,7 @@ use Rattle.flow_exchange.proofs.audit.audit.Goals as goal
 
 -- an audit that has counted so far
 abbrev counted : Counts → Version → Watched Counts
-counted seen version = record { market = empty_market; pairs = 0; seen = seen }
+counted seen version = record { market = empty_market version; pairs = 0; seen = seen }
 
 pub go-ended-requires : goal.go-ended-requires
 go-ended-requires g c = record { exact = audit_is_exact; longest = refl; kept = over_pairs_is_kept counting _ (λ version. (refl, refl)); new = c.new-2.ensures.new }

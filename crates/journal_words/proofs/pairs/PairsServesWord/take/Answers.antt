@@ -32,7 +32,6 @@ returns-in-Ok-clause-stays g c = λ left inside ready.
     let one = c.in-Ok.ensures.seen in (
       room_more c.args.self.now.audit c.take_pair.new.self.audit c.in-Whole.pair c.args.self.now.pairs c.take_pair.new.self.pairs left c.in-Whole.taken ready.0 one.legal one.counted (omega (arith, within.0, inside)) within.1,
       c.in-Ok.ensures.within,
-      c.in-Ok.ensures.version,
     )
 
 pub returns-in-End-clause-taken : goal.returns-in-End-clause-taken
