@@ -1,15 +1,17 @@
 -- Which commands are answered by Done, and which by the number of an order.
 use Rattle.std.proofs.Common.{◌≡◌, ◌++◌, ℕ, List, codes, decimal, refl, Result, Ok, Err, Option, Some, None, sym, subst, ◌∙◌}
 use Rattle.wire_records.specs.Records.{Record}
-use Rattle.wire_records.specs.Commands.{Command, AddAsset, OpenAccount, DepositMoney, DepositAsset, WithdrawMoney, WithdrawAsset, PlaceOrder, CancelOrder, RunBatch, Answer, Plain, Batch}
-use Rattle.wire_records.specs.CommandRecords.{IsReadAs}
+use Rattle.wire_records.specs.Commands.{Command, AddAsset, OpenAccount, DepositMoney, DepositAsset, WithdrawMoney, WithdrawAsset, PlaceOrder, CancelOrder, RunBatch, PlaceUntil, SetMoneyCredit, SetUnitCredit, Answer, Plain, Batch}
+use Rattle.wire_records.specs.CommandRecords.{IsRead}
+use Rattle.wire_records.specs.Versions.{IsReadAs}
+use Rattle.wire_records.specs.declared.version.Version.{Version}
 use Rattle.wire_records.specs.declared.command.BodyFault.{BodyFault}
 use Rattle.wire_records.specs.declared.reply.Reply.TheVariants.{Done, Asset, Account, Order, Refused}
 use Rattle.wire_records.specs.declared.reply.Refusal.{Refusal}
-use Rattle.wire_records.proofs.Readings.{reading_unique}
+use Rattle.wire_records.proofs.Readings.{command_seen}
 use Rattle.flow_orders.specs.Outcomes.{Outcome, IsRightOutcome}
 use Rattle.market_core.specs.Market.{Market}
-use Rattle.market_core.specs.Step.{Answers, ServesRead}
+use Rattle.market_core.specs.Step.{Answers, Serves, ServesRead, refusal_of}
 use Rattle.journal_records.specs.Replies.{SpellsAnswer}
 use Rattle.journal_records.proofs.Spelled.{answer_unique}
 use Rattle.market_core.specs.Journal.{Step}
@@ -47,6 +49,9 @@ done_answers m (WithdrawAsset account asset units) None a n says answers = tt
 done_answers m (PlaceOrder request) None a n says answers = absurd (subst says_done answers.0 says)
 done_answers m (CancelOrder account number) None a n says answers = tt
 done_answers m (RunBatch budget) None a n says answers = absurd (subst says_done answers.2.0 says)
+done_answers m (PlaceUntil last request) None a n says answers = absurd (subst says_done answers.0 says)
+done_answers m (SetMoneyCredit account ticks) None a n says answers = tt
+done_answers m (SetUnitCredit account asset units) None a n says answers = tt
 
 order_answers : (m : Market) (c : Command) (first : Option Refusal) (a : Answer Outcome) (n : Market) → says_order a → Answers IsRightOutcome m c first a n → IsPlacing c
 order_answers m c (Some refusal) a n says answers = absurd (subst says_order answers.0 says)
@@ -59,30 +64,60 @@ order_answers m (WithdrawAsset account asset units) None a n says answers = absu
 order_answers m (PlaceOrder request) None a n says answers = tt
 order_answers m (CancelOrder account number) None a n says answers = absurd (subst says_order answers.0 says)
 order_answers m (RunBatch budget) None a n says answers = absurd (subst says_order answers.2.0 says)
+order_answers m (PlaceUntil last request) None a n says answers = tt
+order_answers m (SetMoneyCredit account ticks) None a n says answers = absurd (subst says_order answers.0 says)
+order_answers m (SetUnitCredit account asset units) None a n says answers = absurd (subst says_order answers.0 says)
 
--- what a record is read as is served
-served : (asked : Record) (read : Result Command BodyFault) (a : Answer Outcome) → IsReadAs asked read → (answered : IsAnswered asked a)
-    → ServesRead IsRightOutcome answered.0 read a answered.1
-served asked read a spelled answered =
-    let step = answered.2 in
-    subst (λ r. ServesRead IsRightOutcome answered.0 r a answered.1) (reading_unique asked step.read read step.spelled spelled) step.served
+-- What a market reads a record as, and serves, where it doesn't refuse it for that.
+pub record IsServedAs (asked : Record) (a : Answer Outcome) (c : Command) : Type 0 where
+  pub old : Market
+  pub new : Market
+  pub serves : Serves IsRightOutcome old c a new
 
-pub done_command : (asked : Record) (c : Command) → IsReadAs asked (Ok c) → IsAnswered asked (Plain Done) → IsDone c
-done_command asked c spelled answered =
-    let serves = served asked (Ok c) (Plain Done) spelled answered in
-    done_answers answered.0 c serves.first (Plain Done) answered.1 tt serves.answered
+-- the command that a record spells is the one that is served
+served_by : (version : Version) (old new : Market) (asked : Record) (read : Result Command BodyFault) (a : Answer Outcome) (c : Command) → ((refusal : Refusal) → a ≡ Plain (Refused refusal) → ⊥)
+    → IsReadAs version asked read → ServesRead IsRightOutcome old read a new → IsRead asked (Ok c) → IsServedAs asked a c
+served_by version old new asked (Ok d) a c plain spelled serves seen =
+    let same : d ≡ c = (let both = command_seen d asked (Ok c) spelled.1 seen in cc) in
+    record {
+      old = old;
+      new = new;
+      serves = subst (λ (x : Command). Serves IsRightOutcome old x a new) same serves;
+    }
+served_by version old new asked (Err why) a c plain spelled serves seen = absurd (plain (refusal_of why) serves.0)
 
-pub placing_command : (asked : Record) (c : Command) (number : ℕ) → IsReadAs asked (Ok c) → IsAnswered asked (Plain (Order number)) → IsPlacing c
-placing_command asked c number spelled answered =
-    let serves = served asked (Ok c) (Plain (Order number)) spelled answered in
-    order_answers answered.0 c serves.first (Plain (Order number)) answered.1 tt serves.answered
+served : (asked : Record) (c : Command) (a : Answer Outcome) → ((refusal : Refusal) → a ≡ Plain (Refused refusal) → ⊥) → IsRead asked (Ok c) → IsAnswered asked a → IsServedAs asked a c
+served asked c a plain seen answered = served_by answered.0.version answered.0 answered.1 asked answered.2.read a c plain answered.2.spelled answered.2.served seen
 
--- a record that can't be read is refused
-pub done_is_read : (asked : Record) (why : BodyFault) → IsReadAs asked (Err why) → IsAnswered asked (Plain Done) → ⊥
-done_is_read asked why spelled answered = subst says_done (served asked (Err why) (Plain Done) spelled answered).0 tt
+-- a record that spells no command isn't answered but by a refusal
+unserved_by : (version : Version) (old new : Market) (asked : Record) (read : Result Command BodyFault) (a : Answer Outcome) (why : BodyFault) → ((refusal : Refusal) → a ≡ Plain (Refused refusal) → ⊥)
+    → IsReadAs version asked read → ServesRead IsRightOutcome old read a new → IsRead asked (Err why) → ⊥
+unserved_by version old new asked (Ok d) a why plain spelled serves seen = absurd (let both = command_seen d asked (Err why) spelled.1 seen in cc)
+unserved_by version old new asked (Err other) a why plain spelled serves seen = plain (refusal_of other) serves.0
 
-pub order_is_read : (asked : Record) (why : BodyFault) (number : ℕ) → IsReadAs asked (Err why) → IsAnswered asked (Plain (Order number)) → ⊥
-order_is_read asked why number spelled answered = subst says_order (served asked (Err why) (Plain (Order number)) spelled answered).0 tt
+-- Done and the number of an order are no refusals
+done_plain : (refusal : Refusal) → ◌≡◌ {A = Answer Outcome} (Plain Done) (Plain (Refused refusal)) → ⊥
+done_plain refusal same = subst says_done same tt
+
+order_plain : (number : ℕ) (refusal : Refusal) → ◌≡◌ {A = Answer Outcome} (Plain (Order number)) (Plain (Refused refusal)) → ⊥
+order_plain number refusal same = subst says_order same tt
+
+pub done_command : (asked : Record) (c : Command) → IsRead asked (Ok c) → IsAnswered asked (Plain Done) → IsDone c
+done_command asked c seen answered =
+    let by = served asked c (Plain Done) done_plain seen answered in
+    done_answers by.old c by.serves.first (Plain Done) by.new tt by.serves.answered
+
+pub placing_command : (asked : Record) (c : Command) (number : ℕ) → IsRead asked (Ok c) → IsAnswered asked (Plain (Order number)) → IsPlacing c
+placing_command asked c number seen answered =
+    let by = served asked c (Plain (Order number)) (order_plain number) seen answered in
+    order_answers by.old c by.serves.first (Plain (Order number)) by.new tt by.serves.answered
+
+-- a record that spells no command is refused
+pub done_is_read : (asked : Record) (why : BodyFault) → IsRead asked (Err why) → IsAnswered asked (Plain Done) → ⊥
+done_is_read asked why seen answered = unserved_by answered.0.version answered.0 answered.1 asked answered.2.read (Plain Done) why done_plain answered.2.spelled answered.2.served seen
+
+pub order_is_read : (asked : Record) (why : BodyFault) (number : ℕ) → IsRead asked (Err why) → IsAnswered asked (Plain (Order number)) → ⊥
+order_is_read asked why number seen answered = unserved_by answered.0.version answered.0 answered.1 asked answered.2.read (Plain (Order number)) why (order_plain number) answered.2.spelled answered.2.served seen
 
 -- the answer that a legal pair's second record spells is that of its first
 pub answered : (pair : Record × Record) (asked told : Record) (a : Answer Outcome) → asked ≡ pair.0 → told ≡ pair.1 → SpellsAnswer told a

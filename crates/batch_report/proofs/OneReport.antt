@@ -1,13 +1,13 @@
 -- A pair has one text.
 use Rattle.std.proofs.Common.{◌≡◌, ℕ, List, ◌++◌, codes, decimal, Ok, sym, ap, subst, ◌∙◌}
 use Rattle.wire_records.specs.Records.{Record}
-use Rattle.wire_records.specs.Commands.{Request, Command, AddAsset, OpenAccount, DepositMoney, DepositAsset, WithdrawMoney, WithdrawAsset, PlaceOrder, CancelOrder, RunBatch, Answer, Plain, Batch}
-use Rattle.wire_records.specs.CommandRecords.{IsReadAs}
+use Rattle.wire_records.specs.Commands.{Command, AddAsset, OpenAccount, DepositMoney, DepositAsset, WithdrawMoney, WithdrawAsset, PlaceOrder, CancelOrder, RunBatch, PlaceUntil, SetMoneyCredit, SetUnitCredit, Answer, Plain, Batch}
+use Rattle.wire_records.specs.CommandRecords.{IsRead}
 use Rattle.wire_records.specs.declared.reply.Reply.TheVariants.{Done, Asset, Account, Order, Refused}
-use Rattle.wire_records.proofs.Readings.{reading_unique}
+use Rattle.wire_records.proofs.Readings.{seen_unique}
 use Rattle.flow_orders.specs.Outcomes.{Outcome, Cleared, Skipped}
 use Rattle.journal_records.proofs.Spelled.{answer_unique}
-use Rattle.batch_report.specs.Reports.{order_text, TellsDone, Tells}
+use Rattle.batch_report.specs.Reports.{TellsDone, TellsPlacing, Tells}
 use Rattle.batch_report.specs.Laws.{OneReport}
 
 -- one line is told of a command that was done
@@ -21,14 +21,28 @@ one_done tickers (AddAsset ticker) x y a b = absurd a
 one_done tickers OpenAccount x y a b = absurd a
 one_done tickers (PlaceOrder request) x y a b = absurd a
 one_done tickers (RunBatch budget) x y a b = absurd a
+one_done tickers (PlaceUntil last request) x y a b = absurd a
+one_done tickers (SetMoneyCredit account ticks) x y a b = a ∙ sym b
+one_done tickers (SetUnitCredit account asset units) x y a b = a ∙ sym b
+
+-- one line is told of a command that placed an order
+one_placing : (tickers : List (List ℕ)) (order : ℕ) (command : Command) (x y : List ℕ) → TellsPlacing tickers order command x → TellsPlacing tickers order command y → x ≡ y
+one_placing tickers order (PlaceOrder request) x y a b = a ∙ sym b
+one_placing tickers order (PlaceUntil last request) x y a b = a ∙ sym b
+one_placing tickers order (AddAsset ticker) x y a b = absurd a
+one_placing tickers order OpenAccount x y a b = absurd a
+one_placing tickers order (DepositMoney account ticks) x y a b = absurd a
+one_placing tickers order (DepositAsset account asset units) x y a b = absurd a
+one_placing tickers order (WithdrawMoney account ticks) x y a b = absurd a
+one_placing tickers order (WithdrawAsset account asset units) x y a b = absurd a
+one_placing tickers order (CancelOrder account number) x y a b = absurd a
+one_placing tickers order (RunBatch budget) x y a b = absurd a
+one_placing tickers order (SetMoneyCredit account ticks) x y a b = absurd a
+one_placing tickers order (SetUnitCredit account asset units) x y a b = absurd a
 
 -- a record asks for one command
-one_command : (asked : Record) (c d : Command) → IsReadAs asked (Ok c) → IsReadAs asked (Ok d) → c ≡ d
-one_command asked c d a b = let same = reading_unique asked (Ok c) (Ok d) a b in cc
-
--- and for one order
-one_request : (asked : Record) (r s : Request) → IsReadAs asked (Ok (PlaceOrder r)) → IsReadAs asked (Ok (PlaceOrder s)) → r ≡ s
-one_request asked r s a b = let same = one_command asked (PlaceOrder r) (PlaceOrder s) a b in cc
+one_command : (asked : Record) (c d : Command) → IsRead asked (Ok c) → IsRead asked (Ok d) → c ≡ d
+one_command asked c d a b = let same = seen_unique asked (Ok c) (Ok d) a b in cc
 
 one_told : (tickers : List (List ℕ)) (asked : Record) (answer : Answer Outcome) (x y : List ℕ) → Tells tickers asked answer x → Tells tickers asked answer y → x ≡ y
 one_told tickers asked (Plain Done) x y a b =
@@ -36,7 +50,9 @@ one_told tickers asked (Plain Done) x y a b =
     a.4 ∙ ap (λ xs. xs ++ codes "\n") (one_done tickers b.0 a.1 b.1 (subst (λ (c : Command). TellsDone tickers c a.1) same a.3) b.3) ∙ sym b.4
 one_told tickers asked (Plain (Asset asset)) x y a b = a ∙ sym b
 one_told tickers asked (Plain (Account account)) x y a b = a ∙ sym b
-one_told tickers asked (Plain (Order order)) x y a b = a.2 ∙ ap (λ (r : Request). order_text tickers order r ++ codes "\n") (one_request asked a.0 b.0 a.1 b.1) ∙ sym b.2
+one_told tickers asked (Plain (Order order)) x y a b =
+    let same = one_command asked a.0 b.0 a.2 b.2 in
+    a.4 ∙ ap (λ xs. xs ++ codes "\n") (one_placing tickers order b.0 a.1 b.1 (subst (λ (c : Command). TellsPlacing tickers order c a.1) same a.3) b.3) ∙ sym b.4
 one_told tickers asked (Plain (Refused refusal)) x y a b = a ∙ sym b
 one_told tickers asked (Batch batch (Cleared c)) x y a b = a ∙ sym b
 one_told tickers asked (Batch batch (Skipped s)) x y a b = a ∙ sym b

@@ -2,8 +2,8 @@
 use Rattle.std.specs.Prelude.{ℕ, List, pos, slice_index_or, ⊤}
 use Rattle.weight_rows.specs.declared.entries.Entry.{Entry}
 use Rattle.wire_records.specs.Records.{Record}
-use Rattle.wire_records.specs.Commands.{Command, AddAsset, OpenAccount, DepositMoney, DepositAsset, WithdrawMoney, WithdrawAsset, PlaceOrder, CancelOrder, RunBatch, Answer}
-use Rattle.wire_records.specs.CommandRecords.{IsReadAs}
+use Rattle.wire_records.specs.Commands.{Command, AddAsset, OpenAccount, DepositMoney, DepositAsset, WithdrawMoney, WithdrawAsset, PlaceOrder, CancelOrder, RunBatch, PlaceUntil, SetMoneyCredit, SetUnitCredit, Answer}
+use Rattle.wire_records.specs.Versions.{IsReadAs}
 use Rattle.flow_orders.specs.Outcomes.{Fill, Outcome, IsRightOutcome}
 use Rattle.market_core.specs.Market.{Market}
 use Rattle.market_core.specs.Journal.{Step}
@@ -31,6 +31,9 @@ IsDone (WithdrawAsset account asset units) = ⊤
 IsDone (PlaceOrder request) = ⊥
 IsDone (CancelOrder account number) = ⊤
 IsDone (RunBatch budget) = ⊥
+IsDone (PlaceUntil last request) = ⊥
+IsDone (SetMoneyCredit account ticks) = ⊤
+IsDone (SetUnitCredit account asset units) = ⊤
 
 -- a command that places an order
 abbrev pub IsPlacing : Command → Type 0
@@ -43,3 +46,6 @@ IsPlacing (WithdrawAsset account asset units) = ⊥
 IsPlacing (PlaceOrder request) = ⊤
 IsPlacing (CancelOrder account number) = ⊥
 IsPlacing (RunBatch budget) = ⊥
+IsPlacing (PlaceUntil last request) = ⊤
+IsPlacing (SetMoneyCredit account ticks) = ⊥
+IsPlacing (SetUnitCredit account asset units) = ⊥

@@ -4,8 +4,8 @@ use Rattle.std.specs.Fmt.{signed_decimal}
 use Rattle.std.specs.List.{flat_map, range_with_len}
 use Rattle.weight_rows.specs.declared.entries.Entry.{Entry}
 use Rattle.wire_records.specs.Records.{Record}
-use Rattle.wire_records.specs.Commands.{Request, Command, AddAsset, OpenAccount, DepositMoney, DepositAsset, WithdrawMoney, WithdrawAsset, PlaceOrder, CancelOrder, RunBatch, Answer, Plain, Batch}
-use Rattle.wire_records.specs.CommandRecords.{IsReadAs}
+use Rattle.wire_records.specs.Commands.{Request, Command, AddAsset, OpenAccount, DepositMoney, DepositAsset, WithdrawMoney, WithdrawAsset, PlaceOrder, CancelOrder, RunBatch, PlaceUntil, SetMoneyCredit, SetUnitCredit, Answer, Plain, Batch}
+use Rattle.wire_records.specs.CommandRecords.{IsRead}
 use Rattle.wire_records.specs.Refusals.{code_of}
 use Rattle.wire_records.specs.declared.reply.Reply.TheVariants.{Done, Asset, Account, Order, Refused}
 use Rattle.flow_orders.specs.Outcomes.{Fill, Clearing, Skipping, Outcome, Cleared, Skipped}
@@ -27,7 +27,7 @@ infixr 5 ◌then◌
 abbrev pub ◌then◌ : List ℕ → List ℕ → List ℕ
 ◌then◌ one other = one ++ other
 
--- a deposit or a withdrawal of money, and one of an asset's units
+-- a deposit, a withdrawal or a credit in money, and one in an asset's units
 abbrev pub money_text : List ℕ → ℕ → ℕ → List ℕ
 money_text word account ticks = word then codes " account " then decimal account then codes " ticks " then decimal ticks
 
@@ -39,12 +39,18 @@ units_text word tickers account asset units =
 abbrev pub entry_text : List (List ℕ) → Entry → List ℕ
 entry_text tickers e = codes " " then asset_name tickers e.asset then codes ":" then signed_decimal e.weight
 
--- an order under its number
-abbrev pub order_text : List (List ℕ) → ℕ → Request → List ℕ
-order_text tickers order r =
+-- an order's number, and the numbers of its request
+abbrev pub numbers_text : ℕ → Request → List ℕ
+numbers_text order r =
     codes "order " then decimal order then codes " account " then decimal r.account then codes " low " then signed_decimal r.low
     then codes " high " then signed_decimal r.high then codes " rate " then decimal r.rate then codes " cap " then decimal r.cap
-    then flat_map (entry_text tickers) r.row
+
+-- an order under its number, and one with a last batch
+abbrev pub order_text : List (List ℕ) → ℕ → Request → List ℕ
+order_text tickers order r = numbers_text order r then flat_map (entry_text tickers) r.row
+
+abbrev pub until_text : List (List ℕ) → ℕ → ℕ → Request → List ℕ
+until_text tickers order last r = numbers_text order r then codes " last " then decimal last then flat_map (entry_text tickers) r.row
 
 -- the line of an asset in a batch that cleared
 abbrev pub price_line : List (List ℕ) → Clearing → ℕ → List ℕ
@@ -79,13 +85,31 @@ TellsDone tickers (AddAsset ticker) text = ⊥
 TellsDone tickers OpenAccount text = ⊥
 TellsDone tickers (PlaceOrder request) text = ⊥
 TellsDone tickers (RunBatch budget) text = ⊥
+TellsDone tickers (PlaceUntil last request) text = ⊥
+TellsDone tickers (SetMoneyCredit account ticks) text = text ≡ money_text (codes "credit") account ticks
+TellsDone tickers (SetUnitCredit account asset units) text = text ≡ units_text (codes "credit") tickers account asset units
+
+-- what is told of a command that placed the order of a number
+abbrev pub TellsPlacing : List (List ℕ) → ℕ → Command → List ℕ → Type 0
+TellsPlacing tickers order (PlaceOrder request) text = text ≡ order_text tickers order request
+TellsPlacing tickers order (PlaceUntil last request) text = text ≡ until_text tickers order last request
+TellsPlacing tickers order (AddAsset ticker) text = ⊥
+TellsPlacing tickers order OpenAccount text = ⊥
+TellsPlacing tickers order (DepositMoney account ticks) text = ⊥
+TellsPlacing tickers order (DepositAsset account asset units) text = ⊥
+TellsPlacing tickers order (WithdrawMoney account ticks) text = ⊥
+TellsPlacing tickers order (WithdrawAsset account asset units) text = ⊥
+TellsPlacing tickers order (CancelOrder account number) text = ⊥
+TellsPlacing tickers order (RunBatch budget) text = ⊥
+TellsPlacing tickers order (SetMoneyCredit account ticks) text = ⊥
+TellsPlacing tickers order (SetUnitCredit account asset units) text = ⊥
 
 -- what is told of a record and its answer, behind the pair's number, under the tickers of the market after the pair
 abbrev pub Tells : List (List ℕ) → Record → Answer Outcome → List ℕ → Type 0
-Tells tickers asked (Plain Done) text = (command : Command) × (line : List ℕ) × IsReadAs asked (Ok command) × TellsDone tickers command line × (text ≡ line then codes "\n")
+Tells tickers asked (Plain Done) text = (command : Command) × (line : List ℕ) × IsRead asked (Ok command) × TellsDone tickers command line × (text ≡ line then codes "\n")
 Tells tickers asked (Plain (Asset asset)) text = text ≡ codes "asset " then decimal asset then codes " " then asset_name tickers asset then codes "\n"
 Tells tickers asked (Plain (Account account)) text = text ≡ codes "account " then decimal account then codes "\n"
-Tells tickers asked (Plain (Order order)) text = (request : Request) × IsReadAs asked (Ok (PlaceOrder request)) × (text ≡ order_text tickers order request then codes "\n")
+Tells tickers asked (Plain (Order order)) text = (command : Command) × (line : List ℕ) × IsRead asked (Ok command) × TellsPlacing tickers order command line × (text ≡ line then codes "\n")
 Tells tickers asked (Plain (Refused refusal)) text = text ≡ codes "refused " then decimal (code_of refusal) then codes "\n"
 Tells tickers asked (Batch batch (Cleared c)) text = text ≡ cleared_lines tickers batch c
 Tells tickers asked (Batch batch (Skipped s)) text = text ≡ skipped_line batch s

@@ -2,12 +2,12 @@
 ghost use Rattle.std.specs.Prelude.{◌≡◌, ◌<◌, ◌++◌, ℕ, List, length, slice_index_or, Ok, OnOk, codes, decimal};
 ghost use Rattle.std.specs.List.{flat_map};
 ghost use Rattle.weight_rows.specs.declared.entries.Entry.{Entry};
-ghost use Rattle.wire_records.specs.Commands.{Request, PlaceOrder, Plain};
+ghost use Rattle.wire_records.specs.Commands.{Plain};
 ghost use Rattle.wire_records.specs.Refusals.{code_of};
 ghost use Rattle.wire_records.specs.declared.reply.Reply.TheVariants as reply;
-ghost use Rattle.wire_records.specs.CommandRecords.{IsReadAs};
+ghost use Rattle.wire_records.specs.CommandRecords.{IsRead};
 ghost use Rattle.wire_records.specs.Views.{command_of};
-ghost use Rattle.batch_report.specs.Reports.{◌then◌, money_text, units_text, entry_text, order_text, asset_name, TellsDone, Tells};
+ghost use Rattle.batch_report.specs.Reports.{◌then◌, money_text, units_text, entry_text, numbers_text, order_text, until_text, asset_name, TellsDone, TellsPlacing, Tells};
 ghost use Rattle.batch_report.specs.Private.{IsAnswered, IsDone, IsPlacing, no_entry};
 
 use crate::words::{put, put_name, put_number};
@@ -15,7 +15,7 @@ use ticker_table::TickerTable;
 use weight_rows::Entry;
 use wire_records::{CommandView, Memory, PlaceView, RecordView, Refusal, Reply, RowView};
 
-// A deposit or a withdrawal of money.
+// A deposit, a withdrawal or a credit in money.
 fn put_money(word: &[u8], account: u32, ticks: u64, out: &mut Vec<u8>) -> Result<(), Memory>
     ensures { OnOk result (out.new.items ≡ out.old.items ++ money_text word.now account ticks) }
 {
@@ -24,7 +24,7 @@ fn put_money(word: &[u8], account: u32, ticks: u64, out: &mut Vec<u8>) -> Result
     put_number(out, b" ticks ", ticks)
 }
 
-// A deposit or a withdrawal of an asset's units.
+// A deposit, a withdrawal or a credit in an asset's units.
 fn put_units(
     word: &[u8],
     tickers: &TickerTable,
@@ -67,17 +67,24 @@ fn put_command(
             units,
         } => put_units(b"withdraw", tickers, account, asset, units, out),
         CommandView::CancelOrder { order, .. } => put_number(out, b"cancel order ", order),
+        CommandView::SetMoneyCredit { account, ticks } => put_money(b"credit", account, ticks, out),
+        CommandView::SetUnitCredit {
+            account,
+            asset,
+            units,
+        } => put_units(b"credit", tickers, account, asset, units, out),
         CommandView::AddAsset(_) => unreachable!(),
         CommandView::OpenAccount => unreachable!(),
         CommandView::PlaceOrder(_) => unreachable!(),
         CommandView::RunBatch { .. } => unreachable!(),
+        CommandView::PlaceUntil { .. } => unreachable!(),
     }
 }
 
 // The command of a record that was answered by `Done`.
 fn done_command<'a>(asked: &RecordView<'a>) -> CommandView<'a>
     requires { IsAnswered asked.now (Plain reply.Done) }
-    ensures read { IsReadAs asked.now (Ok (command_of result)) }
+    ensures read { IsRead asked.now (Ok (command_of result)) }
     ensures done { IsDone (command_of result) }
 {
     match asked.command() {
@@ -89,7 +96,7 @@ fn done_command<'a>(asked: &RecordView<'a>) -> CommandView<'a>
 // The command of a record that was answered by an order's number.
 fn placing_command<'a>(asked: &RecordView<'a>) -> CommandView<'a>
     requires { (number : ℕ) × IsAnswered asked.now (Plain (reply.Order number)) }
-    ensures read { IsReadAs asked.now (Ok (command_of result)) }
+    ensures read { IsRead asked.now (Ok (command_of result)) }
     ensures placing { IsPlacing (command_of result) }
 {
     match asked.command() {
@@ -134,6 +141,18 @@ fn put_entries(tickers: &TickerTable, row: &RowView<'_>, out: &mut Vec<u8>) -> R
     Ok(())
 }
 
+// An order's number, and the numbers of its request.
+fn put_numbers(place: &PlaceView<'_>, order: u64, out: &mut Vec<u8>) -> Result<(), Memory>
+    ensures { OnOk result (out.new.items ≡ out.old.items ++ numbers_text order place.now) }
+{
+    put_number(out, b"order ", order)?;
+    put_number(out, b" account ", place.account())?;
+    put_number(out, b" low ", place.low())?;
+    put_number(out, b" high ", place.high())?;
+    put_number(out, b" rate ", place.rate())?;
+    put_number(out, b" cap ", place.cap())
+}
+
 // An order under its number.
 fn put_order(
     tickers: &TickerTable,
@@ -143,12 +162,22 @@ fn put_order(
 ) -> Result<(), Memory>
     ensures { OnOk result (out.new.items ≡ out.old.items ++ order_text tickers.now order place.now) }
 {
-    put_number(out, b"order ", order)?;
-    put_number(out, b" account ", place.account())?;
-    put_number(out, b" low ", place.low())?;
-    put_number(out, b" high ", place.high())?;
-    put_number(out, b" rate ", place.rate())?;
-    put_number(out, b" cap ", place.cap())?;
+    put_numbers(place, order, out)?;
+    put_entries(tickers, &place.row(), out)
+}
+
+// An order with a last batch under its number.
+fn put_until(
+    tickers: &TickerTable,
+    place: &PlaceView<'_>,
+    last: u32,
+    order: u64,
+    out: &mut Vec<u8>,
+) -> Result<(), Memory>
+    ensures { OnOk result (out.new.items ≡ out.old.items ++ until_text tickers.now order last place.now) }
+{
+    put_numbers(place, order, out)?;
+    put_number(out, b" last ", last)?;
     put_entries(tickers, &place.row(), out)
 }
 
@@ -160,11 +189,14 @@ fn put_placing(
     out: &mut Vec<u8>,
 ) -> Result<(), Memory>
     requires { IsPlacing (command_of command.now) }
-    ensures { OnOk result ((request : Request) × (command_of command.now ≡ PlaceOrder request)
-        × (out.new.items ≡ out.old.items ++ order_text tickers.now order request)) }
+    ensures { OnOk result ((line : List ℕ) × TellsPlacing tickers.now order (command_of command.now) line
+        × (out.new.items ≡ out.old.items ++ line)) }
 {
     match *command {
         CommandView::PlaceOrder(ref place) => put_order(tickers, place, order, out),
+        CommandView::PlaceUntil { last, ref place } => {
+            put_until(tickers, place, last, order, out)
+        }
         CommandView::AddAsset(_) => unreachable!(),
         CommandView::OpenAccount => unreachable!(),
         CommandView::DepositMoney { .. } => unreachable!(),
@@ -173,6 +205,8 @@ fn put_placing(
         CommandView::WithdrawAsset { .. } => unreachable!(),
         CommandView::CancelOrder { .. } => unreachable!(),
         CommandView::RunBatch { .. } => unreachable!(),
+        CommandView::SetMoneyCredit { .. } => unreachable!(),
+        CommandView::SetUnitCredit { .. } => unreachable!(),
     }
 }
 

@@ -11,7 +11,7 @@ use journal_records::{JOURNAL_MAGIC, JOURNAL_MAGIC_2};
 use market_core::Market;
 use std::alloc::Global;
 use wire_records::{Framed, MOST_BODY, Version, command_version, next_record};
-use word_driver::{Halt, Memory, Never, ServesWord};
+use word_driver::{Halt, Never, ServesWord};
 
 // As many bytes has the longest record: 5, and 1,024 of its body.
 const MOST_RECORD: usize = 1029;
@@ -77,13 +77,13 @@ impl ServesWord for Run {
 
     ghost is_ready = { λ r left. r.session.next_order + left < 2 ^ 64 };
 
-    fn open(&mut self, bytes: &[u8], text: &mut Vec<u8>) -> Result<bool, Memory> {
+    fn open(&mut self, bytes: &[u8], text: &mut Vec<u8>) -> bool {
         match command_version(bytes) {
-            None => Ok(false),
+            None => false,
             Some(version) => {
                 self.session = Session::over(Market::new_in(self.alloc, version));
                 text.extend_from_slice(&magic_of(version)).unwrap();
-                Ok(true)
+                true
             }
         }
     }

@@ -3,12 +3,12 @@ use Rattle.std.specs.Prelude.{◌+◌, ◌<◌, ◌^◌, ℕ, List, Result, Ok, 
 use Rattle.market_core.specs.Market.{Market}
 use Rattle.word_driver.specs.declared.fault.Halt.{Halt}
 use Rattle.word_driver.specs.declared.fault.Halt.TheVariants.{Memory, Stopped}
-use Rattle.journal_words.specs.Watching.{Watch}
+use Rattle.journal_words.specs.Watching.{Watch, End}
 
 -- at the end
 abbrev pub IsClosedBy : {S B : Type 0} → Watch S B → Market → ℕ → S → Result (Unit {0}) (Halt B) → List ℕ → Type 0
 IsClosedBy watch market pairs seen (Ok done) text = watch.Closes market pairs seen text
-IsClosedBy watch market pairs seen (Err Memory) text = Unit {0}
+IsClosedBy watch market pairs seen (Err Memory) text = watch.Wants market pairs End seen
 IsClosedBy watch market pairs seen (Err (Stopped why)) text = watch.Stops market pairs seen why text
 
 -- the numbers stay within their width while so many bytes are left

@@ -1,5 +1,5 @@
 -- Words over the pairs of a journal: each is an audit, with what is seen of its pairs.
-use Rattle.std.specs.Prelude.{◌≡◌, ◌+◌, ℕ, List, [], length, map, Option, Some, None}
+use Rattle.std.specs.Prelude.{◌≡◌, ◌⊎◌, ◌+◌, ℕ, List, [], length, map, Option, Some, None}
 use Rattle.wire_records.specs.Records.{Record}
 use Rattle.wire_records.specs.Commands.{Pair}
 use Rattle.wire_records.specs.CommandRecords.{IsReadAs}
@@ -8,8 +8,15 @@ use Rattle.journal_records.specs.Formats.{journals, records_of}
 use Rattle.market_core.specs.Market.{Market}
 use Rattle.market_core.specs.Journal.{HoldsDeposits}
 use Rattle.market_core.specs.Promises.{KeepsPromises}
+use Rattle.market_core.specs.Wanting.{RecordMayWant}
 use Rattle.batch_audit.specs.Legal.{IsLegalPair, IsIllegalPair, IsLegalJournal}
 use Rattle.word_driver.specs.Word.{Word}
+
+-- what is watched: a pair that is legal, the first that isn't, or the end
+pub data Sight : Type 0 where
+  Legal : Record × Record → Sight
+  Illegal : Record × Record → Sight
+  End : Sight
 
 -- What is seen of the pairs of a journal, S, and written. Each is told by the market and by how many legal pairs stand before it.
 pub record Watch (S B : Type 0) : Type 1 where
@@ -18,6 +25,8 @@ pub record Watch (S B : Type 0) : Type 1 where
   pub Rejects : Market → ℕ → Record × Record → S → B → List ℕ → Type 0
   pub Closes : Market → ℕ → S → List ℕ → Type 0
   pub Stops : Market → ℕ → S → B → List ℕ → Type 0
+  -- Where it may want memory.
+  pub Wants : Market → ℕ → Sight → S → Type 0
 
 -- the market, how many pairs were legal, and what was seen of them
 pub record Watched (S : Type 0) : Type 0 where
@@ -47,7 +56,15 @@ module _ {S B : Type 0} (watch : Watch S B) where
   StopsOne old (Some pair) why text = IsIllegalPair old.market pair × watch.Rejects old.market old.pairs pair old.seen why text
   StopsOne old None why text = watch.Stops old.market old.pairs old.seen why text
 
-  -- the word: it goes over the legal pairs, and stops at the first that isn't; it may want memory anywhere
+  -- where it may want memory: at a pair whose command may want it, or where the watch does
+  abbrev pub WantsOne : Watched S → Option (Record × Record) → Type 0
+  WantsOne old (Some pair) =
+      RecordMayWant old.market pair.0
+      ⊎ ((new : Market) × IsLegalPair old.market pair new × watch.Wants new old.pairs (Legal pair) old.seen)
+      ⊎ (IsIllegalPair old.market pair × watch.Wants old.market old.pairs (Illegal pair) old.seen)
+  WantsOne old None = watch.Wants old.market old.pairs End old.seen
+
+  -- the word: it goes over the legal pairs, and stops at the first that isn't
   abbrev pub over_pairs : Word (Record × Record) (Watched S) B
   over_pairs = record {
     format = journals;
@@ -56,6 +73,6 @@ module _ {S B : Type 0} (watch : Watch S B) where
     Steps = SeesOne;
     Stops = StopsOne;
     Closes = λ s text. watch.Closes s.market s.pairs s.seen text;
-    Wants = λ s at. Unit {0};
+    Wants = WantsOne;
     Keeps = λ units s text. KeepsJournal units s.market s.pairs;
   }

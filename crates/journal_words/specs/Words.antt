@@ -8,7 +8,7 @@ use Rattle.journal_replay.specs.Audits.{cleared_by, skipped_by}
 use Rattle.batch_report.specs.Reports.{IsReport}
 use Rattle.word_driver.specs.Word.{Word}
 use Rattle.journal_words.specs.Line.{counted_line}
-use Rattle.journal_words.specs.Watching.{Watch, Watched, over_pairs}
+use Rattle.journal_words.specs.Watching.{Sight, Legal, Illegal, End, Watch, Watched, over_pairs}
 
 -- how many batches cleared, and how many were skipped
 pub record Counts : Type 0 where
@@ -22,6 +22,12 @@ pub record CountsOne (pair : Record × Record) (old new : Counts) : Type 0 where
   pub cleared : new.cleared ≡ old.cleared + cleared_by answer
   pub skipped : new.skipped ≡ old.skipped + skipped_by answer
 
+-- a report may want memory for the text of a pair
+abbrev pub WantsText : Sight → Type 0
+WantsText (Legal pair) = Unit {0}
+WantsText (Illegal pair) = ⊥
+WantsText End = ⊥
+
 -- An audit counts, names the first illegal pair by its number, counted from 1, and writes the line at the end.
 abbrev pub counting : Watch Counts ℕ
 counting = record {
@@ -29,6 +35,7 @@ counting = record {
   Rejects = λ market before pair counts number text. (number ≡ before + 1) × (text ≡ []);
   Closes = λ market pairs counts text. text ≡ counted_line pairs counts.cleared counts.skipped;
   Stops = λ market pairs counts number text. ⊥;
+  Wants = λ market pairs sight counts. ⊥;
 }
 
 -- `flow audit`
@@ -42,6 +49,7 @@ telling = record {
   Rejects = λ market before pair seen number text. (number ≡ before + 1) × (text ≡ []);
   Closes = λ market pairs seen text. text ≡ [];
   Stops = λ market pairs seen number text. ⊥;
+  Wants = λ market pairs sight seen. WantsText sight;
 }
 
 -- `flow report`

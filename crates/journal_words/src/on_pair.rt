@@ -1,8 +1,8 @@
 //! What is done with the pairs of a journal.
-ghost use Rattle.std.specs.Prelude.{◌≡◌, ◌≤◌, ◌<◌, ◌+◌, ◌^◌, ℕ, [], IfOk, OnOk, vec_len, vec_capacity};
+ghost use Rattle.std.specs.Prelude.{◌≡◌, ◌≤◌, ◌<◌, ◌+◌, ◌^◌, ℕ, [], IfOk, OnOk, OnErr, vec_len, vec_capacity};
 ghost use Rattle.market_core.specs.Market.{Market};
 ghost use Rattle.batch_audit.specs.Legal.{IsLegalPair, IsIllegalPair};
-ghost use Rattle.journal_words.specs.Watching.{Watch};
+ghost use Rattle.journal_words.specs.Watching.{Watch, Legal, Illegal};
 ghost use Rattle.journal_words.specs.Private.{IsClosedBy};
 
 use batch_audit::Audit;
@@ -45,7 +45,8 @@ pub trait OnPair {
         ensures room { vec_capacity text.old ≤ vec_capacity text.new }
         ensures seen { OnOk result
             (watch.Sees audit.now pairs pair.now (seen self.old) (seen self.new) text.new.items) }
-        ensures within { OnOk result (is_within self.new (pairs + 1)) };
+        ensures within { OnOk result (is_within self.new (pairs + 1)) }
+        ensures wanted { OnErr result (watch.Wants audit.now pairs (Legal pair.now) (seen self.old)) };
 
     /// The first pair that isn't legal, and why it stops there.
     fn illegal(
@@ -62,7 +63,8 @@ pub trait OnPair {
         requires room { ROOM ≤ vec_capacity text.old }
         ensures room { vec_capacity text.old ≤ vec_capacity text.new }
         ensures rejects { IfOk result
-            (λ why. watch.Rejects audit.now pairs pair.now (seen self.old) why text.new.items) };
+            (λ why. watch.Rejects audit.now pairs pair.now (seen self.old) why text.new.items) }
+        ensures wanted { OnErr result (watch.Wants audit.now pairs (Illegal pair.now) (seen self.old)) };
 
     /// The end of the journal.
     fn end(&mut self, audit: &Audit, pairs: u64, text: &mut Vec<u8>) -> Result<(), Halt<Self::Stop>>

@@ -13,7 +13,7 @@ use batch_audit::{Audit, Legality};
 use file_units::Front;
 use journal_records::{PairFramed, PairView, is_journal, is_overlong, next_pair};
 use std::alloc::Global;
-use word_driver::{Halt, Memory, ServesWord};
+use word_driver::{Halt, ServesWord};
 
 // As many bytes has the longest pair: 5 and 1,024 of the command record, 5 and 262,144 of the reply's.
 const MOST_PAIR: usize = 263_178;
@@ -112,8 +112,8 @@ impl<P: OnPair + Drop> ServesWord for Pairs<P> {
 
     ghost is_ready = { λ p left. HasRoom p.audit p.pairs left × P.is_within p.on p.pairs };
 
-    fn open(&mut self, bytes: &[u8], _text: &mut Vec<u8>) -> Result<bool, Memory> {
-        Ok(begins(bytes))
+    fn open(&mut self, bytes: &[u8], _text: &mut Vec<u8>) -> bool {
+        begins(bytes)
     }
 
     fn take(&mut self, bytes: &[u8], text: &mut Vec<u8>) -> Result<Front, Halt<P::Stop>> {

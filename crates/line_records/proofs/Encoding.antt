@@ -127,7 +127,7 @@ module _ (limit : ℕ) (left : List ℕ) (after : Option (List ℕ)) (input : Wh
   meets (Err fault.Write) before middle now magic encoded =
       (command_magic ++ spell_commands encoded.0, inl (0, inr (encodes_into encoded.0 encoded.1)), GrowsByFront-more before middle now command_magic (spell_commands encoded.0) magic encoded.2)
   meets (Err fault.Memory) before middle now magic encoded =
-      (command_magic ++ spell_commands encoded.0, inr (encodes_into encoded.0 encoded.1), Grows-more before middle now command_magic (spell_commands encoded.0) magic encoded.2)
+      (command_magic ++ spell_commands encoded.0, inr (inr (encodes_into encoded.0 encoded.1)), Grows-more before middle now command_magic (spell_commands encoded.0) magic encoded.2)
   meets (Err fault.Read) before middle now magic encoded = absurd encoded
   meets (Err fault.NotFlow) before middle now magic encoded = absurd encoded
   meets (Err (fault.Torn n)) before middle now magic encoded = absurd encoded

@@ -2,6 +2,8 @@
 use Rattle.std.specs.Prelude.{◌≡◌, ℕ, List, [], ◌++◌, Option, All}
 use Rattle.wire_records.specs.Commands.{Command}
 use Rattle.wire_records.specs.CommandRecords.{IsCommand, HasShortRow}
+use Rattle.wire_records.specs.Versions.{IsOfVersion}
+use Rattle.wire_records.specs.declared.version.Version.TheVariants.{One}
 use Rattle.line_records.specs.Lines.{AreLines, Say, AreRead, AreFirst}
 
 -- bytes have one list of lines
@@ -24,6 +26,9 @@ FirstIsAFront More =
     (bytes : List ℕ) (bad : Option ℕ) (first commands : List Command) → AreFirst More bytes first → AreRead More bytes bad commands
     → (rest : List Command) × (commands ≡ first ++ rest)
 
--- what lines ask for fits its records: fields are within their widths, and rows aren't too long
+-- what lines ask for fits its records and version One: fields are within their widths, rows aren't too long, and the version
+-- has the commands
 abbrev pub CommandsFit : Type 0
-CommandsFit = (lines : List (List ℕ)) (commands : List Command) (tickers : List (List ℕ)) → Say [] lines commands tickers → All IsCommand commands × All HasShortRow commands
+CommandsFit =
+    (lines : List (List ℕ)) (commands : List Command) (tickers : List (List ℕ)) → Say [] lines commands tickers
+    → All IsCommand commands × All HasShortRow commands × All (IsOfVersion One) commands

@@ -1,5 +1,5 @@
 -- `flow encode` as a task.
-use Rattle.std.specs.Prelude.{◌≡◌, ◌⊎◌, ◌+◌, ℕ, [], ⊥}
+use Rattle.std.specs.Prelude.{◌≡◌, ◌⊎◌, ◌+◌, ℕ, []}
 use Rattle.word_driver.specs.Does.{Task}
 use Rattle.line_records.specs.Encoding.{EncodesTo, EncodesInto}
 

@@ -27,7 +27,7 @@ pub fn first_is_a_front<More>()
 {}
 
 /// What lines ask for fits its records: the fields of each command are within their widths, and its row, if it has one, isn't
-/// too long.
+/// too long. Each command is one of version One.
 pub fn commands_fit()
     ensures { CommandsFit }
 {}

@@ -1,8 +1,8 @@
 -- What an object asks for by its word.
-use Rattle.std.proofs.Common.{◌≡◌, ℕ, ℤ, ◌+◌, List, [], length, get_or, Option, Some, None, sym, ap, ◌∙◌, arith}
+use Rattle.std.proofs.Common.{◌≡◌, ℕ, ℤ, ◌+◌, ◌≤◌, List, [], length, get_or, Option, Some, None, sym, ap, ◌∙◌, arith}
 use Rattle.std.specs.Prelude.{codes, unwrap_or}
 use Rattle.serde_json.specs.Data.{Data}
-use Rattle.wire_records.specs.Commands.{Request, Command, AddAsset, OpenAccount, DepositMoney, DepositAsset, WithdrawMoney, WithdrawAsset, PlaceOrder, CancelOrder, RunBatch}
+use Rattle.wire_records.specs.Commands.{Request, Command, AddAsset, OpenAccount, DepositMoney, DepositAsset, WithdrawMoney, WithdrawAsset, PlaceOrder, CancelOrder, RunBatch, PlaceUntil, SetMoneyCredit, SetUnitCredit}
 use Rattle.wire_records.specs.declared.command.Command as owned
 use Rattle.order_text.specs.Lines.{text_at, word_of, HasRequest, HasKeys, Asks}
 use Rattle.order_text.specs.Private.{Fits, IsFound, IsPlain, HasMoney, HasUnits, HasLimits}
@@ -18,8 +18,8 @@ module _ (tickers : List (List ℕ)) (d : Data) where
 
   -- what is found by a word is what is asked for
   pub plain_of : (word : List ℕ) (found : Option owned.Command) → text_at (codes "do") d ≡ Some word → IsFound word tickers d found → IsPlain tickers d found
-  plain_of word (Some command) asked found = (record { word = asked ∙ ap Some (sym found.0); fields = found.1.0; keys = found.1.1 }, found.2)
-  plain_of word None asked found = λ command other asks. found command (one_word word command asked asks) (asks.fields, asks.keys)
+  plain_of word (Some command) asked found = (record { word = asked ∙ ap Some (sym found.0); fields = found.1.0; keys = found.1.1; version = found.1.2 }, found.2)
+  plain_of word None asked found = λ command other asks. found command (one_word word command asked asks) (asks.fields, asks.keys, asks.version)
 
   -- an object with neither form of a deposit asks for none
   pub no_deposit : ((account ticks : ℕ) → HasMoney d account ticks → ⊥) → ((account asset units : ℕ) → HasUnits tickers d account asset units → ⊥)
@@ -33,6 +33,9 @@ module _ (tickers : List (List ℕ)) (d : Data) where
   no_deposit by_money by_units (PlaceOrder request) is fits = let apart : 102 ≡ 119 = ap mark is in absurd (omega (arith, apart))
   no_deposit by_money by_units (CancelOrder account order) is fits = let apart : 116 ≡ 119 = ap mark is in absurd (omega (arith, apart))
   no_deposit by_money by_units (RunBatch budget) is fits = let apart : 121 ≡ 119 = ap mark is in absurd (omega (arith, apart))
+  no_deposit by_money by_units (PlaceUntil last request) is fits = let apart : 102 ≡ 119 = ap mark is in absurd (omega (arith, apart))
+  no_deposit by_money by_units (SetMoneyCredit account ticks) is fits = let apart : 107 ≡ 119 = ap mark is in absurd (omega (arith, apart))
+  no_deposit by_money by_units (SetUnitCredit account asset units) is fits = let apart : 107 ≡ 119 = ap mark is in absurd (omega (arith, apart))
 
   -- an object with neither form of a withdraw asks for none
   pub no_withdraw : ((account ticks : ℕ) → HasMoney d account ticks → ⊥) → ((account asset units : ℕ) → HasUnits tickers d account asset units → ⊥)
@@ -46,6 +49,9 @@ module _ (tickers : List (List ℕ)) (d : Data) where
   no_withdraw by_money by_units (PlaceOrder request) is fits = let apart : 102 ≡ 124 = ap mark is in absurd (omega (arith, apart))
   no_withdraw by_money by_units (CancelOrder account order) is fits = let apart : 116 ≡ 124 = ap mark is in absurd (omega (arith, apart))
   no_withdraw by_money by_units (RunBatch budget) is fits = let apart : 121 ≡ 124 = ap mark is in absurd (omega (arith, apart))
+  no_withdraw by_money by_units (PlaceUntil last request) is fits = let apart : 102 ≡ 124 = ap mark is in absurd (omega (arith, apart))
+  no_withdraw by_money by_units (SetMoneyCredit account ticks) is fits = let apart : 107 ≡ 124 = ap mark is in absurd (omega (arith, apart))
+  no_withdraw by_money by_units (SetUnitCredit account asset units) is fits = let apart : 107 ≡ 124 = ap mark is in absurd (omega (arith, apart))
 
   -- an object without the fields of an order asks for none
   pub no_order : ((request : Request) → HasRequest tickers d request → HasKeys 7 d → ⊥) → (command : Command) → word_of command ≡ codes "place" → Fits tickers d command → ⊥
@@ -58,6 +64,9 @@ module _ (tickers : List (List ℕ)) (d : Data) where
   no_order none (PlaceOrder request) is fits = none request fits.0 fits.1
   no_order none (CancelOrder account order) is fits = let apart : 116 ≡ 102 = ap mark is in absurd (omega (arith, apart))
   no_order none (RunBatch budget) is fits = let apart : 121 ≡ 102 = ap mark is in absurd (omega (arith, apart))
+  no_order none (PlaceUntil last request) is fits = let late : 10 ≤ 9 = fits.2.1 in absurd (omega (arith, late))
+  no_order none (SetMoneyCredit account ticks) is fits = let apart : 107 ≡ 102 = ap mark is in absurd (omega (arith, apart))
+  no_order none (SetUnitCredit account asset units) is fits = let apart : 107 ≡ 102 = ap mark is in absurd (omega (arith, apart))
 
   -- one without the numbers of an order asks for none
   pub no_order_without_limits : ((account : ℕ) (low high : ℤ) (rate cap : ℕ) → HasLimits d account low high rate cap → ⊥) → (command : Command) → word_of command ≡ codes "place" → Fits tickers d command → ⊥

@@ -12,10 +12,10 @@ use Rattle.serde_json.specs.Data.{Num, unsigned, negative, float, Data, null, bo
 use Rattle.serde_json.specs.Find.{get, get_member, as_number, as_u64, as_i64, as_object}
 use Rattle.wire_fields.specs.Numbers.{IsUnsigned, IsSigned}
 use Rattle.wire_records.specs.Records.{AreBytes}
-use Rattle.wire_records.specs.Commands.{Command, AddAsset, OpenAccount, DepositMoney, DepositAsset, WithdrawMoney, WithdrawAsset, PlaceOrder, CancelOrder, RunBatch}
-use Rattle.wire_records.specs.CommandRecords.{IsCommand, IsEntry}
+use Rattle.wire_records.specs.Commands.{Request, Command, AddAsset, OpenAccount, DepositMoney, DepositAsset, WithdrawMoney, WithdrawAsset, PlaceOrder, CancelOrder, RunBatch, PlaceUntil, SetMoneyCredit, SetUnitCredit}
+use Rattle.wire_records.specs.CommandRecords.{IsCommand, IsRequest, IsEntry}
 use Rattle.ticker_table.specs.Tickers.{AreTickers}
-use Rattle.order_text.specs.Lines.{number_at, in_32_bits, small_at, signed_at, padded, asset_named, asset_at, in_signed_32_bits, weight_of, entry_of, put_entry, put_members, row_at, text_at, HasTicker, LineAsks}
+use Rattle.order_text.specs.Lines.{number_at, in_32_bits, small_at, signed_at, padded, asset_named, asset_at, in_signed_32_bits, weight_of, entry_of, put_entry, put_members, row_at, text_at, HasTicker, HasRequest, LineAsks}
 use Rattle.order_text.proofs.ShortRows.{row_is_short}
 use Rattle.order_text.proofs.ReadNumbers.{IsNum, Fits, MembersFit, read_fits}
 
@@ -213,6 +213,18 @@ ticker_fits key d ticker h = by (nat_le (length h.text) 8) refl h.whole
         subst (λ (t : List ℕ). (length t ≡ 8) × AreBytes t) (list_is (h.text ++ replicate (8 - length h.text) 32) ticker e) (omega (arith, short, length-append h.text (replicate (8 - length h.text) 32), length-replicate {A = ℕ} (8 - length h.text) 32), join_fits h.text (replicate (8 - length h.text) 32) h.ascii (spaces_fit (8 - length h.text)))
     by false p e = absurd (cc)
 
+-- the fields of an order
+request_fits : (tickers : List (List ℕ)) (d : Data) (r : Request) → AreTickers tickers → Fits d → length r.row ≤ 165 → HasRequest tickers d r → IsRequest r
+request_fits tickers d r are all few f = record {
+  account = small_below (codes "account") d r.account f.account;
+  low = signed_within (codes "low") d r.low all f.low;
+  high = signed_within (codes "high") d r.high all f.high;
+  rate = small_below (codes "rate") d r.rate f.rate;
+  cap = number_below (codes "cap") d r.cap all f.cap;
+  count = omega (arith, few);
+  row = row_fits tickers (codes "weights") d r.row are f.row;
+}
+
 -- by the command
 pub command_fits : (tickers : List (List ℕ)) (line : List ℕ) (command : Command) → AreTickers tickers → LineAsks tickers line command → IsCommand command
 command_fits tickers line (AddAsset ticker) are asks = ticker_fits (codes "ticker") asks.value ticker asks.asks.fields
@@ -234,20 +246,20 @@ command_fits tickers line (WithdrawAsset account asset units) are asks =
     let f = asks.asks.fields in
     (small_below (codes "account") asks.value account f.0, asset_fits tickers (codes "asset") asks.value asset are f.1, number_below (codes "units") asks.value units all f.2)
 command_fits tickers line (PlaceOrder r) are asks =
-    let all = read_fits line asks.value asks.reads in
-    let f = asks.asks.fields in
-    let few : length r.row ≤ 165 = row_is_short tickers line (PlaceOrder r) are asks in
-    record {
-      account = small_below (codes "account") asks.value r.account f.account;
-      low = signed_within (codes "low") asks.value r.low all f.low;
-      high = signed_within (codes "high") asks.value r.high all f.high;
-      rate = small_below (codes "rate") asks.value r.rate f.rate;
-      cap = number_below (codes "cap") asks.value r.cap all f.cap;
-      count = omega (arith, few);
-      row = row_fits tickers (codes "weights") asks.value r.row are f.row;
-    }
+    request_fits tickers asks.value r are (read_fits line asks.value asks.reads) (omega (arith, row_is_short tickers line (PlaceOrder r) are asks)) asks.asks.fields
 command_fits tickers line (CancelOrder account order) are asks =
     let all = read_fits line asks.value asks.reads in
     let f = asks.asks.fields in
     (small_below (codes "account") asks.value account f.0, number_below (codes "order") asks.value order all f.1)
 command_fits tickers line (RunBatch budget) are asks = small_below (codes "budget") asks.value budget asks.asks.fields
+command_fits tickers line (PlaceUntil last r) are asks =
+    let f = asks.asks.fields in
+    (small_below (codes "last") asks.value last f.0, request_fits tickers asks.value r are (read_fits line asks.value asks.reads) (omega (arith, row_is_short tickers line (PlaceUntil last r) are asks)) f.1)
+command_fits tickers line (SetMoneyCredit account ticks) are asks =
+    let all = read_fits line asks.value asks.reads in
+    let f = asks.asks.fields in
+    (small_below (codes "account") asks.value account f.0, number_below (codes "ticks") asks.value ticks all f.1)
+command_fits tickers line (SetUnitCredit account asset units) are asks =
+    let all = read_fits line asks.value asks.reads in
+    let f = asks.asks.fields in
+    (small_below (codes "account") asks.value account f.0, asset_fits tickers (codes "asset") asks.value asset are f.1, number_below (codes "units") asks.value units all f.2)

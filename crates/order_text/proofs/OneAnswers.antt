@@ -1,6 +1,6 @@
 -- A line has an answer, and one alone.
 use Rattle.std.proofs.Common.{◌≡◌, ◌≢◌, ℕ, List, [], ◌∷◌, ◌++◌, Result, Ok, Err, refl, sym, ap, ◌∙◌, inl, inr, rules, Bool, true, false, true≢false}
-use Rattle.wire_records.specs.Commands.{Command, AddAsset, OpenAccount, DepositMoney, DepositAsset, WithdrawMoney, WithdrawAsset, PlaceOrder, CancelOrder, RunBatch}
+use Rattle.wire_records.specs.Commands.{Command, AddAsset, OpenAccount, DepositMoney, DepositAsset, WithdrawMoney, WithdrawAsset, PlaceOrder, CancelOrder, RunBatch, PlaceUntil, SetMoneyCredit, SetUnitCredit}
 use Rattle.wire_records.specs.Views.{command_in}
 use Rattle.wire_records.specs.declared.command.Command as owned
 use Rattle.wire_records.specs.declared.command.Command.TheVariants as own
@@ -23,6 +23,9 @@ own_of (WithdrawAsset account asset units) = own.WithdrawAsset account asset uni
 own_of (PlaceOrder r) = own.PlaceOrder r.account r.low r.high r.rate r.cap r.row
 own_of (CancelOrder account order) = own.CancelOrder account order
 own_of (RunBatch budget) = own.RunBatch budget
+own_of (PlaceUntil last r) = own.PlaceUntil last r.account r.low r.high r.rate r.cap r.row
+own_of (SetMoneyCredit account ticks) = own.SetMoneyCredit account ticks
+own_of (SetUnitCredit account asset units) = own.SetUnitCredit account asset units
 
 own_is : (c : owned.Command) → own_of (command_in c) ≡ c
 own_is (own.AddAsset ticker) = refl
@@ -34,6 +37,9 @@ own_is (own.WithdrawAsset account asset units) = refl
 own_is (own.PlaceOrder account low high rate cap row) = refl
 own_is (own.CancelOrder account order) = refl
 own_is (own.RunBatch budget) = refl
+own_is (own.PlaceUntil last account low high rate cap row) = refl
+own_is (own.SetMoneyCredit account ticks) = refl
+own_is (own.SetUnitCredit account asset units) = refl
 
 plain_is : (c : Command) → command_in (own_of c) ≡ c
 plain_is (AddAsset ticker) = refl
@@ -45,6 +51,9 @@ plain_is (WithdrawAsset account asset units) = refl
 plain_is (PlaceOrder r) = refl
 plain_is (CancelOrder account order) = refl
 plain_is (RunBatch budget) = refl
+plain_is (PlaceUntil last r) = refl
+plain_is (SetMoneyCredit account ticks) = refl
+plain_is (SetUnitCredit account asset units) = refl
 
 same_own : (a b : owned.Command) → command_in a ≡ command_in b → a ≡ b
 same_own a b same = sym (own_is a) ∙ ap own_of same ∙ own_is b
@@ -88,6 +97,9 @@ some_after tickers (WithdrawAsset account asset units) none = none tickers refl
 some_after tickers (PlaceOrder request) none = none tickers refl
 some_after tickers (CancelOrder account order) none = none tickers refl
 some_after tickers (RunBatch budget) none = none tickers refl
+some_after tickers (PlaceUntil last request) none = none tickers refl
+some_after tickers (SetMoneyCredit account ticks) none = none tickers refl
+some_after tickers (SetUnitCredit account asset units) none = none tickers refl
 
 abbrev is_wanting : Answer → Bool
 is_wanting (Ok read) = false

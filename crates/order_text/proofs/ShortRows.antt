@@ -8,7 +8,7 @@ use Rattle.serde_json.specs.Data.{Data, Members, no_members, member}
 use Rattle.std.specs.Prelude.{codes}
 use Rattle.serde_json.specs.Find.{get, as_object}
 use Rattle.ticker_table.specs.Tickers.{AreTickers}
-use Rattle.wire_records.specs.Commands.{Command, AddAsset, OpenAccount, DepositMoney, DepositAsset, WithdrawMoney, WithdrawAsset, PlaceOrder, CancelOrder, RunBatch}
+use Rattle.wire_records.specs.Commands.{Command, AddAsset, OpenAccount, DepositMoney, DepositAsset, WithdrawMoney, WithdrawAsset, PlaceOrder, CancelOrder, RunBatch, PlaceUntil, SetMoneyCredit, SetUnitCredit}
 use Rattle.wire_records.specs.CommandRecords.{HasShortRow}
 use Rattle.order_text.specs.Lines.{LineAsks, padded, asset_named, weight_of, entry_of, put_entry, put_members}
 
@@ -107,3 +107,7 @@ row_is_short tickers line (PlaceOrder request) are asks =
     omega (arith, are.few, few_at tickers (option_and_then as_object (get (codes "weights") asks.value)) request.row asks.asks.fields.row)
 row_is_short tickers line (CancelOrder account order) are asks = tt
 row_is_short tickers line (RunBatch budget) are asks = tt
+row_is_short tickers line (PlaceUntil last request) are asks =
+    omega (arith, are.few, few_at tickers (option_and_then as_object (get (codes "weights") asks.value)) request.row asks.asks.fields.1.row)
+row_is_short tickers line (SetMoneyCredit account ticks) are asks = tt
+row_is_short tickers line (SetUnitCredit account asset units) are asks = tt

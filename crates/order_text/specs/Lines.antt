@@ -5,7 +5,9 @@ use Rattle.serde_json.specs.Data.{Data, Members, no_members, member}
 use Rattle.serde_json.specs.Read.{read}
 use Rattle.serde_json.specs.Events.{members_len}
 use Rattle.serde_json.specs.Find.{get, as_str, as_number, as_u64, as_i64, as_object}
-use Rattle.wire_records.specs.Commands.{Request, Command, AddAsset, OpenAccount, DepositMoney, DepositAsset, WithdrawMoney, WithdrawAsset, PlaceOrder, CancelOrder, RunBatch}
+use Rattle.wire_records.specs.Commands.{Request, Command, AddAsset, OpenAccount, DepositMoney, DepositAsset, WithdrawMoney, WithdrawAsset, PlaceOrder, CancelOrder, RunBatch, PlaceUntil, SetMoneyCredit, SetUnitCredit}
+use Rattle.wire_records.specs.Versions.{IsOfVersion}
+use Rattle.wire_records.specs.declared.version.Version.TheVariants.{One}
 use Rattle.ticker_table.specs.Adding.{IsAddable}
 
 -- a space, a tab or a carriage return
@@ -108,6 +110,9 @@ word_of (WithdrawAsset account asset units) = codes "withdraw"
 word_of (PlaceOrder request) = codes "place"
 word_of (CancelOrder account order) = codes "cancel"
 word_of (RunBatch budget) = codes "batch"
+word_of (PlaceUntil last request) = codes "place"
+word_of (SetMoneyCredit account ticks) = codes "credit"
+word_of (SetUnitCredit account asset units) = codes "credit"
 
 -- how many keys there are, `do` among them
 abbrev pub keys_of : Command → ℕ
@@ -120,6 +125,9 @@ keys_of (WithdrawAsset account asset units) = 4
 keys_of (PlaceOrder request) = 7
 keys_of (CancelOrder account order) = 3
 keys_of (RunBatch budget) = 2
+keys_of (PlaceUntil last request) = 8
+keys_of (SetMoneyCredit account ticks) = 3
+keys_of (SetUnitCredit account asset units) = 4
 
 -- the further keys have the values of a command
 abbrev pub HasFields : List (List ℕ) → Data → Command → Type 0
@@ -134,12 +142,17 @@ HasFields tickers d (WithdrawAsset account asset units) =
 HasFields tickers d (PlaceOrder request) = HasRequest tickers d request
 HasFields tickers d (CancelOrder account order) = (small_at (codes "account") d ≡ Some account) × (number_at (codes "order") d ≡ Some order)
 HasFields tickers d (RunBatch budget) = small_at (codes "budget") d ≡ Some budget
+HasFields tickers d (PlaceUntil last request) = (small_at (codes "last") d ≡ Some last) × HasRequest tickers d request
+HasFields tickers d (SetMoneyCredit account ticks) = (small_at (codes "account") d ≡ Some account) × (number_at (codes "ticks") d ≡ Some ticks)
+HasFields tickers d (SetUnitCredit account asset units) =
+    (small_at (codes "account") d ≡ Some account) × (asset_at tickers (codes "asset") d ≡ Some asset) × (number_at (codes "units") d ≡ Some units)
 
--- an object asks for a command: it has the word and the fields, and no further keys
+-- an object asks for a command: it has the word and the fields, and no further keys; only commands of version One are asked for
 pub record Asks (tickers : List (List ℕ)) (d : Data) (command : Command) : Type 0 where
   pub word : text_at (codes "do") d ≡ Some (word_of command)
   pub fields : HasFields tickers d command
   pub keys : HasKeys (keys_of command) d
+  pub version : IsOfVersion One command
 
 -- a line asks for a command: it isn't blank, and it is the UTF-8 of an object that does
 pub record LineAsks (tickers : List (List ℕ)) (line : List ℕ) (command : Command) : Type 0 where
@@ -165,6 +178,9 @@ AreAfter tickers (WithdrawAsset account asset units) after = after ≡ tickers
 AreAfter tickers (PlaceOrder request) after = after ≡ tickers
 AreAfter tickers (CancelOrder account order) after = after ≡ tickers
 AreAfter tickers (RunBatch budget) after = after ≡ tickers
+AreAfter tickers (PlaceUntil last request) after = after ≡ tickers
+AreAfter tickers (SetMoneyCredit account ticks) after = after ≡ tickers
+AreAfter tickers (SetUnitCredit account asset units) after = after ≡ tickers
 
 -- what a line says, after the tickers of the lines before, and the tickers after it
 pub record Says (tickers : List (List ℕ)) (line : List ℕ) (command : Command) (after : List (List ℕ)) : Type 0 where

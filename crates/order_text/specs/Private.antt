@@ -3,15 +3,17 @@ use Rattle.std.specs.Prelude.{◌≡◌, ◌≢◌, ℕ, ℤ, List, codes, Optio
 use Rattle.serde_json.specs.Data.{Data}
 use Rattle.wire_records.specs.Commands.{Command}
 use Rattle.wire_records.specs.CommandRecords.{HasShortRow}
+use Rattle.wire_records.specs.Versions.{IsOfVersion}
 use Rattle.wire_records.specs.Views.{command_in}
 use Rattle.wire_records.specs.declared.command.Command as owned
+use Rattle.wire_records.specs.declared.version.Version.TheVariants.{One}
 use Rattle.order_text.specs.declared.line.LineFault.{LineFault}
 use Rattle.order_text.specs.declared.line.LineFault.TheVariants.{NoCommand, Memory}
 use Rattle.order_text.specs.Lines.{small_at, number_at, signed_at, asset_at, HasFields, HasKeys, keys_of, word_of, Asks}
 
--- an object has the fields of a command and no further keys
+-- an object has the fields of a command of version One and no further keys
 abbrev pub Fits : List (List ℕ) → Data → Command → Type 0
-Fits tickers d command = HasFields tickers d command × HasKeys (keys_of command) d
+Fits tickers d command = HasFields tickers d command × HasKeys (keys_of command) d × IsOfVersion One command
 
 -- the command of this word that an object asks for, if it asks for one
 abbrev pub IsFound : List ℕ → List (List ℕ) → Data → Option owned.Command → Type 0

@@ -86,7 +86,7 @@ fn add_ticker(tickers: &mut TickerTable, command: &Command) -> Result<(), LineFa
 
 /// What a line of JSON is, given the tickers of the lines before it. The line has no line feed at its end.
 ///
-/// A command is an object with exactly the keys of one row:
+/// A command is one of version One: an object with exactly the keys of one row:
 ///
 /// | `do` | further keys | command |
 /// |---|---|---|

@@ -35,7 +35,7 @@ module _ {U S B : Type 0} (w : Word U S B) (start : Version → S) (exact : IsEx
       let moved : LacksOn w More (length (w.format.magics.spell version)) body (start version) behind =
       subst (λ (n : ℕ). LacksOn w More n body (start version) behind) (sym (exact.magic version)) (subst (λ (t : S). LacksOn w More 8 body t behind) is on)
       in
-      inr (version, body, behind, magic, refl, (moved, kept version moved.units moved.state behind moved.passes.each moved.passes.goes))
+      (version, body, behind, magic, refl, (moved, kept version moved.units moved.state behind moved.passes.each moved.passes.goes))
 
   -- some first bytes begin with the magic too
   first_bytes : (version : Version) (bytes body : List ℕ) (n : ℕ) → BeginsWith w.format.magics bytes version body → BeginsWith w.format.magics (take (length (w.format.magics.spell version) + n) bytes) version (take n body)
@@ -197,15 +197,6 @@ module _ {U S B : Type 0} (w : Word U S B) (start : Version → S) (exact : IsEx
             subst (λ (x : List ℕ). GrowsByFront before after x) (begun.opening ∙ sym (append-nil (w.opens begun.version))) written,
           );
         }
-
-    -- there was no memory to open it
-    pub over_lacking : after ≡ before → GoesOver w start limit held (Err Memory) same_source changed_out
-    over_lacking same = record {
-      taken = [];
-      takes = nothing_known told;
-      few = none_taken;
-      finds = (near_none (limit < length (held ++ known [] told)), [], inl refl, rw same (Grows-nothing before));
-    }
 
     -- no magic stands there
     no_magic : BeginsWithNone w.format.magics held → BeginsWithNone w.format.magics (take limit (held ++ known [] told))

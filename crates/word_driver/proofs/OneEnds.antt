@@ -202,9 +202,8 @@ module _ {U S B : Type 0} (w : Word U S B) (start : Version → S) (exact : IsEx
       text_begins v u begun text behind later one.0 is also (begins_on More (length (w.format.magics.spell v)) body (drop n bytes) (start v) e f behind later on.0 moved)
 
   lack_begins : (bytes : List ℕ) (More : Type 0) (f : Ended B) (begun text : List ℕ) → Lacks w start bytes More begun → Comes w start bytes More f text → Begins text begun
-  lack_begins bytes More f begun text (inl none) b = (text, ap (λ xs. xs ++ text) (sym none))
-  lack_begins bytes More f begun text (inr (version, body, behind, magic, is, on)) (inl b) = absurd (b.1 version body magic.0 magic.1)
-  lack_begins bytes More f begun text (inr (v, body, behind, magic, is, on)) (inr (u, other, later, begins, also, goes)) =
+  lack_begins bytes More f begun text (version, body, behind, magic, is, on) (inl b) = absurd (b.1 version body magic.0 magic.1)
+  lack_begins bytes More f begun text (v, body, behind, magic, is, on) (inr (u, other, later, begins, also, goes)) =
       let one = exact.readable.magics.one v u body other magic.0 begins.0 (sym magic.1 ∙ begins.1) in
       let moved : ComesOn w More (length (w.format.magics.spell v)) body (start v) f later =
       subst (λ (xs : List ℕ). ComesOn w More (length (w.format.magics.spell v)) xs (start v) f later) (sym one.1)

@@ -8,6 +8,11 @@ use Rattle.word_driver.specs.declared.fault.Fault.TheVariants.{Read, Write, Memo
 use Rattle.word_driver.specs.Ended.{Ended}
 use Rattle.word_driver.specs.Does.{Task, IsTaken, Determines, Meets, KeepsUp, Does}
 
+-- nothing was taken
+nothing_taken : (told : Option (List ℕ)) → Takes told told [] × ((most : ℕ) → TakesAtMost told told most)
+nothing_taken None = (tt, λ most. tt)
+nothing_taken (Some left) = (refl, λ most. omega arith)
+
 module _ {B : Type 0} (t : Task B) (limit : ℕ) where
   -- where no count rose and memory was there, the bytes determine the end
   completes : (bytes : List ℕ) (left : Option (List ℕ)) (ended : Ended B) (before after : Option (List ℕ)) → Meets t limit bytes left ended before after → ended ≢ Err Read → ended ≢ Err Write → ended ≢ Err Memory → Determines t limit bytes ended before after
@@ -72,10 +77,20 @@ module _ {B : Type 0} (t : Task B) (limit : ℕ) where
   -- there was no memory for the input
   no_memory : ((bytes : List ℕ) → t.Lacks limit bytes []) → (told after held : Option (List ℕ)) → IfSome told (λ bytes. Meets t limit bytes after (Err Memory) held held)
   no_memory none None after held = tt
-  no_memory none (Some bytes) after held = ([], none bytes, Grows-nothing held)
+  no_memory none (Some bytes) after held = ([], inr (none bytes), Grows-nothing held)
 
   pub does_not_fit : ((bytes : List ℕ) → t.Lacks limit bytes []) → (source : Change) (held : Option (List ℕ)) (faults : ℕ) → IfSome source.before (λ bytes. KeepsUp t limit bytes source.after held held) → TakesAtMost source.before source.after (t.most_taken limit) → source.faults_after ≡ source.faults
       → Does t limit (Err Memory) source (record { before = held; after = held; faults = faults; faults_after = faults })
   does_not_fit none source held faults keeps_up most quiet =
       does (Err Memory) source (record { before = held; after = held; faults = faults; faults_after = faults }) (no_memory none source.before source.after held) (λ why. keeps_up) most tt
       (record { later = omega (arith, quiet); rose = λ e. absurd cc; quiet = λ _. quiet }) (record { later = omega arith; rose = λ e. absurd cc; quiet = λ _. refl })
+
+  -- there was no memory to begin
+  none_to_begin : (told held : Option (List ℕ)) → IfSome told (λ bytes. Meets t limit bytes told (Err Memory) held held)
+  none_to_begin None held = tt
+  none_to_begin (Some bytes) held = ([], inl (omega arith, refl), Grows-nothing held)
+
+  pub does_not_begin : (told held : Option (List ℕ)) (source_faults faults : ℕ) → Does t limit (Err Memory) (record { before = told; after = told; faults = source_faults; faults_after = source_faults }) (record { before = held; after = held; faults = faults; faults_after = faults })
+  does_not_begin told held source_faults faults =
+      does (Err Memory) (record { before = told; after = told; faults = source_faults; faults_after = source_faults }) (record { before = held; after = held; faults = faults; faults_after = faults }) (none_to_begin told held)
+      (λ why. keeps_up_at_once told told [] held held (nothing_taken told).0 (omega arith)) ((nothing_taken told).1 (t.most_taken limit)) tt (record { later = omega arith; rose = λ e. absurd cc; quiet = λ _. refl }) (record { later = omega arith; rose = λ e. absurd cc; quiet = λ _. refl })

@@ -29,11 +29,6 @@ took None after taken most takes few = tt
 took (Some bytes) None taken most takes few = absurd takes
 took (Some bytes) (Some left) taken most takes few = omega (arith, ap length takes, length-append taken left, few)
 
--- nothing was taken
-pub nothing_taken : (told : Option (List ℕ)) → Takes told told [] × ((most : ℕ) → TakesAtMost told told most)
-nothing_taken None = (tt, λ most. tt)
-nothing_taken (Some left) = (refl, λ most. omega arith)
-
 module _ {U S B : Type 0} (w : Word U S B) (start : Version → S) (exact : IsExact w) (limit : ℕ) where
   -- ---- what was found is what the source's bytes come to
 
@@ -50,7 +45,7 @@ module _ {U S B : Type 0} (w : Word U S B) (start : Version → S) (exact : IsEx
     found (Err (Torn n)) before after finds = determines (Err (Torn n)) before after finds
     found (Err TooLong) before after finds = determines (Err TooLong) before after finds
     found (Err (Stopped why)) before after finds = determines (Err (Stopped why)) before after finds
-    found (Err Memory) before after (near, text, lacks, written) = (text, lacks, written)
+    found (Err Memory) before after (near, text, lacks, written) = (text, inr lacks, written)
     found (Err Write) before after (near, text, gets, written) = (text, elim gets [ inl (n, ended, comes) ↦ inl (n, (ended, comes)) | inr (ended, comes) ↦ inr (ended, comes) ], written)
     found (Err Read) before after (ended, text, comes, written) = (length seen, all_seen, text, (ended, comes), written)
 
@@ -195,7 +190,3 @@ module _ {U S B : Type 0} (w : Word U S B) (start : Version → S) (exact : IsEx
     does_not_read unended cause =
         tasks.does (task w start) limit (Err Read) source out (begun_told before after (all_joined before after after room window fills unended)) (read_not_written before after) most tt
         (record { later = cause.later; rose = λ e. cause.rose tt; quiet = λ not. absurd (not refl) }) (record { later = omega arith; rose = λ e. absurd cc; quiet = λ _. refl })
-
-  -- nothing stands in out where there was no memory at all
-  pub none_lacking : (left : List ℕ) → (task w start).Lacks limit left []
-  none_lacking left = inl refl

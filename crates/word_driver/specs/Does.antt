@@ -44,13 +44,14 @@ module _ {B : Type 0} (t : Task B) where
       × ((other : Ended B) (words : List ℕ) → t.Comes limit bytes other words → (other ≡ ended) × (words ≡ text))
 
   -- what stands in out, by what is left of the bytes: after a fault of the source what those that were taken come to; after a fault
-  -- of out a front of what some first bytes or all come to
+  -- of out a front of what some first bytes or all come to; memory may be wanted before anything is read, and where the task may want it
   abbrev pub Meets : ℕ → List ℕ → Option (List ℕ) → Ended B → Option (List ℕ) → Option (List ℕ) → Type 0
   Meets limit bytes left (Err Read) before after =
       (n : ℕ) × IsTaken bytes left n × (text : List ℕ) × t.Begins limit bytes n text × Grows before after text
   Meets limit bytes left (Err Write) before after =
       (text : List ℕ) × (((n : ℕ) × t.Begins limit bytes n text) ⊎ ((ended : Ended B) × t.Comes limit bytes ended text)) × GrowsByFront before after text
-  Meets limit bytes left (Err Memory) before after = (text : List ℕ) × t.Lacks limit bytes text × Grows before after text
+  Meets limit bytes left (Err Memory) before after =
+      (text : List ℕ) × ((IsTaken bytes left 0 × (text ≡ [])) ⊎ t.Lacks limit bytes text) × Grows before after text
   Meets limit bytes left (Err NotFlow) before after = Determines limit bytes (Err NotFlow) before after
   Meets limit bytes left (Err (Torn place)) before after = Determines limit bytes (Err (Torn place)) before after
   Meets limit bytes left (Err TooLong) before after = Determines limit bytes (Err TooLong) before after

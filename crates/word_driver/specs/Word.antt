@@ -93,7 +93,7 @@ module _ {U S B : Type 0} (w : Word U S B) where
         Opens (λ version place body behind. (units : List U) × (rest : List ℕ) × (state : S) × Passes body (start version) units rest state behind × w.Keeps units state behind
             × (n ≡ place + length (spell_all w.format.units units))) bytes text
 
-    -- where memory may be wanted, and what was written there: nothing, or the text of the units before
+    -- where memory may be wanted, and what was written there: the text of the units before
     abbrev pub Lacks : List ℕ → Type 0 → List ℕ → Type 0
     Lacks bytes More text =
-        (text ≡ []) ⊎ Opens (λ version place body behind. (on : LacksOn More place body (start version) behind) × w.Keeps on.units on.state behind) bytes text
+        Opens (λ version place body behind. (on : LacksOn More place body (start version) behind) × w.Keeps on.units on.state behind) bytes text

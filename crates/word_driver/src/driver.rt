@@ -89,10 +89,8 @@ fn go_over<S: Source, K: Sink, W: ServesWord + Drop>(
     let mut window = window;
     let mut word = word;
     let mut text = text;
-    match word.open(window.held(), &mut text) {
-        Ok(true) => {}
-        Ok(false) => return Err(Fault::NotFlow),
-        Err(_) => return Err(Fault::Memory),
+    if !word.open(window.held(), &mut text) {
+        return Err(Fault::NotFlow);
     }
     window.advance(MAGIC);
     match put(out, &text) {

@@ -49,14 +49,12 @@ pub trait ServesWord {
     ghost is_ready: { Self → ℕ → Type 0 };
 
     /// Whether the bytes begin with a magic of the word. Then it is at its start, and the opening stands in the buffer.
-    /// It takes here the memory that it needs throughout.
-    fn open(&mut self, bytes: &[u8], text: &mut Vec<u8>) -> Result<bool, Memory>
+    fn open(&mut self, bytes: &[u8], text: &mut Vec<u8>) -> bool
         requires new { is_new self.old }
         requires empty { text.old.items ≡ [] }
         requires room { ROOM ≤ vec_capacity text.old }
         ensures room { vec_capacity text.old ≤ vec_capacity text.new }
-        ensures opened { IfOk result
-            (IsOpened word (start self.old) bytes.now (state self.new) (is_ready self.new) text.new.items) };
+        ensures opened { IsOpened word (start self.old) bytes.now (state self.new) (is_ready self.new) text.new.items result };
 
     /// Takes the unit at the front of the bytes, if a whole one stands there, and puts its text into the buffer.
     fn take(&mut self, bytes: &[u8], text: &mut Vec<u8>) -> Result<Front, Halt<Self::Stop>>

@@ -4,22 +4,16 @@ use Rattle.flow_io.specs.Windows.{WindowState}
 use Rattle.flow_io.specs.declared.window.InputEnd.TheVariants.{Source, Limit}
 use Rattle.file_units.proofs.Gone.{went_well}
 use Rattle.word_driver.specs.Does.{task}
-use Rattle.word_driver.proofs.Tasks.{does_not_fit, keeps_up_at_once}
-use Rattle.word_driver.proofs.Whole.{does, does_not_flow, does_not_read, none_lacking, nothing_taken}
+use Rattle.word_driver.proofs.Tasks.{does_not_begin}
+use Rattle.word_driver.proofs.Whole.{does, does_not_flow, does_not_read}
 use Rattle.word_driver.proofs.Pieces.{blamed}
 use Rattle.word_driver.proofs.driver.go.Goals as goal
 
 pub returns-in-Err : goal.returns-in-Err
-returns-in-Err g c =
-    let W = g.W.ServesWord in
-    let source = change g.S.Source.rest g.S.Source.faults c.args.source.now c.args.source.now in
-    record { does = does_not_fit (task W.word (W.start c.args.word)) c.args.limit (none_lacking W.word (W.start c.args.word) c.requires.exact c.args.limit) source (g.K.Sink.held c.args.out.now) (g.K.Sink.faults c.args.out.now) (keeps_up_at_once (task W.word (W.start c.args.word)) c.args.limit source.before source.before [] (g.K.Sink.held c.args.out.now) (g.K.Sink.held c.args.out.now) (nothing_taken source.before).0 (omega arith)) ((nothing_taken source.before).1 (c.args.limit + 1)) refl }
+returns-in-Err g c = record { does = does_not_begin (task g.W.ServesWord.word (g.W.ServesWord.start c.args.word)) c.args.limit (g.S.Source.rest c.args.source.now) (g.K.Sink.held c.args.out.now) (g.S.Source.faults c.args.source.now) (g.K.Sink.faults c.args.out.now) }
 
 pub returns-in-Err-with_capacity : goal.returns-in-Err-with_capacity
-returns-in-Err-with_capacity g c =
-    let W = g.W.ServesWord in
-    let source = change g.S.Source.rest g.S.Source.faults c.args.source.now c.args.source.now in
-    record { does = does_not_fit (task W.word (W.start c.args.word)) c.args.limit (none_lacking W.word (W.start c.args.word) c.requires.exact c.args.limit) source (g.K.Sink.held c.args.out.now) (g.K.Sink.faults c.args.out.now) (keeps_up_at_once (task W.word (W.start c.args.word)) c.args.limit source.before source.before [] (g.K.Sink.held c.args.out.now) (g.K.Sink.held c.args.out.now) (nothing_taken source.before).0 (omega arith)) ((nothing_taken source.before).1 (c.args.limit + 1)) refl }
+returns-in-Err-with_capacity g c = record { does = does_not_begin (task g.W.ServesWord.word (g.W.ServesWord.start c.args.word)) c.args.limit (g.S.Source.rest c.args.source.now) (g.K.Sink.held c.args.out.now) (g.S.Source.faults c.args.source.now) (g.K.Sink.faults c.args.out.now) }
 
 pub returns-in-Ok-Enough : goal.returns-in-Ok-Enough
 returns-in-Ok-Enough g c =
