@@ -2,6 +2,7 @@
 ghost use Rattle.std.specs.Prelude.{◌≡◌, ℕ, ◌+◌, ◌<◌, ◌^◌};
 ghost use Rattle.wire_records.specs.Commands.{RunBatch};
 ghost use Rattle.wire_records.specs.CommandRecords.{IsCommand};
+ghost use Rattle.wire_records.specs.Versions.{IsOfVersion};
 ghost use Rattle.wire_records.specs.Views.{command_of};
 
 use crate::MANY;
@@ -29,6 +30,7 @@ fn put_refusal(refusal: Refusal, rows: &mut String) -> Option<()> {
 // Appends the reply that a command is said to get, and the one that it gets.
 fn put_replies(market: &mut Market, command: &CommandView<'_>, rows: &mut String) -> Option<()>
     requires command { IsCommand (command_of command.now) }
+    requires version { IsOfVersion market.old.version (command_of command.now) }
     requires no_batch { (budget : ℕ) → ¬ (command_of command.now ≡ RunBatch budget) }
     requires next { market.old.next_order + 1 < 2 ^ 64 }
 {

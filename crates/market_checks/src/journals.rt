@@ -1,6 +1,7 @@
 //! Journals as a whole.
 use crate::state::put_market;
 use file_units::Ending;
+use journal_records::journal_version;
 use journal_replay::{Audited, PairFault, ReplayFault, audit_pairs, replay};
 use std::alloc::Global;
 
@@ -33,10 +34,8 @@ pub(crate) fn put_counted(
     more: bool,
     rows: &mut String,
 ) -> Option<()> {
-    if journal.len() < 8 {
-        return None;
-    }
-    match audit_pairs(alloc, journal, 8, more) {
+    let version = journal_version(journal)?;
+    match audit_pairs(alloc, version, journal, 8, more) {
         Ok(found) => put_found(alloc, &found, rows),
         Err(PairFault::Illegal(number)) => write!(rows, "  illegal {number}\n").ok(),
         Err(PairFault::Memory) => None,
