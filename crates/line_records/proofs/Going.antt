@@ -2,12 +2,12 @@
 use Rattle.std.proofs.Common.{◌≡◌, ◌≢◌, ◌+◌, ◌≤◌, ℕ, List, [], ◌∷◌, ◌++◌, ◌⊎◌, inl, inr, Bool, true, false, IsTrue, All, Option, Some, None, Result, Ok, Err, length, take, drop, length-append, length-drop, append_assoc, append-nil, drop-drop, eqb-true, eq-eqb, true≢false, ◌==◌, ◌-◌, refl, sym, ap, subst, ◌∙◌, arith}
 use Rattle.std.proofs.lemmas.List.{flat_map_more}
 use Rattle.std.proofs.lemmas.Grind.{flat_map-append}
-use Rattle.std.proofs.lemmas.List.Elements.{All-nil, All-cons, All-push, All-append}
+use Rattle.std.proofs.lemmas.List.Elements.{All-push}
 use Rattle.memchr.specs.Find.{IsFirstByte, is_byte}
 use Rattle.flow_io.specs.Streams.{Grows}
 use Rattle.wire_records.specs.Records.{spelling}
 use Rattle.wire_records.specs.Commands.{Command}
-use Rattle.wire_records.specs.CommandRecords.{IsCommand, record_of}
+use Rattle.wire_records.specs.CommandRecords.{record_of}
 use Rattle.line_records.specs.declared.encode.EncodeFault.{EncodeFault}
 use Rattle.line_records.specs.declared.encode.EncodeFault.TheVariants.{NoCommand, Write, Memory}
 use Rattle.line_records.specs.Lines.{IsPiece, ended_by_feeds, AreLines, Say, spell_commands}
