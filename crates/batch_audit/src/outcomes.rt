@@ -66,7 +66,7 @@ fn is_clearing_right(alloc: Global, market: &Market, view: &ClearedView<'_>) -> 
     Ok(check_cleared(market.orders(), start.as_slice(), view) == Verdict::Right)
 }
 
-// A skip that is right, under the next number. The market only counts it, so its walk isn't copied.
+// A skip that is right, under the next number. The market looks at none of its walk, so that isn't copied.
 fn skipped_for(
     alloc: Global,
     market: &Market,

@@ -27,10 +27,11 @@ infixr 5 ◌then◌
 abbrev pub ◌then◌ : List ℕ → List ℕ → List ℕ
 ◌then◌ one other = one ++ other
 
--- a deposit, a withdrawal or a credit in money, and one in an asset's units
+-- a deposit, a withdrawal or a credit in money
 abbrev pub money_text : List ℕ → ℕ → ℕ → List ℕ
 money_text word account ticks = word then codes " account " then decimal account then codes " ticks " then decimal ticks
 
+-- and one in units of an asset
 abbrev pub units_text : List ℕ → List (List ℕ) → ℕ → ℕ → ℕ → List ℕ
 units_text word tickers account asset units =
     word then codes " account " then decimal account then codes " " then asset_name tickers asset then codes " units " then decimal units

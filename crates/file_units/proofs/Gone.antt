@@ -1,5 +1,5 @@
 -- What going through the units of an input has done so far, and what it comes to.
-use Rattle.std.proofs.Common.{◌≡◌, ◌≢◌, ◌+◌, ◌-◌, ◌<◌, ◌≤◌, ℕ, List, [], ◌∷◌, ◌++◌, IsTrue, false, Option, Some, None, IfSome, Result, Ok, Err, length, take, drop, refl, sym, ap, subst, ◌∙◌, inl, inr, append_assoc, append-nil, length-append, arith, rules}
+use Rattle.std.proofs.Common.{◌≡◌, ◌≢◌, ◌+◌, ◌-◌, ◌<◌, ◌≤◌, ℕ, List, [], ◌∷◌, ◌++◌, IsTrue, false, Option, Some, None, IfSome, Ok, Err, length, take, drop, refl, sym, ap, subst, ◌∙◌, inl, inr, append_assoc, append-nil, length-append, arith, rules}
 use Rattle.std.specs.Prelude.{All}
 use Rattle.std.proofs.Math.Seq.{take-append-add}
 use Rattle.std.proofs.lemmas.Bool.{cases_lt}
@@ -12,12 +12,10 @@ use Rattle.flow_io.specs.declared.window.InputEnd.TheVariants.{Source, Limit}
 use Rattle.flow_io.proofs.Reading.{Takes-more}
 use Rattle.wire_records.specs.Records.{AreBytes}
 use Rattle.wire_records.specs.Grammars.{BeginsWithNone, spell_all}
-use Rattle.wire_records.specs.Reading.{Format, EndsAs, ReadsOn}
-use Rattle.wire_records.specs.Reading as reading
-use Rattle.file_units.specs.declared.walk.Ending.{Ending}
+use Rattle.wire_records.specs.Reading.{Format}
 use Rattle.file_units.specs.declared.walk.Ending.TheVariants.{End, Torn, TooLong}
 use Rattle.file_units.specs.declared.input.TakeFault.TheVariants.{Read, Broken}
-use Rattle.file_units.specs.Units.{TakesOne, Leads, GoesToEnd, GoesToBreak, BreaksOff}
+use Rattle.file_units.specs.Units.{TakesOne, Leads, BreaksOff}
 use Rattle.file_units.specs.Inputs.{HasLongest, known, GoesFrom}
 use Rattle.file_units.proofs.Taking.{leads_more}
 
@@ -190,7 +188,7 @@ module _ {V U S O : Type 0} (format : Format V U) (Steps : S → U → S → O �
           let more = take ((first.limit - first.place) - length (first.held ++ so.taken)) behind.0 in (
             more,
             ap (take (first.limit - first.place)) behind.1 ∙ considered (first.limit - first.place) (first.held ++ so.taken) behind.0 seen_within
-            ∙ ap (λ xs. xs ++ more) so.whole ∙ append_assoc (spell_all format.units so.units) now.held more,
+                ∙ ap (λ xs. xs ++ more) so.whole ∙ append_assoc (spell_all format.units so.units) now.held more,
           )
 
       -- what was seen is the front of it

@@ -1,9 +1,9 @@
 -- In how many bytes it is seen whether a record stands at the front, or states too long a body.
-use Rattle.std.proofs.Common.{◌≡◌, ◌+◌, ◌-◌, ◌<◌, ◌≤◌, ◌^◌, ◌⊎◌, ℕ, List, ◌++◌, length, take, drop, inl, inr, append_assoc, length-append, refl, sym, ap, ◌∙◌, subst, arith}
+use Rattle.std.proofs.Common.{◌≡◌, ◌+◌, ◌-◌, ◌<◌, ◌≤◌, ◌^◌, ◌⊎◌, ℕ, List, ◌++◌, length, take, drop, inl, inr, append_assoc, sym, ap, ◌∙◌, arith}
 use Rattle.std.proofs.lemmas.Bool.{cases_lt}
 use Rattle.std.proofs.lemmas.List.{take-append-drop, length-take}
 use Rattle.std.proofs.lemmas.List.Elements.{All-drop}
-use Rattle.wire_records.specs.Records.{Record, AreBytes, IsRecord, head, spelling, StatesLength, HasNoFront}
+use Rattle.wire_records.specs.Records.{Record, AreBytes, head, spelling}
 use Rattle.wire_records.specs.Grammars.{BeginsWith}
 use Rattle.wire_records.specs.Formats.{records, StatesOver}
 use Rattle.wire_fields.specs.Numbers.{unsigned}
@@ -56,7 +56,7 @@ record_or_over limit bytes are long =
             (
               record { tag = s.byte; body = omega (arith, size, not) },
               s.whole ∙ ap (λ n. head s.tag n ++ s.rest) (sym size) ∙ ap (λ xs. head s.tag (length body) ++ xs) (sym (take-append-drop s.stated s.rest))
-              ∙ sym (append_assoc (head s.tag (length body)) body (drop s.stated s.rest)),
+                  ∙ sym (append_assoc (head s.tag (length body)) body (drop s.stated s.rest)),
             ),
             All-drop (λ b. b < 256) s.stated s.rest s.are,
           )

@@ -1,5 +1,5 @@
 -- An audit of the first bytes as a file of the program.
-use Rattle.std.proofs.Common.{map, ◌≡◌, ℕ, List, refl}
+use Rattle.std.proofs.Common.{◌≡◌, ℕ, List, refl}
 use Rattle.wire_records.specs.Records.{Record}
 use Rattle.wire_records.specs.Commands.{Pair}
 use Rattle.wire_records.specs.Reading.{Ending}

@@ -71,7 +71,7 @@ pub fn flow_limited<S: Source, K: Sink, N: Sink>(
 ///
 /// A command of `run` costs the same however many accounts and orders there are, but for the gap that a cancelled order leaves, which is
 /// closed by a block move. Memory of `run`, `audit` and `report` is that of the market, whatever the length of the input: a window
-/// of 1,029 bytes (`run`) or 263,178, one buffer for a pair or its text, 528 bytes for each account, 64 bytes for each live order
+/// of 1,029 bytes (`run`) or 263,178, one buffer for a pair or its text, 1,056 bytes for each account, 72 bytes for each live order
 /// beside its entries, and the table of what orders need. Accounts and orders each stand in one block, which doubles as it grows: it
 /// has up to twice these bytes, and while it is moved the smaller one is there too. `encode` holds its input whole.
 ///

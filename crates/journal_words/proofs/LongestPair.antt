@@ -1,6 +1,6 @@
 -- In how many bytes it is seen whether a pair stands at the front, or one of its records states too long a body.
 use Rattle.std.proofs.Common.{◌≡◌, ◌+◌, ◌≤◌, ℕ, List, ◌++◌, length, inl, inr, append_assoc, length-append, sym, ap, ◌∙◌, arith}
-use Rattle.wire_records.specs.Records.{Record, AreBytes, spelling}
+use Rattle.wire_records.specs.Records.{AreBytes, spelling}
 use Rattle.wire_records.specs.Grammars.{BeginsWithNone}
 use Rattle.wire_records.specs.Formats.{EitherStatesOver}
 use Rattle.wire_records.proofs.Fronts.{no_front-from_overlong}

@@ -10,7 +10,7 @@ use std::alloc::Global;
 // So many batches are held at most.
 const MOST_BATCHES: u32 = 1 << 24;
 
-// A batch that was skipped: a market counts it, and changes nothing else.
+// A batch that was skipped: a market counts it, and the orders that end with it leave.
 fn skipped(alloc: Global) -> Outcome
     ensures { (m : market_value) → MaySettle m result }
 {

@@ -1,9 +1,8 @@
 -- Whether there is more may be said in another way.
-use Rattle.std.proofs.Common.{◌≡◌, ◌+◌, ◌↔◌, ℕ, List, [], Ok, Err, length, inl, inr, refl}
+use Rattle.std.proofs.Common.{◌+◌, ◌↔◌, ℕ, List, Ok, Err, length, inl, inr}
 use Rattle.wire_records.specs.Grammars.{spell_all}
 use Rattle.wire_records.specs.Reading.{Ending, End, EndsAs}
 use Rattle.wire_records.specs.Reading as reading
-use Rattle.wire_records.specs.declared.version.Version.{Version}
 use Rattle.word_driver.specs.declared.fault.Fault.TheVariants.{Read, Write, Memory, NotFlow, Torn, TooLong, Stopped}
 use Rattle.word_driver.specs.Ended.{Ended}
 use Rattle.word_driver.specs.Word.{Word, ComesOn, LacksOn, AtEnd, Halts}

@@ -54,7 +54,7 @@ module _ {U S B : Type 0} (w : Word U S B) (start : Version → S) (exact : IsEx
     longer_behind : (more : List ℕ) → (limit - 8 < length (drop 8 held ++ more)) ↔ (limit < length (held ++ more))
     longer_behind more =
         let size : length (held ++ more) ≡ 8 + length (drop 8 held ++ more) = ap length (ap (λ xs. xs ++ more) magic.1 ∙ append_assoc (w.format.magics.spell version) (drop 8 held) more)
-            ∙ length-append (w.format.magics.spell version) (drop 8 held ++ more) ∙ ap (λ n. n + length (drop 8 held ++ more)) (exact.magic version) in
+        ∙ length-append (w.format.magics.spell version) (drop 8 held ++ more) ∙ ap (λ n. n + length (drop 8 held ++ more)) (exact.magic version) in
         (λ p. omega (arith, p, size, some, within), λ q. omega (arith, q, size, some, within))
 
     seen_behind : (more : List ℕ) → length (held ++ more) ≡ length (w.format.magics.spell version) + length (drop 8 held ++ more)

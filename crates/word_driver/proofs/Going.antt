@@ -100,15 +100,15 @@ module _ {U S B O : Type 0} (w : Word U S B) (held : O → Option (List ℕ)) (f
   near_where_ended limit place front taken after start new before middle goes most =
       let reads = goes.reads in
       omega (
-      arith,
-      reads.ends.1,
-      ap length reads.whole,
-      ap length reads.ends.2,
-      length-append (spell_all w.format.units goes.units) reads.rest,
-      length-take limit (front ++ known taken after),
-      length-append front (known taken after),
-      length-append front taken,
-      no_fewer taken after,
+        arith,
+        reads.ends.1,
+        ap length reads.whole,
+        ap length reads.ends.2,
+        length-append (spell_all w.format.units goes.units) reads.rest,
+        length-take limit (front ++ known taken after),
+        length-append front (known taken after),
+        length-append front taken,
+        no_fewer taken after,
       )
 
   module _ (More : Type 0) (place : ℕ) (bytes : List ℕ) (start new : S) (before middle after : O) (most : ℕ) (seen : List ℕ) (left : Option (List ℕ)) where

@@ -1,6 +1,6 @@
 -- What a word does to its source and its output.
-use Rattle.std.proofs.Common.{◌≡◌, ◌≢◌, ◌+◌, ◌<◌, ◌≤◌, ◌⊎◌, ℕ, List, [], ◌++◌, Option, Some, None, Ok, Err, IfSome, OnOk, length, take, inl, inr, append-nil, append_assoc, length-append, refl, sym, ap, ◌∙◌, subst, arith}
-use Rattle.std.proofs.lemmas.List.{take_at, length-take}
+use Rattle.std.proofs.Common.{◌≡◌, ◌+◌, ◌<◌, ◌≤◌, ◌⊎◌, ℕ, List, [], ◌++◌, Option, Some, None, Ok, Err, IfSome, OnOk, length, take, inl, inr, append-nil, append_assoc, length-append, refl, sym, ap, ◌∙◌, subst, arith}
+use Rattle.std.proofs.lemmas.List.{length-take}
 use Rattle.flow_io.specs.Faults.{Blames}
 use Rattle.flow_io.specs.Changes.{Change}
 use Rattle.flow_io.specs.Streams.{Takes, Grows, TakesAtMost}
@@ -11,7 +11,6 @@ use Rattle.flow_io.proofs.Growth.{Grows-nothing}
 use Rattle.flow_io.proofs.Reading.{Takes-more}
 use Rattle.wire_records.specs.Grammars.{BeginsWithNone}
 use Rattle.wire_records.specs.declared.version.Version.{Version}
-use Rattle.wire_records.proofs.ReadingLaws.{none_in_none}
 use Rattle.file_units.specs.Inputs.{known}
 use Rattle.file_units.proofs.Gone.{within_limit}
 use Rattle.word_driver.specs.declared.fault.Fault.TheVariants.{Read, Write, Memory, NotFlow, Torn, TooLong, Stopped}

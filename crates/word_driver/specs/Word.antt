@@ -91,7 +91,7 @@ module _ {U S B : Type 0} (w : Word U S B) where
     abbrev pub Passed : List ℕ → ℕ → List ℕ → Type 0
     Passed bytes n text =
         Opens (λ version place body behind. (units : List U) × (rest : List ℕ) × (state : S) × Passes body (start version) units rest state behind × w.Keeps units state behind
-            × (n ≡ place + length (spell_all w.format.units units))) bytes text
+        × (n ≡ place + length (spell_all w.format.units units))) bytes text
 
     -- where memory may be wanted, and what was written there: the text of the units before
     abbrev pub Lacks : List ℕ → Type 0 → List ℕ → Type 0

@@ -1,4 +1,4 @@
-use Rattle.std.proofs.Common.{◌≡◌, ◌+◌, ◌≤◌, length, refl, sym, ap, ◌∙◌, arith}
+use Rattle.std.proofs.Common.{◌≤◌, length, ap, ◌∙◌, arith}
 use Rattle.flow_io.specs.Windows.{WindowState}
 use Rattle.file_units.proofs.Gone.{went_well, fewer_than_room, within_limit, falls, none_gone, one_more_gone, read_gone, gone_overlong, gone_broken, gone_unread, gone_limited, gone_to_end, gone_torn, limit_reached}
 use Rattle.file_units.proofs.input.take_from.Goals as goal

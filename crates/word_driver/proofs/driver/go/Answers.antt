@@ -1,4 +1,4 @@
-use Rattle.std.proofs.Common.{◌≡◌, ◌+◌, ◌≤◌, [], Some, Err, length, refl, ap, sym, ◌∙◌, arith}
+use Rattle.std.proofs.Common.{refl, ap, ◌∙◌}
 use Rattle.flow_io.specs.Changes.{change}
 use Rattle.flow_io.specs.Windows.{WindowState}
 use Rattle.flow_io.specs.declared.window.InputEnd.TheVariants.{Source, Limit}

@@ -1,7 +1,6 @@
-use Rattle.std.proofs.Common.{◌≡◌, ◌-◌, ◌+◌, ◌<◌, ◌≤◌, ◌++◌, Err, length, take, refl, arith}
-use Rattle.flow_io.specs.Changes.{change}
+use Rattle.std.proofs.Common.{◌-◌, ◌+◌, ◌<◌, ◌++◌, length, take, refl, arith}
 use Rattle.file_units.specs.Inputs.{known}
-use Rattle.word_driver.specs.declared.fault.Fault.TheVariants.{Read, Write}
+use Rattle.word_driver.specs.declared.fault.Fault.TheVariants.{Write}
 use Rattle.word_driver.proofs.Going.{blames_nobody, blames_later, has_written, to_torn, to_limit, to_unread, to_end, to_break, break_blames, near_where_ended, no_read_broken, err_alike, broken_is_no_read}
 use Rattle.word_driver.proofs.driver.go_on.Goals as goal
 

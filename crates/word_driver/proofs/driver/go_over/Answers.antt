@@ -1,4 +1,4 @@
-use Rattle.std.proofs.Common.{◌≡◌, ◌+◌, ◌≤◌, length, drop, refl, ap, sym, ◌∙◌, arith}
+use Rattle.std.proofs.Common.{◌≡◌, ◌≤◌, length, refl, ap, ◌∙◌, arith}
 use Rattle.flow_io.specs.Changes.{change}
 use Rattle.flow_io.specs.Windows.{WindowState}
 use Rattle.file_units.proofs.Gone.{within_limit}

@@ -1,4 +1,4 @@
-use Rattle.std.proofs.Common.{length, refl, arith}
+use Rattle.std.proofs.Common.{refl, arith}
 use Rattle.wire_records.proofs.ReadingLaws.{none_in_none}
 use Rattle.journal_records.specs.Formats.{journals}
 use Rattle.journal_records.proofs.Files.{journals_readable, short_at_end}
