@@ -19,21 +19,27 @@ def signed(body, at, width, count):
     return [int.from_bytes(body[place:place + width], "big", signed=True) for place in places]
 
 
+WORDS = {3: "deposit", 4: "deposit", 5: "withdraw", 6: "withdraw", 11: "credit", 12: "credit"}
+
+
 def done(tickers, tag, body):
-    if tag in (3, 5):
+    if tag in (3, 5, 11):
         account, ticks = struct.unpack(MONEY, body)
-        return f"{'deposit' if tag == 3 else 'withdraw'} account {account} ticks {ticks}"
-    if tag in (4, 6):
+        return f"{WORDS[tag]} account {account} ticks {ticks}"
+    if tag in (4, 6, 12):
         account, asset, units = struct.unpack(UNITS, body)
-        return f"{'deposit' if tag == 4 else 'withdraw'} account {account} {tickers[asset]} units {units}"
+        return f"{WORDS[tag]} account {account} {tickers[asset]} units {units}"
     _, order = struct.unpack(MONEY, body)
     return f"cancel order {order}"
 
 
-def placed(tickers, body, number):
+def placed(tickers, tag, body, number):
+    last = ""
+    if tag == 10:
+        last, body = f" last {int.from_bytes(body[:4], 'big')}", body[4:]
     account, low, high, rate, cap, _ = struct.unpack(TERMS, body[:33])
     row = "".join(f" {tickers[asset]}:{weight}" for asset, weight in struct.iter_unpack(ENTRY, body[33:]))
-    return f"order {number} account {account} low {low} high {high} rate {rate} cap {cap}{row}"
+    return f"order {number} account {account} low {low} high {high} rate {rate} cap {cap}{last}{row}"
 
 
 def cleared(tickers, body):
@@ -68,7 +74,7 @@ def told(tickers, asked, answered):
         return skipped(body)
     number = int.from_bytes(body, "big")
     if tag == ORDER:
-        return placed(tickers, asked[1], number)
+        return placed(tickers, *asked, number)
     if tag == ASSET:
         return f"asset {number} {tickers[number]}"
     return f"account {number}" if tag == ACCOUNT else f"refused {number}"
