@@ -1,5 +1,5 @@
 -- A word over the driver does what the clauses of the program say of its form, once what it comes to is what they say.
-use Rattle.std.proofs.Common.{◌≡◌, ◌≢◌, ◌⊎◌, ℕ, List, [], Option, Some, None, IfSome, OnOk, Ok, Err, take, refl, ap, ◌∙◌, subst, inl, inr, rules}
+use Rattle.std.proofs.Common.{◌≡◌, ◌≢◌, ◌⊎◌, ℕ, List, [], length, Option, Some, None, IfSome, OnOk, Ok, Err, take, refl, ap, ◌∙◌, subst, inl, inr, arith, rules}
 use Rattle.flow_io.specs.Faults.{Blames}
 use Rattle.flow_io.specs.Changes.{Change}
 use Rattle.flow_io.specs.Streams.{Grows, GrowsByFront, TakesAtMost}
@@ -21,6 +21,11 @@ take_nothing n = search rules
 -- a front of nothing is nothing
 nothing : (before after : Option (List ℕ)) (text : List ℕ) → text ≡ [] → GrowsByFront before after text → Grows before after []
 nothing before after text none written = subst (λ (x : List ℕ). Grows before after x) (ap (take written.0) none ∙ take_nothing written.0) written.2
+
+-- where no byte was taken, as many are left
+untouched : (bytes : List ℕ) (left : Option (List ℕ)) → driver.IsTaken bytes left 0 → IfSome left (λ rest. length rest ≡ length bytes)
+untouched bytes None taken = tt
+untouched bytes (Some rest) taken = omega (arith, taken)
 
 -- How a word's task is a form of the program, with a status for each of its own reasons to stop.
 pub record IsForm {B : Type 0} (t : Task B) (form : Form) (limit : ℕ) (own : B → Status) : Type 0 where
@@ -59,7 +64,7 @@ module _ {B : Type 0} (t : Task B) (form : Form) (limit : ℕ) (own : B → Stat
         | inr into ↦ inr (text, inl into, written)
       ]
   meets bytes left (Err word.Write) before after (text, inr (ended, comes), written) = inr (text, inr (ended_status limit own ended, is.to bytes ended text comes), written)
-  meets bytes left (Err word.Memory) before after (text, inl none, written) = (text, inl none, written)
+  meets bytes left (Err word.Memory) before after (text, inl (taken, none), written) = (text, inl (untouched bytes left taken, none), written)
   meets bytes left (Err word.Memory) before after (text, inr lacks, written) = (text, inr (is.out bytes text lacks), written)
 
   meets_told : (told left : Option (List ℕ)) (ended : Ended B) (before after : Option (List ℕ)) → IfSome told (λ bytes. driver.Meets t limit bytes left ended before after) → IfSome told (λ bytes. Meets form limit bytes left (ended_status limit own ended) before after)

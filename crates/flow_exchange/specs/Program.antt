@@ -1,10 +1,9 @@
 -- What the program does: which status comes, and what stands in out, for each form of its words.
-use Rattle.std.specs.Prelude.{◌≡◌, ◌≢◌, ◌⊎◌, ◌↔◌, ◌+◌, ℕ, List, [], Option, Some, IfSome}
+use Rattle.std.specs.Prelude.{◌≡◌, ◌≢◌, ◌⊎◌, ◌↔◌, ◌+◌, ℕ, List, [], length, Option, Some, IfSome}
 use Rattle.flow_io.specs.Faults.{Rose, Blames}
 use Rattle.flow_io.specs.Streams.{Grows, GrowsByFront, TakesAtMost}
 use Rattle.flow_io.specs.Changes.{Change}
 use Rattle.word_driver.specs.Ended.{Ended}
-use Rattle.word_driver.specs.Does.{IsTaken}
 use Rattle.line_records.specs.Encoding.{EncodesTo, EncodesInto}
 use Rattle.flow_exchange.specs.declared.form.Form.{Form}
 use Rattle.flow_exchange.specs.declared.form.Form.TheVariants.{Run, Audit, Report, Encode}
@@ -75,7 +74,7 @@ BreaksOff form limit bytes before after =
 -- where memory ran out: nothing was read or written, or it may run out there
 abbrev pub RunsOut : Form → ℕ → List ℕ → Option (List ℕ) → Option (List ℕ) → Option (List ℕ) → Type 0
 RunsOut form limit bytes left before after =
-    (text : List ℕ) × ((IsTaken bytes left 0 × (text ≡ [])) ⊎ LacksAt form limit bytes text) × Grows before after text
+    (text : List ℕ) × ((IfSome left (λ rest. length rest ≡ length bytes) × (text ≡ [])) ⊎ LacksAt form limit bytes text) × Grows before after text
 
 -- what stands in out, by what is left of the source, and by the status
 abbrev pub Meets : Form → ℕ → List ℕ → Option (List ℕ) → Status → Option (List ℕ) → Option (List ℕ) → Type 0
