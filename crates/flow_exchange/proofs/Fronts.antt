@@ -28,8 +28,8 @@ use Rattle.batch_audit.proofs.LawProofs.{one_market}
 use Rattle.batch_report.specs.Reports.{IsReport}
 use Rattle.batch_report.proofs.OneReport.{one_report}
 use Rattle.word_driver.specs.Ended.{Ended}
-use Rattle.line_records.specs.Encoding.{EncodesTo, EncodesInto}
-use Rattle.line_records.proofs.OneReadings.{first_is_a_front}
+use Rattle.line_records.specs.Encoding.{EncodesTo, EncodesInto, EncodesShort}
+use Rattle.line_records.proofs.OneReadings.{first_is_a_front, before_next}
 use Rattle.exchange_session.specs.Journals.{Journals}
 use Rattle.flow_exchange.specs.declared.form.Form.TheVariants.{Run, Audit, Report, Encode}
 use Rattle.flow_exchange.specs.declared.status.Status.{Status}
@@ -60,6 +60,10 @@ encode_begins : (limit : ℕ) (bytes : List ℕ) (ended : Ended ℕ) (text begun
 encode_begins limit bytes ended text begun all first =
     let on = first_is_a_front (limit < length bytes) (take limit bytes) all.bad first.commands all.commands first.first all.reads in
     begins-spelled command_magic (λ command. spelling (record_of command)) all.commands first.commands on.0 text begun on.1 all.writes first.writes
+
+-- where memory ran out at a line
+encode_begun : (limit : ℕ) (bytes begun : List ℕ) → EncodesShort limit bytes begun → EncodesInto limit bytes begun
+encode_begun limit bytes begun short = record { commands = short.commands; first = before_next (limit < length bytes) (take limit bytes) short.commands short.first; writes = short.writes }
 
 -- ---- run
 
@@ -178,4 +182,4 @@ begun_is_a_front Report limit bytes status text begun comes (inl gets) = report_
 begun_is_a_front Report limit bytes status text begun comes (inr short) = report_begins-file limit bytes status text begun comes (report_begun limit bytes begun short)
 begun_is_a_front Encode limit bytes status text begun comes (inl gets) = encode_begins limit bytes comes.0 text begun comes.1 gets
 begun_is_a_front Encode limit bytes status text begun comes (inr (inl none)) = begins-nothing text begun none
-begun_is_a_front Encode limit bytes status text begun comes (inr (inr gets)) = encode_begins limit bytes comes.0 text begun comes.1 gets
+begun_is_a_front Encode limit bytes status text begun comes (inr (inr short)) = encode_begins limit bytes comes.0 text begun comes.1 (encode_begun limit bytes begun short)

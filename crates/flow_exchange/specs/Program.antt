@@ -4,7 +4,7 @@ use Rattle.flow_io.specs.Faults.{Rose, Blames}
 use Rattle.flow_io.specs.Streams.{Grows, GrowsByFront, TakesAtMost}
 use Rattle.flow_io.specs.Changes.{Change}
 use Rattle.word_driver.specs.Ended.{Ended}
-use Rattle.line_records.specs.Encoding.{EncodesTo, EncodesInto}
+use Rattle.line_records.specs.Encoding.{EncodesTo, EncodesInto, EncodesShort}
 use Rattle.flow_exchange.specs.declared.form.Form.{Form}
 use Rattle.flow_exchange.specs.declared.form.Form.TheVariants.{Run, Audit, Report, Encode}
 use Rattle.flow_exchange.specs.declared.status.Status.{Status}
@@ -36,7 +36,7 @@ abbrev pub LacksAt : Form → ℕ → List ℕ → List ℕ → Type 0
 LacksAt Run limit bytes text = RunsShort limit bytes text
 LacksAt Audit limit bytes text = AuditsShort limit bytes text
 LacksAt Report limit bytes text = ReportsShort limit bytes text
-LacksAt Encode limit bytes text = (text ≡ []) ⊎ EncodesInto limit bytes text
+LacksAt Encode limit bytes text = (text ≡ []) ⊎ EncodesShort limit bytes text
 
 -- how many bytes of the source are taken at most
 abbrev pub most_taken : Form → ℕ → ℕ

@@ -15,9 +15,9 @@ use Rattle.wire_records.specs.Commands.{Command}
 use Rattle.word_driver.specs.declared.fault.Fault.TheVariants as fault
 use Rattle.word_driver.specs.Ended.{Ended}
 use Rattle.word_driver.specs.Does.{Determines, Meets}
-use Rattle.line_records.specs.Lines.{IsPiece, AreLines, AreRead, AreFirst, spell_commands}
+use Rattle.line_records.specs.Lines.{IsPiece, AreLines, AreRead, AreFirst, HaveNext, spell_commands}
 use Rattle.line_records.specs.Encoded.{HasEncoded}
-use Rattle.line_records.specs.Encoding.{EncodeEnds, EncodesTo, EncodesInto}
+use Rattle.line_records.specs.Encoding.{EncodeEnds, EncodesTo, EncodesInto, EncodesShort}
 use Rattle.line_records.specs.Tasks.{encoding}
 use Rattle.line_records.specs.Private.{EncodesAll}
 use Rattle.line_records.proofs.Pieces.{lines_behind, told}
@@ -92,6 +92,19 @@ module _ (P Q : Type 0) (same : P ↔ Q) where
     say = first.say;
   }
 
+  next_alike : (bytes : List ℕ) (commands : List Command) → HaveNext P bytes commands → HaveNext Q bytes commands
+  next_alike bytes commands first = record {
+    lines = first.lines;
+    read = first.read;
+    next = first.next;
+    more = first.more;
+    tickers = first.tickers;
+    split = lines_alike bytes first.lines first.split;
+    front = first.front;
+    say = first.say;
+    written = first.written;
+  }
+
   ends_alike : (bad : Option ℕ) (ended : Ended ℕ) → EncodeEnds P bad ended → EncodeEnds Q bad ended
   ends_alike (Some number) ended ends = ends
   ends_alike None ended (inl done) = inl (λ q. done.0 (same.1 q), done.1)
@@ -103,6 +116,13 @@ module _ (limit : ℕ) (left : List ℕ) (after : Option (List ℕ)) (input : Wh
   encodes_into commands first = record {
     commands = commands;
     first = rw whole.bytes at (first_alike (IsTrue input.more) (limit < length left) whole.more input.bytes.items commands first);
+    writes = refl;
+  }
+
+  encodes_short : (commands : List Command) → HaveNext (IsTrue input.more) input.bytes.items commands → EncodesShort limit left (command_magic ++ spell_commands commands)
+  encodes_short commands first = record {
+    commands = commands;
+    first = rw whole.bytes at (next_alike (IsTrue input.more) (limit < length left) whole.more input.bytes.items commands first);
     writes = refl;
   }
 
@@ -127,7 +147,7 @@ module _ (limit : ℕ) (left : List ℕ) (after : Option (List ℕ)) (input : Wh
   meets (Err fault.Write) before middle now magic encoded =
       (command_magic ++ spell_commands encoded.0, inl (0, inr (encodes_into encoded.0 encoded.1)), GrowsByFront-more before middle now command_magic (spell_commands encoded.0) magic encoded.2)
   meets (Err fault.Memory) before middle now magic encoded =
-      (command_magic ++ spell_commands encoded.0, inr (inr (encodes_into encoded.0 encoded.1)), Grows-more before middle now command_magic (spell_commands encoded.0) magic encoded.2)
+      (command_magic ++ spell_commands encoded.0, inr (inr (encodes_short encoded.0 encoded.1)), Grows-more before middle now command_magic (spell_commands encoded.0) magic encoded.2)
   meets (Err fault.Read) before middle now magic encoded = absurd encoded
   meets (Err fault.NotFlow) before middle now magic encoded = absurd encoded
   meets (Err (fault.Torn n)) before middle now magic encoded = absurd encoded

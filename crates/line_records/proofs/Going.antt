@@ -60,7 +60,7 @@ command_encoded tickers line number command next (Ok done) before after says is 
 }
 command_encoded tickers line number command next (Err (NoCommand bad)) before after says is = absurd is
 command_encoded tickers line number command next (Err Write) before after says is = (command, says, is)
-command_encoded tickers line number command next (Err Memory) before after says is = is
+command_encoded tickers line number command next (Err Memory) before after says is = (says.asks.written, is)
 
 -- records of more commands
 records_more : (commands more : List Command) → spell_commands (commands ++ more) ≡ spell_commands commands ++ spell_commands more
@@ -126,8 +126,8 @@ module _ (More : Type 0) (text : List ℕ) (place number : ℕ) (tickers next : 
   )
   stopped Memory at = (
     so.commands,
-    record { lines = so.ended ++ line ∷ rest; read = so.ended; more = line ∷ rest; tickers = tickers; split = split; front = refl; say = so.say },
-    rw at so.written,
+    record { lines = so.ended ++ line ∷ rest; read = so.ended; next = line; more = rest; tickers = tickers; split = split; front = refl; say = so.say; written = at.0 },
+    rw at.1 so.written,
   )
 
   -- all lines were read, and this was the last

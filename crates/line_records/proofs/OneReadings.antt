@@ -3,7 +3,7 @@ use Rattle.std.proofs.Common.{◌≡◌, ◌+◌, ℕ, List, [], ◌∷◌, ◌+
 use Rattle.std.proofs.lemmas.List.{append_cancel_left}
 use Rattle.wire_records.specs.Commands.{Command}
 use Rattle.wire_records.proofs.CodeLaws.{parted}
-use Rattle.line_records.specs.Lines.{AreRead, StopsAt}
+use Rattle.line_records.specs.Lines.{AreRead, AreFirst, HaveNext, StopsAt}
 use Rattle.line_records.specs.Laws.{OneReading, NoneIsUnread, FirstIsAFront}
 use Rattle.line_records.proofs.Pieces.{ended_lines, ended_code, piece_from_none, all_lines}
 use Rattle.line_records.proofs.Saying.{Stops, goes_on, stop_alike, none_is_unstopped}
@@ -47,6 +47,10 @@ first_is_a_front More bytes bad first commands a b =
     let y = rest_of b.tickers b.read b.lines bad b.stops in
     let on = goes_on [] a.read a.more b.read y.more first commands a.tickers b.tickers (sym a.front ∙ one_split More bytes a.lines b.lines a.split b.split ∙ y.all) a.say b.say y.stops in
     (on.asked, on.commands_are)
+
+-- the lines before one that isn't blank are first lines
+pub before_next : (More : Type 0) (bytes : List ℕ) (commands : List Command) → HaveNext More bytes commands → AreFirst More bytes commands
+before_next More bytes commands at = record { lines = at.lines; read = at.read; more = at.next ∷ at.more; tickers = at.tickers; split = at.split; front = at.front; say = at.say }
 
 -- where it is told whether there is more, there is a reading
 unread_where : (More : Type 0) (bytes : List ℕ) → ((bad : Option ℕ) (commands : List Command) → AreRead More bytes bad commands → ⊥) → More ⊎ (¬ More) → ⊥

@@ -4,7 +4,7 @@ use Rattle.wire_records.specs.Records.{command_magic}
 use Rattle.wire_records.specs.Commands.{Command}
 use Rattle.word_driver.specs.declared.fault.Fault.TheVariants.{TooLong, Stopped}
 use Rattle.word_driver.specs.Ended.{Ended}
-use Rattle.line_records.specs.Lines.{AreRead, AreFirst, spell_commands}
+use Rattle.line_records.specs.Lines.{AreRead, AreFirst, HaveNext, spell_commands}
 
 -- how it ends: with the number of the first line that is no command, counted from 1, and else by whether the input has more
 abbrev pub EncodeEnds : Type 0 → Option ℕ → Ended ℕ → Type 0
@@ -24,4 +24,10 @@ pub record EncodesTo (limit : ℕ) (bytes : List ℕ) (ended : Ended ℕ) (text 
 pub record EncodesInto (limit : ℕ) (bytes : List ℕ) (text : List ℕ) : Type 0 where
   pub commands : List Command
   pub first : AreFirst (limit < length bytes) (take limit bytes) commands
+  pub writes : text ≡ command_magic ++ spell_commands commands
+
+-- The text is the command file of what the lines before one that isn't blank ask for.
+pub record EncodesShort (limit : ℕ) (bytes : List ℕ) (text : List ℕ) : Type 0 where
+  pub commands : List Command
+  pub first : HaveNext (limit < length bytes) (take limit bytes) commands
   pub writes : text ≡ command_magic ++ spell_commands commands

@@ -58,6 +58,18 @@ pub record AreFirst (More : Type 0) (bytes : List ℕ) (commands : List Command)
   pub front : lines ≡ read ++ more
   pub say : Say [] read commands tickers
 
+-- The first lines ask for these commands, and the one behind them isn't blank.
+pub record HaveNext (More : Type 0) (bytes : List ℕ) (commands : List Command) : Type 0 where
+  pub lines : List (List ℕ)
+  pub read : List (List ℕ)
+  pub next : List ℕ
+  pub more : List (List ℕ)
+  pub tickers : List (List ℕ)
+  pub split : AreLines More bytes lines
+  pub front : lines ≡ read ++ next ∷ more
+  pub say : Say [] read commands tickers
+  pub written : ¬ IsBlank next
+
 -- the bytes of the records of commands, one after the other
 abbrev pub spell_commands : List Command → List ℕ
 spell_commands commands = flat_map (λ command. spelling (record_of command)) commands

@@ -4,12 +4,12 @@ use Rattle.flow_io.specs.Streams.{Grows, GrowsByFront}
 use Rattle.wire_records.specs.Records.{spelling}
 use Rattle.wire_records.specs.Commands.{Command}
 use Rattle.wire_records.specs.CommandRecords.{record_of}
-use Rattle.order_text.specs.Lines.{Says, SaysNothing}
+use Rattle.order_text.specs.Lines.{IsBlank, Says, SaysNothing}
 use Rattle.line_records.specs.declared.encode.EncodeFault.{EncodeFault}
 use Rattle.line_records.specs.declared.encode.EncodeFault.TheVariants.{NoCommand, Write, Memory}
 use Rattle.word_driver.specs.declared.fault.Fault.TheVariants as fault
 use Rattle.word_driver.specs.Ended.{Ended}
-use Rattle.line_records.specs.Lines.{Say, AreFirst, spell_commands}
+use Rattle.line_records.specs.Lines.{Say, AreFirst, HaveNext, spell_commands}
 use Rattle.line_records.specs.Encoded.{HasEncoded}
 
 -- the record of a command is written, or a front of it where the write fails, or nothing where memory is wanted
@@ -31,12 +31,12 @@ IsLineEncoded tickers line number next (Ok _) before after = EncodesLine tickers
 IsLineEncoded tickers line number next (Err (NoCommand bad)) before after = SaysNothing tickers line × (bad ≡ number) × (after ≡ before)
 IsLineEncoded tickers line number next (Err Write) before after =
     (command : Command) × Says tickers line command next × GrowsByFront before after (spelling (record_of command))
-IsLineEncoded tickers line number next (Err Memory) before after = after ≡ before
+IsLineEncoded tickers line number next (Err Memory) before after = (¬ IsBlank line) × (after ≡ before)
 
 -- the lines of the input were encoded, behind the magic: how that ends, and what was written
 abbrev pub EncodesAll : Type 0 → List ℕ → Ended ℕ → Option (List ℕ) → Option (List ℕ) → Type 0
 EncodesAll More bytes (Err fault.Write) before after = (commands : List Command) × AreFirst More bytes commands × GrowsByFront before after (spell_commands commands)
-EncodesAll More bytes (Err fault.Memory) before after = (commands : List Command) × AreFirst More bytes commands × Grows before after (spell_commands commands)
+EncodesAll More bytes (Err fault.Memory) before after = (commands : List Command) × HaveNext More bytes commands × Grows before after (spell_commands commands)
 EncodesAll More bytes (Err fault.Read) before after = ⊥
 EncodesAll More bytes (Err fault.NotFlow) before after = ⊥
 EncodesAll More bytes (Err (fault.Torn n)) before after = ⊥

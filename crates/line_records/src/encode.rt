@@ -74,9 +74,9 @@ impl Encoding {
 /// line feeds, and the piece behind the last line feed, where it isn't empty and there is no `more` of the text.
 ///
 /// `NoCommand` with its number comes exactly at the first line that is neither blank nor a command; the records of the
-/// lines before it are written. `Write` comes only where the sink's count of faults rose, and `Memory` is free; the records
-/// of the first lines are written then, the last of them perhaps in part after `Write`. The cost is that of reading the
-/// lines. Memory: what one line takes, and one record.
+/// lines before it are written. `Write` comes only where the sink's count of faults rose, and `Memory` only at a line that
+/// isn't blank; the records of the first lines are written then, the last of them perhaps in part after `Write`. The cost is
+/// that of reading the lines. Memory: what one line takes, and one record.
 pub fn encode_lines<K: Sink>(
     alloc: Global,
     text: &[u8],

@@ -9,12 +9,12 @@ use Rattle.order_text.specs.declared.line.LineFault.TheVariants.{NoCommand, Memo
 use Rattle.order_text.specs.Lines.{IsBlank, Says, SaysNothing}
 
 -- This is a line's answer after the tickers of the lines before, and these are the tickers after it. A line has one
--- answer but for want of memory, by the laws.
+-- answer but for want of memory, by the laws; a blank line wants none.
 abbrev pub IsRead : List (List ℕ) → List ℕ → List (List ℕ) → Result LineRead LineFault → Type 0
 IsRead tickers line after (Ok Blank) = IsBlank line × (after ≡ tickers)
 IsRead tickers line after (Ok (Asks command)) = Says tickers line (command_in command) after
 IsRead tickers line after (Err NoCommand) = SaysNothing tickers line × (after ≡ tickers)
-IsRead tickers line after (Err Memory) = after ≡ tickers
+IsRead tickers line after (Err Memory) = (¬ IsBlank line) × (after ≡ tickers)
 
 -- the row of what was read, if it has one, fits its record
 abbrev pub IsShort : LineRead → Type 0

@@ -106,7 +106,8 @@ fn add_ticker(tickers: &mut TickerTable, command: &Command) -> Result<(), LineFa
 /// the table. Of a doubled key the last value stays, as the reader of JSON has it.
 ///
 /// The ticker of an `asset` line is added to the table where it can be added, and the line is a command either way.
-/// `NoCommand` is exactly for what is neither blank nor a command; `Memory` is free. After either the table is as before.
+/// `NoCommand` is exactly for what is neither blank nor a command; `Memory` may be for any line that isn't blank. After either
+/// the table is as before.
 /// The cost is that of the line's bytes, and for each weight that of the entries before it.
 pub fn read_line(
     alloc: Global,
