@@ -15,6 +15,7 @@ use Rattle.wire_records.specs.Records.{AreBytes}
 use Rattle.wire_records.specs.Commands.{Request, Command, AddAsset, OpenAccount, DepositMoney, DepositAsset, WithdrawMoney, WithdrawAsset, PlaceOrder, CancelOrder, RunBatch, PlaceUntil, SetMoneyCredit, SetUnitCredit}
 use Rattle.wire_records.specs.CommandRecords.{IsCommand, IsRequest, IsEntry}
 use Rattle.ticker_table.specs.Tickers.{AreTickers}
+use Rattle.wire_records.specs.declared.version.Version.{Version}
 use Rattle.order_text.specs.Lines.{number_at, in_32_bits, small_at, signed_at, padded, asset_named, asset_at, in_signed_32_bits, weight_of, entry_of, put_entry, put_members, row_at, text_at, HasTicker, HasRequest, LineAsks}
 use Rattle.order_text.proofs.ShortRows.{row_is_short}
 use Rattle.order_text.proofs.ReadNumbers.{IsNum, Fits, MembersFit, read_fits}
@@ -226,40 +227,40 @@ request_fits tickers d r are all few f = record {
 }
 
 -- by the command
-pub command_fits : (tickers : List (List ℕ)) (line : List ℕ) (command : Command) → AreTickers tickers → LineAsks tickers line command → IsCommand command
-command_fits tickers line (AddAsset ticker) are asks = ticker_fits (codes "ticker") asks.value ticker asks.asks.fields
-command_fits tickers line OpenAccount are asks = tt
-command_fits tickers line (DepositMoney account ticks) are asks =
+pub command_fits : (version : Version) (tickers : List (List ℕ)) (line : List ℕ) (command : Command) → AreTickers tickers → LineAsks version tickers line command → IsCommand command
+command_fits version tickers line (AddAsset ticker) are asks = ticker_fits (codes "ticker") asks.value ticker asks.asks.fields
+command_fits version tickers line OpenAccount are asks = tt
+command_fits version tickers line (DepositMoney account ticks) are asks =
     let all = read_fits line asks.value asks.reads in
     let f = asks.asks.fields in
     (small_below (codes "account") asks.value account f.0, number_below (codes "ticks") asks.value ticks all f.1)
-command_fits tickers line (DepositAsset account asset units) are asks =
+command_fits version tickers line (DepositAsset account asset units) are asks =
     let all = read_fits line asks.value asks.reads in
     let f = asks.asks.fields in
     (small_below (codes "account") asks.value account f.0, asset_fits tickers (codes "asset") asks.value asset are f.1, number_below (codes "units") asks.value units all f.2)
-command_fits tickers line (WithdrawMoney account ticks) are asks =
+command_fits version tickers line (WithdrawMoney account ticks) are asks =
     let all = read_fits line asks.value asks.reads in
     let f = asks.asks.fields in
     (small_below (codes "account") asks.value account f.0, number_below (codes "ticks") asks.value ticks all f.1)
-command_fits tickers line (WithdrawAsset account asset units) are asks =
+command_fits version tickers line (WithdrawAsset account asset units) are asks =
     let all = read_fits line asks.value asks.reads in
     let f = asks.asks.fields in
     (small_below (codes "account") asks.value account f.0, asset_fits tickers (codes "asset") asks.value asset are f.1, number_below (codes "units") asks.value units all f.2)
-command_fits tickers line (PlaceOrder r) are asks =
-    request_fits tickers asks.value r are (read_fits line asks.value asks.reads) (omega (arith, row_is_short tickers line (PlaceOrder r) are asks)) asks.asks.fields
-command_fits tickers line (CancelOrder account order) are asks =
+command_fits version tickers line (PlaceOrder r) are asks =
+    request_fits tickers asks.value r are (read_fits line asks.value asks.reads) (omega (arith, row_is_short version tickers line (PlaceOrder r) are asks)) asks.asks.fields
+command_fits version tickers line (CancelOrder account order) are asks =
     let all = read_fits line asks.value asks.reads in
     let f = asks.asks.fields in
     (small_below (codes "account") asks.value account f.0, number_below (codes "order") asks.value order all f.1)
-command_fits tickers line (RunBatch budget) are asks = small_below (codes "budget") asks.value budget asks.asks.fields
-command_fits tickers line (PlaceUntil last r) are asks =
+command_fits version tickers line (RunBatch budget) are asks = small_below (codes "budget") asks.value budget asks.asks.fields
+command_fits version tickers line (PlaceUntil last r) are asks =
     let f = asks.asks.fields in
-    (small_below (codes "last") asks.value last f.0, request_fits tickers asks.value r are (read_fits line asks.value asks.reads) (omega (arith, row_is_short tickers line (PlaceUntil last r) are asks)) f.1)
-command_fits tickers line (SetMoneyCredit account ticks) are asks =
+    (small_below (codes "last") asks.value last f.0, request_fits tickers asks.value r are (read_fits line asks.value asks.reads) (omega (arith, row_is_short version tickers line (PlaceUntil last r) are asks)) f.1)
+command_fits version tickers line (SetMoneyCredit account ticks) are asks =
     let all = read_fits line asks.value asks.reads in
     let f = asks.asks.fields in
     (small_below (codes "account") asks.value account f.0, number_below (codes "ticks") asks.value ticks all f.1)
-command_fits tickers line (SetUnitCredit account asset units) are asks =
+command_fits version tickers line (SetUnitCredit account asset units) are asks =
     let all = read_fits line asks.value asks.reads in
     let f = asks.asks.fields in
     (small_below (codes "account") asks.value account f.0, asset_fits tickers (codes "asset") asks.value asset are f.1, number_below (codes "units") asks.value units all f.2)

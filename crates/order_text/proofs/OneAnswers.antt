@@ -8,6 +8,7 @@ use Rattle.order_text.specs.declared.line.LineRead.{LineRead}
 use Rattle.order_text.specs.declared.line.LineRead.TheVariants.{Blank, Asks}
 use Rattle.order_text.specs.declared.line.LineFault.{LineFault}
 use Rattle.order_text.specs.declared.line.LineFault.TheVariants.{NoCommand, Memory}
+use Rattle.wire_records.specs.declared.version.Version.{Version}
 use Rattle.order_text.specs.Lines.{AreAfter}
 use Rattle.order_text.specs.Answers.{IsRead, wants_memory}
 use Rattle.order_text.specs.Laws.{OneSaying}
@@ -67,23 +68,23 @@ asks_own c = Ok (Asks c)
 pub one_saying : OneSaying
 one_saying = search (rules, refl)
 
-pub one_answer : OneSaying → (tickers : List (List ℕ)) (line : List ℕ) (a b : Answer) (after other : List (List ℕ)) → a ≢ wants_memory → b ≢ wants_memory
-    → IsRead tickers line after a → IsRead tickers line other b → (a ≡ b) × (after ≡ other)
-one_answer one tickers line (Ok Blank) (Ok Blank) after other x y p q = (refl, p.1 ∙ sym q.1)
-one_answer one tickers line (Ok Blank) (Ok (Asks d)) after other x y p q = absurd (q.asks.written p.0)
-one_answer one tickers line (Ok Blank) (Err NoCommand) after other x y p q = absurd (q.0.written p.0)
-one_answer one tickers line (Ok Blank) (Err Memory) after other x y p q = absurd (y refl)
-one_answer one tickers line (Ok (Asks c)) (Ok Blank) after other x y p q = absurd (p.asks.written q.0)
-one_answer one tickers line (Ok (Asks c)) (Ok (Asks d)) after other x y p q =
-    let same = one tickers line (command_in c) (command_in d) after other p q in
+pub one_answer : OneSaying → (version : Version) (tickers : List (List ℕ)) (line : List ℕ) (a b : Answer) (after other : List (List ℕ)) → a ≢ wants_memory → b ≢ wants_memory
+    → IsRead version tickers line after a → IsRead version tickers line other b → (a ≡ b) × (after ≡ other)
+one_answer one version tickers line (Ok Blank) (Ok Blank) after other x y p q = (refl, p.1 ∙ sym q.1)
+one_answer one version tickers line (Ok Blank) (Ok (Asks d)) after other x y p q = absurd (q.asks.written p.0)
+one_answer one version tickers line (Ok Blank) (Err NoCommand) after other x y p q = absurd (q.0.written p.0)
+one_answer one version tickers line (Ok Blank) (Err Memory) after other x y p q = absurd (y refl)
+one_answer one version tickers line (Ok (Asks c)) (Ok Blank) after other x y p q = absurd (p.asks.written q.0)
+one_answer one version tickers line (Ok (Asks c)) (Ok (Asks d)) after other x y p q =
+    let same = one version tickers line (command_in c) (command_in d) after other p q in
     (ap asks_own (same_own c d same.0), same.1)
-one_answer one tickers line (Ok (Asks c)) (Err NoCommand) after other x y p q = absurd (q.0.no_command (command_in c) p.asks)
-one_answer one tickers line (Ok (Asks c)) (Err Memory) after other x y p q = absurd (y refl)
-one_answer one tickers line (Err NoCommand) (Ok Blank) after other x y p q = absurd (p.0.written q.0)
-one_answer one tickers line (Err NoCommand) (Ok (Asks d)) after other x y p q = absurd (p.0.no_command (command_in d) q.asks)
-one_answer one tickers line (Err NoCommand) (Err NoCommand) after other x y p q = (refl, p.1 ∙ sym q.1)
-one_answer one tickers line (Err NoCommand) (Err Memory) after other x y p q = absurd (y refl)
-one_answer one tickers line (Err Memory) b after other x y p q = absurd (x refl)
+one_answer one version tickers line (Ok (Asks c)) (Err NoCommand) after other x y p q = absurd (q.0.no_command (command_in c) p.asks)
+one_answer one version tickers line (Ok (Asks c)) (Err Memory) after other x y p q = absurd (y refl)
+one_answer one version tickers line (Err NoCommand) (Ok Blank) after other x y p q = absurd (p.0.written q.0)
+one_answer one version tickers line (Err NoCommand) (Ok (Asks d)) after other x y p q = absurd (p.0.no_command (command_in d) q.asks)
+one_answer one version tickers line (Err NoCommand) (Err NoCommand) after other x y p q = (refl, p.1 ∙ sym q.1)
+one_answer one version tickers line (Err NoCommand) (Err Memory) after other x y p q = absurd (y refl)
+one_answer one version tickers line (Err Memory) b after other x y p q = absurd (x refl)
 
 -- a command isn't without tickers after it
 some_after : (tickers : List (List ℕ)) (command : Command) → ((after : List (List ℕ)) → AreAfter tickers command after → ⊥) → ⊥
@@ -109,8 +110,8 @@ is_wanting (Err Memory) = true
 told : (result : Answer) → is_wanting result ≡ false → result ≢ wants_memory
 told result is same = true≢false (sym (ap is_wanting same) ∙ is)
 
-pub none_is_unanswered : (tickers : List (List ℕ)) (line : List ℕ) → ((after : List (List ℕ)) (result : Answer) → result ≢ wants_memory → IsRead tickers line after result → ⊥) → ⊥
-none_is_unanswered tickers line none =
+pub none_is_unanswered : (version : Version) (tickers : List (List ℕ)) (line : List ℕ) → ((after : List (List ℕ)) (result : Answer) → result ≢ wants_memory → IsRead version tickers line after result → ⊥) → ⊥
+none_is_unanswered version tickers line none =
     none tickers (Err NoCommand) (told (Err NoCommand) refl) (
       record {
         written = λ blank. none tickers (Ok Blank) (told (Ok Blank) refl) (blank, refl);

@@ -10,6 +10,7 @@ use Rattle.serde_json.specs.Find.{get, as_object}
 use Rattle.ticker_table.specs.Tickers.{AreTickers}
 use Rattle.wire_records.specs.Commands.{Command, AddAsset, OpenAccount, DepositMoney, DepositAsset, WithdrawMoney, WithdrawAsset, PlaceOrder, CancelOrder, RunBatch, PlaceUntil, SetMoneyCredit, SetUnitCredit}
 use Rattle.wire_records.specs.CommandRecords.{HasShortRow}
+use Rattle.wire_records.specs.declared.version.Version.{Version}
 use Rattle.order_text.specs.Lines.{LineAsks, padded, asset_named, weight_of, entry_of, put_entry, put_members}
 
 -- the assets ascend from one number on, below another
@@ -96,18 +97,18 @@ few_at : (tickers : List (List ℕ)) (members : Option Members) (row : List Entr
 few_at tickers None row is = absurd (true≢false (sym (ap is_some is)))
 few_at tickers (Some members) row is = few_entries tickers members row is
 
-pub row_is_short : (tickers : List (List ℕ)) (line : List ℕ) (command : Command) → AreTickers tickers → LineAsks tickers line command → HasShortRow command
-row_is_short tickers line (AddAsset ticker) are asks = tt
-row_is_short tickers line OpenAccount are asks = tt
-row_is_short tickers line (DepositMoney account ticks) are asks = tt
-row_is_short tickers line (DepositAsset account asset units) are asks = tt
-row_is_short tickers line (WithdrawMoney account ticks) are asks = tt
-row_is_short tickers line (WithdrawAsset account asset units) are asks = tt
-row_is_short tickers line (PlaceOrder request) are asks =
+pub row_is_short : (version : Version) (tickers : List (List ℕ)) (line : List ℕ) (command : Command) → AreTickers tickers → LineAsks version tickers line command → HasShortRow command
+row_is_short version tickers line (AddAsset ticker) are asks = tt
+row_is_short version tickers line OpenAccount are asks = tt
+row_is_short version tickers line (DepositMoney account ticks) are asks = tt
+row_is_short version tickers line (DepositAsset account asset units) are asks = tt
+row_is_short version tickers line (WithdrawMoney account ticks) are asks = tt
+row_is_short version tickers line (WithdrawAsset account asset units) are asks = tt
+row_is_short version tickers line (PlaceOrder request) are asks =
     omega (arith, are.few, few_at tickers (option_and_then as_object (get (codes "weights") asks.value)) request.row asks.asks.fields.row)
-row_is_short tickers line (CancelOrder account order) are asks = tt
-row_is_short tickers line (RunBatch budget) are asks = tt
-row_is_short tickers line (PlaceUntil last request) are asks =
+row_is_short version tickers line (CancelOrder account order) are asks = tt
+row_is_short version tickers line (RunBatch budget) are asks = tt
+row_is_short version tickers line (PlaceUntil last request) are asks =
     omega (arith, are.few, few_at tickers (option_and_then as_object (get (codes "weights") asks.value)) request.row asks.asks.fields.1.row)
-row_is_short tickers line (SetMoneyCredit account ticks) are asks = tt
-row_is_short tickers line (SetUnitCredit account asset units) are asks = tt
+row_is_short version tickers line (SetMoneyCredit account ticks) are asks = tt
+row_is_short version tickers line (SetUnitCredit account asset units) are asks = tt

@@ -7,7 +7,7 @@ use Rattle.serde_json.specs.Events.{members_len}
 use Rattle.serde_json.specs.Find.{get, as_str, as_number, as_u64, as_i64, as_object}
 use Rattle.wire_records.specs.Commands.{Request, Command, AddAsset, OpenAccount, DepositMoney, DepositAsset, WithdrawMoney, WithdrawAsset, PlaceOrder, CancelOrder, RunBatch, PlaceUntil, SetMoneyCredit, SetUnitCredit}
 use Rattle.wire_records.specs.Versions.{IsOfVersion}
-use Rattle.wire_records.specs.declared.version.Version.TheVariants.{One}
+use Rattle.wire_records.specs.declared.version.Version.{Version}
 use Rattle.ticker_table.specs.Adding.{IsAddable}
 
 -- a space, a tab or a carriage return
@@ -147,20 +147,20 @@ HasFields tickers d (SetMoneyCredit account ticks) = (small_at (codes "account")
 HasFields tickers d (SetUnitCredit account asset units) =
     (small_at (codes "account") d ≡ Some account) × (asset_at tickers (codes "asset") d ≡ Some asset) × (number_at (codes "units") d ≡ Some units)
 
--- an object asks for a command: it has the word and the fields, and no further keys; only commands of version One are asked for
-pub record Asks (tickers : List (List ℕ)) (d : Data) (command : Command) : Type 0 where
+-- an object asks for a command of a version: it has the word and the fields, and no further keys
+pub record Asks (version : Version) (tickers : List (List ℕ)) (d : Data) (command : Command) : Type 0 where
   pub word : text_at (codes "do") d ≡ Some (word_of command)
   pub fields : HasFields tickers d command
   pub keys : HasKeys (keys_of command) d
-  pub version : IsOfVersion One command
+  pub of_version : IsOfVersion version command
 
 -- a line asks for a command: it isn't blank, and it is the UTF-8 of an object that does
-pub record LineAsks (tickers : List (List ℕ)) (line : List ℕ) (command : Command) : Type 0 where
+pub record LineAsks (version : Version) (tickers : List (List ℕ)) (line : List ℕ) (command : Command) : Type 0 where
   pub written : ¬ IsBlank line
   pub utf8 : IsUtf8 line
   pub value : Data
   pub reads : read line ≡ Some value
-  pub asks : Asks tickers value command
+  pub asks : Asks version tickers value command
 
 -- the tickers after a ticker: with it, where it can be added
 abbrev pub AreWith : List (List ℕ) → List ℕ → List (List ℕ) → Type 0
@@ -182,12 +182,12 @@ AreAfter tickers (PlaceUntil last request) after = after ≡ tickers
 AreAfter tickers (SetMoneyCredit account ticks) after = after ≡ tickers
 AreAfter tickers (SetUnitCredit account asset units) after = after ≡ tickers
 
--- what a line says, after the tickers of the lines before, and the tickers after it
-pub record Says (tickers : List (List ℕ)) (line : List ℕ) (command : Command) (after : List (List ℕ)) : Type 0 where
-  pub asks : LineAsks tickers line command
+-- what a line says in a version, after the tickers of the lines before, and the tickers after it
+pub record Says (version : Version) (tickers : List (List ℕ)) (line : List ℕ) (command : Command) (after : List (List ℕ)) : Type 0 where
+  pub asks : LineAsks version tickers line command
   pub leaves : AreAfter tickers command after
 
 -- a line that is neither blank nor asks for a command
-pub record SaysNothing (tickers : List (List ℕ)) (line : List ℕ) : Type 0 where
+pub record SaysNothing (version : Version) (tickers : List (List ℕ)) (line : List ℕ) : Type 0 where
   pub written : ¬ IsBlank line
-  pub no_command : (command : Command) → ¬ LineAsks tickers line command
+  pub no_command : (command : Command) → ¬ LineAsks version tickers line command

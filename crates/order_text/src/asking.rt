@@ -3,7 +3,7 @@ ghost use Rattle.std.specs.Prelude.{◌≡◌, ◌≤◌, ℕ, ℤ, length, List
 ghost use Rattle.serde_json.specs.View.{view};
 ghost use Rattle.ticker_table.specs.Tickers.{ticker_limit};
 ghost use Rattle.order_text.specs.Lines.{HasKeys, small_at, number_at, signed_at, asset_at, row_at};
-ghost use Rattle.order_text.specs.Private.{IsFound, IsPlain, IsPlaced, IsAnswered, HasMoney, HasUnits, HasLimits};
+ghost use Rattle.order_text.specs.Private.{IsFound, IsPlain, IsOrder, IsUntil, IsPlaced, IsAnswered, HasMoney, HasUnits, HasLimits};
 
 use crate::LineFault;
 use crate::fields::{asset_at, has_keys, is_asked, number_at, signed_at, small_at, ticker_at};
@@ -12,10 +12,10 @@ use serde_json::Value;
 use std::alloc::Global;
 use ticker_table::TickerTable;
 use weight_rows::EntryList;
-use wire_records::Command;
+use wire_records::{Command, Version};
 
 fn add_asset(value: &Value) -> Option<Command>
-    ensures { (tickers : List (List ℕ)) → IsFound (codes "asset") tickers (view value.now) result }
+    ensures { (tickers : List (List ℕ)) → IsFound (codes "asset") Version.One tickers (view value.now) result }
 {
     let ticker = ticker_at(value, "ticker")?;
     if !has_keys(value, 2) {
@@ -25,7 +25,7 @@ fn add_asset(value: &Value) -> Option<Command>
 }
 
 fn open_account(value: &Value) -> Option<Command>
-    ensures { (tickers : List (List ℕ)) → IsFound (codes "account") tickers (view value.now) result }
+    ensures { (tickers : List (List ℕ)) → IsFound (codes "account") Version.One tickers (view value.now) result }
 {
     if !has_keys(value, 1) {
         return None;
@@ -61,7 +61,7 @@ fn units(tickers: &TickerTable, value: &Value) -> Option<(u32, u16, u64)>
 }
 
 fn deposit(tickers: &TickerTable, value: &Value) -> Option<Command>
-    ensures { IsFound (codes "deposit") tickers.now (view value.now) result }
+    ensures { IsFound (codes "deposit") Version.One tickers.now (view value.now) result }
 {
     if let Some((account, ticks)) = money(value) {
         return Some(Command::DepositMoney { account, ticks });
@@ -75,7 +75,7 @@ fn deposit(tickers: &TickerTable, value: &Value) -> Option<Command>
 }
 
 fn withdraw(tickers: &TickerTable, value: &Value) -> Option<Command>
-    ensures { IsFound (codes "withdraw") tickers.now (view value.now) result }
+    ensures { IsFound (codes "withdraw") Version.One tickers.now (view value.now) result }
 {
     if let Some((account, ticks)) = money(value) {
         return Some(Command::WithdrawMoney { account, ticks });
@@ -89,7 +89,7 @@ fn withdraw(tickers: &TickerTable, value: &Value) -> Option<Command>
 }
 
 fn cancel(value: &Value) -> Option<Command>
-    ensures { (tickers : List (List ℕ)) → IsFound (codes "cancel") tickers (view value.now) result }
+    ensures { (tickers : List (List ℕ)) → IsFound (codes "cancel") Version.One tickers (view value.now) result }
 {
     let account = small_at(value, "account")?;
     let order = number_at(value, "order")?;
@@ -100,7 +100,7 @@ fn cancel(value: &Value) -> Option<Command>
 }
 
 fn run_batch(value: &Value) -> Option<Command>
-    ensures { (tickers : List (List ℕ)) → IsFound (codes "batch") tickers (view value.now) result }
+    ensures { (tickers : List (List ℕ)) → IsFound (codes "batch") Version.One tickers (view value.now) result }
 {
     let budget = small_at(value, "budget")?;
     if !has_keys(value, 2) {
@@ -149,8 +149,9 @@ fn row_at(alloc: Global, tickers: &TickerTable, value: &Value) -> Result<EntryLi
     }
 }
 
-fn place(alloc: Global, tickers: &TickerTable, value: &Value) -> Result<Command, LineFault>
-    ensures { IsPlaced tickers.now (view value.now) result }
+// An order that says no last batch.
+fn place_order(alloc: Global, tickers: &TickerTable, value: &Value) -> Result<Command, LineFault>
+    ensures { IsOrder tickers.now (view value.now) result }
 {
     let Some(limits) = limits_of(value) else {
         return Err(LineFault::NoCommand);
@@ -169,9 +170,67 @@ fn place(alloc: Global, tickers: &TickerTable, value: &Value) -> Result<Command,
     })
 }
 
-// The command of an object that asks for no order.
+// An order that says its last batch.
+fn place_until(alloc: Global, tickers: &TickerTable, value: &Value) -> Result<Command, LineFault>
+    ensures { IsUntil tickers.now (view value.now) result }
+{
+    let Some(last) = small_at(value, "last") else {
+        return Err(LineFault::NoCommand);
+    };
+    let Some(limits) = limits_of(value) else {
+        return Err(LineFault::NoCommand);
+    };
+    if !has_keys(value, 8) {
+        return Err(LineFault::NoCommand);
+    }
+    let row = row_at(alloc, tickers, value)?;
+    Ok(Command::PlaceUntil {
+        last,
+        account: limits.account,
+        low: limits.low,
+        high: limits.high,
+        rate: limits.rate,
+        cap: limits.cap,
+        row,
+    })
+}
+
+fn place(
+    alloc: Global,
+    version: Version,
+    tickers: &TickerTable,
+    value: &Value,
+) -> Result<Command, LineFault>
+    ensures { IsPlaced version tickers.now (view value.now) result }
+{
+    match version {
+        Version::One => place_order(alloc, tickers, value),
+        Version::Two => {
+            if has_keys(value, 7) {
+                return place_order(alloc, tickers, value);
+            }
+            place_until(alloc, tickers, value)
+        }
+    }
+}
+
+fn credit(tickers: &TickerTable, value: &Value) -> Option<Command>
+    ensures { IsFound (codes "credit") Version.Two tickers.now (view value.now) result }
+{
+    if let Some((account, ticks)) = money(value) {
+        return Some(Command::SetMoneyCredit { account, ticks });
+    }
+    let (account, asset, units) = units(tickers, value)?;
+    Some(Command::SetUnitCredit {
+        account,
+        asset,
+        units,
+    })
+}
+
+// The command of an object that asks for no order, of version One.
 fn plain(tickers: &TickerTable, value: &Value) -> Option<Command>
-    ensures { IsPlain tickers.now (view value.now) result }
+    ensures { IsPlain Version.One tickers.now (view value.now) result }
 {
     if is_asked(value, "asset") {
         return add_asset(value);
@@ -194,18 +253,34 @@ fn plain(tickers: &TickerTable, value: &Value) -> Option<Command>
     None
 }
 
-/// The command that a value asks for.
+// The same of either version.
+fn plain_in(version: Version, tickers: &TickerTable, value: &Value) -> Option<Command>
+    ensures { IsPlain version tickers.now (view value.now) result }
+{
+    match version {
+        Version::One => plain(tickers, value),
+        Version::Two => {
+            if is_asked(value, "credit") {
+                return credit(tickers, value);
+            }
+            plain(tickers, value)
+        }
+    }
+}
+
+/// The command of a version that a value asks for.
 pub(crate) fn command_of(
     alloc: Global,
+    version: Version,
     tickers: &TickerTable,
     value: &Value,
 ) -> Result<Command, LineFault>
-    ensures { IsAnswered tickers.now (view value.now) result }
+    ensures { IsAnswered version tickers.now (view value.now) result }
 {
     if is_asked(value, "place") {
-        return place(alloc, tickers, value);
+        return place(alloc, version, tickers, value);
     }
-    match plain(tickers, value) {
+    match plain_in(version, tickers, value) {
         Some(command) => Ok(command),
         None => Err(LineFault::NoCommand),
     }

@@ -12,7 +12,7 @@ use serde_json::{Category, Value};
 use std::alloc::Global;
 use thiserror::Error;
 use ticker_table::TickerTable;
-use wire_records::Command;
+use wire_records::{Command, Version};
 
 /// What a line is.
 #[derive(Drop)]
@@ -86,7 +86,7 @@ fn add_ticker(tickers: &mut TickerTable, command: &Command) -> Result<(), LineFa
 
 /// What a line of JSON is, given the tickers of the lines before it. The line has no line feed at its end.
 ///
-/// A command is one of version One: an object with exactly the keys of one row:
+/// A command is one of the version: an object with exactly the keys of one row, of which the last three are of version Two alone:
 ///
 /// | `do` | further keys | command |
 /// |---|---|---|
@@ -99,6 +99,9 @@ fn add_ticker(tickers: &mut TickerTable, command: &Command) -> Result<(), LineFa
 /// | `place` | `account`, `low`, `high`, `rate`, `cap`, `weights` | [`PlaceOrder`](Command::PlaceOrder) |
 /// | `cancel` | `account`, `order` | [`CancelOrder`](Command::CancelOrder) |
 /// | `batch` | `budget` | [`RunBatch`](Command::RunBatch) |
+/// | `place` | the same, and `last` | [`PlaceUntil`](Command::PlaceUntil) |
+/// | `credit` | `account`, `ticks` | [`SetMoneyCredit`](Command::SetMoneyCredit) |
+/// | `credit` | `account`, `asset`, `units` | [`SetUnitCredit`](Command::SetUnitCredit) |
 ///
 /// A ticker is an ASCII text of at most 8 bytes, valid or not. An asset is such a text too, and has to be in the
 /// table. Numbers are whole and fit the command's fields, without fraction or exponent. `weights` is an object of a
@@ -112,16 +115,17 @@ fn add_ticker(tickers: &mut TickerTable, command: &Command) -> Result<(), LineFa
 pub fn read_line(
     alloc: Global,
     line: &[u8],
+    version: Version,
     tickers: &mut TickerTable,
 ) -> Result<LineRead, LineFault>
-    ensures read { IsRead tickers.old line.now tickers.new result }
+    ensures read { IsRead version tickers.old line.now tickers.new result }
     ensures short { IfOk result IsShort }
 {
     if is_blank(line) {
         return Ok(LineRead::Blank);
     }
     let value = value_of(alloc, line)?;
-    let command = command_of(alloc, tickers, &value)?;
+    let command = command_of(alloc, version, tickers, &value)?;
     add_ticker(tickers, &command)?;
     Ok(LineRead::Asks(command))
 }

@@ -5,16 +5,16 @@ use Rattle.order_text.proofs.asking.plain.Goals as goal
 
 pub returns-then-is_asked : goal.returns-then-is_asked
 returns-then-is_asked c =
-    plain_of c.args.tickers.now (view c.args.value.now) (codes "asset") c.add_asset.result (c.is_asked.ensures.0 c.if-is_asked.true) (c.add_asset.ensures c.args.tickers.now)
+    plain_of c.args.tickers.now (view c.args.value.now) _ (codes "asset") c.add_asset.result (c.is_asked.ensures.0 c.if-is_asked.true) (c.add_asset.ensures c.args.tickers.now)
 
 pub returns-then-is_asked-2 : goal.returns-then-is_asked-2
 returns-then-is_asked-2 c =
-    plain_of c.args.tickers.now (view c.args.value.now) (codes "account") c.open_account.result (c.is_asked-2.ensures.0 c.if-is_asked-2.true) (c.open_account.ensures c.args.tickers.now)
+    plain_of c.args.tickers.now (view c.args.value.now) _ (codes "account") c.open_account.result (c.is_asked-2.ensures.0 c.if-is_asked-2.true) (c.open_account.ensures c.args.tickers.now)
 
 pub returns-then-is_asked-5 : goal.returns-then-is_asked-5
 returns-then-is_asked-5 c =
-    plain_of c.args.tickers.now (view c.args.value.now) (codes "cancel") c.cancel.result (c.is_asked-5.ensures.0 c.if-is_asked-5.true) (c.cancel.ensures c.args.tickers.now)
+    plain_of c.args.tickers.now (view c.args.value.now) _ (codes "cancel") c.cancel.result (c.is_asked-5.ensures.0 c.if-is_asked-5.true) (c.cancel.ensures c.args.tickers.now)
 
 pub returns-then-is_asked-6 : goal.returns-then-is_asked-6
 returns-then-is_asked-6 c =
-    plain_of c.args.tickers.now (view c.args.value.now) (codes "batch") c.run_batch.result (c.is_asked-6.ensures.0 c.if-is_asked-6.true) (c.run_batch.ensures c.args.tickers.now)
+    plain_of c.args.tickers.now (view c.args.value.now) _ (codes "batch") c.run_batch.result (c.is_asked-6.ensures.0 c.if-is_asked-6.true) (c.run_batch.ensures c.args.tickers.now)
