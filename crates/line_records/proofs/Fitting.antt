@@ -4,7 +4,7 @@ use Rattle.std.proofs.lemmas.List.Elements.{All-nil, All-cons}
 use Rattle.wire_records.specs.Commands.{Command, AddAsset, OpenAccount, DepositMoney, DepositAsset, WithdrawMoney, WithdrawAsset, PlaceOrder, CancelOrder, RunBatch, PlaceUntil, SetMoneyCredit, SetUnitCredit}
 use Rattle.wire_records.specs.CommandRecords.{IsCommand, HasShortRow}
 use Rattle.wire_records.specs.Versions.{IsOfVersion}
-use Rattle.wire_records.specs.declared.version.Version.TheVariants.{One}
+use Rattle.wire_records.specs.declared.version.Version.{Version}
 use Rattle.ticker_table.specs.Tickers.{IsTicker, AreTickers}
 use Rattle.ticker_table.proofs.Places.{AreTickers-push}
 use Rattle.order_text.specs.Lines.{AreAfter, AreWith}
@@ -32,21 +32,22 @@ tickers_after tickers (PlaceUntil last request) after are leaves = rw leaves are
 tickers_after tickers (SetMoneyCredit account ticks) after are leaves = rw leaves are
 tickers_after tickers (SetUnitCredit account asset units) after are leaves = rw leaves are
 
--- what lines ask for, from some tickers on
-all_fit : (tickers : List (List ℕ)) (lines : List (List ℕ)) (commands : List Command) (after : List (List ℕ)) → AreTickers tickers → Say tickers lines commands after → All IsCommand commands × All HasShortRow commands × All (IsOfVersion One) commands
-all_fit tickers [] commands after are say = rw say.0 (All-nil IsCommand, All-nil HasShortRow, All-nil (IsOfVersion One))
-all_fit tickers (line ∷ lines) commands after are (inl blank) = all_fit tickers lines commands after are blank.1
-all_fit tickers (line ∷ lines) commands after are (inr said) =
-    let more = all_fit said.2 lines said.1 after (tickers_after tickers said.0 said.2 are said.3.leaves) said.4 in
-    rw said.5 (
-      All-cons IsCommand said.0 said.1 (command_fits tickers line said.0 are said.3.asks) more.0,
-      All-cons HasShortRow said.0 said.1 (row_is_short tickers line said.0 are said.3.asks) more.1,
-      All-cons (IsOfVersion One) said.0 said.1 said.3.asks.asks.version more.2,
-    )
+module _ (version : Version) where
+  -- what lines ask for, from some tickers on
+  all_fit : (tickers : List (List ℕ)) (lines : List (List ℕ)) (commands : List Command) (after : List (List ℕ)) → AreTickers tickers → Say version tickers lines commands after → All IsCommand commands × All HasShortRow commands × All (IsOfVersion version) commands
+  all_fit tickers [] commands after are say = rw say.0 (All-nil IsCommand, All-nil HasShortRow, All-nil (IsOfVersion version))
+  all_fit tickers (line ∷ lines) commands after are (inl blank) = all_fit tickers lines commands after are blank.1
+  all_fit tickers (line ∷ lines) commands after are (inr said) =
+      let more = all_fit said.2 lines said.1 after (tickers_after tickers said.0 said.2 are said.3.leaves) said.4 in
+      rw said.5 (
+        All-cons IsCommand said.0 said.1 (command_fits version tickers line said.0 are said.3.asks) more.0,
+        All-cons HasShortRow said.0 said.1 (row_is_short version tickers line said.0 are said.3.asks) more.1,
+        All-cons (IsOfVersion version) said.0 said.1 said.3.asks.asks.of_version more.2,
+      )
 
--- no tickers are tickers
-no_tickers : AreTickers []
-no_tickers = record { valid = All-nil IsTicker; distinct = λ i j d below within. absurd (omega (arith, below, within)); few = omega arith }
+  -- no tickers are tickers
+  no_tickers : AreTickers []
+  no_tickers = record { valid = All-nil IsTicker; distinct = λ i j d below within. absurd (omega (arith, below, within)); few = omega arith }
 
-pub commands_fit : (lines : List (List ℕ)) (commands : List Command) (tickers : List (List ℕ)) → Say [] lines commands tickers → All IsCommand commands × All HasShortRow commands × All (IsOfVersion One) commands
-commands_fit lines commands tickers say = all_fit [] lines commands tickers no_tickers say
+  pub commands_fit : (lines : List (List ℕ)) (commands : List Command) (tickers : List (List ℕ)) → Say version [] lines commands tickers → All IsCommand commands × All HasShortRow commands × All (IsOfVersion version) commands
+  commands_fit lines commands tickers say = all_fit [] lines commands tickers no_tickers say

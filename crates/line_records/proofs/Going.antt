@@ -16,19 +16,8 @@ use Rattle.line_records.specs.Private.{EncodesLine, IsLineEncoded, IsRecordWritt
 use Rattle.flow_io.proofs.Growth.{Grows-more, GrowsByFront-more}
 use Rattle.line_records.proofs.Pieces.{ended_lines, line_found, no_line_found, lines_behind, told}
 use Rattle.line_records.proofs.Saying.{say_more, no_more}
+use Rattle.wire_records.specs.declared.version.Version.{Version}
 use Rattle.order_text.specs.Lines.{Says}
-
--- What going through the lines before a place of the text has done.
-pub record HasGone (text : List ℕ) (place number : ℕ) (tickers : List (List ℕ)) (before after : Option (List ℕ)) : Type 0 where
-  pub ended : List (List ℕ)
-  pub commands : List Command
-  pub whole : text ≡ ended_by_feeds ended ++ drop place text
-  pub pieces : All IsPiece ended
-  pub say : Say [] ended commands tickers
-  pub written : Grows before after (spell_commands commands)
-  pub counted : number ≡ length ended + 1
-  pub few : length ended ≤ place
-  pub within : place ≤ length text
 
 -- the size of a slice from a place on
 pub slice_size : (place size : ℕ) → place + size - place ≡ size
@@ -46,157 +35,170 @@ some_where xs empty is no_is none = true≢false (sym (eq-eqb (length xs) 0 (ap 
 pub not_where : (more : Bool) → more ≡ false → ¬ IsTrue more
 not_where more no_is is = true≢false (sym is ∙ no_is)
 
--- a command's line alone
-one_command : (tickers : List (List ℕ)) (line : List ℕ) (command : Command) (next : List (List ℕ)) → Says tickers line command next → Say tickers (line ∷ []) (command ∷ []) next
-one_command tickers line command next says = inr (command, [], next, says, (refl, refl), refl)
+module _ (version : Version) where
+  -- What going through the lines before a place of the text has done.
+  pub record HasGone (text : List ℕ) (place number : ℕ) (tickers : List (List ℕ)) (before after : Option (List ℕ)) : Type 0 where
+    pub ended : List (List ℕ)
+    pub commands : List Command
+    pub whole : text ≡ ended_by_feeds ended ++ drop place text
+    pub pieces : All IsPiece ended
+    pub say : Say version [] ended commands tickers
+    pub written : Grows before after (spell_commands commands)
+    pub counted : number ≡ length ended + 1
+    pub few : length ended ≤ place
+    pub within : place ≤ length text
 
--- a line whose command was written
-pub command_encoded : (tickers : List (List ℕ)) (line : List ℕ) (number : ℕ) (command : Command) (next : List (List ℕ)) (result : Result (Unit {0}) EncodeFault) (before after : Option (List ℕ)) → Says tickers line command next
-    → IsRecordWritten command result before after → IsLineEncoded tickers line number next result before after
-command_encoded tickers line number command next (Ok done) before after says is = record {
-  commands = command ∷ [];
-  say = one_command tickers line command next says;
-  written = rw (append-nil (spelling (record_of command))) is;
-}
-command_encoded tickers line number command next (Err (NoCommand bad)) before after says is = absurd is
-command_encoded tickers line number command next (Err Write) before after says is = (command, says, is)
-command_encoded tickers line number command next (Err Memory) before after says is = (says.asks.written, is)
+  -- a command's line alone
+  one_command : (tickers : List (List ℕ)) (line : List ℕ) (command : Command) (next : List (List ℕ)) → Says version tickers line command next → Say version tickers (line ∷ []) (command ∷ []) next
+  one_command tickers line command next says = inr (command, [], next, says, (refl, refl), refl)
 
--- records of more commands
-records_more : (commands more : List Command) → spell_commands (commands ++ more) ≡ spell_commands commands ++ spell_commands more
-records_more commands more = flat_map-append (λ command. spelling (record_of command)) commands more
+  -- a line whose command was written
+  pub command_encoded : (tickers : List (List ℕ)) (line : List ℕ) (number : ℕ) (command : Command) (next : List (List ℕ)) (result : Result (Unit {0}) EncodeFault) (before after : Option (List ℕ)) → Says version tickers line command next
+      → IsRecordWritten command result before after → IsLineEncoded version tickers line number next result before after
+  command_encoded tickers line number command next (Ok done) before after says is = record {
+    commands = command ∷ [];
+    say = one_command tickers line command next says;
+    written = rw (append-nil (spelling (record_of command))) is;
+  }
+  command_encoded tickers line number command next (Err (NoCommand bad)) before after says is = absurd is
+  command_encoded tickers line number command next (Err Write) before after says is = (command, says, is)
+  command_encoded tickers line number command next (Err Memory) before after says is = (says.asks.written, is)
 
--- the text, with one line more of it that is ended
-line_ended : (text : List ℕ) (place size : ℕ) (ended : List (List ℕ)) → text ≡ ended_by_feeds ended ++ drop place text → IsFirstByte (is_byte 10) (drop place text) (Some size)
-    → text ≡ ended_by_feeds (ended ++ take size (drop place text) ∷ []) ++ drop (place + (size + 1)) text
-line_ended text place size ended whole first =
-    let line = take size (drop place text) in
-    let found = line_found (drop place text) size first in
-    whole ∙ ap (λ xs. ended_by_feeds ended ++ xs) (found.0.1 ∙ ap (λ xs. ended_lines.spell line ++ xs) (drop-drop (size + 1) place text))
-    ∙ sym (append_assoc (ended_by_feeds ended) (ended_lines.spell line) (drop (place + (size + 1)) text))
-    ∙ ap (λ xs. xs ++ drop (place + (size + 1)) text) (flat_map_more ended_lines.spell [] ended line)
+  -- records of more commands
+  records_more : (commands more : List Command) → spell_commands (commands ++ more) ≡ spell_commands commands ++ spell_commands more
+  records_more commands more = flat_map-append (λ command. spelling (record_of command)) commands more
 
--- one line more
-pub one_more : (text : List ℕ) (place size number : ℕ) (tickers next : List (List ℕ)) (before between after : Option (List ℕ)) → HasGone text place number tickers before between
-    → IsFirstByte (is_byte 10) (drop place text) (Some size) → EncodesLine tickers (take (place + size - place) (drop place text)) next between after → HasGone text (place + (size + 1)) (number + 1) next before after
-one_more text place size number tickers next before between after so first encoded =
-    let line = take size (drop place text) in
-    let found = line_found (drop place text) size first in
-    let left = length-drop place text in
-    let one = rw slice_size at encoded in
-    record {
-      ended = so.ended ++ line ∷ [];
+  -- the text, with one line more of it that is ended
+  line_ended : (text : List ℕ) (place size : ℕ) (ended : List (List ℕ)) → text ≡ ended_by_feeds ended ++ drop place text → IsFirstByte (is_byte 10) (drop place text) (Some size)
+      → text ≡ ended_by_feeds (ended ++ take size (drop place text) ∷ []) ++ drop (place + (size + 1)) text
+  line_ended text place size ended whole first =
+      let line = take size (drop place text) in
+      let found = line_found (drop place text) size first in
+      whole ∙ ap (λ xs. ended_by_feeds ended ++ xs) (found.0.1 ∙ ap (λ xs. ended_lines.spell line ++ xs) (drop-drop (size + 1) place text))
+      ∙ sym (append_assoc (ended_by_feeds ended) (ended_lines.spell line) (drop (place + (size + 1)) text))
+      ∙ ap (λ xs. xs ++ drop (place + (size + 1)) text) (flat_map_more ended_lines.spell [] ended line)
+
+  -- one line more
+  pub one_more : (text : List ℕ) (place size number : ℕ) (tickers next : List (List ℕ)) (before between after : Option (List ℕ)) → HasGone text place number tickers before between
+      → IsFirstByte (is_byte 10) (drop place text) (Some size) → EncodesLine version tickers (take (place + size - place) (drop place text)) next between after → HasGone text (place + (size + 1)) (number + 1) next before after
+  one_more text place size number tickers next before between after so first encoded =
+      let line = take size (drop place text) in
+      let found = line_found (drop place text) size first in
+      let left = length-drop place text in
+      let one = rw slice_size at encoded in
+      record {
+        ended = so.ended ++ line ∷ [];
+        commands = so.commands ++ one.commands;
+        whole = line_ended text place size so.ended so.whole first;
+        pieces = All-push IsPiece so.ended line so.pieces found.0.0;
+        say = say_more version [] tickers next so.ended (line ∷ []) so.commands one.commands so.say one.say;
+        written = rw (records_more so.commands one.commands) (Grows-more before between after (spell_commands so.commands) (spell_commands one.commands) so.written one.written);
+        counted = omega (arith, so.counted, length-append so.ended (line ∷ []));
+        few = omega (arith, so.few, length-append so.ended (line ∷ []));
+        within = omega (arith, left, found.1, so.within);
+      }
+
+  module _ (More : Type 0) (text : List ℕ) (place number : ℕ) (tickers next : List (List ℕ)) (before between after : Option (List ℕ)) (so : HasGone text place number tickers before between) (line : List ℕ) (rest : List (List ℕ)) (split : AreLines More text (so.ended ++ line ∷ rest)) where
+    -- the next line stopped it
+    stopped : (fault : EncodeFault) → IsLineEncoded version tickers line number next (Err fault) between after → IsEncoded version More text (Err fault) before after
+    stopped (NoCommand bad) at = record {
+      commands = so.commands;
+      read = record {
+        lines = so.ended ++ line ∷ rest;
+        read = so.ended;
+        tickers = tickers;
+        split = split;
+        say = so.say;
+        stops = (line, rest, refl, at.0, at.1 ∙ so.counted);
+      };
+      written = rw at.2 so.written;
+    }
+    stopped Write at = (
+      so.commands ++ at.0 ∷ [],
+      record {
+        lines = so.ended ++ line ∷ rest;
+        read = so.ended ++ line ∷ [];
+        more = rest;
+        tickers = next;
+        split = split;
+        front = sym (append_assoc so.ended (line ∷ []) rest);
+        say = say_more version [] tickers next so.ended (line ∷ []) so.commands (at.0 ∷ []) so.say (one_command tickers line at.0 next at.1);
+      },
+      rw (← flat_map_more (λ command. spelling (record_of command)) [] so.commands at.0) (GrowsByFront-more before between after (spell_commands so.commands) (spelling (record_of at.0)) so.written at.2),
+    )
+    stopped Memory at = (
+      so.commands,
+      record { lines = so.ended ++ line ∷ rest; read = so.ended; next = line; more = rest; tickers = tickers; split = split; front = refl; say = so.say; written = at.0 },
+      rw at.1 so.written,
+    )
+
+    -- all lines were read, and this was the last
+    all_read : rest ≡ [] → EncodesLine version tickers line next between after → HasEncoded version More text None before after
+    all_read none one = record {
       commands = so.commands ++ one.commands;
-      whole = line_ended text place size so.ended so.whole first;
-      pieces = All-push IsPiece so.ended line so.pieces found.0.0;
-      say = say_more [] tickers next so.ended (line ∷ []) so.commands one.commands so.say one.say;
+      read = record {
+        lines = so.ended ++ line ∷ rest;
+        read = so.ended ++ line ∷ [];
+        tickers = next;
+        split = split;
+        say = say_more version [] tickers next so.ended (line ∷ []) so.commands one.commands so.say one.say;
+        stops = ap (λ xs. so.ended ++ line ∷ xs) none;
+      };
       written = rw (records_more so.commands one.commands) (Grows-more before between after (spell_commands so.commands) (spell_commands one.commands) so.written one.written);
-      counted = omega (arith, so.counted, length-append so.ended (line ∷ []));
-      few = omega (arith, so.few, length-append so.ended (line ∷ []));
-      within = omega (arith, left, found.1, so.within);
     }
 
-module _ (More : Type 0) (text : List ℕ) (place number : ℕ) (tickers next : List (List ℕ)) (before between after : Option (List ℕ)) (so : HasGone text place number tickers before between) (line : List ℕ) (rest : List (List ℕ)) (split : AreLines More text (so.ended ++ line ∷ rest)) where
-  -- the next line stopped it
-  stopped : (fault : EncodeFault) → IsLineEncoded tickers line number next (Err fault) between after → IsEncoded More text (Err fault) before after
-  stopped (NoCommand bad) at = record {
+  -- a line that is ended stopped it
+  pub stopped_within : (more : Bool) (text : List ℕ) (place size number : ℕ) (tickers next : List (List ℕ)) (before between after : Option (List ℕ)) (fault : EncodeFault) → HasGone text place number tickers before between
+      → IsFirstByte (is_byte 10) (drop place text) (Some size) → IsLineEncoded version tickers (take (place + size - place) (drop place text)) number next (Err fault) between after → IsEncoded version (IsTrue more) text (Err fault) before after
+  stopped_within more text place size number tickers next before between after fault so first at =
+      let line = take size (drop place text) in
+      let pieces = All-push IsPiece so.ended line so.pieces (line_found (drop place text) size first).0.0 in
+      let behind = lines_behind (IsTrue more) (told more) text (drop (place + (size + 1)) text) (so.ended ++ line ∷ []) (line_ended text place size so.ended so.whole first) pieces in
+      stopped (IsTrue more) text place number tickers next before between after so line behind.0 (subst (λ lines. AreLines (IsTrue more) text lines) (append_assoc so.ended (line ∷ []) behind.0) behind.1) fault
+      (subst (λ n. IsLineEncoded version tickers (take n (drop place text)) number next (Err fault) between after) (slice_size place size) at)
+
+  -- there is no line behind the last line feed
+  pub ended_text : (more : Bool) (text : List ℕ) (place number : ℕ) (tickers : List (List ℕ)) (before after : Option (List ℕ)) → HasGone text place number tickers before after
+      → IsFirstByte (is_byte 10) (drop place text) None → IsTrue more ⊎ (drop place text ≡ []) → IsEncoded version (IsTrue more) text (Ok tt) before after
+  ended_text more text place number tickers before after so none ends = record {
     commands = so.commands;
     read = record {
-      lines = so.ended ++ line ∷ rest;
+      lines = so.ended;
       read = so.ended;
       tickers = tickers;
-      split = split;
+      split = record {
+        ended = so.ended;
+        last = drop place text;
+        whole = so.whole;
+        pieces = so.pieces;
+        piece = no_line_found (drop place text) none;
+        all = inl (refl, ends);
+      };
       say = so.say;
-      stops = (line, rest, refl, at.0, at.1 ∙ so.counted);
+      stops = refl;
     };
-    written = rw at.2 so.written;
-  }
-  stopped Write at = (
-    so.commands ++ at.0 ∷ [],
-    record {
-      lines = so.ended ++ line ∷ rest;
-      read = so.ended ++ line ∷ [];
-      more = rest;
-      tickers = next;
-      split = split;
-      front = sym (append_assoc so.ended (line ∷ []) rest);
-      say = say_more [] tickers next so.ended (line ∷ []) so.commands (at.0 ∷ []) so.say (one_command tickers line at.0 next at.1);
-    },
-    rw (← flat_map_more (λ command. spelling (record_of command)) [] so.commands at.0) (GrowsByFront-more before between after (spell_commands so.commands) (spelling (record_of at.0)) so.written at.2),
-  )
-  stopped Memory at = (
-    so.commands,
-    record { lines = so.ended ++ line ∷ rest; read = so.ended; next = line; more = rest; tickers = tickers; split = split; front = refl; say = so.say; written = at.0 },
-    rw at.1 so.written,
-  )
-
-  -- all lines were read, and this was the last
-  all_read : rest ≡ [] → EncodesLine tickers line next between after → HasEncoded More text None before after
-  all_read none one = record {
-    commands = so.commands ++ one.commands;
-    read = record {
-      lines = so.ended ++ line ∷ rest;
-      read = so.ended ++ line ∷ [];
-      tickers = next;
-      split = split;
-      say = say_more [] tickers next so.ended (line ∷ []) so.commands one.commands so.say one.say;
-      stops = ap (λ xs. so.ended ++ line ∷ xs) none;
-    };
-    written = rw (records_more so.commands one.commands) (Grows-more before between after (spell_commands so.commands) (spell_commands one.commands) so.written one.written);
+    written = so.written;
   }
 
--- a line that is ended stopped it
-pub stopped_within : (more : Bool) (text : List ℕ) (place size number : ℕ) (tickers next : List (List ℕ)) (before between after : Option (List ℕ)) (fault : EncodeFault) → HasGone text place number tickers before between
-    → IsFirstByte (is_byte 10) (drop place text) (Some size) → IsLineEncoded tickers (take (place + size - place) (drop place text)) number next (Err fault) between after → IsEncoded (IsTrue more) text (Err fault) before after
-stopped_within more text place size number tickers next before between after fault so first at =
-    let line = take size (drop place text) in
-    let pieces = All-push IsPiece so.ended line so.pieces (line_found (drop place text) size first).0.0 in
-    let behind = lines_behind (IsTrue more) (told more) text (drop (place + (size + 1)) text) (so.ended ++ line ∷ []) (line_ended text place size so.ended so.whole first) pieces in
-    stopped (IsTrue more) text place number tickers next before between after so line behind.0 (subst (λ lines. AreLines (IsTrue more) text lines) (append_assoc so.ended (line ∷ []) behind.0) behind.1) fault
-    (subst (λ n. IsLineEncoded tickers (take n (drop place text)) number next (Err fault) between after) (slice_size place size) at)
-
--- there is no line behind the last line feed
-pub ended_text : (more : Bool) (text : List ℕ) (place number : ℕ) (tickers : List (List ℕ)) (before after : Option (List ℕ)) → HasGone text place number tickers before after
-    → IsFirstByte (is_byte 10) (drop place text) None → IsTrue more ⊎ (drop place text ≡ []) → IsEncoded (IsTrue more) text (Ok tt) before after
-ended_text more text place number tickers before after so none ends = record {
-  commands = so.commands;
-  read = record {
-    lines = so.ended;
-    read = so.ended;
-    tickers = tickers;
-    split = record {
-      ended = so.ended;
-      last = drop place text;
-      whole = so.whole;
-      pieces = so.pieces;
-      piece = no_line_found (drop place text) none;
-      all = inl (refl, ends);
-    };
-    say = so.say;
-    stops = refl;
-  };
-  written = so.written;
-}
-
--- the last line ended it
-pub last_line : (more : Bool) (text : List ℕ) (place number : ℕ) (tickers next : List (List ℕ)) (before between after : Option (List ℕ)) (result : Result (Unit {0}) EncodeFault) → HasGone text place number tickers before between
-    → IsFirstByte (is_byte 10) (drop place text) None → (¬ IsTrue more) → drop place text ≢ [] → IsLineEncoded tickers (drop place text) number next result between after
-    → IsEncoded (IsTrue more) text result before after
-last_line more text place number tickers next before between after (Ok done) so none not some is =
-    all_read (IsTrue more) text place number tickers next before between after so (drop place text) [] (record {
-      ended = so.ended;
-      last = drop place text;
-      whole = so.whole;
-      pieces = so.pieces;
-      piece = no_line_found (drop place text) none;
-      all = inr (refl, not, some);
-    }) refl is
-last_line more text place number tickers next before between after (Err fault) so none not some is =
-    stopped (IsTrue more) text place number tickers next before between after so (drop place text) [] (record {
-      ended = so.ended;
-      last = drop place text;
-      whole = so.whole;
-      pieces = so.pieces;
-      piece = no_line_found (drop place text) none;
-      all = inr (refl, not, some);
-    }) fault is
+  -- the last line ended it
+  pub last_line : (more : Bool) (text : List ℕ) (place number : ℕ) (tickers next : List (List ℕ)) (before between after : Option (List ℕ)) (result : Result (Unit {0}) EncodeFault) → HasGone text place number tickers before between
+      → IsFirstByte (is_byte 10) (drop place text) None → (¬ IsTrue more) → drop place text ≢ [] → IsLineEncoded version tickers (drop place text) number next result between after
+      → IsEncoded version (IsTrue more) text result before after
+  last_line more text place number tickers next before between after (Ok done) so none not some is =
+      all_read (IsTrue more) text place number tickers next before between after so (drop place text) [] (record {
+        ended = so.ended;
+        last = drop place text;
+        whole = so.whole;
+        pieces = so.pieces;
+        piece = no_line_found (drop place text) none;
+        all = inr (refl, not, some);
+      }) refl is
+  last_line more text place number tickers next before between after (Err fault) so none not some is =
+      stopped (IsTrue more) text place number tickers next before between after so (drop place text) [] (record {
+        ended = so.ended;
+        last = drop place text;
+        whole = so.whole;
+        pieces = so.pieces;
+        piece = no_line_found (drop place text) none;
+        all = inr (refl, not, some);
+      }) fault is

@@ -2,19 +2,22 @@
 use Rattle.std.specs.Prelude.{ℕ, List, Option, Some, None, Result, Ok, Err}
 use Rattle.flow_io.specs.Streams.{Grows, GrowsByFront}
 use Rattle.wire_records.specs.Commands.{Command}
+use Rattle.wire_records.specs.declared.version.Version.{Version}
 use Rattle.line_records.specs.declared.encode.EncodeFault.{EncodeFault}
 use Rattle.line_records.specs.declared.encode.EncodeFault.TheVariants.{NoCommand, Write, Memory}
 use Rattle.line_records.specs.Lines.{AreRead, AreFirst, HaveNext, spell_commands}
 
--- The records of all commands up to the first line that is none, or to the end, were written.
-pub record HasEncoded (More : Type 0) (bytes : List ℕ) (bad : Option ℕ) (before after : Option (List ℕ)) : Type 0 where
-  pub commands : List Command
-  pub read : AreRead More bytes bad commands
-  pub written : Grows before after (spell_commands commands)
+-- In a version.
+module _ (version : Version) where
+  -- The records of all commands up to the first line that is none, or to the end, were written.
+  pub record HasEncoded (More : Type 0) (bytes : List ℕ) (bad : Option ℕ) (before after : Option (List ℕ)) : Type 0 where
+    pub commands : List Command
+    pub read : AreRead version More bytes bad commands
+    pub written : Grows before after (spell_commands commands)
 
--- by the answer
-abbrev pub IsEncoded : Type 0 → List ℕ → Result (Unit {0}) EncodeFault → Option (List ℕ) → Option (List ℕ) → Type 0
-IsEncoded More bytes (Ok _) before after = HasEncoded More bytes None before after
-IsEncoded More bytes (Err (NoCommand number)) before after = HasEncoded More bytes (Some number) before after
-IsEncoded More bytes (Err Write) before after = (commands : List Command) × AreFirst More bytes commands × GrowsByFront before after (spell_commands commands)
-IsEncoded More bytes (Err Memory) before after = (commands : List Command) × HaveNext More bytes commands × Grows before after (spell_commands commands)
+  -- by the answer
+  abbrev pub IsEncoded : Type 0 → List ℕ → Result (Unit {0}) EncodeFault → Option (List ℕ) → Option (List ℕ) → Type 0
+  IsEncoded More bytes (Ok _) before after = HasEncoded More bytes None before after
+  IsEncoded More bytes (Err (NoCommand number)) before after = HasEncoded More bytes (Some number) before after
+  IsEncoded More bytes (Err Write) before after = (commands : List Command) × AreFirst version More bytes commands × GrowsByFront before after (spell_commands commands)
+  IsEncoded More bytes (Err Memory) before after = (commands : List Command) × HaveNext version More bytes commands × Grows before after (spell_commands commands)

@@ -3,7 +3,7 @@ use Rattle.std.specs.Prelude.{◌≡◌, ℕ, List, [], ◌++◌, Option, All}
 use Rattle.wire_records.specs.Commands.{Command}
 use Rattle.wire_records.specs.CommandRecords.{IsCommand, HasShortRow}
 use Rattle.wire_records.specs.Versions.{IsOfVersion}
-use Rattle.wire_records.specs.declared.version.Version.TheVariants.{One}
+use Rattle.wire_records.specs.declared.version.Version.{Version}
 use Rattle.line_records.specs.Lines.{AreLines, Say, AreRead, AreFirst}
 
 -- bytes have one list of lines
@@ -11,24 +11,24 @@ abbrev pub OneSplit : Type 0 → Type 0
 OneSplit More = (bytes : List ℕ) (lines other : List (List ℕ)) → AreLines More bytes lines → AreLines More bytes other → lines ≡ other
 
 -- there is one first line that is no command, or none, and the lines before it ask for one list of commands
-abbrev pub OneReading : Type 0 → Type 0
-OneReading More =
-    (bytes : List ℕ) (bad other : Option ℕ) (commands others : List Command) → AreRead More bytes bad commands → AreRead More bytes other others
+abbrev pub OneReading : Version → Type 0 → Type 0
+OneReading version More =
+    (bytes : List ℕ) (bad other : Option ℕ) (commands others : List Command) → AreRead version More bytes bad commands → AreRead version More bytes other others
     → (bad ≡ other) × (commands ≡ others)
 
 -- no text is without a reading
-abbrev pub NoneIsUnread : Type 0 → Type 0
-NoneIsUnread More = (bytes : List ℕ) → ¬ ((bad : Option ℕ) (commands : List Command) → ¬ AreRead More bytes bad commands)
+abbrev pub NoneIsUnread : Version → Type 0 → Type 0
+NoneIsUnread version More = (bytes : List ℕ) → ¬ ((bad : Option ℕ) (commands : List Command) → ¬ AreRead version More bytes bad commands)
 
 -- what the first lines ask for is a front of what is read
-abbrev pub FirstIsAFront : Type 0 → Type 0
-FirstIsAFront More =
-    (bytes : List ℕ) (bad : Option ℕ) (first commands : List Command) → AreFirst More bytes first → AreRead More bytes bad commands
+abbrev pub FirstIsAFront : Version → Type 0 → Type 0
+FirstIsAFront version More =
+    (bytes : List ℕ) (bad : Option ℕ) (first commands : List Command) → AreFirst version More bytes first → AreRead version More bytes bad commands
     → (rest : List Command) × (commands ≡ first ++ rest)
 
--- what lines ask for fits its records and version One: fields are within their widths, rows aren't too long, and the version
+-- what lines ask for fits its records and its version: fields are within their widths, rows aren't too long, and the version
 -- has the commands
-abbrev pub CommandsFit : Type 0
-CommandsFit =
-    (lines : List (List ℕ)) (commands : List Command) (tickers : List (List ℕ)) → Say [] lines commands tickers
-    → All IsCommand commands × All HasShortRow commands × All (IsOfVersion One) commands
+abbrev pub CommandsFit : Version → Type 0
+CommandsFit version =
+    (lines : List (List ℕ)) (commands : List Command) (tickers : List (List ℕ)) → Say version [] lines commands tickers
+    → All IsCommand commands × All HasShortRow commands × All (IsOfVersion version) commands

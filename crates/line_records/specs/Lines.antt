@@ -4,6 +4,7 @@ use Rattle.std.specs.List.{flat_map}
 use Rattle.wire_records.specs.Records.{spelling}
 use Rattle.wire_records.specs.Commands.{Command}
 use Rattle.wire_records.specs.CommandRecords.{record_of}
+use Rattle.wire_records.specs.declared.version.Version.{Version}
 use Rattle.order_text.specs.Lines.{IsBlank, Says, SaysNothing}
 
 -- a piece with no line feed (10) in it
@@ -24,52 +25,54 @@ pub record AreLines (More : Type 0) (bytes : List ℕ) (lines : List (List ℕ))
   pub piece : IsPiece last
   pub all : ((lines ≡ ended) × (More ⊎ (last ≡ []))) ⊎ ((lines ≡ ended ++ last ∷ []) × (¬ More) × (last ≢ []))
 
--- the lines ask for these commands, one after the other, from the tickers of the lines before on, and leave these tickers;
--- a blank line asks for none
-abbrev pub Say : List (List ℕ) → List (List ℕ) → List Command → List (List ℕ) → Type 0
-Say tickers [] commands after = (commands ≡ []) × (after ≡ tickers)
-Say tickers (line ∷ lines) commands after =
-    (IsBlank line × Say tickers lines commands after)
-    ⊎ ((command : Command) × (rest : List Command) × (next : List (List ℕ)) × Says tickers line command next × Say next lines rest after × (commands ≡ command ∷ rest))
-
--- these are all the lines, or the next one is no command and this is its number, counted from 1
-abbrev pub StopsAt : List (List ℕ) → List (List ℕ) → List (List ℕ) → Option ℕ → Type 0
-StopsAt tickers read lines None = lines ≡ read
-StopsAt tickers read lines (Some number) =
-    (bad : List ℕ) × (more : List (List ℕ)) × (lines ≡ read ++ bad ∷ more) × SaysNothing tickers bad × (number ≡ length read + 1)
-
--- The lines before the first that is no command, or all of them, ask for these commands. Each text has one such reading, by
--- the laws.
-pub record AreRead (More : Type 0) (bytes : List ℕ) (bad : Option ℕ) (commands : List Command) : Type 0 where
-  pub lines : List (List ℕ)
-  pub read : List (List ℕ)
-  pub tickers : List (List ℕ)
-  pub split : AreLines More bytes lines
-  pub say : Say [] read commands tickers
-  pub stops : StopsAt tickers read lines bad
-
--- The first lines ask for these commands.
-pub record AreFirst (More : Type 0) (bytes : List ℕ) (commands : List Command) : Type 0 where
-  pub lines : List (List ℕ)
-  pub read : List (List ℕ)
-  pub more : List (List ℕ)
-  pub tickers : List (List ℕ)
-  pub split : AreLines More bytes lines
-  pub front : lines ≡ read ++ more
-  pub say : Say [] read commands tickers
-
--- The first lines ask for these commands, and the one behind them isn't blank.
-pub record HaveNext (More : Type 0) (bytes : List ℕ) (commands : List Command) : Type 0 where
-  pub lines : List (List ℕ)
-  pub read : List (List ℕ)
-  pub next : List ℕ
-  pub more : List (List ℕ)
-  pub tickers : List (List ℕ)
-  pub split : AreLines More bytes lines
-  pub front : lines ≡ read ++ next ∷ more
-  pub say : Say [] read commands tickers
-  pub written : ¬ IsBlank next
-
 -- the bytes of the records of commands, one after the other
 abbrev pub spell_commands : List Command → List ℕ
 spell_commands commands = flat_map (λ command. spelling (record_of command)) commands
+
+-- In a version.
+module _ (version : Version) where
+  -- the lines ask for these commands of the version, one after the other, from the tickers of the lines before on, and leave these tickers;
+  -- a blank line asks for none
+  abbrev pub Say : List (List ℕ) → List (List ℕ) → List Command → List (List ℕ) → Type 0
+  Say tickers [] commands after = (commands ≡ []) × (after ≡ tickers)
+  Say tickers (line ∷ lines) commands after =
+      (IsBlank line × Say tickers lines commands after)
+      ⊎ ((command : Command) × (rest : List Command) × (next : List (List ℕ)) × Says version tickers line command next × Say next lines rest after × (commands ≡ command ∷ rest))
+
+  -- these are all the lines, or the next one is no command and this is its number, counted from 1
+  abbrev pub StopsAt : List (List ℕ) → List (List ℕ) → List (List ℕ) → Option ℕ → Type 0
+  StopsAt tickers read lines None = lines ≡ read
+  StopsAt tickers read lines (Some number) =
+      (bad : List ℕ) × (more : List (List ℕ)) × (lines ≡ read ++ bad ∷ more) × SaysNothing version tickers bad × (number ≡ length read + 1)
+
+  -- The lines before the first that is no command, or all of them, ask for these commands. Each text has one such reading, by
+  -- the laws.
+  pub record AreRead (More : Type 0) (bytes : List ℕ) (bad : Option ℕ) (commands : List Command) : Type 0 where
+    pub lines : List (List ℕ)
+    pub read : List (List ℕ)
+    pub tickers : List (List ℕ)
+    pub split : AreLines More bytes lines
+    pub say : Say [] read commands tickers
+    pub stops : StopsAt tickers read lines bad
+
+  -- The first lines ask for these commands.
+  pub record AreFirst (More : Type 0) (bytes : List ℕ) (commands : List Command) : Type 0 where
+    pub lines : List (List ℕ)
+    pub read : List (List ℕ)
+    pub more : List (List ℕ)
+    pub tickers : List (List ℕ)
+    pub split : AreLines More bytes lines
+    pub front : lines ≡ read ++ more
+    pub say : Say [] read commands tickers
+
+  -- The first lines ask for these commands, and the one behind them isn't blank.
+  pub record HaveNext (More : Type 0) (bytes : List ℕ) (commands : List Command) : Type 0 where
+    pub lines : List (List ℕ)
+    pub read : List (List ℕ)
+    pub next : List ℕ
+    pub more : List (List ℕ)
+    pub tickers : List (List ℕ)
+    pub split : AreLines More bytes lines
+    pub front : lines ≡ read ++ next ∷ more
+    pub say : Say [] read commands tickers
+    pub written : ¬ IsBlank next

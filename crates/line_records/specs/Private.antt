@@ -4,6 +4,7 @@ use Rattle.flow_io.specs.Streams.{Grows, GrowsByFront}
 use Rattle.wire_records.specs.Records.{spelling}
 use Rattle.wire_records.specs.Commands.{Command}
 use Rattle.wire_records.specs.CommandRecords.{record_of}
+use Rattle.wire_records.specs.declared.version.Version.{Version}
 use Rattle.order_text.specs.Lines.{IsBlank, Says, SaysNothing}
 use Rattle.line_records.specs.declared.encode.EncodeFault.{EncodeFault}
 use Rattle.line_records.specs.declared.encode.EncodeFault.TheVariants.{NoCommand, Write, Memory}
@@ -19,27 +20,29 @@ IsRecordWritten command (Err (NoCommand number)) before after = ⊥
 IsRecordWritten command (Err Write) before after = GrowsByFront before after (spelling (record_of command))
 IsRecordWritten command (Err Memory) before after = after ≡ before
 
--- A line that is blank or a command was read, and the record of its command was written.
-pub record EncodesLine (tickers : List (List ℕ)) (line : List ℕ) (next : List (List ℕ)) (before after : Option (List ℕ)) : Type 0 where
-  pub commands : List Command
-  pub say : Say tickers (line ∷ []) commands next
-  pub written : Grows before after (spell_commands commands)
+-- In a version.
+module _ (version : Version) where
+  -- A line that is blank or a command was read, and the record of its command was written.
+  pub record EncodesLine (tickers : List (List ℕ)) (line : List ℕ) (next : List (List ℕ)) (before after : Option (List ℕ)) : Type 0 where
+    pub commands : List Command
+    pub say : Say version tickers (line ∷ []) commands next
+    pub written : Grows before after (spell_commands commands)
 
--- by the answer to a line of this number
-abbrev pub IsLineEncoded : List (List ℕ) → List ℕ → ℕ → List (List ℕ) → Result (Unit {0}) EncodeFault → Option (List ℕ) → Option (List ℕ) → Type 0
-IsLineEncoded tickers line number next (Ok _) before after = EncodesLine tickers line next before after
-IsLineEncoded tickers line number next (Err (NoCommand bad)) before after = SaysNothing tickers line × (bad ≡ number) × (after ≡ before)
-IsLineEncoded tickers line number next (Err Write) before after =
-    (command : Command) × Says tickers line command next × GrowsByFront before after (spelling (record_of command))
-IsLineEncoded tickers line number next (Err Memory) before after = (¬ IsBlank line) × (after ≡ before)
+  -- by the answer to a line of this number
+  abbrev pub IsLineEncoded : List (List ℕ) → List ℕ → ℕ → List (List ℕ) → Result (Unit {0}) EncodeFault → Option (List ℕ) → Option (List ℕ) → Type 0
+  IsLineEncoded tickers line number next (Ok _) before after = EncodesLine tickers line next before after
+  IsLineEncoded tickers line number next (Err (NoCommand bad)) before after = SaysNothing version tickers line × (bad ≡ number) × (after ≡ before)
+  IsLineEncoded tickers line number next (Err Write) before after =
+      (command : Command) × Says version tickers line command next × GrowsByFront before after (spelling (record_of command))
+  IsLineEncoded tickers line number next (Err Memory) before after = (¬ IsBlank line) × (after ≡ before)
 
--- the lines of the input were encoded, behind the magic: how that ends, and what was written
-abbrev pub EncodesAll : Type 0 → List ℕ → Ended ℕ → Option (List ℕ) → Option (List ℕ) → Type 0
-EncodesAll More bytes (Err fault.Write) before after = (commands : List Command) × AreFirst More bytes commands × GrowsByFront before after (spell_commands commands)
-EncodesAll More bytes (Err fault.Memory) before after = (commands : List Command) × HaveNext More bytes commands × Grows before after (spell_commands commands)
-EncodesAll More bytes (Err fault.Read) before after = ⊥
-EncodesAll More bytes (Err fault.NotFlow) before after = ⊥
-EncodesAll More bytes (Err (fault.Torn n)) before after = ⊥
-EncodesAll More bytes (Err fault.TooLong) before after = HasEncoded More bytes None before after × More
-EncodesAll More bytes (Err (fault.Stopped number)) before after = HasEncoded More bytes (Some number) before after
-EncodesAll More bytes (Ok done) before after = HasEncoded More bytes None before after × (¬ More)
+  -- the lines of the input were encoded, behind the magic: how that ends, and what was written
+  abbrev pub EncodesAll : Type 0 → List ℕ → Ended ℕ → Option (List ℕ) → Option (List ℕ) → Type 0
+  EncodesAll More bytes (Err fault.Write) before after = (commands : List Command) × AreFirst version More bytes commands × GrowsByFront before after (spell_commands commands)
+  EncodesAll More bytes (Err fault.Memory) before after = (commands : List Command) × HaveNext version More bytes commands × Grows before after (spell_commands commands)
+  EncodesAll More bytes (Err fault.Read) before after = ⊥
+  EncodesAll More bytes (Err fault.NotFlow) before after = ⊥
+  EncodesAll More bytes (Err (fault.Torn n)) before after = ⊥
+  EncodesAll More bytes (Err fault.TooLong) before after = HasEncoded version More bytes None before after × More
+  EncodesAll More bytes (Err (fault.Stopped number)) before after = HasEncoded version More bytes (Some number) before after
+  EncodesAll More bytes (Ok done) before after = HasEncoded version More bytes None before after × (¬ More)

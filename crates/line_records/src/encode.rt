@@ -11,7 +11,7 @@ use memchr::memchr;
 use order_text::{LineFault, LineRead, read_line};
 use std::alloc::Global;
 use ticker_table::TickerTable;
-use wire_records::{Command, write_command};
+use wire_records::{Command, Version, write_command};
 
 /// Why the lines of a text weren't encoded to their end.
 #[derive(Clone, Copy, PartialEq, Eq)]
@@ -53,15 +53,16 @@ impl Encoding {
     // Writes the record of the command that a line asks for.
     fn encode_line<K: Sink>(
         &mut self,
+        version: Version,
         line: &[u8],
         number: u64,
         out: &mut K,
     ) -> Result<(), EncodeFault>
-        ensures encoded { IsLineEncoded self.old.tickers line.now number self.new.tickers result
+        ensures encoded { IsLineEncoded version self.old.tickers line.now number self.new.tickers result
             (K.held out.old) (K.held out.new) }
         ensures cause { Blames (result ≡ Err EncodeFault.Write) (K.faults out.old) (K.faults out.new) }
     {
-        match read_line(self.alloc, line, &mut self.tickers) {
+        match read_line(self.alloc, line, version, &mut self.tickers) {
             Ok(LineRead::Blank) => Ok(()),
             Ok(LineRead::Asks(command)) => write_record(&mut self.record, &command, out),
             Err(LineFault::NoCommand) => Err(EncodeFault::NoCommand(number)),
@@ -70,7 +71,7 @@ impl Encoding {
     }
 }
 
-/// Writes the record of each command that the lines of a text ask for, by one call each. The lines are the pieces before
+/// Writes the record of each command of a version that the lines of a text ask for, by one call each. The lines are the pieces before
 /// line feeds, and the piece behind the last line feed, where it isn't empty and there is no `more` of the text.
 ///
 /// `NoCommand` with its number comes exactly at the first line that is neither blank nor a command; the records of the
@@ -79,11 +80,12 @@ impl Encoding {
 /// that of reading the lines. Memory: what one line takes, and one record.
 pub fn encode_lines<K: Sink>(
     alloc: Global,
+    version: Version,
     text: &[u8],
     more: bool,
     out: &mut K,
 ) -> Result<(), EncodeFault>
-    ensures encoded { IsEncoded (IsTrue more) text.now result (K.held out.old) (K.held out.new) }
+    ensures encoded { IsEncoded version (IsTrue more) text.now result (K.held out.old) (K.held out.new) }
     ensures cause { Blames (result ≡ Err EncodeFault.Write) (K.faults out.old) (K.faults out.new) }
 {
     let mut encoding = Encoding {
@@ -94,7 +96,7 @@ pub fn encode_lines<K: Sink>(
     let mut place = 0;
     let mut number = 1;
     while let Some(length) = memchr(b'\n', &text[place..]) {
-        encoding.encode_line(&text[place..place + length], number, out)?;
+        encoding.encode_line(version, &text[place..place + length], number, out)?;
         place += length + 1;
         number += 1;
     }
@@ -102,5 +104,5 @@ pub fn encode_lines<K: Sink>(
     if more || last.is_empty() {
         return Ok(());
     }
-    encoding.encode_line(last, number, out)
+    encoding.encode_line(version, last, number, out)
 }

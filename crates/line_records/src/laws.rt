@@ -1,6 +1,7 @@
 //! What holds of the lines of a text, whether it has more or not. Each law is the contract of a function that does
 //! nothing.
 ghost use Rattle.std.specs.Prelude.{◌≡◌, ◌↔◌, IsTrue};
+ghost use Rattle.wire_records.specs.declared.version.Version.{Version};
 ghost use Rattle.line_records.specs.Laws.{OneSplit, OneReading, NoneIsUnread, FirstIsAFront, CommandsFit};
 
 use crate::EncodeFault;
@@ -12,24 +13,24 @@ pub fn one_split<More>()
 
 /// There is one first line that is no command, or none, and the lines before it ask for one list of commands.
 pub fn one_reading<More>()
-    ensures { OneReading More }
+    ensures { (version : Version) → OneReading version More }
 {}
 
 /// No text is without a reading.
 pub fn none_is_unread<More>()
-    ensures { NoneIsUnread More }
+    ensures { (version : Version) → NoneIsUnread version More }
 {}
 
 /// What the first lines ask for is a front of what all of them do, or those before the first that is no command: so
 /// what stands after a fault is a front of what would have been written.
 pub fn first_is_a_front<More>()
-    ensures { FirstIsAFront More }
+    ensures { (version : Version) → FirstIsAFront version More }
 {}
 
 /// What lines ask for fits its records: the fields of each command are within their widths, and its row, if it has one, isn't
-/// too long. Each command is one of version One.
+/// too long. Each command is one of the version.
 pub fn commands_fit()
-    ensures { CommandsFit }
+    ensures { (version : Version) → CommandsFit version }
 {}
 
 /// Two faults are equal in a test exactly where they are the same.

@@ -2,6 +2,7 @@
 ghost use Rattle.std.specs.Prelude.{◌≡◌, Err, IsTrue};
 ghost use Rattle.flow_io.specs.Faults.{Blames};
 ghost use Rattle.flow_io.specs.Changes.{change};
+ghost use Rattle.wire_records.specs.Formats.{command_magic_of};
 ghost use Rattle.word_driver.specs.Does.{Does};
 ghost use Rattle.line_records.specs.Tasks.{encoding};
 ghost use Rattle.line_records.specs.Private.{EncodesAll};
@@ -9,16 +10,31 @@ ghost use Rattle.line_records.specs.Private.{EncodesAll};
 use crate::encode::{EncodeFault, encode_lines};
 use flow_io::{ReadAllFault, Sink, Source, WholeInput, read_all};
 use std::alloc::Global;
-use wire_records::COMMAND_MAGIC;
+use wire_records::{COMMAND_MAGIC, COMMAND_MAGIC_2, Version};
 use word_driver::Fault;
 
+// The magic of a command file.
+fn magic_of(version: Version) -> [u8; 8]
+    ensures { result ≡ command_magic_of version }
+{
+    match version {
+        Version::One => COMMAND_MAGIC,
+        Version::Two => COMMAND_MAGIC_2,
+    }
+}
+
 // Encodes the lines of the input.
-fn encode_all<K: Sink>(alloc: Global, input: &WholeInput, out: &mut K) -> Result<(), Fault<u64>>
-    ensures encoded { EncodesAll (IsTrue input.now.more) input.now.bytes.items result
+fn encode_all<K: Sink>(
+    alloc: Global,
+    version: Version,
+    input: &WholeInput,
+    out: &mut K,
+) -> Result<(), Fault<u64>>
+    ensures encoded { EncodesAll version (IsTrue input.now.more) input.now.bytes.items result
         (K.held out.old) (K.held out.new) }
     ensures cause { Blames (result ≡ Err Fault.Write) (K.faults out.old) (K.faults out.new) }
 {
-    match encode_lines(alloc, &input.bytes, input.more, out) {
+    match encode_lines(alloc, version, &input.bytes, input.more, out) {
         Ok(()) if input.more => Err(Fault::TooLong),
         Ok(()) => Ok(()),
         Err(EncodeFault::NoCommand(number)) => Err(Fault::Stopped(number)),
@@ -27,16 +43,17 @@ fn encode_all<K: Sink>(alloc: Global, input: &WholeInput, out: &mut K) -> Result
     }
 }
 
-/// Reads the source to its end or the limit, and writes the command file of its lines: one write for the magic, and one
+/// Reads the source to its end or the limit, and writes the command file of its lines, of a version: one write for the magic, and one
 /// for each record. It stops at the first line that is neither blank nor a command, with its number, counted from 1;
 /// all before it are written. The input is held whole; one buffer holds a record at a time.
 pub fn encode_source<S: Source, K: Sink>(
     alloc: Global,
+    version: Version,
     limit: u64,
     source: &mut S,
     out: &mut K,
 ) -> Result<(), Fault<u64>>
-    ensures does { Does encoding limit result (change S.rest S.faults source.old source.new)
+    ensures does { Does (encoding version) limit result (change S.rest S.faults source.old source.new)
         (change K.held K.faults out.old out.new) }
 {
     let input = match read_all(alloc, source, limit) {
@@ -44,8 +61,8 @@ pub fn encode_source<S: Source, K: Sink>(
         Err(ReadAllFault::Read) => return Err(Fault::Read),
         Err(ReadAllFault::Memory) => return Err(Fault::Memory),
     };
-    match out.write(&COMMAND_MAGIC) {
-        Ok(()) => encode_all(alloc, &input, out),
+    match out.write(&magic_of(version)) {
+        Ok(()) => encode_all(alloc, version, &input, out),
         Err(_) => Err(Fault::Write),
     }
 }
