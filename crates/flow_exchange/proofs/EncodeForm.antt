@@ -1,12 +1,13 @@
 -- An encoding does what the clauses of the program say.
 use Rattle.std.proofs.Common.{ℕ, refl}
+use Rattle.wire_records.specs.declared.version.Version.{Version}
 use Rattle.line_records.specs.Tasks.{encoding}
 use Rattle.flow_exchange.specs.declared.form.Form.TheVariants.{Encode}
 use Rattle.flow_exchange.specs.Statuses.{bad_text}
 use Rattle.flow_exchange.proofs.Words.{IsForm}
 
-pub encode_form : (limit : ℕ) → IsForm encoding Encode limit bad_text
-encode_form limit = record {
+pub encode_form : (version : Version) (limit : ℕ) → IsForm (encoding version) (Encode version) limit bad_text
+encode_form version limit = record {
   to = λ bytes ended text comes. (ended, comes, refl);
   into = λ bytes n text begins. begins;
   out = λ bytes text lacks. lacks;

@@ -4,14 +4,14 @@ use Rattle.std.specs.List.{flat_map}
 use Rattle.std.proofs.lemmas.Grind.{flat_map-append}
 use Rattle.std.proofs.lemmas.List.Elements.{All-head, All-tail, All-take}
 use Rattle.std.proofs.lemmas.List.{flat_map_more, take_at}
-use Rattle.wire_records.specs.Records.{Record, command_magic, spelling}
+use Rattle.wire_records.specs.Records.{Record, spelling}
 use Rattle.wire_records.specs.Commands.{Pair}
 use Rattle.wire_records.specs.CommandRecords.{record_of}
 use Rattle.wire_records.specs.Versions.{IsReadAs}
 use Rattle.wire_records.specs.Grammars.{spell_all}
 use Rattle.wire_records.specs.Reading.{Reading, NotFlow, File, Reads, StartsWith}
 use Rattle.wire_records.specs.declared.version.Version.{Version}
-use Rattle.wire_records.specs.Formats.{commands}
+use Rattle.wire_records.specs.Formats.{commands, command_magic_of}
 use Rattle.wire_records.proofs.Readings.{reading_unique}
 use Rattle.wire_records.proofs.ReadingLaws.{starts_first}
 use Rattle.wire_records.proofs.RecordCode.{commands_readable}
@@ -56,14 +56,14 @@ begins-spelled magic spell all first more text begun parts is begun_is = (
 
 -- ---- encode
 
-encode_begins : (limit : ℕ) (bytes : List ℕ) (ended : Ended ℕ) (text begun : List ℕ) → EncodesTo limit bytes ended text → EncodesInto limit bytes begun → Begins text begun
-encode_begins limit bytes ended text begun all first =
-    let on = first_is_a_front (limit < length bytes) (take limit bytes) all.bad first.commands all.commands first.first all.reads in
-    begins-spelled command_magic (λ command. spelling (record_of command)) all.commands first.commands on.0 text begun on.1 all.writes first.writes
+encode_begins : (version : Version) (limit : ℕ) (bytes : List ℕ) (ended : Ended ℕ) (text begun : List ℕ) → EncodesTo version limit bytes ended text → EncodesInto version limit bytes begun → Begins text begun
+encode_begins version limit bytes ended text begun all first =
+    let on = first_is_a_front version (limit < length bytes) (take limit bytes) all.bad first.commands all.commands first.first all.reads in
+    begins-spelled (command_magic_of version) (λ command. spelling (record_of command)) all.commands first.commands on.0 text begun on.1 all.writes first.writes
 
 -- where memory ran out at a line
-encode_begun : (limit : ℕ) (bytes begun : List ℕ) → EncodesShort limit bytes begun → EncodesInto limit bytes begun
-encode_begun limit bytes begun short = record { commands = short.commands; first = before_next (limit < length bytes) (take limit bytes) short.commands short.first; writes = short.writes }
+encode_begun : (version : Version) (limit : ℕ) (bytes begun : List ℕ) → EncodesShort version limit bytes begun → EncodesInto version limit bytes begun
+encode_begun version limit bytes begun short = record { commands = short.commands; first = before_next version (limit < length bytes) (take limit bytes) short.commands short.first; writes = short.writes }
 
 -- ---- run
 
@@ -180,6 +180,6 @@ begun_is_a_front Audit limit bytes status text begun comes (inl gets) = absurd g
 begun_is_a_front Audit limit bytes status text begun comes (inr (legal, market, next, at, wants, nothing)) = begins-nothing text begun nothing
 begun_is_a_front Report limit bytes status text begun comes (inl gets) = report_begins-file limit bytes status text begun comes gets
 begun_is_a_front Report limit bytes status text begun comes (inr short) = report_begins-file limit bytes status text begun comes (report_begun limit bytes begun short)
-begun_is_a_front Encode limit bytes status text begun comes (inl gets) = encode_begins limit bytes comes.0 text begun comes.1 gets
-begun_is_a_front Encode limit bytes status text begun comes (inr (inl none)) = begins-nothing text begun none
-begun_is_a_front Encode limit bytes status text begun comes (inr (inr short)) = encode_begins limit bytes comes.0 text begun comes.1 (encode_begun limit bytes begun short)
+begun_is_a_front (Encode version) limit bytes status text begun comes (inl gets) = encode_begins version limit bytes comes.0 text begun comes.1 gets
+begun_is_a_front (Encode version) limit bytes status text begun comes (inr (inl none)) = begins-nothing text begun none
+begun_is_a_front (Encode version) limit bytes status text begun comes (inr (inr short)) = encode_begins version limit bytes comes.0 text begun comes.1 (encode_begun version limit bytes begun short)

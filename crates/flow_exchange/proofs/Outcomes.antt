@@ -19,6 +19,7 @@ use Rattle.batch_report.specs.Reports.{IsReport}
 use Rattle.batch_report.proofs.OneReport.{one_report}
 use Rattle.market_core.proofs.OneJournal.{one_own_journal}
 use Rattle.exchange_session.specs.Journals.{Journals}
+use Rattle.wire_records.specs.declared.version.Version.TheVariants.{One, Two}
 use Rattle.flow_exchange.specs.declared.form.Form.{Form}
 use Rattle.flow_exchange.specs.declared.form.Form.TheVariants.{Run, Audit, Report, Encode}
 use Rattle.flow_exchange.specs.declared.status.Status.{Status}
@@ -43,23 +44,36 @@ mark word = length word + get_or word 0 0
 two_words : (words : List (List ℕ)) (x y : List ℕ) → mark x ≢ mark y → words ≡ x ∷ [] → words ≡ y ∷ [] → ⊥
 two_words words x y other a b = other (ap mark (heads x y (sym a ∙ b)))
 
+-- one word isn't two
+one_or_two : {x y z : List ℕ} → (words : List (List ℕ)) → words ≡ x ∷ [] → words ≡ y ∷ z ∷ [] → ⊥
+one_or_two words one two = absurd (omega (arith, ap length one, ap length two))
+
 pub one_form : OneForm
 one_form words Run Run a b = refl
 one_form words Audit Audit a b = refl
 one_form words Report Report a b = refl
-one_form words Encode Encode a b = refl
+one_form words (Encode One) (Encode One) a b = refl
+one_form words (Encode Two) (Encode Two) a b = refl
+one_form words (Encode One) (Encode Two) a b = absurd (one_or_two words a b)
+one_form words (Encode Two) (Encode One) a b = absurd (one_or_two words b a)
 one_form words Run Audit a b = absurd (two_words words (codes "run") (codes "audit") (λ e. omega (arith, e)) a b)
 one_form words Run Report a b = absurd (two_words words (codes "run") (codes "report") (λ e. omega (arith, e)) a b)
-one_form words Run Encode a b = absurd (two_words words (codes "run") (codes "encode") (λ e. omega (arith, e)) a b)
+one_form words Run (Encode One) a b = absurd (two_words words (codes "run") (codes "encode") (λ e. omega (arith, e)) a b)
+one_form words Run (Encode Two) a b = absurd (one_or_two words a b)
 one_form words Audit Run a b = absurd (two_words words (codes "audit") (codes "run") (λ e. omega (arith, e)) a b)
 one_form words Audit Report a b = absurd (two_words words (codes "audit") (codes "report") (λ e. omega (arith, e)) a b)
-one_form words Audit Encode a b = absurd (two_words words (codes "audit") (codes "encode") (λ e. omega (arith, e)) a b)
+one_form words Audit (Encode One) a b = absurd (two_words words (codes "audit") (codes "encode") (λ e. omega (arith, e)) a b)
+one_form words Audit (Encode Two) a b = absurd (one_or_two words a b)
 one_form words Report Run a b = absurd (two_words words (codes "report") (codes "run") (λ e. omega (arith, e)) a b)
 one_form words Report Audit a b = absurd (two_words words (codes "report") (codes "audit") (λ e. omega (arith, e)) a b)
-one_form words Report Encode a b = absurd (two_words words (codes "report") (codes "encode") (λ e. omega (arith, e)) a b)
-one_form words Encode Run a b = absurd (two_words words (codes "encode") (codes "run") (λ e. omega (arith, e)) a b)
-one_form words Encode Audit a b = absurd (two_words words (codes "encode") (codes "audit") (λ e. omega (arith, e)) a b)
-one_form words Encode Report a b = absurd (two_words words (codes "encode") (codes "report") (λ e. omega (arith, e)) a b)
+one_form words Report (Encode One) a b = absurd (two_words words (codes "report") (codes "encode") (λ e. omega (arith, e)) a b)
+one_form words Report (Encode Two) a b = absurd (one_or_two words a b)
+one_form words (Encode One) Run a b = absurd (two_words words (codes "encode") (codes "run") (λ e. omega (arith, e)) a b)
+one_form words (Encode Two) Run a b = absurd (one_or_two words b a)
+one_form words (Encode One) Audit a b = absurd (two_words words (codes "encode") (codes "audit") (λ e. omega (arith, e)) a b)
+one_form words (Encode Two) Audit a b = absurd (one_or_two words b a)
+one_form words (Encode One) Report a b = absurd (two_words words (codes "encode") (codes "report") (λ e. omega (arith, e)) a b)
+one_form words (Encode Two) Report a b = absurd (one_or_two words b a)
 
 -- records have one journal, and so one text
 journals_one : (version : Version) (records : List Record) (m n : Market) (x y : List ℕ) → Journals version records m x → Journals version records n y → x ≡ y
@@ -121,16 +135,16 @@ reports_one limit bytes s t x y (inr a) (inr b) =
     (same, one_text (empty_market b.audits.version) 1 b.legal a.market b.market x y writes b.writes)
 
 -- an encoding comes to one status and one text
-lines_one : (limit : ℕ) (bytes : List ℕ) (s t : Status) (x y : List ℕ) → ComesTo Encode limit bytes s x → ComesTo Encode limit bytes t y → (s ≡ t) × (x ≡ y)
-lines_one limit bytes s t x y a b =
-    let one = encodes_one limit bytes a.0 b.0 x y a.1 b.1 in
+lines_one : (version : Version) (limit : ℕ) (bytes : List ℕ) (s t : Status) (x y : List ℕ) → ComesTo (Encode version) limit bytes s x → ComesTo (Encode version) limit bytes t y → (s ≡ t) × (x ≡ y)
+lines_one version limit bytes s t x y a b =
+    let one = encodes_one version limit bytes a.0 b.0 x y a.1 b.1 in
     (a.2 ∙ ap (ended_status limit bad_text) one.0 ∙ sym b.2, one.1)
 
 pub one_outcome : OneOutcome
 one_outcome Run limit bytes s t x y a b = runs_one limit bytes s t x y a b
 one_outcome Audit limit bytes s t x y a b = audits_one limit bytes s t x y a b
 one_outcome Report limit bytes s t x y a b = reports_one limit bytes s t x y a b
-one_outcome Encode limit bytes s t x y a b = lines_one limit bytes s t x y a b
+one_outcome (Encode version) limit bytes s t x y a b = lines_one version limit bytes s t x y a b
 
 -- what a form comes to, where its status is none that a fault or want of memory has
 determined : (form : Form) (limit : ℕ) (bytes : List ℕ) (left : Option (List ℕ)) (status : Status) (before after : Option (List ℕ)) → Meets form limit bytes left status before after

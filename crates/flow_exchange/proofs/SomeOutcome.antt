@@ -34,4 +34,4 @@ none_is_without_outcome Audit limit bytes =
 none_is_without_outcome Report limit bytes =
     some_outcome (task report report_start) Report limit rejected (report_form limit) bytes
     (some_end report report_start report_is_exact (over_pairs_is_kept telling report_start (λ version. (refl, refl))) (report_has_next report_start) limit bytes)
-none_is_without_outcome Encode limit bytes = some_outcome encoding Encode limit bad_text (encode_form limit) bytes (encodes_some limit bytes)
+none_is_without_outcome (Encode version) limit bytes = some_outcome (encoding version) (Encode version) limit bad_text (encode_form version limit) bytes (encodes_some version limit bytes)

@@ -7,7 +7,6 @@ use Rattle.wire_records.specs.Commands.{Command, AddAsset, OpenAccount, DepositM
 use Rattle.wire_records.specs.CommandRecords.{record_of, IsCommand, Spells}
 use Rattle.wire_records.specs.Versions.{IsOfVersion, IsReadAs}
 use Rattle.wire_records.specs.declared.version.Version.{Version}
-use Rattle.wire_records.specs.declared.version.Version.TheVariants.{One, Two}
 use Rattle.wire_records.specs.declared.reply.Refusal.{Refusal}
 use Rattle.wire_records.specs.declared.command.BodyFault.{BodyFault}
 use Rattle.wire_records.proofs.Readings.{command_read}
@@ -16,6 +15,7 @@ use Rattle.flow_orders.specs.Own.{IsOwnOutcome}
 use Rattle.market_core.specs.Market.{Market, empty_market}
 use Rattle.market_core.specs.Step.{FirstRefusal, Accepts, Answers, Serves, ServesRead, after_batch}
 use Rattle.market_core.specs.Journal.{Step, Follows}
+use Rattle.market_core.proofs.Versions.{step_version}
 use Rattle.market_core.proofs.Accepted.{past_when, past_unless, not_least}
 use Rattle.order_text.specs.Lines.{AreAfter}
 use Rattle.order_text.proofs.OneAnswers.{one_saying}
@@ -62,11 +62,6 @@ refused_tickers m (PlaceUntil last request) first refused = refl
 refused_tickers m (SetMoneyCredit account ticks) first refused = refl
 refused_tickers m (SetUnitCredit account asset units) first refused = refl
 
--- a command of version One is one of either version
-of_any : (version : Version) (command : Command) → IsOfVersion One command → IsOfVersion version command
-of_any One command of = of
-of_any Two command of = (of.0, omega (arith, of.1))
-
 -- how a batch may end
 module _ (Rule : BatchRule) where
   -- an accepted command leaves the tickers, but that of an asset adds one
@@ -95,9 +90,9 @@ module _ (Rule : BatchRule) where
   served_tickers m command answer new served = answered_tickers m command served.first answer new served.refused served.answered
 
   -- the same of a step of the command's record
-  pub step_tickers : (m : Market) (command : Command) (asked : Record) (answer : Answer Outcome) (new : Market) → IsOfVersion One command → Spells command asked → Step IsReadAs Rule m asked answer new → AreAfter m.tickers command new.tickers
+  pub step_tickers : (m : Market) (command : Command) (asked : Record) (answer : Answer Outcome) (new : Market) → IsOfVersion m.version command → Spells command asked → Step IsReadAs Rule m asked answer new → AreAfter m.tickers command new.tickers
   step_tickers m command asked answer new of spells step =
-      let served = subst (λ (read : Result Command BodyFault). ServesRead Rule m read answer new) (command_read m.version command asked step.read (of_any m.version command of) spells step.spelled) step.served in
+      let served = subst (λ (read : Result Command BodyFault). ServesRead Rule m read answer new) (command_read m.version command asked step.read of spells step.spelled) step.served in
       served_tickers m command answer new served
 
   -- lists that are one have the same first record and the same rest
@@ -105,27 +100,27 @@ module _ (Rule : BatchRule) where
   heads a b x y e = (cc, cc)
 
   -- lines and steps of their commands' records, from the same tickers on, lead to the same tickers
-  pub steps_tickers : (lines : List (List ℕ)) (commands : List Command) (after : List (List ℕ)) (m market : Market) (pairs : List (Pair Record Outcome)) → Say m.tickers lines commands after → All IsCommand commands → All (IsOfVersion One) commands
+  pub steps_tickers : (version : Version) (lines : List (List ℕ)) (commands : List Command) (after : List (List ℕ)) (m market : Market) (pairs : List (Pair Record Outcome)) → m.version ≡ version → Say version m.tickers lines commands after → All IsCommand commands → All (IsOfVersion version) commands
       → map (λ (pair : Pair Record Outcome). pair.asked) pairs ≡ map record_of commands → Follows IsReadAs Rule m pairs market → market.tickers ≡ after
-  steps_tickers [] commands after m market [] say fit own asked steps = made_tickers market m steps ∙ sym say.1
-  steps_tickers [] commands after m market (pair ∷ pairs) say fit own asked steps =
+  steps_tickers version [] commands after m market [] of say fit own asked steps = made_tickers market m steps ∙ sym say.1
+  steps_tickers version [] commands after m market (pair ∷ pairs) of say fit own asked steps =
       let none = asked ∙ ap (map record_of) say.0 in
       absurd cc
-  steps_tickers (line ∷ lines) commands after m market pairs (inl blank) fit own asked steps = steps_tickers lines commands after m market pairs blank.1 fit own asked steps
-  steps_tickers (line ∷ lines) commands after m market [] (inr said) fit own asked steps =
+  steps_tickers version (line ∷ lines) commands after m market pairs of (inl blank) fit own asked steps = steps_tickers version lines commands after m market pairs of blank.1 fit own asked steps
+  steps_tickers version (line ∷ lines) commands after m market [] of (inr said) fit own asked steps =
       let some = asked ∙ ap (map record_of) said.5 in
       absurd cc
-  steps_tickers (line ∷ lines) commands after m market (pair ∷ pairs) (inr said) fit own asked steps =
+  steps_tickers version (line ∷ lines) commands after m market (pair ∷ pairs) of (inr said) fit own asked steps =
       let fits = subst (All IsCommand) said.5 fit in
-      let owned = subst (All (IsOfVersion One)) said.5 own in
+      let owned = subst (All (IsOfVersion version)) said.5 own in
       let both = heads pair.asked (record_of said.0) (map (λ (p : Pair Record Outcome). p.asked) pairs) (map record_of said.1) (asked ∙ ap (map record_of) said.5) in
-      let leaves = step_tickers m said.0 pair.asked pair.answer steps.0 (All-head (IsOfVersion One) said.0 said.1 owned) (record { fits = All-head IsCommand said.0 said.1 fits; spelled = both.0 }) steps.1 in
-      let same = one_saying m.tickers line said.0 said.0 said.2 steps.0.tickers said.3 (record { asks = said.3.asks; leaves = leaves }) in
-      steps_tickers lines said.1 after steps.0 market pairs (subst (λ tickers. Say tickers lines said.1 after) same.1 said.4) (All-tail IsCommand said.0 said.1 fits) (All-tail (IsOfVersion One) said.0 said.1 owned) both.1 steps.2
+      let leaves = step_tickers m said.0 pair.asked pair.answer steps.0 (subst (λ (v : Version). IsOfVersion v said.0) (sym of) (All-head (IsOfVersion version) said.0 said.1 owned)) (record { fits = All-head IsCommand said.0 said.1 fits; spelled = both.0 }) steps.1 in
+      let same = one_saying version m.tickers line said.0 said.0 said.2 steps.0.tickers said.3 (record { asks = said.3.asks; leaves = leaves }) in
+      steps_tickers version lines said.1 after steps.0 market pairs (step_version Rule IsReadAs m pair.asked pair.answer steps.0 steps.1 ∙ of) (subst (λ tickers. Say version tickers lines said.1 after) same.1 said.4) (All-tail IsCommand said.0 said.1 fits) (All-tail (IsOfVersion version) said.0 said.1 owned) both.1 steps.2
 
 pub tickers_agree : TickersAgree
-tickers_agree limit bytes text journal ended encoded market journals =
+tickers_agree version limit bytes text journal ended encoded market journals =
     let reads = encoded.reads in
-    let fit = commands_fit reads.read encoded.commands reads.tickers reads.say in
-    steps_tickers IsOwnOutcome reads.read encoded.commands reads.tickers (empty_market One) market journals.pairs reads.say fit.0 fit.2
+    let fit = commands_fit version reads.read encoded.commands reads.tickers reads.say in
+    steps_tickers IsOwnOutcome version reads.read encoded.commands reads.tickers (empty_market version) market journals.pairs refl reads.say fit.0 fit.2
     journals.journal_of.asked journals.journal_of.steps

@@ -1,5 +1,6 @@
 -- The forms of the command line.
 use Rattle.std.specs.Prelude.{◌≡◌, ℕ, List, [], ◌∷◌, codes}
+use Rattle.wire_records.specs.declared.version.Version.TheVariants.{One, Two}
 use Rattle.flow_exchange.specs.declared.form.Form.{Form}
 use Rattle.flow_exchange.specs.declared.form.Form.TheVariants.{Run, Audit, Report, Encode}
 
@@ -8,7 +9,8 @@ abbrev pub Asks : List (List ℕ) → Form → Type 0
 Asks words Run = words ≡ codes "run" ∷ []
 Asks words Audit = words ≡ codes "audit" ∷ []
 Asks words Report = words ≡ codes "report" ∷ []
-Asks words Encode = words ≡ codes "encode" ∷ []
+Asks words (Encode One) = words ≡ codes "encode" ∷ []
+Asks words (Encode Two) = words ≡ codes "encode" ∷ codes "2" ∷ []
 
 -- the words are none of the forms
 abbrev pub AsksNothing : List (List ℕ) → Type 0

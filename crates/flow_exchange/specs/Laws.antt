@@ -6,7 +6,6 @@ use Rattle.wire_records.specs.CommandRecords.{record_of}
 use Rattle.wire_records.specs.Versions.{IsReadAs}
 use Rattle.wire_records.specs.Reading.{Reads, File, End}
 use Rattle.wire_records.specs.declared.version.Version.{Version}
-use Rattle.wire_records.specs.declared.version.Version.TheVariants.{One}
 use Rattle.wire_records.specs.Formats.{commands}
 use Rattle.flow_orders.specs.Outcomes.{Outcome}
 use Rattle.journal_records.specs.Formats.{journals, journal_in}
@@ -57,16 +56,16 @@ abbrev pub RejectedIsFirstIllegal : Type 0
 RejectedIsFirstIllegal = (limit number : ℕ) (bytes text : List ℕ)
     → ComesTo Audit limit bytes (Rejected number) text ↔ (HasFirstIllegal limit bytes number × (text ≡ []))
 
--- what is encoded is a command file, which is read to its end as the records of the commands that the lines ask for, and each
+-- what is encoded is a command file of the version, which is read to its end as the records of the commands that the lines ask for, and each
 -- of these records as its command
 abbrev pub EncodedIsRead : Type 0
-EncodedIsRead = (limit most : ℕ) (bytes text : List ℕ) (ended : Ended ℕ) (encoded : EncodesTo limit bytes ended text) → length text ≤ most
-    → Reads commands most text (File One (map record_of encoded.commands) End) × All (λ command. IsReadAs One (record_of command) (Ok command)) encoded.commands
+EncodedIsRead = (version : Version) (limit most : ℕ) (bytes text : List ℕ) (ended : Ended ℕ) (encoded : EncodesTo version limit bytes ended text) → length text ≤ most
+    → Reads commands most text (File version (map record_of encoded.commands) End) × All (λ command. IsReadAs version (record_of command) (Ok command)) encoded.commands
 
 -- and a run of it is done, and writes the journal of these records, each with its reply
 abbrev pub EncodedIsServed : Type 0
-EncodedIsServed = (limit most : ℕ) (bytes text journal : List ℕ) (ended : Ended ℕ) (ran : Status) (encoded : EncodesTo limit bytes ended text) → length text ≤ most
-    → ComesTo Run most text ran journal → (ran ≡ Done) × (market : Market) × Journals One (map record_of encoded.commands) market journal
+EncodedIsServed = (version : Version) (limit most : ℕ) (bytes text journal : List ℕ) (ended : Ended ℕ) (ran : Status) (encoded : EncodesTo version limit bytes ended text) → length text ≤ most
+    → ComesTo Run most text ran journal → (ran ≡ Done) × (market : Market) × Journals version (map record_of encoded.commands) market journal
 
 -- no bytes are without an outcome, whatever the form
 abbrev pub NoneIsWithoutOutcome : Type 0
@@ -79,5 +78,5 @@ BegunIsAFront = (form : Form) (limit : ℕ) (bytes : List ℕ) (status : Status)
 
 -- the tickers by which lines name assets are those of the market that a run of their file leads to
 abbrev pub TickersAgree : Type 0
-TickersAgree = (limit : ℕ) (bytes text journal : List ℕ) (ended : Ended ℕ) (encoded : EncodesTo limit bytes ended text) (market : Market)
-    → Journals One (map record_of encoded.commands) market journal → market.tickers ≡ encoded.reads.tickers
+TickersAgree = (version : Version) (limit : ℕ) (bytes text journal : List ℕ) (ended : Ended ℕ) (encoded : EncodesTo version limit bytes ended text) (market : Market)
+    → Journals version (map record_of encoded.commands) market journal → market.tickers ≡ encoded.reads.tickers

@@ -22,35 +22,35 @@ abbrev pub ComesTo : Form → ℕ → List ℕ → Status → List ℕ → Type 
 ComesTo Run limit bytes status text = RunsTo limit bytes status text
 ComesTo Audit limit bytes status text = AuditsTo limit bytes status text
 ComesTo Report limit bytes status text = ReportsTo limit bytes status text
-ComesTo Encode limit bytes status text = (ended : Ended ℕ) × EncodesTo limit bytes ended text × (status ≡ ended_status limit bad_text ended)
+ComesTo (Encode version) limit bytes status text = (ended : Ended ℕ) × EncodesTo version limit bytes ended text × (status ≡ ended_status limit bad_text ended)
 
 -- what may stand in out, besides nothing, while a form is at work: the text of whole units
 abbrev pub GetsTo : Form → ℕ → List ℕ → List ℕ → Type 0
 GetsTo Run limit bytes text = RunsInto limit bytes text
 GetsTo Audit limit bytes text = ⊥
 GetsTo Report limit bytes text = ReportsInto limit bytes text
-GetsTo Encode limit bytes text = EncodesInto limit bytes text
+GetsTo (Encode version) limit bytes text = EncodesInto version limit bytes text
 
 -- what may stand in out where memory ran out once something was read
 abbrev pub LacksAt : Form → ℕ → List ℕ → List ℕ → Type 0
 LacksAt Run limit bytes text = RunsShort limit bytes text
 LacksAt Audit limit bytes text = AuditsShort limit bytes text
 LacksAt Report limit bytes text = ReportsShort limit bytes text
-LacksAt Encode limit bytes text = (text ≡ []) ⊎ EncodesShort limit bytes text
+LacksAt (Encode version) limit bytes text = (text ≡ []) ⊎ EncodesShort version limit bytes text
 
 -- how many bytes of the source are taken at most
 abbrev pub most_taken : Form → ℕ → ℕ
 most_taken Run limit = limit + 1
 most_taken Audit limit = limit + 1
 most_taken Report limit = limit + 1
-most_taken Encode limit = limit + 1
+most_taken (Encode version) limit = limit + 1
 
 -- what is left of the source where all was done
 abbrev pub left_by : Form → List ℕ → List ℕ
 left_by Run bytes = []
 left_by Audit bytes = []
 left_by Report bytes = []
-left_by Encode bytes = []
+left_by (Encode version) bytes = []
 
 -- ---- what holds of all forms
 

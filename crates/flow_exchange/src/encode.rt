@@ -9,19 +9,21 @@ use crate::ending::lines_status;
 use flow_io::{Sink, Source};
 use line_records::encode_source;
 use std::alloc::Global;
+use wire_records::Version;
 
-/// Reads the source to its end or the limit, and writes the command file of its lines: one write for the magic, and one
+/// Reads the source to its end or the limit, and writes the command file of its lines, of a version: one write for the magic, and one
 /// for each record. The input is held whole; one buffer holds a record at a time.
 pub(crate) fn encode<S: Source, K: Sink>(
     alloc: Global,
+    version: Version,
     limit: u64,
     source: &mut S,
     out: &mut K,
 ) -> Status
     ensures asked { result ≢ Status.Usage }
-    ensures does { Does Encode limit result (change S.rest S.faults source.old source.new)
+    ensures does { Does (Encode version) limit result (change S.rest S.faults source.old source.new)
         (change K.held K.faults out.old out.new) }
 {
-    let ended = encode_source(alloc, limit, source, out);
+    let ended = encode_source(alloc, version, limit, source, out);
     lines_status(ended, limit)
 }

@@ -2,6 +2,8 @@
 ghost use Rattle.std.specs.Prelude.{◌≡◌, ◌↔◌, IfSome, IfNone, IsTrue, map, string_bytes, [], ◌∷◌};
 ghost use Rattle.flow_exchange.specs.Forms.{Asks, AsksNothing};
 
+use wire_records::Version;
+
 /// What the program is asked for.
 #[derive(Clone, Copy, PartialEq, Eq)]
 pub enum Form {
@@ -11,8 +13,8 @@ pub enum Form {
     Audit,
     /// `report`: a journal in, and its text out.
     Report,
-    /// `encode`: lines of JSON in, and the command file of their commands out.
-    Encode,
+    /// `encode`, or `encode 2`: lines of JSON in, and the command file of their commands out, of this version.
+    Encode(Version),
 }
 
 // Whether the words are this one alone.
@@ -20,6 +22,19 @@ fn is_word(words: &[String], word: &str) -> bool
     ensures { IsTrue result ↔ (map string_bytes words.now ≡ word.now ∷ []) }
 {
     words.len() == 1 && words[0].as_str() == word
+}
+
+// Whether the words are these two.
+fn are_two(words: &[String], first: &str, second: &str) -> bool
+    ensures { IsTrue result ↔ (map string_bytes words.now ≡ first.now ∷ second.now ∷ []) }
+{
+    if words.len() != 2 {
+        return false;
+    }
+    if words[0].as_str() == first {
+        return words[1].as_str() == second;
+    }
+    false
 }
 
 /// The form that the words ask for.
@@ -37,7 +52,10 @@ pub(crate) fn form_of(words: &[String]) -> Option<Form>
         return Some(Form::Report);
     }
     if is_word(words, "encode") {
-        return Some(Form::Encode);
+        return Some(Form::Encode(Version::One));
+    }
+    if are_two(words, "encode", "2") {
+        return Some(Form::Encode(Version::Two));
     }
     None
 }

@@ -34,7 +34,7 @@ fn do_form<S: Source, K: Sink>(
         Form::Run => run(alloc, limit, source, out),
         Form::Audit => audit(alloc, limit, source, out),
         Form::Report => report(alloc, limit, source, out),
-        Form::Encode => encode(alloc, limit, source, out),
+        Form::Encode(version) => encode(alloc, version, limit, source, out),
     }
 }
 
@@ -66,8 +66,8 @@ pub fn flow_limited<S: Source, K: Sink, N: Sink>(
 /// journal to out: one write for the magic, and one for each pair. With the word `audit` it reads a journal, whoever wrote
 /// it, and writes a line to out where each pair is legal and nothing stands behind them. With the word `report` it reads a
 /// journal in the same way, and writes the text of each legal pair to out, by one write each. With the word `encode` it reads
-/// lines of JSON, and writes the command file of what they ask for to out: one write for the magic, and one for each record. On
-/// every status but `Done` it writes one line to notes; a fault of notes changes nothing.
+/// lines of JSON, and writes the command file of what they ask for to out, of version 1, or with `encode 2` of version 2: one write
+/// for the magic, and one for each record. On every status but `Done` it writes one line to notes; a fault of notes changes nothing.
 ///
 /// A command of `run` costs the same however many accounts and orders there are, but for the gap that a cancelled order leaves, which is
 /// closed by a block move. Memory of `run`, `audit` and `report` is that of the market, whatever the length of the input: a window
