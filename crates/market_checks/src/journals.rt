@@ -5,6 +5,9 @@ use journal_records::journal_version;
 use journal_replay::{Audited, PairFault, ReplayFault, audit_pairs, replay};
 use std::alloc::Global;
 
+// As many bytes has the magic of a journal.
+const MAGIC: usize = 8;
+
 fn put_ending(ending: Ending, rows: &mut String) -> Option<()> {
     match ending {
         Ending::End => rows.push_str("  end").ok(),
@@ -35,7 +38,10 @@ pub(crate) fn put_counted(
     rows: &mut String,
 ) -> Option<()> {
     let version = journal_version(journal)?;
-    match audit_pairs(alloc, version, journal, 8, more) {
+    if journal.len() < MAGIC {
+        return None;
+    }
+    match audit_pairs(alloc, version, journal, MAGIC, more) {
         Ok(found) => put_found(alloc, &found, rows),
         Err(PairFault::Illegal(number)) => write!(rows, "  illegal {number}\n").ok(),
         Err(PairFault::Memory) => None,
