@@ -15,6 +15,7 @@
 //! | `reply: RECORD` | `reply`, `to_cleared` | the reply, or `none` |
 //! | `line TICKERS: TEXT` | `read_line`, with the tickers of the lines before | the command, `blank` or `no_command`; then `of` how many tickers |
 //! | `lines: TEXT` | `encode_lines` | `done`, or `no_command` and the line's number. Then the records. With `lines more:` there is more of the text |
+//! | `line_2`, `lines_2` | the same of version Two | |
 //! | `write: RECORD` | `write_command` of the command that this spells, copied | |
 //! | `plain REPLY: RECORD` | `reserve_plain`, `write_plain` | |
 //! | `cleared BATCH GAP ASSETS FILLS: RECORD` | `write_cleared` | |
@@ -40,7 +41,7 @@ mod texts;
 use check_lines::{Line, Names, put_records};
 use std::alloc::Global;
 use std::io;
-use wire_records::{Framed, MOST_BODY, RecordView, next_record};
+use wire_records::{Framed, MOST_BODY, RecordView, Version, next_record};
 
 // Appends what a call makes of a record.
 fn append(
@@ -82,8 +83,14 @@ fn put_case(alloc: Global, words: (&str, &str), bytes: &[u8], text: &mut String)
         "head" => records::put_head_of(alloc, words.1, text)?,
         "pair" => replies::put_pair(alloc, bytes, text)?,
         "reply" => replies::put_reply(alloc, &records::record_in(bytes)?, text)?,
-        "line" => texts::put_line(alloc, words.1, bytes, text)?,
-        "lines" => return texts::put_lines(alloc, bytes, words.1 == "more", text),
+        "line" => texts::put_line(alloc, Version::One, words.1, bytes, text)?,
+        "line_2" => texts::put_line(alloc, Version::Two, words.1, bytes, text)?,
+        "lines" => {
+            return texts::put_lines(alloc, Version::One, bytes, words.1 == "more", text);
+        }
+        "lines_2" => {
+            return texts::put_lines(alloc, Version::Two, bytes, words.1 == "more", text);
+        }
         _ => return put_appended(alloc, words, bytes, text),
     }
     text.push('\n').ok()

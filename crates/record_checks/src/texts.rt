@@ -6,6 +6,7 @@ use line_records::{EncodeFault, encode_lines};
 use order_text::{LineFault, LineRead, read_line};
 use std::alloc::Global;
 use ticker_table::TickerTable;
+use wire_records::Version;
 
 // More bytes than lines of a case ask for.
 const MOST_OUT: usize = 4096;
@@ -21,12 +22,18 @@ fn padded(name: &str) -> Option<[u8; 8]> {
     Some(ticker)
 }
 
-pub(crate) fn put_line(alloc: Global, names: &str, line: &[u8], text: &mut String) -> Option<()> {
+pub(crate) fn put_line(
+    alloc: Global,
+    version: Version,
+    names: &str,
+    line: &[u8],
+    text: &mut String,
+) -> Option<()> {
     let mut tickers = TickerTable::new(alloc);
     for name in names.split_whitespace() {
         tickers.add(padded(name)?).ok()?;
     }
-    match read_line(alloc, line, &mut tickers) {
+    match read_line(alloc, line, version, &mut tickers) {
         Ok(LineRead::Blank) => put("blank", &[], text)?,
         Ok(LineRead::Asks(command)) => put_command(command, text)?,
         Err(LineFault::NoCommand) => put("no_command", &[], text)?,
@@ -35,9 +42,15 @@ pub(crate) fn put_line(alloc: Global, names: &str, line: &[u8], text: &mut Strin
     put("of", &[tickers.len().into()], text)
 }
 
-pub(crate) fn put_lines(alloc: Global, lines: &[u8], more: bool, text: &mut String) -> Option<()> {
+pub(crate) fn put_lines(
+    alloc: Global,
+    version: Version,
+    lines: &[u8],
+    more: bool,
+    text: &mut String,
+) -> Option<()> {
     let mut out = SteadySink::new(alloc, MOST_OUT).ok()?;
-    match encode_lines(alloc, lines, more, &mut out) {
+    match encode_lines(alloc, version, lines, more, &mut out) {
         Ok(()) => put("done", &[], text)?,
         Err(EncodeFault::NoCommand(line)) => put("no_command", &[line.into()], text)?,
         Err(EncodeFault::Write) => put("write", &[], text)?,
