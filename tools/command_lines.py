@@ -20,7 +20,12 @@ COMMANDS = {
     7: ("place", ["account", "low", "high", "rate", "cap", "weights"], ["I", "q", "q", "I", "Q", "row"]),
     8: ("cancel", ["account", "order"], ["I", "Q"]),
     9: ("batch", ["budget"], ["I"]),
+    10: ("place", ["last", "account", "low", "high", "rate", "cap", "weights"], ["I", "I", "q", "q", "I", "Q", "row"]),
+    11: ("credit", ["account", "ticks"], ["I", "Q"]),
+    12: ("credit", ["account", "asset", "units"], ["I", "H", "Q"]),
 }
+# The highest tag of each version.
+MOST_TAG = {1: 9, 2: 12}
 TAGS = {(word, frozenset(keys)): tag for tag, (word, keys, _) in COMMANDS.items()}
 
 
@@ -119,8 +124,8 @@ def record(tag, body):
     return bytes([tag]) + struct.pack(">I", len(body)) + body
 
 
-def record_of(line, tickers):
-    """The record that a line asks for after lines that left these tickers, to which its own is added. It is empty where
+def record_of(line, tickers, version):
+    """The record that a line asks for in a version, after lines that left these tickers, to which its own is added. It is empty where
     the line is blank, and None where it is no command."""
     if not line.strip(b" \t\r"):
         return b""
@@ -128,7 +133,7 @@ def record_of(line, tickers):
         asked = members(line)
         word = asked.pop("do", None)
         tag = TAGS.get((word, frozenset(asked))) if isinstance(word, str) else None
-        if tag is None:
+        if tag is None or tag > MOST_TAG[version]:
             return None
         _, keys, forms = COMMANDS[tag]
         body = b"".join(field(form, asked[key], tickers) for key, form in zip(keys, forms))
@@ -139,12 +144,12 @@ def record_of(line, tickers):
     return record(tag, body)
 
 
-def encoded(text):
-    """The command file of the lines before the first that is no command, and the number of that one, or None."""
-    made, tickers = [b"FLOWCMD1"], []
+def encoded(text, version=1):
+    """The command file, of a version, of the lines before the first that is no command, and the number of that one, or None."""
+    made, tickers = [b"FLOWCMD%d" % version], []
     lines = text.split(b"\n")
     for place, line in enumerate(lines if lines[-1] else lines[:-1], 1):
-        asked = record_of(line, tickers)
+        asked = record_of(line, tickers, version)
         if asked is None:
             return b"".join(made), place
         made.append(asked)
@@ -157,13 +162,15 @@ def name_of(ticker):
 
 def values_of(tag, body, tickers):
     """What stands in a record for the further keys. Assets are named by these tickers."""
-    if tag == 7:
+    if tag in (7, 10):
+        last, body = struct.unpack(">I", body[:4]) if tag == 10 else (), body[4:] if tag == 10 else body
         *terms, _ = struct.unpack_from(TERMS, body)
-        return [*terms, {name_of(tickers[asset]): weight for asset, weight in struct.iter_unpack(ENTRY, body[33:])}]
+        row = {name_of(tickers[asset]): weight for asset, weight in struct.iter_unpack(ENTRY, body[33:])}
+        return [*last, *terms, row]
     values = struct.unpack(">" + "".join(COMMANDS[tag][2]), body)
     if tag == 1:
         return [name_of(*values)]
-    return [values[0], name_of(tickers[values[1]]), values[2]] if tag in (4, 6) else values
+    return [values[0], name_of(tickers[values[1]]), values[2]] if tag in (4, 6, 12) else values
 
 
 def line_of(asked, tickers):
