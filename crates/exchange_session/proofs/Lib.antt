@@ -1,4 +1,5 @@
 mod Writable
 mod Frames
+mod AnswersFit
 pub mod Opening
 pub mod RunLaws

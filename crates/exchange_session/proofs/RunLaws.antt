@@ -1,7 +1,8 @@
 -- A run comes to one end and one text, keeps the promises of the exchange, and is without an end for no bytes.
-use Rattle.std.proofs.Common.{◌≡◌, ℕ, List, [], ◌∷◌, ◌++◌, Result, Ok, Err, inl, inr, refl, sym, ap, subst, ◌∙◌, arith}
+use Rattle.std.proofs.Common.{◌≡◌, ℕ, List, [], ◌∷◌, ◌++◌, map, All, Result, Ok, Err, inl, inr, refl, sym, ap, subst, ◌∙◌, arith}
 use Rattle.std.specs.List.{flat_map}
-use Rattle.wire_records.specs.Records.{Record}
+use Rattle.std.proofs.lemmas.List.Elements.{All-nil, All-cons, All-head, All-tail}
+use Rattle.wire_records.specs.Records.{Record, IsRecord}
 use Rattle.wire_records.specs.Commands.{Command, Answer, Pair}
 use Rattle.wire_records.specs.Versions.{IsReadAs}
 use Rattle.wire_records.specs.declared.command.BodyFault.{BodyFault}
@@ -18,7 +19,7 @@ use Rattle.flow_orders.specs.Outcomes.{Outcome}
 use Rattle.flow_orders.specs.Own.{IsOwnOutcome}
 use Rattle.journal_records.specs.Pairs.{pair_spelling}
 use Rattle.journal_records.specs.Formats.{journal_magic_of}
-use Rattle.market_core.specs.Market.{Market, empty_market}
+use Rattle.market_core.specs.Market.{Market, IsSound, empty_market}
 use Rattle.market_core.specs.Journal.{IsAnswered}
 use Rattle.market_core.proofs.OneJournal.{own_step}
 use Rattle.market_core.proofs.Exists.{step_is_there}
@@ -32,6 +33,7 @@ use Rattle.exchange_session.specs.Serving.{AnswersOne}
 use Rattle.exchange_session.specs.Journals.{Journals}
 use Rattle.exchange_session.specs.Running.{run}
 use Rattle.exchange_session.proofs.Opening.{eight}
+use Rattle.exchange_session.proofs.AnswersFit.{pair_fits, pairs_fit}
 
 -- no bytes state a length
 short : StatesOver 1024 [] → ⊥
@@ -91,6 +93,19 @@ run_version start market records text goes =
     let so = answers start market records text goes in
     follows_version IsOwnOutcome IsReadAs start so.pairs market so.answered.steps
 
+-- and leads to a sound one
+run_is_sound : (version : Version) (records : List Record) (market : Market) (text : List ℕ) → Goes run (empty_market version) records market text → IsSound market
+run_is_sound version records market text goes =
+    let so = answers (empty_market version) market records text goes in
+    (journals_hold_deposits (empty_market version) so.pairs market (steps_keep_soundness.0 version) (own_journals_are_legal version records so.pairs market so.answered).steps).sound
+
+-- the records of pairs are as short as those that they answer
+each_short : (pairs : List (Pair Record Outcome)) → All (IsRecord 1024) (map (λ (p : Pair Record Outcome). p.asked) pairs) → All (λ (p : Pair Record Outcome). IsRecord 1024 p.asked) pairs
+each_short [] each = All-nil (λ (p : Pair Record Outcome). IsRecord 1024 p.asked)
+each_short (pair ∷ pairs) each =
+    let asked : Pair Record Outcome → Record = λ p. p.asked in
+    All-cons (λ (p : Pair Record Outcome). IsRecord 1024 p.asked) pair pairs (All-head (IsRecord 1024) pair.asked (map asked pairs) each) (each_short pairs (All-tail (IsRecord 1024) pair.asked (map asked pairs) each))
+
 pub run_is_kept : IsKept run empty_market
 run_is_kept version records market text each goes =
     let start = empty_market version in
@@ -103,6 +118,7 @@ run_is_kept version records market text each goes =
       deposits = journals_hold_deposits start so.pairs market sound legal;
       keeps = legal_journal_keeps_promises start so.pairs market sound legal;
       near = own_journal_clears_near start so.pairs market sound so.answered.steps;
+      fits = (pairs_fit start so.pairs market sound (each_short so.pairs (rw so.answered.asked each)) so.answered.steps).1;
       spelled = ap (λ xs. journal_magic_of version ++ xs) so.spelled;
     })
 
@@ -124,14 +140,14 @@ of_both P one two Two = two
 can_be_read : (asked : Record) → IsNotDenied (CanBeRead asked)
 can_be_read asked none = read_in One asked (λ one. read_in Two asked (λ two. none (of_both (λ version. (read : Result Command BodyFault) × IsReadAs version asked read) one two)))
 
--- so each has a step, from any market
-has_step : (s : Market) (asked : Record) → CanBeRead asked → (t : Market) × (text : List ℕ) × AnswersOne s asked t text
-has_step s asked readable =
+-- so each that is short enough has a step, from any sound market
+has_step : (s : Market) (asked : Record) → IsSound s → IsRecord 1024 asked → CanBeRead asked → (t : Market) × (text : List ℕ) × AnswersOne s asked t text
+has_step s asked sound short readable =
     let there = step_is_there IsReadAs CanBeRead (λ version r some. some version) s asked readable in
-    (there.1, pair_spelling (record { asked = asked; answer = there.0 }), record { answer = there.0; step = there.2; spelled = refl })
+    (there.1, pair_spelling (record { asked = asked; answer = there.0 }), record { answer = there.0; step = there.2; fits = pair_fits s asked there.0 there.1 sound short there.2; spelled = refl })
 
 pub run_has_next : HasNext run empty_market
 run_has_next = record {
-  some_step = λ version records s x asked goes lawful. follows (λ readable. not_denied (inl (has_step s asked readable))) (can_be_read asked);
+  some_step = λ version records s x asked goes lawful. follows (λ readable. not_denied (inl (has_step s asked (run_is_sound version records s x goes) lawful readable))) (can_be_read asked);
   some_close = λ version records s x goes. not_denied (inl ([], refl));
 }

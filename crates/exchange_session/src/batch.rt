@@ -1,5 +1,6 @@
 //! A batch: its outcome, the pair that tells it, and its settlement.
 ghost use Rattle.std.specs.Prelude.{◌≡◌, ◌++◌, ◌+◌, ◌<◌, ◌≤◌, ℕ, true, List, None, Ok, IfOk, OnErr, OnOk, length, vec_capacity};
+ghost use Rattle.wire_records.specs.Records.{IsRecord, most_body};
 ghost use Rattle.wire_records.specs.Commands.{RunBatch, Batch};
 ghost use Rattle.wire_records.specs.Versions.{IsReadAs};
 ghost use Rattle.flow_orders.specs.Orders.{most_orders};
@@ -69,6 +70,7 @@ pub(crate) fn hold_batch(
     requires first { FirstRefusal market.old (RunBatch budget) None }
     requires more { market.old.batches < most_batches }
     requires read { IsReadAs market.old.version asked.now (Ok (RunBatch budget)) }
+    requires short { IsRecord most_body asked.now }
     ensures served { OnOk result ((text : List ℕ) × AnswersOne market.old asked.now market.new text
         × (out.new.items ≡ out.old.items ++ text)) }
     ensures stays { OnErr result ((market.new ≡ market.old) × (out.new.items ≡ out.old.items)) }

@@ -54,6 +54,7 @@ fn reply_to(market: &mut Market, asked: &RecordView<'_>) -> Result<Asked, Memory
 }
 
 impl Session {
+    ghost use Rattle.wire_records.specs.Records.{IsRecord, most_body};
     ghost use Rattle.wire_records.specs.declared.version.Version.TheVariants.{One};
     ghost use Rattle.market_core.specs.Market.{empty_market, IsSound};
     ghost use Rattle.exchange_session.specs.Serving.{AnswersOne};
@@ -87,14 +88,15 @@ impl Session {
 
     /// Serves one record, and appends its pair: the record as it was given, and the record of its one answer. The cost
     /// is that of the record, however many accounts and orders there are, but for the gap that a cancelled order leaves, which is
-    /// closed by a block move, and for a batch, which goes over all live orders for each price that it looks at. The number that
-    /// the next order gets is below 2^64 - 1.
+    /// closed by a block move, and for a batch, which goes over all live orders for each price that it looks at. The record's body
+    /// has at most 1,024 bytes, and the number that the next order gets is below 2^64 - 1; so the pair is one that a journal may have.
     ///
     /// The room of a pair with a plain reply is taken first, and that of a batch's pair before the market changes. After
     /// `Memory` market and bytes are as before, and `out` has the room that it had or more; it comes only where that room was
     /// less than that of a pair with a plain reply, or where the command adds an asset, an account or an order or holds a batch
     /// and no refusal holds.
     pub fn serve(&mut self, asked: &RecordView<'_>, out: &mut Vec<u8>) -> Result<(), Memory>
+        requires short { IsRecord most_body asked.now }
         requires next { self.old.next_order + 1 < 2 ^ 64 }
         ensures served { OnOk result ((text : List ℕ) × AnswersOne self.old asked.now self.new text
             × (out.new.items ≡ out.old.items ++ text)) }

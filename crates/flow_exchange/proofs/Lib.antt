@@ -5,6 +5,7 @@ pub mod Words
 pub mod Pace
 pub mod JournalForms
 pub mod AuditLaws
+pub mod RunsAudited
 pub mod EncodeForm
 pub mod EncodeLaws
 pub mod SomeOutcome

@@ -1,5 +1,5 @@
 -- What holds of the program's words and outcomes, whatever code there is.
-use Rattle.std.specs.Prelude.{◌≡◌, ◌⊎◌, ◌≤◌, ◌+◌, ◌↔◌, ℕ, List, [], ◌++◌, length, take, map, All, Ok}
+use Rattle.std.specs.Prelude.{◌≡◌, ◌≢◌, ◌⊎◌, ◌<◌, ◌≤◌, ◌+◌, ◌^◌, ◌↔◌, ℕ, List, [], ◌++◌, length, take, map, All, Ok}
 use Rattle.wire_records.specs.Records.{Record}
 use Rattle.wire_records.specs.Commands.{Pair}
 use Rattle.wire_records.specs.CommandRecords.{record_of}
@@ -17,7 +17,7 @@ use Rattle.exchange_session.specs.Journals.{Journals}
 use Rattle.flow_exchange.specs.declared.form.Form.{Form}
 use Rattle.flow_exchange.specs.declared.form.Form.TheVariants.{Run, Audit}
 use Rattle.flow_exchange.specs.declared.status.Status.{Status}
-use Rattle.flow_exchange.specs.declared.status.Status.TheVariants.{Done, Rejected}
+use Rattle.flow_exchange.specs.declared.status.Status.TheVariants.{Done, NotFlow, Rejected}
 use Rattle.flow_exchange.specs.Forms.{Asks}
 use Rattle.flow_exchange.specs.Auditing.{legal_line}
 use Rattle.flow_exchange.specs.Program.{ComesTo, GetsTo, LacksAt}
@@ -66,6 +66,16 @@ EncodedIsRead = (version : Version) (limit most : ℕ) (bytes text : List ℕ) (
 abbrev pub EncodedIsServed : Type 0
 EncodedIsServed = (version : Version) (limit most : ℕ) (bytes text journal : List ℕ) (ended : Ended ℕ) (ran : Status) (encoded : EncodesTo version limit bytes ended text) → length text ≤ most
     → ComesTo Run most text ran journal → (ran ≡ Done) × (market : Market) × Journals version (map record_of encoded.commands) market journal
+
+-- What a run writes is a legal journal, and an audit of it is done: of the whole text, and of what stands in out where it was cut short
+-- behind a whole pair.
+pub record RunsAreAudited : Type 0 where
+  pub journal : (most : ℕ) (version : Version) (records : List Record) (market : Market) (text : List ℕ) (writes : Journals version records market text)
+      → most < 2 ^ 64 → length text ≤ most → IsLegalJournal version writes.pairs market × ComesTo Audit most text Done (legal_line writes.pairs)
+  pub done : (limit most : ℕ) (bytes text : List ℕ) (status : Status) → ComesTo Run limit bytes status text → status ≢ NotFlow
+      → most < 2 ^ 64 → length text ≤ most → (line : List ℕ) × ComesTo Audit most text Done line
+  pub begun : (limit most : ℕ) (bytes text : List ℕ) → GetsTo Run limit bytes text ⊎ LacksAt Run limit bytes text
+      → most < 2 ^ 64 → length text ≤ most → (line : List ℕ) × ComesTo Audit most text Done line
 
 -- no bytes are without an outcome, whatever the form
 abbrev pub NoneIsWithoutOutcome : Type 0

@@ -1,7 +1,7 @@
 //! What holds of the program's words and outcomes, whatever code there is. Each law is the contract of a function that
 //! does nothing.
 ghost use Rattle.std.specs.Prelude.{◌≡◌, ◌↔◌, IsTrue};
-ghost use Rattle.flow_exchange.specs.Laws.{OneForm, OneOutcome, DoneIsForLegalJournals, RejectedIsFirstIllegal, EncodedIsRead, EncodedIsServed, NoneIsWithoutOutcome, BegunIsAFront, TickersAgree};
+ghost use Rattle.flow_exchange.specs.Laws.{OneForm, OneOutcome, DoneIsForLegalJournals, RejectedIsFirstIllegal, EncodedIsRead, EncodedIsServed, RunsAreAudited, NoneIsWithoutOutcome, BegunIsAFront, TickersAgree};
 
 use crate::Status;
 
@@ -36,6 +36,12 @@ pub fn encoded_is_read()
 /// reply.
 pub fn encoded_is_served()
     ensures { EncodedIsServed }
+{}
+
+/// What `run` writes of a command file is a legal journal: `audit` of it is done, where it is within the limit of the audit, which is
+/// below 2^64. So it is of what stands in out after a fault of the source, or where memory ran out.
+pub fn runs_are_audited()
+    ensures { RunsAreAudited }
 {}
 
 /// The tickers by which lines name assets are those of the market that `run` of their command file leads to.

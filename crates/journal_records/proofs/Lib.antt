@@ -6,3 +6,4 @@ pub mod Fills
 pub mod Files
 pub mod Reading
 pub mod PairFronts
+pub mod OutcomesFit

@@ -1,5 +1,5 @@
 -- What holds of the grammar of journals, whatever reads or writes them.
-use Rattle.std.specs.Prelude.{◌≡◌, ◌≤◌, ℕ, List, ◌++◌, length, map, All}
+use Rattle.std.specs.Prelude.{◌≡◌, ◌<◌, ◌≤◌, ◌^◌, ℕ, ℤ, List, ◌++◌, length, map, All}
 use Rattle.wire_records.specs.declared.reply.Reply.{Reply}
 use Rattle.wire_records.specs.Records.{Record, IsRecord}
 use Rattle.wire_records.specs.Commands.{Answer, Plain, Batch, Pair}
@@ -7,7 +7,9 @@ use Rattle.wire_records.specs.Grammars.{spell_all}
 use Rattle.wire_records.specs.Reading.{Reading, File, End, Reads}
 use Rattle.wire_records.specs.declared.version.Version.{Version}
 use Rattle.wire_records.specs.declared.version.Version.TheVariants.{One}
-use Rattle.flow_orders.specs.Outcomes.{Clearing, Skipping, Outcome, Cleared, Skipped}
+use Rattle.weight_rows.specs.Rows.{IsPrice}
+use Rattle.flow_orders.specs.Orders.{Order, IsOrder, most_orders}
+use Rattle.flow_orders.specs.Outcomes.{Clearing, Skipping, Outcome, Cleared, Skipped, IsRightOutcome, most_budget}
 use Rattle.journal_records.specs.Replies.{answer_record, IsAnswer, most_reply_body, IsWithinLimits}
 use Rattle.journal_records.specs.Pairs.{IsPair, pair_spelling, journal, plain_room, cleared_room, skipped_room}
 use Rattle.journal_records.specs.Formats.{journals, journal_in, records_of}
@@ -43,6 +45,14 @@ PlainRepliesFit = (reply : Reply) → IsRecord most_reply_body (answer_record (P
 abbrev pub BatchRepliesFit : Type 0
 BatchRepliesFit =
     (number : ℕ) (outcome : Outcome) → IsAnswer (Batch number outcome) → IsWithinLimits outcome → IsRecord most_reply_body (answer_record (Batch number outcome))
+
+-- The numbers of a right outcome fit their widths, and it is within the limits: of few lawful orders with numbers below 2^64, at
+-- few start prices within their range.
+abbrev pub RightOutcomesFit : Type 0
+RightOutcomesFit =
+    (orders : List Order) (start : List ℤ) (budget number : ℕ) (outcome : Outcome)
+    → All IsOrder orders → length orders ≤ most_orders → All (λ (o : Order). o.number < 2 ^ 64) orders → length start ≤ 64 → All IsPrice start
+    → budget ≤ most_budget → number < 2 ^ 32 → IsRightOutcome orders start budget outcome → IsAnswer (Batch number outcome) × IsWithinLimits outcome
 
 -- each list of bytes has exactly one reading as a journal
 abbrev pub OneJournalFile : Type 0

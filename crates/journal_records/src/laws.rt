@@ -3,7 +3,7 @@
 ghost use Rattle.std.specs.Prelude.{◌≡◌};
 ghost use Rattle.journal_records.specs.Replies.{most_reply_body};
 ghost use Rattle.journal_records.specs.Pairs.{journal_magic, journal_magic_2};
-ghost use Rattle.journal_records.specs.Laws.{OneAnswer, OnePair, PairFits, ClearedPairFits, SkippedPairFits, PlainRepliesFit, BatchRepliesFit, OneJournalFile, JournalIsFile, JournalIsRead, OneJournal};
+ghost use Rattle.journal_records.specs.Laws.{OneAnswer, OnePair, PairFits, ClearedPairFits, SkippedPairFits, PlainRepliesFit, BatchRepliesFit, RightOutcomesFit, OneJournalFile, JournalIsFile, JournalIsRead, OneJournal};
 
 use crate::{JOURNAL_MAGIC, JOURNAL_MAGIC_2, MOST_REPLY_BODY};
 
@@ -42,6 +42,11 @@ pub fn plain_replies_fit()
 /// limit of 262,144 bytes in its body.
 pub fn batch_replies_fit()
     ensures { BatchRepliesFit }
+{}
+
+/// The numbers of a right outcome of at most 16,384 lawful orders over at most 64 assets fit their widths, whoever publishes it.
+pub fn right_outcomes_fit()
+    ensures { RightOutcomesFit }
 {}
 
 /// Bytes have exactly one reading as a journal: one version, list of pairs of records and ending, or none.

@@ -122,9 +122,21 @@ read_more place More dec bytes left rest units bad begins each lawful front =
       }),
     )
 
--- a unit is illegal, or memory is wanted
+-- a unit is illegal, or its command may want memory
 pub some_fault : {O : Type 0} (version : Version) (place : ℕ) (more : Bool) (bytes : List ℕ) (start : State) (fault : PairFault) (before after : O) → GoesToBreak journals Counts Breaks bytes fault start before after → start.market ≡ empty_market version → start.pairs ≡ 0 → FindsFault version place (IsTrue more) bytes fault
-some_fault version place more bytes start Memory before after goes begins none = tt
+some_fault version place more bytes start Memory before after goes begins none =
+    let are = are_legal start goes.middle before goes.between goes.units goes.each goes.leads in
+    let off = goes.breaks in
+    record {
+      legal = are.legal;
+      next = off.unit;
+      rest = off.rest;
+      market = goes.middle.market;
+      journal = record { each = are.each; steps = subst (λ (m : Market). Follows IsReadAs IsRightOutcome m are.legal goes.middle.market) begins are.steps };
+      lawful = off.lawful;
+      begins = goes.begins ∙ ap (λ units. spell_all journals.units units ++ goes.left) are.parts ∙ ap (λ left. spell_all journals.units (map records_of are.legal) ++ left) off.front;
+      wants = off.broken;
+    }
 some_fault version place more bytes start (Illegal number) before after goes begins none =
     let are = are_legal start goes.middle before goes.between goes.units goes.each goes.leads in
     let off = goes.breaks in

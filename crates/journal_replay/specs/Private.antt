@@ -2,6 +2,7 @@
 use Rattle.std.specs.Prelude.{◌≡◌, ◌+◌, ◌<◌, ◌≤◌, ◌^◌, ℕ}
 use Rattle.wire_records.specs.Records.{Record}
 use Rattle.market_core.specs.Market.{Market}
+use Rattle.market_core.specs.Wanting.{RecordMayWant}
 use Rattle.batch_audit.specs.Legal.{IsLegalPair, IsIllegalPair}
 use Rattle.journal_replay.specs.declared.auditing.Auditing.{Auditing}
 use Rattle.journal_replay.specs.declared.auditing.PairFault.{PairFault}
@@ -26,10 +27,10 @@ pub record CountsOne (old : State) (pair : Record × Record) (new : State) : Typ
   pub cleared : new.cleared ≡ old.cleared + cleared_by legal.answer
   pub skipped : new.skipped ≡ old.skipped + skipped_by legal.answer
 
--- the next pair is illegal, or memory is wanted
+-- the next pair is illegal, or its command may want memory
 abbrev pub BreaksOffWith : State → Record × Record → PairFault → Type 0
 BreaksOffWith old pair (Illegal number) = IsIllegalPair old.market pair × (number ≡ old.pairs + 1)
-BreaksOffWith old pair Memory = Unit {0}
+BreaksOffWith old pair Memory = RecordMayWant old.market pair.0
 
 -- the counts stay within their width while so many bytes are left
 pub record HasRoom (s : State) (left : ℕ) : Type 0 where

@@ -1,14 +1,17 @@
 -- What auditing the pairs of a journal answers, and what replaying one does.
-use Rattle.std.specs.Prelude.{◌≡◌, ◌+◌, ℕ, List, [], ◌∷◌, length, Result, Ok, Err}
+use Rattle.std.specs.Prelude.{◌≡◌, ◌+◌, ℕ, List, [], ◌∷◌, ◌++◌, map, length, Result, Ok, Err}
 use Rattle.wire_records.specs.Records.{Record}
 use Rattle.wire_records.specs.Commands.{Pair}
+use Rattle.wire_records.specs.Grammars.{BeginsWith, spell_all}
 use Rattle.wire_records.specs.Reading.{Ending, End, NotFlow, Reads}
 use Rattle.wire_records.specs.Reading as reading
 use Rattle.wire_records.specs.declared.version.Version.{Version}
 use Rattle.file_units.specs.Units.{ending_of}
 use Rattle.flow_orders.specs.Outcomes.{Outcome}
-use Rattle.journal_records.specs.Formats.{journals}
+use Rattle.journal_records.specs.Formats.{journals, records_of}
 use Rattle.market_core.specs.Market.{Market}
+use Rattle.market_core.specs.Wanting.{RecordMayWant}
+use Rattle.batch_audit.specs.Legal.{IsLegalJournal}
 use Rattle.journal_replay.specs.declared.auditing.Audited.{Audited}
 use Rattle.journal_replay.specs.declared.auditing.PairFault.{PairFault}
 use Rattle.journal_replay.specs.declared.auditing.PairFault.TheVariants as fault
@@ -34,10 +37,21 @@ pub record FindsIllegal (version : Version) (place : ℕ) (More : Type 0) (bytes
   pub audits : AuditsOn version place More bytes legal (bad ∷ more) ending market
   pub counted : number ≡ length legal + 1
 
--- by the fault; want of memory is free
+-- Legal pairs stand first, and behind them one whose command may want memory of the market that they make.
+pub record FindsWant (version : Version) (bytes : List ℕ) : Type 0 where
+  pub legal : List (Pair Record Outcome)
+  pub next : Record × Record
+  pub rest : List ℕ
+  pub market : Market
+  pub journal : IsLegalJournal version legal market
+  pub lawful : journals.units.IsLawful next
+  pub begins : bytes ≡ spell_all journals.units (map records_of legal) ++ (journals.units.spell next ++ rest)
+  pub wants : RecordMayWant market next.0
+
+-- by the fault
 abbrev pub FindsFault : Version → ℕ → Type 0 → List ℕ → PairFault → Type 0
 FindsFault version place More bytes (fault.Illegal number) = FindsIllegal version place More bytes number
-FindsFault version place More bytes fault.Memory = Unit {0}
+FindsFault version place More bytes fault.Memory = FindsWant version bytes
 
 -- the bytes are a journal in which some pair is illegal, and the first is that of this number, counted from 1
 pub record HasIllegal (limit : ℕ) (bytes : List ℕ) (number : ℕ) : Type 0 where
@@ -49,12 +63,19 @@ pub record HasIllegal (limit : ℕ) (bytes : List ℕ) (number : ℕ) : Type 0 w
   pub audits : Audits limit bytes legal (bad ∷ more) ending market
   pub counted : number ≡ length legal + 1
 
+-- the bytes are the magic of a version, and pairs behind it of which one may want memory
+pub record HasWant (bytes : List ℕ) : Type 0 where
+  pub version : Version
+  pub behind : List ℕ
+  pub begins : BeginsWith journals.magics bytes version behind
+  pub finds : FindsWant version behind
+
 -- what a replay of all the bytes answers: the market of a legal journal, or which comes first of the pair that isn't whole, at
--- its first byte, and the illegal one; want of memory is free
+-- its first byte, and the illegal one; or that memory is wanted, behind legal pairs, at one whose command may want it
 abbrev pub IsReplayed : List ℕ → Result Market ReplayFault → Type 0
 IsReplayed bytes (Ok market) = (legal : List (Pair Record Outcome)) × Audits (length bytes) bytes legal [] End market
 IsReplayed bytes (Err NotJournal) = Reads journals (length bytes) bytes NotFlow
 IsReplayed bytes (Err (Torn place)) =
     (legal : List (Pair Record Outcome)) × (market : Market) × Audits (length bytes) bytes legal [] (reading.Torn place) market
 IsReplayed bytes (Err (Illegal number)) = HasIllegal (length bytes) bytes number
-IsReplayed bytes (Err Memory) = Unit {0}
+IsReplayed bytes (Err Memory) = HasWant bytes

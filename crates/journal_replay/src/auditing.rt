@@ -37,7 +37,7 @@ pub struct Audited {
 pub enum PairFault {
     /// The pair of this number, counted from 1, isn't legal, and all before it are.
     Illegal(u64),
-    /// There is no memory to audit the next pair.
+    /// There is no memory to audit the next pair, whose command may want it.
     Memory,
 }
 
@@ -118,7 +118,8 @@ impl TakesUnits<()> for Auditing {
 /// bytes behind these.
 ///
 /// `Illegal` where some whole pair isn't legal, with the number of the first, counted from 1 behind the place;
-/// `Memory` where there is none to audit a pair.
+/// `Memory` where there is none to audit the pair behind some legal ones, and only where its command adds an asset, an account or
+/// an order or holds a batch, and no refusal stops it.
 pub fn audit_pairs(
     alloc: Global,
     version: Version,

@@ -20,7 +20,7 @@ pub enum ReplayFault {
     /// The pair of this number, counted from 1, isn't legal.
     #[error("pair {0} is not legal")]
     Illegal(u64),
-    /// There is no memory for the market, or for the audit of a batch.
+    /// There is no memory for what a pair adds to the market, or for the audit of its batch.
     #[error("no memory")]
     Memory,
 }
@@ -29,8 +29,8 @@ pub enum ReplayFault {
 /// aside, whoever wrote it.
 ///
 /// `NotJournal` exactly where the first 8 bytes are the magic of no version; `Torn` and `Illegal` where a pair isn't whole or isn't
-/// legal, whichever comes first in the bytes; `Memory` is free. Each pair is looked at where it lies, at the cost of its
-/// audit.
+/// legal, whichever comes first in the bytes; `Memory` only behind legal pairs at one whose command adds an asset, an account or
+/// an order or holds a batch, and that no refusal stops. Each pair is looked at where it lies, at the cost of its audit.
 pub fn replay(alloc: Global, bytes: &[u8]) -> Result<Market, ReplayFault>
     ensures { IsReplayed bytes.now result }
 {

@@ -1,20 +1,28 @@
 use Rattle.std.proofs.Common.{◌+◌, refl, None, Ok}
-use Rattle.wire_records.specs.Commands.{RunBatch, Batch}
+use Rattle.wire_records.specs.Commands.{RunBatch, Answer, Batch}
+use Rattle.wire_records.specs.Versions.{IsReadAs}
+use Rattle.flow_orders.specs.Outcomes as flow_orders
+use Rattle.flow_orders.specs.Own.{IsOwnOutcome}
 use Rattle.batch_certificate.specs.Published.{outcome_of}
+use Rattle.market_core.specs.Journal.{Step}
+use Rattle.exchange_session.proofs.AnswersFit.{pair_fits}
 use Rattle.exchange_session.proofs.batch.hold_batch.Goals as goal
 
 pub returns-clause-served : goal.returns-clause-served
 returns-clause-served c =
     let old = c.args.market.now in
-    let outcome = outcome_of old.orders c.in_ok-outcome.outcome in (
+    let outcome = outcome_of old.orders c.in_ok-outcome.outcome in
+    let answer : Answer flow_orders.Outcome = Batch (old.batches + 1) outcome in
+    let step : Step IsReadAs IsOwnOutcome old c.args.asked.now answer c.settle.new.self = record {
+      read = Ok (RunBatch c.args.budget);
+      spelled = c.requires.read;
+      served = record { first = None; refused = c.requires.first; answered = (outcome, c.in_ok-outcome.ensures.own, (refl, c.settle.ensures)) };
+    } in (
       _,
       record {
-        answer = Batch (old.batches + 1) outcome;
-        step = record {
-          read = Ok (RunBatch c.args.budget);
-          spelled = c.requires.read;
-          served = record { first = None; refused = c.requires.first; answered = (outcome, c.in_ok-outcome.ensures.own, (refl, c.settle.ensures)) };
-        };
+        answer = answer;
+        step = step;
+        fits = pair_fits old c.args.asked.now answer c.settle.new.self c.orders.ensures.sound c.requires.short step;
         spelled = refl;
       },
       rw (c.batches.ensures.value, c.orders.ensures.value) at c.in_ok-write_outcome.ensures.written,

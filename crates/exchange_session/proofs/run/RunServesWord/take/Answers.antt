@@ -7,7 +7,7 @@ use Rattle.exchange_session.proofs.run.RunServesWord.take.Goals as goal
 pub serve-requires : goal.serve-requires
 serve-requires c =
     let within = record_within c.args.bytes.now c.in-Whole.asked c.in-Whole.taken c.in-Whole.ensures.1 c.in-Whole.ensures.2 in
-    record { next = omega (arith, within.0, within.1, c.requires.ready.1, c.requires.ready.2) }
+    record { short = c.in-Whole.ensures.0; next = omega (arith, within.0, within.1, c.requires.ready.1, c.requires.ready.2) }
 
 pub returns-in-Ok-clause-taken : goal.returns-in-Ok-clause-taken
 returns-in-Ok-clause-taken c =

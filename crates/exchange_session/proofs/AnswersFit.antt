@@ -1,0 +1,135 @@
+-- The answer to a record of a sound market fits its widths, while the numbers of orders do.
+use Rattle.std.proofs.Common.{◌≡◌, ◌+◌, ◌^◌, ◌<◌, ◌≤◌, ℕ, ℤ, pos, negsuc, List, [], ◌∷◌, length, Option, Some, None, Result, Ok, Err, refl, ap, arith}
+use Rattle.std.specs.Prelude.{All, unsigned_abs, slice_index_or}
+use Rattle.std.proofs.lemmas.Int.{ints}
+use Rattle.std.proofs.lemmas.List.Elements.{All-nil, All-cons, All-head, All-tail}
+use Rattle.wire_records.specs.Records.{Record, IsRecord, most_body}
+use Rattle.wire_records.specs.Commands.{Pair, Command, AddAsset, OpenAccount, DepositMoney, DepositAsset, WithdrawMoney, WithdrawAsset, PlaceOrder, CancelOrder, RunBatch, PlaceUntil, SetMoneyCredit, SetUnitCredit, Answer, Plain, Batch}
+use Rattle.wire_records.specs.Versions.{IsReadAs}
+use Rattle.wire_records.specs.declared.reply.Reply.{Reply}
+use Rattle.wire_records.specs.declared.reply.Reply.TheVariants as reply
+use Rattle.wire_records.specs.declared.reply.Refusal.{Refusal}
+use Rattle.wire_records.specs.declared.command.BodyFault.{BodyFault}
+use Rattle.weight_rows.specs.Rows.{IsPrice}
+use Rattle.demand_curve.specs.Demand.{IsWithin}
+use Rattle.flow_orders.specs.Outcomes.{Outcome, Cleared, Skipped, IsRightOutcome}
+use Rattle.flow_orders.specs.Own.{IsOwnOutcome}
+use Rattle.journal_records.specs.Replies.{answer_record, IsReply, IsAnswer, most_reply_body}
+use Rattle.journal_records.specs.Pairs.{IsPair}
+use Rattle.journal_records.proofs.Spelled.{plain_short, batch_short}
+use Rattle.journal_records.proofs.OutcomesFit.{right_outcomes_fit}
+use Rattle.market_core.specs.Market.{Market, IsSound, start_prices}
+use Rattle.market_core.specs.Step.{FirstRefusal, Accepts, Answers, Serves, ServesRead, after_batch}
+use Rattle.market_core.specs.Journal.{Step, Follows}
+use Rattle.market_core.proofs.Accepted.{past_unless}
+use Rattle.market_core.proofs.LawProofs.{steps_keep_soundness}
+use Rattle.market_core.proofs.OwnIsLegal.{start_within, own_served_is_right}
+use Rattle.exchange_session.proofs.Writable.{few_start_prices}
+
+-- an answer that can be written
+pub record Fits (answer : Answer Outcome) : Type 0 where
+  pub widths : IsAnswer answer
+  pub short : IsRecord most_reply_body (answer_record answer)
+
+-- a plain reply
+plain_fits : (r : Reply) → IsReply r → Fits (Plain r)
+plain_fits r fits = record { widths = fits; short = plain_short r }
+
+-- a price in the range of a search
+is_price : (z : ℤ) → IsWithin (2 ^ 60) z → IsPrice z
+is_price (pos n) within = omega (arith, ints, within.1)
+is_price (negsuc n) within = omega (arith, ints, within.0)
+
+batch_fits : (m : Market) (budget : ℕ) (outcome : Outcome) → IsSound m → FirstRefusal m (RunBatch budget) None → m.next_order < 2 ^ 64 → IsRightOutcome m.orders (start_prices m) budget outcome
+    → Fits (Batch (m.batches + 1) outcome)
+batch_fits m budget outcome sound none next right =
+    let fit = right_outcomes_fit m.orders (start_prices m) budget (m.batches + 1) outcome (λ k d inside. (sound.live k d inside).order) sound.few_orders
+    (λ k d inside. omega (arith, (sound.live k d inside).numbered.1, next)) (few_start_prices m sound) (λ k d inside. is_price (slice_index_or (start_prices m) k d) (start_within m k d inside))
+    (past_unless none).0.1 (omega (arith, sound.few_batches)) right
+    in
+    record { widths = fit.0; short = batch_short (m.batches + 1) outcome fit.0 fit.1 }
+
+-- a batch gives no numbers to orders
+batch_numbers_none : (m : Market) (outcome : Outcome) → (after_batch m outcome).next_order ≡ m.next_order
+batch_numbers_none m (Cleared c) = refl
+batch_numbers_none m (Skipped s) = refl
+
+-- the number of the next order never falls
+accepted_rise : (m : Market) (c : Command) (a : Answer Outcome) (n : Market) → Accepts IsRightOutcome m c a n → m.next_order ≤ n.next_order
+accepted_rise m (AddAsset ticker) a n accepts = omega (arith, ap (λ (x : Market). x.next_order) accepts.1)
+accepted_rise m OpenAccount a n accepts = omega (arith, ap (λ (x : Market). x.next_order) accepts.1)
+accepted_rise m (DepositMoney account ticks) a n accepts = omega (arith, ap (λ (x : Market). x.next_order) accepts.1)
+accepted_rise m (DepositAsset account asset units) a n accepts = omega (arith, ap (λ (x : Market). x.next_order) accepts.1)
+accepted_rise m (WithdrawMoney account ticks) a n accepts = omega (arith, ap (λ (x : Market). x.next_order) accepts.1)
+accepted_rise m (WithdrawAsset account asset units) a n accepts = omega (arith, ap (λ (x : Market). x.next_order) accepts.1)
+accepted_rise m (PlaceOrder r) a n accepts = omega (arith, ap (λ (x : Market). x.next_order) accepts.1)
+accepted_rise m (PlaceUntil last r) a n accepts = omega (arith, ap (λ (x : Market). x.next_order) accepts.1)
+accepted_rise m (CancelOrder account number) a n accepts = omega (arith, ap (λ (x : Market). x.next_order) accepts.1)
+accepted_rise m (SetMoneyCredit account ticks) a n accepts = omega (arith, ap (λ (x : Market). x.next_order) accepts.1)
+accepted_rise m (SetUnitCredit account asset units) a n accepts = omega (arith, ap (λ (x : Market). x.next_order) accepts.1)
+accepted_rise m (RunBatch budget) a n accepts = omega (arith, ap (λ (x : Market). x.next_order) accepts.2.1, batch_numbers_none m accepts.0)
+
+accepted_fits : (m : Market) (c : Command) (a : Answer Outcome) (n : Market) → IsSound m → FirstRefusal m c None → Accepts IsRightOutcome m c a n → n.next_order < 2 ^ 64 → Fits a
+accepted_fits m (AddAsset ticker) a n sound none accepts next = rw accepts.0 (plain_fits (reply.Asset (length m.tickers)) (omega (arith, sound.tickers.few)))
+accepted_fits m OpenAccount a n sound none accepts next = rw accepts.0 (plain_fits (reply.Account _) (omega (arith, sound.few_accounts)))
+accepted_fits m (DepositMoney account ticks) a n sound none accepts next = rw accepts.0 (plain_fits reply.Done tt)
+accepted_fits m (DepositAsset account asset units) a n sound none accepts next = rw accepts.0 (plain_fits reply.Done tt)
+accepted_fits m (WithdrawMoney account ticks) a n sound none accepts next = rw accepts.0 (plain_fits reply.Done tt)
+accepted_fits m (WithdrawAsset account asset units) a n sound none accepts next = rw accepts.0 (plain_fits reply.Done tt)
+accepted_fits m (PlaceOrder r) a n sound none accepts next = rw accepts.0 (plain_fits (reply.Order m.next_order) (omega (arith, ap (λ (x : Market). x.next_order) accepts.1, next)))
+accepted_fits m (PlaceUntil last r) a n sound none accepts next = rw accepts.0 (plain_fits (reply.Order m.next_order) (omega (arith, ap (λ (x : Market). x.next_order) accepts.1, next)))
+accepted_fits m (CancelOrder account number) a n sound none accepts next = rw accepts.0 (plain_fits reply.Done tt)
+accepted_fits m (SetMoneyCredit account ticks) a n sound none accepts next = rw accepts.0 (plain_fits reply.Done tt)
+accepted_fits m (SetUnitCredit account asset units) a n sound none accepts next = rw accepts.0 (plain_fits reply.Done tt)
+accepted_fits m (RunBatch budget) a n sound none accepts next =
+    let outcome = accepts.0 in
+    let before : m.next_order < 2 ^ 64 = omega (arith, ap (λ (x : Market). x.next_order) accepts.2.1, batch_numbers_none m outcome, next) in
+    rw accepts.2.0 (batch_fits m budget outcome sound none before accepts.1)
+
+served_fits : (m : Market) (c : Command) (a : Answer Outcome) (n : Market) → IsSound m → Serves IsRightOutcome m c a n → n.next_order < 2 ^ 64 → Fits a
+served_fits m c a n sound serves next = by_first serves.first serves.refused serves.answered
+  where
+    by_first : (first : Option Refusal) → FirstRefusal m c first → Answers IsRightOutcome m c first a n → Fits a
+    by_first (Some r) refused answered = rw answered.0 (plain_fits (reply.Refused r) tt)
+    by_first None refused answered = accepted_fits m c a n sound refused answered next
+
+read_fits : (m : Market) (read : Result Command BodyFault) (a : Answer Outcome) (n : Market) → IsSound m → ServesRead IsRightOutcome m read a n → n.next_order < 2 ^ 64 → Fits a
+read_fits m (Ok c) a n sound served next = served_fits m c a n sound served next
+read_fits m (Err why) a n sound served next = rw served.0 (plain_fits (reply.Refused _) tt)
+
+read_rise : (m : Market) (read : Result Command BodyFault) (a : Answer Outcome) (n : Market) → ServesRead IsRightOutcome m read a n → m.next_order ≤ n.next_order
+read_rise m (Err why) a n served = omega (arith, ap (λ (x : Market). x.next_order) served.1)
+read_rise m (Ok c) a n served = by_first served.first served.answered
+  where
+    by_first : (first : Option Refusal) → Answers IsRightOutcome m c first a n → m.next_order ≤ n.next_order
+    by_first (Some r) answered = omega (arith, ap (λ (x : Market). x.next_order) answered.1)
+    by_first None answered = accepted_rise m c a n answered
+
+-- what is read is answered as any right outcome would allow
+read_right : (m : Market) (read : Result Command BodyFault) (a : Answer Outcome) (n : Market) → IsSound m → ServesRead IsOwnOutcome m read a n → ServesRead IsRightOutcome m read a n
+read_right m (Ok c) a n sound served = own_served_is_right m c a n sound served
+read_right m (Err why) a n sound served = served
+
+-- the pair of a record that is short enough
+pub pair_fits : (old : Market) (asked : Record) (answer : Answer Outcome) (new : Market) → IsSound old → IsRecord most_body asked → Step IsReadAs IsOwnOutcome old asked answer new → new.next_order < 2 ^ 64
+    → IsPair (record { asked = asked; answer = answer })
+pair_fits old asked answer new sound short step next =
+    let fits = read_fits old step.read answer new sound (read_right old step.read answer new sound step.served) next in
+    record { asked = short; answer = fits.widths; answered = fits.short }
+
+-- pairs that answer such records, one after the other
+pub pairs_fit : (old : Market) (pairs : List (Pair Record Outcome)) (new : Market) → IsSound old → All (λ (p : Pair Record Outcome). IsRecord most_body p.asked) pairs → Follows IsReadAs IsOwnOutcome old pairs new
+    → (old.next_order ≤ new.next_order) × (new.next_order < 2 ^ 64 → All IsPair pairs)
+pairs_fit old [] new sound short follows = (omega (arith, ap (λ (x : Market). x.next_order) follows), λ next. All-nil IsPair)
+pairs_fit old (pair ∷ pairs) new sound short (between, step, follows) =
+    let asked = λ (p : Pair Record Outcome). IsRecord most_body p.asked in
+    let right : Step IsReadAs IsRightOutcome old pair.asked pair.answer between = record { read = step.read; spelled = step.spelled; served = read_right old step.read pair.answer between sound step.served } in
+    let rest = pairs_fit between pairs new (steps_keep_soundness.1 old pair.asked pair.answer between sound right).0 (All-tail asked pair pairs short) follows in
+    let rise = read_rise old right.read pair.answer between right.served in (
+      omega (arith, rise, rest.0),
+      λ next. All-cons IsPair pair pairs (pair_fits old pair.asked pair.answer between sound (All-head asked pair pairs short) step (omega (arith, rest.0, next))) (rest.1 next),
+    )
+
+-- and of one with a plain reply
+pub plain_pair_fits : (asked : Record) (r : Reply) → IsRecord most_body asked → IsAnswer (Plain r) → IsPair (record { asked = asked; answer = Plain r })
+plain_pair_fits asked r short fits = record { asked = short; answer = fits; answered = plain_short r }

@@ -1,0 +1,80 @@
+-- What a run writes is a legal journal, of which an audit is done.
+use Rattle.std.proofs.Common.{◌≡◌, ◌≢◌, ◌⊎◌, ◌+◌, ◌*◌, ◌^◌, ◌<◌, ◌≤◌, ℕ, List, [], ◌∷◌, ◌++◌, length, inl, inr, refl, ap, length-append, arith}
+use Rattle.std.specs.List.{flat_map}
+use Rattle.wire_records.specs.Records.{Record, spelling}
+use Rattle.wire_records.specs.Commands.{Pair}
+use Rattle.wire_records.specs.Versions.{IsReadAs}
+use Rattle.wire_records.specs.Reading.{Reading, NotFlow, File}
+use Rattle.wire_records.specs.declared.version.Version.{Version}
+use Rattle.wire_records.proofs.Spelled.{length-spelling}
+use Rattle.flow_orders.specs.Outcomes.{Outcome}
+use Rattle.flow_orders.specs.Own.{IsOwnOutcome}
+use Rattle.journal_records.specs.Replies.{answer_record}
+use Rattle.journal_records.specs.Pairs.{pair_spelling}
+use Rattle.journal_records.specs.Formats.{journal_magic_of, journal_in}
+use Rattle.market_core.specs.Market.{Market, empty_market}
+use Rattle.market_core.specs.Journal.{Follows}
+use Rattle.market_core.proofs.LawProofs.{own_journals_are_legal, steps_number_one}
+use Rattle.batch_audit.specs.Legal.{IsLegalJournal}
+use Rattle.journal_replay.proofs.Replayed.{eight}
+use Rattle.exchange_session.specs.Journals.{Journals}
+use Rattle.flow_exchange.specs.declared.form.Form.TheVariants.{Run, Audit}
+use Rattle.flow_exchange.specs.declared.status.Status.{Status}
+use Rattle.flow_exchange.specs.declared.status.Status.TheVariants as answer
+use Rattle.flow_exchange.specs.Statuses.{reading_status}
+use Rattle.flow_exchange.specs.Running.{WritesOf}
+use Rattle.flow_exchange.specs.Auditing.{legal_line}
+use Rattle.flow_exchange.specs.Program.{ComesTo, GetsTo, LacksAt}
+use Rattle.flow_exchange.specs.Laws.{RunsAreAudited}
+use Rattle.flow_exchange.proofs.AuditLaws.{done_is_for_legal}
+
+-- a pair takes ten bytes at least
+pair_long : (pair : Pair Record Outcome) → 10 ≤ length (pair_spelling pair)
+unfolding pair_spelling
+pair_long pair = omega (arith, length-append (spelling pair.asked) (spelling (answer_record pair.answer)), length-spelling pair.asked, length-spelling (answer_record pair.answer))
+
+-- so pairs are fewer than their bytes, and orders no more than pairs
+pairs_short : (pairs : List (Pair Record Outcome)) → length pairs ≤ length (flat_map pair_spelling pairs)
+pairs_short [] = omega arith
+pairs_short (pair ∷ pairs) = omega (arith, pair_long pair, pairs_short pairs, length-append (pair_spelling pair) (flat_map pair_spelling pairs))
+
+orders_few : (old new : Market) (pairs : List (Pair Record Outcome)) → Follows IsReadAs IsOwnOutcome old pairs new → new.next_order ≤ old.next_order + length pairs
+orders_few old new [] follows = omega (arith, ap (λ (m : Market). m.next_order) follows)
+orders_few old new (pair ∷ pairs) (between, step, follows) =
+    omega (arith, steps_number_one old pair.asked pair.answer between step, orders_few between new pairs follows)
+
+numbers_fit : (most : ℕ) (version : Version) (records : List Record) (market : Market) (text : List ℕ) (writes : Journals version records market text) → most < 2 ^ 64 → length text ≤ most → market.next_order < 2 ^ 64
+numbers_fit most version records market text writes wide within =
+    let few = orders_few (empty_market version) market writes.pairs writes.journal_of.steps in
+    let long = length-append (journal_magic_of version) (flat_map pair_spelling writes.pairs) in
+    omega (arith, few, pairs_short writes.pairs, ap length writes.spelled, long, eight version, wide, within)
+
+journal : (most : ℕ) (version : Version) (records : List Record) (market : Market) (text : List ℕ) (writes : Journals version records market text)
+    → most < 2 ^ 64 → length text ≤ most → IsLegalJournal version writes.pairs market × ComesTo Audit most text answer.Done (legal_line writes.pairs)
+journal most version records market text writes wide within =
+    let legal : IsLegalJournal version writes.pairs market = record {
+      each = writes.fits (numbers_fit most version records market text writes wide within);
+      steps = (own_journals_are_legal version records writes.pairs market writes.journal_of).steps;
+    } in
+    (legal, (done_is_for_legal most text (legal_line writes.pairs)).1 (version, writes.pairs, market, legal, writes.spelled, within, refl))
+
+-- some line, whatever the journal
+audited : (most : ℕ) (version : Version) (records : List Record) (market : Market) (text : List ℕ) → Journals version records market text
+    → most < 2 ^ 64 → length text ≤ most → (line : List ℕ) × ComesTo Audit most text answer.Done line
+audited most version records market text writes wide within = (legal_line writes.pairs, (journal most version records market text writes wide within).1)
+
+read : (limit most : ℕ) (text : List ℕ) (status : Status) (reading : Reading Version Record) → WritesOf reading text → status ≡ reading_status limit reading → status ≢ answer.NotFlow
+    → most < 2 ^ 64 → length text ≤ most → (line : List ℕ) × ComesTo Audit most text answer.Done line
+read limit most text status NotFlow writes ends other wide within = absurd (other ends)
+read limit most text status (File version records ending) (market, writes) ends other wide within = audited most version records market text writes wide within
+
+pub runs_are_audited : RunsAreAudited
+runs_are_audited = record {
+  journal = journal;
+  done = λ limit most bytes text status runs other wide within. read limit most text status runs.reading runs.writes runs.ends other wide within;
+  begun = λ limit most bytes text begun wide within.
+      elim begun [
+        | inl into ↦ audited most into.version into.records into.market text into.writes wide within
+        | inr short ↦ audited most short.version short.records short.market text short.writes wide within
+      ];
+}
