@@ -17,9 +17,9 @@ use Rattle.market_core.specs.Step.{FirstRefusal, Accepts, Answers, Serves, Serve
 use Rattle.market_core.specs.Journal.{Step, Follows}
 use Rattle.market_core.proofs.Versions.{step_version}
 use Rattle.market_core.proofs.Accepted.{past_when, past_unless, not_least}
-use Rattle.order_text.specs.Lines.{AreAfter}
-use Rattle.order_text.proofs.OneAnswers.{one_saying}
-use Rattle.line_records.specs.Lines.{Say}
+use Rattle.order_text.specs.Lines.{AreAfter, AreAfterAll}
+use Rattle.order_text.proofs.OneAnswers.{one_table}
+use Rattle.line_records.proofs.Saying.{lines_leave}
 use Rattle.line_records.proofs.Fitting.{commands_fit}
 use Rattle.flow_exchange.specs.Laws.{TickersAgree}
 
@@ -99,28 +99,21 @@ module _ (Rule : BatchRule) where
   heads : (a b : Record) (x y : List Record) → a ∷ x ≡ b ∷ y → (a ≡ b) × (x ≡ y)
   heads a b x y e = (cc, cc)
 
-  -- lines and steps of their commands' records, from the same tickers on, lead to the same tickers
-  pub steps_tickers : (version : Version) (lines : List (List ℕ)) (commands : List Command) (after : List (List ℕ)) (m market : Market) (pairs : List (Pair Record Outcome)) → m.version ≡ version → Say version m.tickers lines commands after → All IsCommand commands → All (IsOfVersion version) commands
+  -- steps of commands' records lead to the tickers that the commands leave
+  pub steps_tickers : (version : Version) (commands : List Command) (after : List (List ℕ)) (m market : Market) (pairs : List (Pair Record Outcome)) → m.version ≡ version → AreAfterAll m.tickers commands after → All IsCommand commands → All (IsOfVersion version) commands
       → map (λ (pair : Pair Record Outcome). pair.asked) pairs ≡ map record_of commands → Follows IsReadAs Rule m pairs market → market.tickers ≡ after
-  steps_tickers version [] commands after m market [] of say fit own asked steps = made_tickers market m steps ∙ sym say.1
-  steps_tickers version [] commands after m market (pair ∷ pairs) of say fit own asked steps =
-      let none = asked ∙ ap (map record_of) say.0 in
-      absurd cc
-  steps_tickers version (line ∷ lines) commands after m market pairs of (inl blank) fit own asked steps = steps_tickers version lines commands after m market pairs of blank.1 fit own asked steps
-  steps_tickers version (line ∷ lines) commands after m market [] of (inr said) fit own asked steps =
-      let some = asked ∙ ap (map record_of) said.5 in
-      absurd cc
-  steps_tickers version (line ∷ lines) commands after m market (pair ∷ pairs) of (inr said) fit own asked steps =
-      let fits = subst (All IsCommand) said.5 fit in
-      let owned = subst (All (IsOfVersion version)) said.5 own in
-      let both = heads pair.asked (record_of said.0) (map (λ (p : Pair Record Outcome). p.asked) pairs) (map record_of said.1) (asked ∙ ap (map record_of) said.5) in
-      let leaves = step_tickers m said.0 pair.asked pair.answer steps.0 (subst (λ (v : Version). IsOfVersion v said.0) (sym of) (All-head (IsOfVersion version) said.0 said.1 owned)) (record { fits = All-head IsCommand said.0 said.1 fits; spelled = both.0 }) steps.1 in
-      let same = one_saying version m.tickers line said.0 said.0 said.2 steps.0.tickers said.3 (record { asks = said.3.asks; leaves = leaves }) in
-      steps_tickers version lines said.1 after steps.0 market pairs (step_version Rule IsReadAs m pair.asked pair.answer steps.0 steps.1 ∙ of) (subst (λ tickers. Say version tickers lines said.1 after) same.1 said.4) (All-tail IsCommand said.0 said.1 fits) (All-tail (IsOfVersion version) said.0 said.1 owned) both.1 steps.2
+  steps_tickers version [] after m market [] of leaves fit own asked steps = made_tickers market m steps ∙ sym leaves
+  steps_tickers version [] after m market (pair ∷ pairs) of leaves fit own asked steps = absurd cc
+  steps_tickers version (command ∷ commands) after m market [] of leaves fit own asked steps = absurd cc
+  steps_tickers version (command ∷ commands) after m market (pair ∷ pairs) of leaves fit own asked steps =
+      let both = heads pair.asked (record_of command) (map (λ (p : Pair Record Outcome). p.asked) pairs) (map record_of commands) asked in
+      let left = step_tickers m command pair.asked pair.answer steps.0 (subst (λ (v : Version). IsOfVersion v command) (sym of) (All-head (IsOfVersion version) command commands own)) (record { fits = All-head IsCommand command commands fit; spelled = both.0 }) steps.1 in
+      let same : leaves.0 ≡ steps.0.tickers = one_table m.tickers (command ∷ []) leaves.0 steps.0.tickers (leaves.0, leaves.1, refl) (steps.0.tickers, left, refl) in
+      steps_tickers version commands after steps.0 market pairs (step_version Rule IsReadAs m pair.asked pair.answer steps.0 steps.1 ∙ of) (subst (λ tickers. AreAfterAll tickers commands after) same leaves.2) (All-tail IsCommand command commands fit) (All-tail (IsOfVersion version) command commands own) both.1 steps.2
 
 pub tickers_agree : TickersAgree
 tickers_agree version limit bytes text journal ended encoded market journals =
     let reads = encoded.reads in
     let fit = commands_fit version reads.read encoded.commands reads.tickers reads.say in
-    steps_tickers IsOwnOutcome version reads.read encoded.commands reads.tickers (empty_market version) market journals.pairs refl reads.say fit.0 fit.2
+    steps_tickers IsOwnOutcome version encoded.commands reads.tickers (empty_market version) market journals.pairs refl (lines_leave version reads.read encoded.commands [] reads.tickers reads.say) fit.0 fit.2
     journals.journal_of.asked journals.journal_of.steps

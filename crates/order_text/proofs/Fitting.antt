@@ -15,8 +15,9 @@ use Rattle.wire_records.specs.Records.{AreBytes}
 use Rattle.wire_records.specs.Commands.{Request, Command, AddAsset, OpenAccount, DepositMoney, DepositAsset, WithdrawMoney, WithdrawAsset, PlaceOrder, CancelOrder, RunBatch, PlaceUntil, SetMoneyCredit, SetUnitCredit}
 use Rattle.wire_records.specs.CommandRecords.{IsCommand, IsRequest, IsEntry}
 use Rattle.ticker_table.specs.Tickers.{AreTickers}
+use Rattle.wire_records.specs.Versions.{IsOfVersion}
 use Rattle.wire_records.specs.declared.version.Version.{Version}
-use Rattle.order_text.specs.Lines.{number_at, in_32_bits, small_at, signed_at, padded, asset_named, asset_at, in_signed_32_bits, weight_of, entry_of, put_entry, put_members, row_at, text_at, HasTicker, HasRequest, LineAsks}
+use Rattle.order_text.specs.Lines.{number_at, in_32_bits, small_at, signed_at, padded, asset_named, asset_at, in_signed_32_bits, weight_of, entry_of, put_entry, put_members, row_at, text_at, HasTicker, HasRequest, Asks, LineAsks}
 use Rattle.order_text.proofs.ShortRows.{row_is_short}
 use Rattle.order_text.proofs.ReadNumbers.{IsNum, Fits, MembersFit, read_fits}
 
@@ -227,40 +228,43 @@ request_fits tickers d r are all few f = record {
 }
 
 -- by the command
-pub command_fits : (version : Version) (tickers : List (List ℕ)) (line : List ℕ) (command : Command) → AreTickers tickers → LineAsks version tickers line command → IsCommand command
-command_fits version tickers line (AddAsset ticker) are asks = ticker_fits (codes "ticker") asks.value ticker asks.asks.fields
-command_fits version tickers line OpenAccount are asks = tt
-command_fits version tickers line (DepositMoney account ticks) are asks =
+pub command_fits : (version : Version) (tickers : List (List ℕ)) (d : Data) (command : Command) → AreTickers tickers → Fits d → Asks version tickers d command → IsCommand command
+command_fits version tickers d (AddAsset ticker) are all asks = ticker_fits (codes "ticker") d ticker asks.fields
+command_fits version tickers d OpenAccount are all asks = tt
+command_fits version tickers d (DepositMoney account ticks) are all asks =
+    let f = asks.fields in
+    (small_below (codes "account") d account f.0, number_below (codes "ticks") d ticks all f.1)
+command_fits version tickers d (DepositAsset account asset units) are all asks =
+    let f = asks.fields in
+    (small_below (codes "account") d account f.0, asset_fits tickers (codes "asset") d asset are f.1, number_below (codes "units") d units all f.2)
+command_fits version tickers d (WithdrawMoney account ticks) are all asks =
+    let f = asks.fields in
+    (small_below (codes "account") d account f.0, number_below (codes "ticks") d ticks all f.1)
+command_fits version tickers d (WithdrawAsset account asset units) are all asks =
+    let f = asks.fields in
+    (small_below (codes "account") d account f.0, asset_fits tickers (codes "asset") d asset are f.1, number_below (codes "units") d units all f.2)
+command_fits version tickers d (PlaceOrder r) are all asks =
+    request_fits tickers d r are all (omega (arith, row_is_short version tickers d (PlaceOrder r) are asks)) asks.fields
+command_fits version tickers d (CancelOrder account order) are all asks =
+    let f = asks.fields in
+    (small_below (codes "account") d account f.0, number_below (codes "order") d order all f.1)
+command_fits version tickers d (RunBatch budget) are all asks = small_below (codes "budget") d budget asks.fields
+command_fits version tickers d (PlaceUntil last r) are all asks =
+    let f = asks.fields in
+    (small_below (codes "last") d last f.0, request_fits tickers d r are all (omega (arith, row_is_short version tickers d (PlaceUntil last r) are asks)) f.1)
+command_fits version tickers d (SetMoneyCredit account ticks) are all asks =
+    let f = asks.fields in
+    (small_below (codes "account") d account f.0, number_below (codes "ticks") d ticks all f.1)
+command_fits version tickers d (SetUnitCredit account asset units) are all asks =
+    let f = asks.fields in
+    (small_below (codes "account") d account f.0, asset_fits tickers (codes "asset") d asset are f.1, number_below (codes "units") d units all f.2)
+
+-- all that a line asks for
+pub commands_fit : (version : Version) (tickers : List (List ℕ)) (line : List ℕ) (commands : List Command) → AreTickers tickers → LineAsks version tickers line commands → All IsCommand commands × All (IsOfVersion version) commands
+commands_fit version tickers line commands are asks =
+    let one = asks.asks in
     let all = read_fits line asks.value asks.reads in
-    let f = asks.asks.fields in
-    (small_below (codes "account") asks.value account f.0, number_below (codes "ticks") asks.value ticks all f.1)
-command_fits version tickers line (DepositAsset account asset units) are asks =
-    let all = read_fits line asks.value asks.reads in
-    let f = asks.asks.fields in
-    (small_below (codes "account") asks.value account f.0, asset_fits tickers (codes "asset") asks.value asset are f.1, number_below (codes "units") asks.value units all f.2)
-command_fits version tickers line (WithdrawMoney account ticks) are asks =
-    let all = read_fits line asks.value asks.reads in
-    let f = asks.asks.fields in
-    (small_below (codes "account") asks.value account f.0, number_below (codes "ticks") asks.value ticks all f.1)
-command_fits version tickers line (WithdrawAsset account asset units) are asks =
-    let all = read_fits line asks.value asks.reads in
-    let f = asks.asks.fields in
-    (small_below (codes "account") asks.value account f.0, asset_fits tickers (codes "asset") asks.value asset are f.1, number_below (codes "units") asks.value units all f.2)
-command_fits version tickers line (PlaceOrder r) are asks =
-    request_fits tickers asks.value r are (read_fits line asks.value asks.reads) (omega (arith, row_is_short version tickers line (PlaceOrder r) are asks)) asks.asks.fields
-command_fits version tickers line (CancelOrder account order) are asks =
-    let all = read_fits line asks.value asks.reads in
-    let f = asks.asks.fields in
-    (small_below (codes "account") asks.value account f.0, number_below (codes "order") asks.value order all f.1)
-command_fits version tickers line (RunBatch budget) are asks = small_below (codes "budget") asks.value budget asks.asks.fields
-command_fits version tickers line (PlaceUntil last r) are asks =
-    let f = asks.asks.fields in
-    (small_below (codes "last") asks.value last f.0, request_fits tickers asks.value r are (read_fits line asks.value asks.reads) (omega (arith, row_is_short version tickers line (PlaceUntil last r) are asks)) f.1)
-command_fits version tickers line (SetMoneyCredit account ticks) are asks =
-    let all = read_fits line asks.value asks.reads in
-    let f = asks.asks.fields in
-    (small_below (codes "account") asks.value account f.0, number_below (codes "ticks") asks.value ticks all f.1)
-command_fits version tickers line (SetUnitCredit account asset units) are asks =
-    let all = read_fits line asks.value asks.reads in
-    let f = asks.asks.fields in
-    (small_below (codes "account") asks.value account f.0, asset_fits tickers (codes "asset") asks.value asset are f.1, number_below (codes "units") asks.value units all f.2)
+    rw one.2 (
+      All-cons IsCommand one.0 [] (command_fits version tickers asks.value one.0 are all one.1) (All-nil IsCommand),
+      All-cons (IsOfVersion version) one.0 [] one.1.of_version (All-nil (IsOfVersion version)),
+    )

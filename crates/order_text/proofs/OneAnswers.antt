@@ -1,17 +1,19 @@
 -- A line has an answer, and one alone.
-use Rattle.std.proofs.Common.{◌≡◌, ◌≢◌, ℕ, List, [], ◌∷◌, ◌++◌, Result, Ok, Err, refl, sym, ap, ◌∙◌, inl, inr, rules, Bool, true, false, true≢false}
+use Rattle.std.proofs.Common.{◌≡◌, ◌≢◌, ℕ, List, [], ◌∷◌, ◌++◌, Some, Result, Ok, Err, refl, sym, ap, subst, ◌∙◌, inl, inr, rules, Bool, true, false, true≢false}
 use Rattle.wire_records.specs.Commands.{Command, AddAsset, OpenAccount, DepositMoney, DepositAsset, WithdrawMoney, WithdrawAsset, PlaceOrder, CancelOrder, RunBatch, PlaceUntil, SetMoneyCredit, SetUnitCredit}
+use Rattle.serde_json.specs.Data.{Data}
 use Rattle.wire_records.specs.Views.{command_in}
 use Rattle.wire_records.specs.declared.command.Command as owned
 use Rattle.wire_records.specs.declared.command.Command.TheVariants as own
 use Rattle.order_text.specs.declared.line.LineRead.{LineRead}
-use Rattle.order_text.specs.declared.line.LineRead.TheVariants.{Blank, Asks}
+use Rattle.order_text.specs.declared.line.LineRead.TheVariants.{Blank}
+use Rattle.order_text.specs.declared.line.LineRead.TheVariants as line_is
 use Rattle.order_text.specs.declared.line.LineFault.{LineFault}
 use Rattle.order_text.specs.declared.line.LineFault.TheVariants.{NoCommand, Memory}
 use Rattle.wire_records.specs.declared.version.Version.{Version}
-use Rattle.order_text.specs.Lines.{AreAfter}
+use Rattle.order_text.specs.Lines.{Asks, AsksFor, LineAsks, AreAfter, AreAfterAll}
 use Rattle.order_text.specs.Answers.{IsRead, wants_memory}
-use Rattle.order_text.specs.Laws.{OneSaying}
+use Rattle.order_text.specs.Laws.{OneSaying, OneTable}
 
 -- the program's own form of a command
 abbrev own_of : Command → owned.Command
@@ -59,29 +61,59 @@ plain_is (SetUnitCredit account asset units) = refl
 same_own : (a b : owned.Command) → command_in a ≡ command_in b → a ≡ b
 same_own a b same = sym (own_is a) ∙ ap own_of same ∙ own_is b
 
+-- a command alone
+abbrev alone : Command → List Command
+alone command = command ∷ []
+
+-- lists of one are one
+heads : (a b : Command) → alone a ≡ alone b → a ≡ b
+heads a b same = cc
+
 abbrev Answer : Type 0
 Answer = Result LineRead LineFault
 
 abbrev asks_own : owned.Command → Answer
-asks_own c = Ok (Asks c)
+asks_own c = Ok (line_is.Asks c)
+
+-- a command leaves one table
+one_after : (tickers : List (List ℕ)) (command : Command) (after other : List (List ℕ)) → AreAfter tickers command after → AreAfter tickers command other → after ≡ other
+one_after = search (rules, refl)
+
+pub one_table : OneTable
+one_table tickers [] after other a b = a ∙ sym b
+one_table tickers (command ∷ commands) after other a b =
+    let same = one_after tickers command a.0 b.0 a.1 b.1 in
+    one_table b.0 commands after other (subst (λ t. AreAfterAll t commands after) same a.2) b.2
+
+-- an object asks for one command
+one_asked : (version : Version) (tickers : List (List ℕ)) (d : Data) (a b : Command) → Asks version tickers d a → Asks version tickers d b → a ≡ b
+one_asked = search (rules, refl)
+
+-- and so for one list
+one_list : (version : Version) (tickers : List (List ℕ)) (c d : Data) (a b : List Command) → Some c ≡ Some d → AsksFor version tickers c a → AsksFor version tickers d b → a ≡ b
+one_list version tickers c d a b same x y =
+    let value : c ≡ d = cc in
+    x.2 ∙ ap alone (one_asked version tickers d x.0 y.0 (subst (λ v. Asks version tickers v x.0) value x.1) y.1) ∙ sym y.2
 
 pub one_saying : OneSaying
-one_saying = search (rules, refl)
+one_saying version tickers line a b after other x y =
+    let same = one_list version tickers x.asks.value y.asks.value a b (sym x.asks.reads ∙ y.asks.reads) x.asks.asks y.asks.asks in
+    (same, one_table tickers b after other (subst (λ cs. AreAfterAll tickers cs after) same x.leaves) y.leaves)
 
 pub one_answer : OneSaying → (version : Version) (tickers : List (List ℕ)) (line : List ℕ) (a b : Answer) (after other : List (List ℕ)) → a ≢ wants_memory → b ≢ wants_memory
     → IsRead version tickers line after a → IsRead version tickers line other b → (a ≡ b) × (after ≡ other)
 one_answer one version tickers line (Ok Blank) (Ok Blank) after other x y p q = (refl, p.1 ∙ sym q.1)
-one_answer one version tickers line (Ok Blank) (Ok (Asks d)) after other x y p q = absurd (q.asks.written p.0)
+one_answer one version tickers line (Ok Blank) (Ok (line_is.Asks d)) after other x y p q = absurd (q.asks.written p.0)
 one_answer one version tickers line (Ok Blank) (Err NoCommand) after other x y p q = absurd (q.0.written p.0)
 one_answer one version tickers line (Ok Blank) (Err Memory) after other x y p q = absurd (y refl)
-one_answer one version tickers line (Ok (Asks c)) (Ok Blank) after other x y p q = absurd (p.asks.written q.0)
-one_answer one version tickers line (Ok (Asks c)) (Ok (Asks d)) after other x y p q =
-    let same = one version tickers line (command_in c) (command_in d) after other p q in
-    (ap asks_own (same_own c d same.0), same.1)
-one_answer one version tickers line (Ok (Asks c)) (Err NoCommand) after other x y p q = absurd (q.0.no_command (command_in c) p.asks)
-one_answer one version tickers line (Ok (Asks c)) (Err Memory) after other x y p q = absurd (y refl)
+one_answer one version tickers line (Ok (line_is.Asks c)) (Ok Blank) after other x y p q = absurd (p.asks.written q.0)
+one_answer one version tickers line (Ok (line_is.Asks c)) (Ok (line_is.Asks d)) after other x y p q =
+    let same = one version tickers line (alone (command_in c)) (alone (command_in d)) after other p q in
+    (ap asks_own (same_own c d (heads (command_in c) (command_in d) same.0)), same.1)
+one_answer one version tickers line (Ok (line_is.Asks c)) (Err NoCommand) after other x y p q = absurd (q.0.no_command (alone (command_in c)) p.asks)
+one_answer one version tickers line (Ok (line_is.Asks c)) (Err Memory) after other x y p q = absurd (y refl)
 one_answer one version tickers line (Err NoCommand) (Ok Blank) after other x y p q = absurd (p.0.written q.0)
-one_answer one version tickers line (Err NoCommand) (Ok (Asks d)) after other x y p q = absurd (p.0.no_command (command_in d) q.asks)
+one_answer one version tickers line (Err NoCommand) (Ok (line_is.Asks d)) after other x y p q = absurd (p.0.no_command (alone (command_in d)) q.asks)
 one_answer one version tickers line (Err NoCommand) (Err NoCommand) after other x y p q = (refl, p.1 ∙ sym q.1)
 one_answer one version tickers line (Err NoCommand) (Err Memory) after other x y p q = absurd (y refl)
 one_answer one version tickers line (Err Memory) b after other x y p q = absurd (x refl)
@@ -115,8 +147,11 @@ none_is_unanswered version tickers line none =
     none tickers (Err NoCommand) (told (Err NoCommand) refl) (
       record {
         written = λ blank. none tickers (Ok Blank) (told (Ok Blank) refl) (blank, refl);
-        no_command = λ command asks. some_after tickers command (λ after leaves.
-            none after (Ok (Asks (own_of command))) (told (Ok (Asks (own_of command))) refl) (rw (plain_is command) (record { asks = asks; leaves = leaves })));
+        no_command = λ commands asks.
+            let command = asks.asks.0 in
+            let one = subst (λ cs. LineAsks version tickers line cs) asks.asks.2 asks in
+            some_after tickers command (λ after leaves.
+            none after (Ok (line_is.Asks (own_of command))) (told (Ok (line_is.Asks (own_of command))) refl) (rw (plain_is command) (record { asks = one; leaves = (after, leaves, refl) })));
       },
       refl,
     )

@@ -5,13 +5,14 @@ use Rattle.std.proofs.lemmas.Bool.{eqb-false, ltb-true, ltb-false}
 use Rattle.std.proofs.lemmas.List.Quantifiers.{position-Some}
 use Rattle.weight_rows.specs.declared.entries.Entry.{Entry}
 use Rattle.serde_json.specs.Data.{Data, Members, no_members, member}
-use Rattle.std.specs.Prelude.{codes}
+use Rattle.std.specs.Prelude.{codes, All}
+use Rattle.std.proofs.lemmas.List.Elements.{All-nil, All-cons}
 use Rattle.serde_json.specs.Find.{get, as_object}
 use Rattle.ticker_table.specs.Tickers.{AreTickers}
 use Rattle.wire_records.specs.Commands.{Command, AddAsset, OpenAccount, DepositMoney, DepositAsset, WithdrawMoney, WithdrawAsset, PlaceOrder, CancelOrder, RunBatch, PlaceUntil, SetMoneyCredit, SetUnitCredit}
 use Rattle.wire_records.specs.CommandRecords.{HasShortRow}
 use Rattle.wire_records.specs.declared.version.Version.{Version}
-use Rattle.order_text.specs.Lines.{LineAsks, padded, asset_named, weight_of, entry_of, put_entry, put_members}
+use Rattle.order_text.specs.Lines.{Asks, LineAsks, padded, asset_named, weight_of, entry_of, put_entry, put_members}
 
 -- the assets ascend from one number on, below another
 abbrev Ascends : ℕ → ℕ → List Entry → Type 0
@@ -97,18 +98,25 @@ few_at : (tickers : List (List ℕ)) (members : Option Members) (row : List Entr
 few_at tickers None row is = absurd (true≢false (sym (ap is_some is)))
 few_at tickers (Some members) row is = few_entries tickers members row is
 
-pub row_is_short : (version : Version) (tickers : List (List ℕ)) (line : List ℕ) (command : Command) → AreTickers tickers → LineAsks version tickers line command → HasShortRow command
-row_is_short version tickers line (AddAsset ticker) are asks = tt
-row_is_short version tickers line OpenAccount are asks = tt
-row_is_short version tickers line (DepositMoney account ticks) are asks = tt
-row_is_short version tickers line (DepositAsset account asset units) are asks = tt
-row_is_short version tickers line (WithdrawMoney account ticks) are asks = tt
-row_is_short version tickers line (WithdrawAsset account asset units) are asks = tt
-row_is_short version tickers line (PlaceOrder request) are asks =
-    omega (arith, are.few, few_at tickers (option_and_then as_object (get (codes "weights") asks.value)) request.row asks.asks.fields.row)
-row_is_short version tickers line (CancelOrder account order) are asks = tt
-row_is_short version tickers line (RunBatch budget) are asks = tt
-row_is_short version tickers line (PlaceUntil last request) are asks =
-    omega (arith, are.few, few_at tickers (option_and_then as_object (get (codes "weights") asks.value)) request.row asks.asks.fields.1.row)
-row_is_short version tickers line (SetMoneyCredit account ticks) are asks = tt
-row_is_short version tickers line (SetUnitCredit account asset units) are asks = tt
+-- by the command
+pub row_is_short : (version : Version) (tickers : List (List ℕ)) (d : Data) (command : Command) → AreTickers tickers → Asks version tickers d command → HasShortRow command
+row_is_short version tickers d (AddAsset ticker) are asks = tt
+row_is_short version tickers d OpenAccount are asks = tt
+row_is_short version tickers d (DepositMoney account ticks) are asks = tt
+row_is_short version tickers d (DepositAsset account asset units) are asks = tt
+row_is_short version tickers d (WithdrawMoney account ticks) are asks = tt
+row_is_short version tickers d (WithdrawAsset account asset units) are asks = tt
+row_is_short version tickers d (PlaceOrder request) are asks =
+    omega (arith, are.few, few_at tickers (option_and_then as_object (get (codes "weights") d)) request.row asks.fields.row)
+row_is_short version tickers d (CancelOrder account order) are asks = tt
+row_is_short version tickers d (RunBatch budget) are asks = tt
+row_is_short version tickers d (PlaceUntil last request) are asks =
+    omega (arith, are.few, few_at tickers (option_and_then as_object (get (codes "weights") d)) request.row asks.fields.1.row)
+row_is_short version tickers d (SetMoneyCredit account ticks) are asks = tt
+row_is_short version tickers d (SetUnitCredit account asset units) are asks = tt
+
+-- all that a line asks for
+pub rows_are_short : (version : Version) (tickers : List (List ℕ)) (line : List ℕ) (commands : List Command) → AreTickers tickers → LineAsks version tickers line commands → All HasShortRow commands
+rows_are_short version tickers line commands are asks =
+    let one = asks.asks in
+    rw one.2 (All-cons HasShortRow one.0 [] (row_is_short version tickers asks.value one.0 are one.1) (All-nil HasShortRow))

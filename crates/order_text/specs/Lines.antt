@@ -1,4 +1,4 @@
--- Which command a line of JSON asks for.
+-- Which commands a line of JSON asks for.
 use Rattle.std.specs.Prelude.{◌≡◌, ℕ, ◌-◌, ◌<◌, ◌^◌, ◌==◌, ◌&&◌, ℤ, pos, neg_ℤ, int_lt, int_le, nat_lt, nat_le, if◌then◌else◌, ◌⊎◌, List, [], ◌∷◌, ◌++◌, length, replicate, codes, position, bytes_eq, All, IsUtf8, Option, Some, None, option_map, option_and_then}
 use Rattle.weight_rows.specs.declared.entries.Entry.{Entry}
 use Rattle.serde_json.specs.Data.{Data, Members, no_members, member}
@@ -154,13 +154,17 @@ pub record Asks (version : Version) (tickers : List (List ℕ)) (d : Data) (comm
   pub keys : HasKeys (keys_of command) d
   pub of_version : IsOfVersion version command
 
--- a line asks for a command: it isn't blank, and it is the UTF-8 of an object that does
-pub record LineAsks (version : Version) (tickers : List (List ℕ)) (line : List ℕ) (command : Command) : Type 0 where
+-- an object asks for these commands of a version, in their order: for one
+abbrev pub AsksFor : Version → List (List ℕ) → Data → List Command → Type 0
+AsksFor version tickers d commands = (command : Command) × Asks version tickers d command × (commands ≡ command ∷ [])
+
+-- a line asks for these commands: it isn't blank, and it is the UTF-8 of an object that does
+pub record LineAsks (version : Version) (tickers : List (List ℕ)) (line : List ℕ) (commands : List Command) : Type 0 where
   pub written : ¬ IsBlank line
   pub utf8 : IsUtf8 line
   pub value : Data
   pub reads : read line ≡ Some value
-  pub asks : Asks version tickers value command
+  pub asks : AsksFor version tickers value commands
 
 -- the tickers after a ticker: with it, where it can be added
 abbrev pub AreWith : List (List ℕ) → List ℕ → List (List ℕ) → Type 0
@@ -182,12 +186,17 @@ AreAfter tickers (PlaceUntil last request) after = after ≡ tickers
 AreAfter tickers (SetMoneyCredit account ticks) after = after ≡ tickers
 AreAfter tickers (SetUnitCredit account asset units) after = after ≡ tickers
 
--- what a line says in a version, after the tickers of the lines before, and the tickers after it
-pub record Says (version : Version) (tickers : List (List ℕ)) (line : List ℕ) (command : Command) (after : List (List ℕ)) : Type 0 where
-  pub asks : LineAsks version tickers line command
-  pub leaves : AreAfter tickers command after
+-- the tickers after commands, one after the other
+abbrev pub AreAfterAll : List (List ℕ) → List Command → List (List ℕ) → Type 0
+AreAfterAll tickers [] after = after ≡ tickers
+AreAfterAll tickers (command ∷ commands) after = (next : List (List ℕ)) × AreAfter tickers command next × AreAfterAll next commands after
 
--- a line that is neither blank nor asks for a command
+-- what a line says in a version, after the tickers of the lines before, and the tickers after it
+pub record Says (version : Version) (tickers : List (List ℕ)) (line : List ℕ) (commands : List Command) (after : List (List ℕ)) : Type 0 where
+  pub asks : LineAsks version tickers line commands
+  pub leaves : AreAfterAll tickers commands after
+
+-- a line that is neither blank nor asks for commands
 pub record SaysNothing (version : Version) (tickers : List (List ℕ)) (line : List ℕ) : Type 0 where
   pub written : ¬ IsBlank line
-  pub no_command : (command : Command) → ¬ LineAsks version tickers line command
+  pub no_command : (commands : List Command) → ¬ LineAsks version tickers line commands
