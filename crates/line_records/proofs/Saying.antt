@@ -7,7 +7,7 @@ use Rattle.order_text.specs.declared.line.LineRead.{LineRead}
 use Rattle.order_text.specs.declared.line.LineRead.TheVariants.{Blank, Asks}
 use Rattle.order_text.specs.declared.line.LineFault.{LineFault}
 use Rattle.order_text.specs.declared.line.LineFault.TheVariants.{NoCommand, Memory}
-use Rattle.order_text.specs.Lines.{IsBlank, AreAfterAll, Says, SaysNothing}
+use Rattle.order_text.specs.Lines.{IsBlank, Leave, Says, SaysNothing}
 use Rattle.order_text.specs.Answers.{IsRead, wants_memory}
 use Rattle.order_text.proofs.OneAnswers.{one_saying, none_is_unanswered}
 use Rattle.line_records.specs.Lines.{Say}
@@ -18,13 +18,13 @@ no_more [] none = refl
 no_more (x ∷ xs) none = absurd (omega (arith, none))
 
 -- what commands leave, and then more commands
-leaves_more : (first second third : List (List ℕ)) (commands more : List Command) → AreAfterAll first commands second → AreAfterAll second more third → AreAfterAll first (commands ++ more) third
-leaves_more first second third [] more a b = subst (λ t. AreAfterAll t more third) a b
+leaves_more : (first second third : List (List ℕ)) (commands more : List Command) → Leave first commands second → Leave second more third → Leave first (commands ++ more) third
+leaves_more first second third [] more a b = subst (λ t. Leave t more third) a b
 leaves_more first second third (command ∷ commands) more a b = (a.0, a.1, leaves_more a.0 second third commands more a.2 b)
 
 module _ (version : Version) where
   -- what lines leave is what their commands leave
-  pub lines_leave : (lines : List (List ℕ)) (commands : List Command) (tickers after : List (List ℕ)) → Say version tickers lines commands after → AreAfterAll tickers commands after
+  pub lines_leave : (lines : List (List ℕ)) (commands : List Command) (tickers after : List (List ℕ)) → Say version tickers lines commands after → Leave tickers commands after
   lines_leave [] commands tickers after say = rw say.0 say.1
   lines_leave (line ∷ lines) commands tickers after (inl blank) = lines_leave lines commands tickers after blank.1
   lines_leave (line ∷ lines) commands tickers after (inr said) =

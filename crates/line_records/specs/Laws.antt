@@ -4,7 +4,7 @@ use Rattle.wire_records.specs.Commands.{Command}
 use Rattle.wire_records.specs.CommandRecords.{IsCommand, HasShortRow}
 use Rattle.wire_records.specs.Versions.{IsOfVersion}
 use Rattle.wire_records.specs.declared.version.Version.{Version}
-use Rattle.order_text.specs.Lines.{AreAfterAll}
+use Rattle.order_text.specs.Lines.{Leave}
 use Rattle.line_records.specs.Lines.{AreLines, Say, AreRead, AreFirst}
 
 -- bytes have one list of lines
@@ -30,7 +30,7 @@ FirstIsAFront version More =
 -- lines leave the tickers that their commands leave, one after the other
 abbrev pub LinesLeave : Version → Type 0
 LinesLeave version =
-    (lines : List (List ℕ)) (commands : List Command) (tickers after : List (List ℕ)) → Say version tickers lines commands after → AreAfterAll tickers commands after
+    (lines : List (List ℕ)) (commands : List Command) (tickers after : List (List ℕ)) → Say version tickers lines commands after → Leave tickers commands after
 
 -- what lines ask for fits its records and its version: fields are within their widths, rows aren't too long, and the version
 -- has the commands

@@ -7,7 +7,7 @@ use Rattle.wire_records.specs.CommandRecords.{IsCommand, HasShortRow}
 use Rattle.wire_records.specs.Versions.{IsOfVersion}
 use Rattle.order_text.specs.declared.line.LineRead.{LineRead}
 use Rattle.order_text.specs.declared.line.LineFault.{LineFault}
-use Rattle.order_text.specs.Lines.{AreAfterAll, LineAsks, Says}
+use Rattle.order_text.specs.Lines.{LineAsks, Leave, Says}
 use Rattle.order_text.specs.Answers.{IsRead, wants_memory}
 
 -- a line says at most one list of commands, and there is one table after it
@@ -29,7 +29,7 @@ CommandsFit =
 
 -- commands leave one table of tickers
 abbrev pub OneTable : Type 0
-OneTable = (tickers : List (List ℕ)) (commands : List Command) (after other : List (List ℕ)) → AreAfterAll tickers commands after → AreAfterAll tickers commands other → after ≡ other
+OneTable = (tickers : List (List ℕ)) (commands : List Command) (after other : List (List ℕ)) → Leave tickers commands after → Leave tickers commands other → after ≡ other
 
 -- but for want of memory a line has at most one answer, with one table after it
 abbrev pub OneAnswer : Type 0
