@@ -17,9 +17,9 @@ use Rattle.market_core.specs.Step.{FirstRefusal, Accepts, Answers, Serves, Serve
 use Rattle.market_core.specs.Journal.{Step, Follows}
 use Rattle.market_core.proofs.Versions.{step_version}
 use Rattle.market_core.proofs.Accepted.{past_when, past_unless, not_least}
-use Rattle.order_text.specs.Lines.{AreAfter}
-use Rattle.order_text.proofs.OneAnswers.{one_saying}
-use Rattle.line_records.specs.Lines.{Say}
+use Rattle.order_text.specs.Lines.{Leaves, Leave}
+use Rattle.order_text.proofs.OneAnswers.{one_table}
+use Rattle.line_records.proofs.Saying.{lines_leave}
 use Rattle.line_records.proofs.Fitting.{commands_fit}
 use Rattle.flow_exchange.specs.Laws.{TickersAgree}
 
@@ -48,49 +48,42 @@ made_tickers : (new made : Market) → new ≡ made → new.tickers ≡ made.tic
 made_tickers new made is = ap (λ (m : Market). m.tickers) is
 
 -- a refused command leaves the tickers
-refused_tickers : (m : Market) (command : Command) (first : Refusal) → FirstRefusal m command (Some first) → AreAfter m.tickers command m.tickers
-refused_tickers m (AddAsset ticker) first refused = inr (not_addable m ticker first refused, refl)
-refused_tickers m OpenAccount first refused = refl
-refused_tickers m (DepositMoney account ticks) first refused = refl
-refused_tickers m (DepositAsset account asset units) first refused = refl
-refused_tickers m (WithdrawMoney account ticks) first refused = refl
-refused_tickers m (WithdrawAsset account asset units) first refused = refl
-refused_tickers m (PlaceOrder request) first refused = refl
-refused_tickers m (CancelOrder account order) first refused = refl
-refused_tickers m (RunBatch budget) first refused = refl
-refused_tickers m (PlaceUntil last request) first refused = refl
-refused_tickers m (SetMoneyCredit account ticks) first refused = refl
-refused_tickers m (SetUnitCredit account asset units) first refused = refl
+refused_tickers : (m : Market) (command : Command) (first : Refusal) → FirstRefusal m command (Some first) → Leaves m.tickers command m.tickers
+refused_tickers m command first refused = inr (λ ticker adds. not_addable m ticker first (subst (λ (c : Command). FirstRefusal m c (Some first)) adds.0 refused) adds.1, refl)
+
+-- a command that is that of no asset adds no ticker
+kept_tickers : (m new made : Market) (command : Command) → ((ticker : List ℕ) → command ≡ AddAsset ticker → ⊥) → new ≡ made → made.tickers ≡ m.tickers → Leaves m.tickers command new.tickers
+kept_tickers m new made command other is kept = inr (λ ticker adds. other ticker adds.0, made_tickers new made is ∙ kept)
 
 -- how a batch may end
 module _ (Rule : BatchRule) where
   -- an accepted command leaves the tickers, but that of an asset adds one
-  accepted_tickers : (m : Market) (command : Command) (answer : Answer Outcome) (new : Market) → FirstRefusal m command None → Accepts Rule m command answer new → AreAfter m.tickers command new.tickers
-  accepted_tickers m (AddAsset ticker) answer new none accepts = inl (addable m ticker none, made_tickers new _ accepts.1)
-  accepted_tickers m OpenAccount answer new none accepts = made_tickers new _ accepts.1
-  accepted_tickers m (DepositMoney account ticks) answer new none accepts = made_tickers new _ accepts.1
-  accepted_tickers m (DepositAsset account asset units) answer new none accepts = made_tickers new _ accepts.1
-  accepted_tickers m (WithdrawMoney account ticks) answer new none accepts = made_tickers new _ accepts.1
-  accepted_tickers m (WithdrawAsset account asset units) answer new none accepts = made_tickers new _ accepts.1
-  accepted_tickers m (PlaceOrder request) answer new none accepts = made_tickers new _ accepts.1
-  accepted_tickers m (CancelOrder account order) answer new none accepts = made_tickers new _ accepts.1
-  accepted_tickers m (PlaceUntil last request) answer new none accepts = made_tickers new _ accepts.1
-  accepted_tickers m (SetMoneyCredit account ticks) answer new none accepts = made_tickers new _ accepts.1
-  accepted_tickers m (SetUnitCredit account asset units) answer new none accepts = made_tickers new _ accepts.1
-  accepted_tickers m (RunBatch budget) answer new none accepts = made_tickers new (after_batch m accepts.0) accepts.2.1 ∙ batch_tickers m accepts.0
+  accepted_tickers : (m : Market) (command : Command) (answer : Answer Outcome) (new : Market) → FirstRefusal m command None → Accepts Rule m command answer new → Leaves m.tickers command new.tickers
+  accepted_tickers m (AddAsset ticker) answer new none accepts = inl (ticker, (refl, addable m ticker none), made_tickers new _ accepts.1)
+  accepted_tickers m OpenAccount answer new none accepts = kept_tickers m new _ OpenAccount (λ ticker e. absurd cc) accepts.1 refl
+  accepted_tickers m (DepositMoney account ticks) answer new none accepts = kept_tickers m new _ (DepositMoney account ticks) (λ ticker e. absurd cc) accepts.1 refl
+  accepted_tickers m (DepositAsset account asset units) answer new none accepts = kept_tickers m new _ (DepositAsset account asset units) (λ ticker e. absurd cc) accepts.1 refl
+  accepted_tickers m (WithdrawMoney account ticks) answer new none accepts = kept_tickers m new _ (WithdrawMoney account ticks) (λ ticker e. absurd cc) accepts.1 refl
+  accepted_tickers m (WithdrawAsset account asset units) answer new none accepts = kept_tickers m new _ (WithdrawAsset account asset units) (λ ticker e. absurd cc) accepts.1 refl
+  accepted_tickers m (PlaceOrder request) answer new none accepts = kept_tickers m new _ (PlaceOrder request) (λ ticker e. absurd cc) accepts.1 refl
+  accepted_tickers m (CancelOrder account order) answer new none accepts = kept_tickers m new _ (CancelOrder account order) (λ ticker e. absurd cc) accepts.1 refl
+  accepted_tickers m (PlaceUntil last request) answer new none accepts = kept_tickers m new _ (PlaceUntil last request) (λ ticker e. absurd cc) accepts.1 refl
+  accepted_tickers m (SetMoneyCredit account ticks) answer new none accepts = kept_tickers m new _ (SetMoneyCredit account ticks) (λ ticker e. absurd cc) accepts.1 refl
+  accepted_tickers m (SetUnitCredit account asset units) answer new none accepts = kept_tickers m new _ (SetUnitCredit account asset units) (λ ticker e. absurd cc) accepts.1 refl
+  accepted_tickers m (RunBatch budget) answer new none accepts = kept_tickers m new (after_batch m accepts.0) (RunBatch budget) (λ ticker e. absurd cc) accepts.2.1 (batch_tickers m accepts.0)
 
-  -- either way the tickers are those after the command
+  -- either way the command leaves them
   answered_tickers : (m : Market) (command : Command) (first : Option Refusal) (answer : Answer Outcome) (new : Market) → FirstRefusal m command first → Answers Rule m command first answer new
-      → AreAfter m.tickers command new.tickers
-  answered_tickers m command (Some first) answer new refused answered = subst (AreAfter m.tickers command) (sym (made_tickers new m answered.1)) (refused_tickers m command first refused)
+      → Leaves m.tickers command new.tickers
+  answered_tickers m command (Some first) answer new refused answered = subst (Leaves m.tickers command) (sym (made_tickers new m answered.1)) (refused_tickers m command first refused)
   answered_tickers m command None answer new refused answered = accepted_tickers m command answer new refused answered
 
   -- a command that is served leaves the tickers that its line leaves
-  pub served_tickers : (m : Market) (command : Command) (answer : Answer Outcome) (new : Market) → Serves Rule m command answer new → AreAfter m.tickers command new.tickers
+  pub served_tickers : (m : Market) (command : Command) (answer : Answer Outcome) (new : Market) → Serves Rule m command answer new → Leaves m.tickers command new.tickers
   served_tickers m command answer new served = answered_tickers m command served.first answer new served.refused served.answered
 
   -- the same of a step of the command's record
-  pub step_tickers : (m : Market) (command : Command) (asked : Record) (answer : Answer Outcome) (new : Market) → IsOfVersion m.version command → Spells command asked → Step IsReadAs Rule m asked answer new → AreAfter m.tickers command new.tickers
+  pub step_tickers : (m : Market) (command : Command) (asked : Record) (answer : Answer Outcome) (new : Market) → IsOfVersion m.version command → Spells command asked → Step IsReadAs Rule m asked answer new → Leaves m.tickers command new.tickers
   step_tickers m command asked answer new of spells step =
       let served = subst (λ (read : Result Command BodyFault). ServesRead Rule m read answer new) (command_read m.version command asked step.read of spells step.spelled) step.served in
       served_tickers m command answer new served
@@ -99,28 +92,21 @@ module _ (Rule : BatchRule) where
   heads : (a b : Record) (x y : List Record) → a ∷ x ≡ b ∷ y → (a ≡ b) × (x ≡ y)
   heads a b x y e = (cc, cc)
 
-  -- lines and steps of their commands' records, from the same tickers on, lead to the same tickers
-  pub steps_tickers : (version : Version) (lines : List (List ℕ)) (commands : List Command) (after : List (List ℕ)) (m market : Market) (pairs : List (Pair Record Outcome)) → m.version ≡ version → Say version m.tickers lines commands after → All IsCommand commands → All (IsOfVersion version) commands
+  -- steps of commands' records lead to the tickers that the commands leave
+  pub steps_tickers : (version : Version) (commands : List Command) (after : List (List ℕ)) (m market : Market) (pairs : List (Pair Record Outcome)) → m.version ≡ version → Leave m.tickers commands after → All IsCommand commands → All (IsOfVersion version) commands
       → map (λ (pair : Pair Record Outcome). pair.asked) pairs ≡ map record_of commands → Follows IsReadAs Rule m pairs market → market.tickers ≡ after
-  steps_tickers version [] commands after m market [] of say fit own asked steps = made_tickers market m steps ∙ sym say.1
-  steps_tickers version [] commands after m market (pair ∷ pairs) of say fit own asked steps =
-      let none = asked ∙ ap (map record_of) say.0 in
-      absurd cc
-  steps_tickers version (line ∷ lines) commands after m market pairs of (inl blank) fit own asked steps = steps_tickers version lines commands after m market pairs of blank.1 fit own asked steps
-  steps_tickers version (line ∷ lines) commands after m market [] of (inr said) fit own asked steps =
-      let some = asked ∙ ap (map record_of) said.5 in
-      absurd cc
-  steps_tickers version (line ∷ lines) commands after m market (pair ∷ pairs) of (inr said) fit own asked steps =
-      let fits = subst (All IsCommand) said.5 fit in
-      let owned = subst (All (IsOfVersion version)) said.5 own in
-      let both = heads pair.asked (record_of said.0) (map (λ (p : Pair Record Outcome). p.asked) pairs) (map record_of said.1) (asked ∙ ap (map record_of) said.5) in
-      let leaves = step_tickers m said.0 pair.asked pair.answer steps.0 (subst (λ (v : Version). IsOfVersion v said.0) (sym of) (All-head (IsOfVersion version) said.0 said.1 owned)) (record { fits = All-head IsCommand said.0 said.1 fits; spelled = both.0 }) steps.1 in
-      let same = one_saying version m.tickers line said.0 said.0 said.2 steps.0.tickers said.3 (record { asks = said.3.asks; leaves = leaves }) in
-      steps_tickers version lines said.1 after steps.0 market pairs (step_version Rule IsReadAs m pair.asked pair.answer steps.0 steps.1 ∙ of) (subst (λ tickers. Say version tickers lines said.1 after) same.1 said.4) (All-tail IsCommand said.0 said.1 fits) (All-tail (IsOfVersion version) said.0 said.1 owned) both.1 steps.2
+  steps_tickers version [] after m market [] of leaves fit own asked steps = made_tickers market m steps ∙ sym leaves
+  steps_tickers version [] after m market (pair ∷ pairs) of leaves fit own asked steps = absurd cc
+  steps_tickers version (command ∷ commands) after m market [] of leaves fit own asked steps = absurd cc
+  steps_tickers version (command ∷ commands) after m market (pair ∷ pairs) of leaves fit own asked steps =
+      let both = heads pair.asked (record_of command) (map (λ (p : Pair Record Outcome). p.asked) pairs) (map record_of commands) asked in
+      let left = step_tickers m command pair.asked pair.answer steps.0 (subst (λ (v : Version). IsOfVersion v command) (sym of) (All-head (IsOfVersion version) command commands own)) (record { fits = All-head IsCommand command commands fit; spelled = both.0 }) steps.1 in
+      let same : leaves.0 ≡ steps.0.tickers = one_table m.tickers (command ∷ []) leaves.0 steps.0.tickers (leaves.0, leaves.1, refl) (steps.0.tickers, left, refl) in
+      steps_tickers version commands after steps.0 market pairs (step_version Rule IsReadAs m pair.asked pair.answer steps.0 steps.1 ∙ of) (subst (λ tickers. Leave tickers commands after) same leaves.2) (All-tail IsCommand command commands fit) (All-tail (IsOfVersion version) command commands own) both.1 steps.2
 
 pub tickers_agree : TickersAgree
 tickers_agree version limit bytes text journal ended encoded market journals =
     let reads = encoded.reads in
     let fit = commands_fit version reads.read encoded.commands reads.tickers reads.say in
-    steps_tickers IsOwnOutcome version reads.read encoded.commands reads.tickers (empty_market version) market journals.pairs refl reads.say fit.0 fit.2
+    steps_tickers IsOwnOutcome version encoded.commands reads.tickers (empty_market version) market journals.pairs refl (lines_leave version reads.read encoded.commands [] reads.tickers reads.say) fit.0 fit.2
     journals.journal_of.asked journals.journal_of.steps

@@ -1,36 +1,26 @@
 -- The commands that lines ask for fit their records.
 use Rattle.std.proofs.Common.{ℕ, List, [], ◌∷◌, All, inl, inr, arith}
-use Rattle.std.proofs.lemmas.List.Elements.{All-nil, All-cons}
-use Rattle.wire_records.specs.Commands.{Command, AddAsset, OpenAccount, DepositMoney, DepositAsset, WithdrawMoney, WithdrawAsset, PlaceOrder, CancelOrder, RunBatch, PlaceUntil, SetMoneyCredit, SetUnitCredit}
+use Rattle.std.proofs.lemmas.List.Elements.{All-nil, All-append}
+use Rattle.wire_records.specs.Commands.{Command}
 use Rattle.wire_records.specs.CommandRecords.{IsCommand, HasShortRow}
 use Rattle.wire_records.specs.Versions.{IsOfVersion}
 use Rattle.wire_records.specs.declared.version.Version.{Version}
 use Rattle.ticker_table.specs.Tickers.{IsTicker, AreTickers}
 use Rattle.ticker_table.proofs.Places.{AreTickers-push}
-use Rattle.order_text.specs.Lines.{AreAfter, AreWith}
-use Rattle.order_text.proofs.ShortRows.{row_is_short}
-use Rattle.order_text.proofs.Fitting.{command_fits}
+use Rattle.order_text.specs.Lines.{Leaves, Leave}
+use Rattle.order_text.proofs.ShortRows.{rows_are_short}
+use Rattle.order_text.proofs.Fitting.{commands_fit as line_fits}
 use Rattle.line_records.specs.Lines.{Say}
 
--- tickers with one more are tickers
-still_tickers : (tickers : List (List ℕ)) (ticker : List ℕ) (after : List (List ℕ)) → AreTickers tickers → AreWith tickers ticker after → AreTickers after
-still_tickers tickers ticker after are (inl added) = rw added.1 (AreTickers-push tickers ticker are added.0)
-still_tickers tickers ticker after are (inr not) = rw not.1 are
+-- the tickers that a command leaves are tickers
+still_tickers : (tickers : List (List ℕ)) (command : Command) (after : List (List ℕ)) → AreTickers tickers → Leaves tickers command after → AreTickers after
+still_tickers tickers command after are (inl added) = rw added.2 (AreTickers-push tickers added.0 are added.1.1)
+still_tickers tickers command after are (inr not) = rw not.1 are
 
--- the tickers after a command are tickers
-tickers_after : (tickers : List (List ℕ)) (command : Command) (after : List (List ℕ)) → AreTickers tickers → AreAfter tickers command after → AreTickers after
-tickers_after tickers (AddAsset ticker) after are leaves = still_tickers tickers ticker after are leaves
-tickers_after tickers OpenAccount after are leaves = rw leaves are
-tickers_after tickers (DepositMoney account ticks) after are leaves = rw leaves are
-tickers_after tickers (DepositAsset account asset units) after are leaves = rw leaves are
-tickers_after tickers (WithdrawMoney account ticks) after are leaves = rw leaves are
-tickers_after tickers (WithdrawAsset account asset units) after are leaves = rw leaves are
-tickers_after tickers (PlaceOrder request) after are leaves = rw leaves are
-tickers_after tickers (CancelOrder account order) after are leaves = rw leaves are
-tickers_after tickers (RunBatch budget) after are leaves = rw leaves are
-tickers_after tickers (PlaceUntil last request) after are leaves = rw leaves are
-tickers_after tickers (SetMoneyCredit account ticks) after are leaves = rw leaves are
-tickers_after tickers (SetUnitCredit account asset units) after are leaves = rw leaves are
+-- and those that commands leave
+all_still_tickers : (tickers : List (List ℕ)) (commands : List Command) (after : List (List ℕ)) → AreTickers tickers → Leave tickers commands after → AreTickers after
+all_still_tickers tickers [] after are leaves = rw leaves are
+all_still_tickers tickers (command ∷ commands) after are leaves = all_still_tickers leaves.0 commands after (still_tickers tickers command leaves.0 are leaves.1) leaves.2
 
 module _ (version : Version) where
   -- what lines ask for, from some tickers on
@@ -38,11 +28,12 @@ module _ (version : Version) where
   all_fit tickers [] commands after are say = rw say.0 (All-nil IsCommand, All-nil HasShortRow, All-nil (IsOfVersion version))
   all_fit tickers (line ∷ lines) commands after are (inl blank) = all_fit tickers lines commands after are blank.1
   all_fit tickers (line ∷ lines) commands after are (inr said) =
-      let more = all_fit said.2 lines said.1 after (tickers_after tickers said.0 said.2 are said.3.leaves) said.4 in
+      let more = all_fit said.2 lines said.1 after (all_still_tickers tickers said.0 said.2 are said.3.leaves) said.4 in
+      let here = line_fits version tickers line said.0 are said.3.asks in
       rw said.5 (
-        All-cons IsCommand said.0 said.1 (command_fits version tickers line said.0 are said.3.asks) more.0,
-        All-cons HasShortRow said.0 said.1 (row_is_short version tickers line said.0 are said.3.asks) more.1,
-        All-cons (IsOfVersion version) said.0 said.1 said.3.asks.asks.of_version more.2,
+        All-append IsCommand said.0 said.1 here.0 more.0,
+        All-append HasShortRow said.0 said.1 (rows_are_short version tickers line said.0 are said.3.asks) more.1,
+        All-append (IsOfVersion version) said.0 said.1 here.1 more.2,
       )
 
   -- no tickers are tickers

@@ -48,20 +48,20 @@ module _ (version : Version) where
     pub few : length ended ≤ place
     pub within : place ≤ length text
 
-  -- a command's line alone
-  one_command : (tickers : List (List ℕ)) (line : List ℕ) (command : Command) (next : List (List ℕ)) → Says version tickers line command next → Say version tickers (line ∷ []) (command ∷ []) next
-  one_command tickers line command next says = inr (command, [], next, says, (refl, refl), refl)
+  -- a line alone
+  one_line : (tickers : List (List ℕ)) (line : List ℕ) (asked : List Command) (next : List (List ℕ)) → Says version tickers line asked next → Say version tickers (line ∷ []) asked next
+  one_line tickers line asked next says = inr (asked, [], next, says, (refl, refl), sym (append-nil asked))
 
   -- a line whose command was written
-  pub command_encoded : (tickers : List (List ℕ)) (line : List ℕ) (number : ℕ) (command : Command) (next : List (List ℕ)) (result : Result (Unit {0}) EncodeFault) (before after : Option (List ℕ)) → Says version tickers line command next
+  pub command_encoded : (tickers : List (List ℕ)) (line : List ℕ) (number : ℕ) (command : Command) (next : List (List ℕ)) (result : Result (Unit {0}) EncodeFault) (before after : Option (List ℕ)) → Says version tickers line (command ∷ []) next
       → IsRecordWritten command result before after → IsLineEncoded version tickers line number next result before after
   command_encoded tickers line number command next (Ok done) before after says is = record {
     commands = command ∷ [];
-    say = one_command tickers line command next says;
+    say = one_line tickers line (command ∷ []) next says;
     written = rw (append-nil (spelling (record_of command))) is;
   }
   command_encoded tickers line number command next (Err (NoCommand bad)) before after says is = absurd is
-  command_encoded tickers line number command next (Err Write) before after says is = (command, says, is)
+  command_encoded tickers line number command next (Err Write) before after says is = (command ∷ [], says, rw (append-nil (spelling (record_of command))) is)
   command_encoded tickers line number command next (Err Memory) before after says is = (says.asks.written, is)
 
   -- records of more commands
@@ -114,7 +114,7 @@ module _ (version : Version) where
       written = rw at.2 so.written;
     }
     stopped Write at = (
-      so.commands ++ at.0 ∷ [],
+      so.commands ++ at.0,
       record {
         lines = so.ended ++ line ∷ rest;
         read = so.ended ++ line ∷ [];
@@ -122,9 +122,9 @@ module _ (version : Version) where
         tickers = next;
         split = split;
         front = sym (append_assoc so.ended (line ∷ []) rest);
-        say = say_more version [] tickers next so.ended (line ∷ []) so.commands (at.0 ∷ []) so.say (one_command tickers line at.0 next at.1);
+        say = say_more version [] tickers next so.ended (line ∷ []) so.commands at.0 so.say (one_line tickers line at.0 next at.1);
       },
-      rw (← flat_map_more (λ command. spelling (record_of command)) [] so.commands at.0) (GrowsByFront-more before between after (spell_commands so.commands) (spelling (record_of at.0)) so.written at.2),
+      rw (records_more so.commands at.0) (GrowsByFront-more before between after (spell_commands so.commands) (spell_commands at.0) so.written at.2),
     )
     stopped Memory at = (
       so.commands,

@@ -1,5 +1,5 @@
 -- What lines say, one after the other.
-use Rattle.std.proofs.Common.{◌≡◌, ◌≢◌, ℕ, List, [], ◌∷◌, ◌++◌, inl, inr, Result, Ok, Err, length, length-append, append-nil, get_or, drop, refl, sym, ap, subst, ◌∙◌, arith}
+use Rattle.std.proofs.Common.{◌≡◌, ◌≢◌, ℕ, List, [], ◌∷◌, ◌++◌, inl, inr, Result, Ok, Err, length, length-append, append_assoc, append-nil, get_or, drop, refl, sym, ap, subst, ◌∙◌, arith}
 use Rattle.wire_records.specs.Commands.{Command}
 use Rattle.wire_records.specs.Views.{command_in}
 use Rattle.wire_records.specs.declared.version.Version.{Version}
@@ -7,7 +7,7 @@ use Rattle.order_text.specs.declared.line.LineRead.{LineRead}
 use Rattle.order_text.specs.declared.line.LineRead.TheVariants.{Blank, Asks}
 use Rattle.order_text.specs.declared.line.LineFault.{LineFault}
 use Rattle.order_text.specs.declared.line.LineFault.TheVariants.{NoCommand, Memory}
-use Rattle.order_text.specs.Lines.{IsBlank, Says, SaysNothing}
+use Rattle.order_text.specs.Lines.{IsBlank, Leave, Says, SaysNothing}
 use Rattle.order_text.specs.Answers.{IsRead, wants_memory}
 use Rattle.order_text.proofs.OneAnswers.{one_saying, none_is_unanswered}
 use Rattle.line_records.specs.Lines.{Say}
@@ -17,14 +17,26 @@ pub no_more : {A : Type 0} (xs : List A) → length xs ≡ 0 → xs ≡ []
 no_more [] none = refl
 no_more (x ∷ xs) none = absurd (omega (arith, none))
 
+-- what commands leave, and then more commands
+leaves_more : (first second third : List (List ℕ)) (commands more : List Command) → Leave first commands second → Leave second more third → Leave first (commands ++ more) third
+leaves_more first second third [] more a b = subst (λ t. Leave t more third) a b
+leaves_more first second third (command ∷ commands) more a b = (a.0, a.1, leaves_more a.0 second third commands more a.2 b)
+
 module _ (version : Version) where
+  -- what lines leave is what their commands leave
+  pub lines_leave : (lines : List (List ℕ)) (commands : List Command) (tickers after : List (List ℕ)) → Say version tickers lines commands after → Leave tickers commands after
+  lines_leave [] commands tickers after say = rw say.0 say.1
+  lines_leave (line ∷ lines) commands tickers after (inl blank) = lines_leave lines commands tickers after blank.1
+  lines_leave (line ∷ lines) commands tickers after (inr said) =
+      rw said.5 (leaves_more tickers said.2 after said.0 said.1 said.3.leaves (lines_leave lines said.1 said.2 after said.4))
+
   -- what lines say, and then more lines
   pub say_more : (first second third : List (List ℕ)) (lines more : List (List ℕ)) (commands others : List Command) → Say version first lines commands second → Say version second more others third
       → Say version first (lines ++ more) (commands ++ others) third
   say_more first second third [] more commands others a b = rw (a.0, ← a.1) b
   say_more first second third (line ∷ lines) more commands others (inl a) b = inl (a.0, say_more first second third lines more commands others a.1 b)
   say_more first second third (line ∷ lines) more commands others (inr a) b =
-      inr (a.0, a.1 ++ others, a.2, a.3, say_more a.2 second third lines more a.1 others a.4 b, ap (λ xs. xs ++ others) a.5)
+      inr (a.0, a.1 ++ others, a.2, a.3, say_more a.2 second third lines more a.1 others a.4 b, ap (λ xs. xs ++ others) a.5 ∙ append_assoc a.0 a.1 others)
 
   -- there is no further line, or the next one is no command
   abbrev pub Stops : List (List ℕ) → List (List ℕ) → Type 0
@@ -70,7 +82,7 @@ module _ (version : Version) where
         rest = on.rest;
         asked = on.asked;
         lines_are = ap (λ l. l ∷ other) (sym first_is) ∙ ap (λ xs. line ∷ xs) on.lines_are;
-        commands_are = b.5 ∙ ap (λ c. c ∷ b.1) (sym one.0) ∙ ap (λ xs. a.0 ∷ xs) on.commands_are ∙ ap (λ xs. xs ++ on.asked) (sym a.5);
+        commands_are = b.5 ∙ ap (λ cs. cs ++ b.1) (sym one.0) ∙ ap (λ xs. a.0 ++ xs) on.commands_are ∙ sym (append_assoc a.0 a.1 on.asked) ∙ ap (λ xs. xs ++ on.asked) (sym a.5);
       }
 
   -- two that both stop are the same
@@ -111,7 +123,7 @@ module _ (version : Version) where
     commands = command_in command ∷ so.commands;
     after = so.after;
     all = ap (λ xs. line ∷ xs) so.all;
-    say = inr (command_in command, so.commands, after, is, so.say, refl);
+    say = inr (command_in command ∷ [], so.commands, after, is, so.say, refl);
     stops = so.stops;
   }
   stopped_more tickers line lines after (Err NoCommand) told is so = record {

@@ -4,6 +4,7 @@ use Rattle.wire_records.specs.Commands.{Command}
 use Rattle.wire_records.specs.CommandRecords.{IsCommand, HasShortRow}
 use Rattle.wire_records.specs.Versions.{IsOfVersion}
 use Rattle.wire_records.specs.declared.version.Version.{Version}
+use Rattle.order_text.specs.Lines.{Leave}
 use Rattle.line_records.specs.Lines.{AreLines, Say, AreRead, AreFirst}
 
 -- bytes have one list of lines
@@ -25,6 +26,11 @@ abbrev pub FirstIsAFront : Version → Type 0 → Type 0
 FirstIsAFront version More =
     (bytes : List ℕ) (bad : Option ℕ) (first commands : List Command) → AreFirst version More bytes first → AreRead version More bytes bad commands
     → (rest : List Command) × (commands ≡ first ++ rest)
+
+-- lines leave the tickers that their commands leave, one after the other
+abbrev pub LinesLeave : Version → Type 0
+LinesLeave version =
+    (lines : List (List ℕ)) (commands : List Command) (tickers after : List (List ℕ)) → Say version tickers lines commands after → Leave tickers commands after
 
 -- what lines ask for fits its records and its version: fields are within their widths, rows aren't too long, and the version
 -- has the commands

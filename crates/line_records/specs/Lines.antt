@@ -31,13 +31,13 @@ spell_commands commands = flat_map (λ command. spelling (record_of command)) co
 
 -- In a version.
 module _ (version : Version) where
-  -- the lines ask for these commands of the version, one after the other, from the tickers of the lines before on, and leave these tickers;
+  -- the lines ask for these commands of the version, one line after the other, from the tickers of the lines before on, and leave these tickers;
   -- a blank line asks for none
   abbrev pub Say : List (List ℕ) → List (List ℕ) → List Command → List (List ℕ) → Type 0
   Say tickers [] commands after = (commands ≡ []) × (after ≡ tickers)
   Say tickers (line ∷ lines) commands after =
       (IsBlank line × Say tickers lines commands after)
-      ⊎ ((command : Command) × (rest : List Command) × (next : List (List ℕ)) × Says version tickers line command next × Say next lines rest after × (commands ≡ command ∷ rest))
+      ⊎ ((asked rest : List Command) × (next : List (List ℕ)) × Says version tickers line asked next × Say next lines rest after × (commands ≡ asked ++ rest))
 
   -- these are all the lines, or the next one is no command and this is its number, counted from 1
   abbrev pub StopsAt : List (List ℕ) → List (List ℕ) → List (List ℕ) → Option ℕ → Type 0

@@ -22,7 +22,7 @@ IsRecordWritten command (Err Memory) before after = after ≡ before
 
 -- In a version.
 module _ (version : Version) where
-  -- A line that is blank or a command was read, and the record of its command was written.
+  -- A line that is blank or asks for commands was read, and the records of these were written.
   pub record EncodesLine (tickers : List (List ℕ)) (line : List ℕ) (next : List (List ℕ)) (before after : Option (List ℕ)) : Type 0 where
     pub commands : List Command
     pub say : Say version tickers (line ∷ []) commands next
@@ -33,7 +33,7 @@ module _ (version : Version) where
   IsLineEncoded tickers line number next (Ok _) before after = EncodesLine tickers line next before after
   IsLineEncoded tickers line number next (Err (NoCommand bad)) before after = SaysNothing version tickers line × (bad ≡ number) × (after ≡ before)
   IsLineEncoded tickers line number next (Err Write) before after =
-      (command : Command) × Says version tickers line command next × GrowsByFront before after (spelling (record_of command))
+      (asked : List Command) × Says version tickers line asked next × GrowsByFront before after (spell_commands asked)
   IsLineEncoded tickers line number next (Err Memory) before after = (¬ IsBlank line) × (after ≡ before)
 
   -- the lines of the input were encoded, behind the magic: how that ends, and what was written

@@ -2,7 +2,7 @@
 //! nothing.
 ghost use Rattle.std.specs.Prelude.{◌≡◌, ◌↔◌, IsTrue};
 ghost use Rattle.wire_records.specs.declared.version.Version.{Version};
-ghost use Rattle.line_records.specs.Laws.{OneSplit, OneReading, NoneIsUnread, FirstIsAFront, CommandsFit};
+ghost use Rattle.line_records.specs.Laws.{OneSplit, OneReading, NoneIsUnread, FirstIsAFront, LinesLeave, CommandsFit};
 
 use crate::EncodeFault;
 
@@ -25,6 +25,11 @@ pub fn none_is_unread<More>()
 /// what stands after a fault is a front of what would have been written.
 pub fn first_is_a_front<More>()
     ensures { (version : Version) → FirstIsAFront version More }
+{}
+
+/// Lines leave the tickers that their commands leave, one after the other.
+pub fn lines_leave()
+    ensures { (version : Version) → LinesLeave version }
 {}
 
 /// What lines ask for fits its records: the fields of each command are within their widths, and its row, if it has one, isn't

@@ -1,7 +1,9 @@
 -- What an object asks for by its word.
-use Rattle.std.proofs.Common.{◌≡◌, ◌≢◌, ℕ, ℤ, ◌+◌, ◌≤◌, List, [], length, get_or, Option, Some, None, Result, Ok, Err, refl, sym, ap, ◌∙◌, arith}
-use Rattle.std.specs.Prelude.{codes, unwrap_or}
+use Rattle.std.proofs.Common.{◌≡◌, ◌≢◌, ℕ, ℤ, ◌≤◌, List, [], ◌∷◌, drop, Option, Some, None, Result, Ok, Err, refl, sym, ap, subst, ◌∙◌, arith, rules, ◌⊎◌, inl, inr}
+use Rattle.std.specs.Prelude.{codes, unwrap_or, option_and_then}
+use Rattle.weight_rows.specs.declared.entries.Entry.{Entry}
 use Rattle.serde_json.specs.Data.{Data}
+use Rattle.serde_json.specs.Find.{get, as_str}
 use Rattle.wire_records.specs.Commands.{Request, Command, AddAsset, OpenAccount, DepositMoney, DepositAsset, WithdrawMoney, WithdrawAsset, PlaceOrder, CancelOrder, RunBatch, PlaceUntil, SetMoneyCredit, SetUnitCredit}
 use Rattle.wire_records.specs.declared.command.Command as owned
 use Rattle.wire_records.specs.Versions.{IsOfVersion}
@@ -10,12 +12,9 @@ use Rattle.wire_records.specs.declared.version.Version.{Version}
 use Rattle.wire_records.specs.declared.version.Version.TheVariants.{One, Two}
 use Rattle.order_text.specs.declared.line.LineFault.{LineFault}
 use Rattle.order_text.specs.declared.line.LineFault.TheVariants.{NoCommand, Memory}
-use Rattle.order_text.specs.Lines.{text_at, small_at, word_of, HasRequest, HasKeys, Asks}
-use Rattle.order_text.specs.Private.{Fits, IsFound, IsPlain, IsOrder, IsUntil, IsPlaced, HasMoney, HasUnits, HasLimits}
-
--- a number that tells the words apart
-abbrev mark : List ℕ → ℕ
-mark word = length word + get_or word 2 0
+use Rattle.std.proofs.lemmas.List.Elements.{All-from_recursion, recursion_from_All}
+use Rattle.order_text.specs.Lines.{HasKeys, Value, Text, Ticker, Small, Number, Weights, HasAt, order_members, members_of, Asks}
+use Rattle.order_text.specs.Private.{text_at, word_of, Has, HasOrder, Fits, IsFound, IsPlain, IsOrder, IsUntil, IsPlaced, IsAnswered, HasMoney, HasUnits, HasLimits}
 
 -- a command of the first version is one of each
 of_each : (version : Version) (command : Command) → IsOfVersion One command → IsOfVersion version command
@@ -37,90 +36,165 @@ early (PlaceUntil last request) no_place no_credit = absurd (no_place refl)
 early (SetMoneyCredit account ticks) no_place no_credit = absurd (no_credit refl)
 early (SetUnitCredit account asset units) no_place no_credit = absurd (no_credit refl)
 
+-- the commands of each word
+asset_is : (command : Command) → word_of command ≡ codes "asset" → (ticker : List ℕ) × (command ≡ AddAsset ticker)
+asset_is = search (rules, refl)
+
+deposit_is : (command : Command) → word_of command ≡ codes "deposit" → ((account ticks : ℕ) × (command ≡ DepositMoney account ticks)) ⊎ ((account asset units : ℕ) × (command ≡ DepositAsset account asset units))
+deposit_is = search (rules, refl, inl, inr)
+
+withdraw_is : (command : Command) → word_of command ≡ codes "withdraw" → ((account ticks : ℕ) × (command ≡ WithdrawMoney account ticks)) ⊎ ((account asset units : ℕ) × (command ≡ WithdrawAsset account asset units))
+withdraw_is = search (rules, refl, inl, inr)
+
+credit_is : (command : Command) → word_of command ≡ codes "credit" → ((account ticks : ℕ) × (command ≡ SetMoneyCredit account ticks)) ⊎ ((account asset units : ℕ) × (command ≡ SetUnitCredit account asset units))
+credit_is = search (rules, refl, inl, inr)
+
+cancel_is : (command : Command) → word_of command ≡ codes "cancel" → (account order : ℕ) × (command ≡ CancelOrder account order)
+cancel_is = search (rules, refl)
+
+batch_is : (command : Command) → word_of command ≡ codes "batch" → (budget : ℕ) × (command ≡ RunBatch budget)
+batch_is = search (rules, refl)
+
+place_is : (command : Command) → word_of command ≡ codes "place" → ((request : Request) × (command ≡ PlaceOrder request)) ⊎ ((last : ℕ) × (request : Request) × (command ≡ PlaceUntil last request))
+place_is = search (rules, refl, inl, inr)
+
+-- the text at a key, both ways
+text_of : (tickers : List (List ℕ)) (d : Data) (key text : List ℕ) → HasAt tickers d key (Text text) → text_at key d ≡ Some text
+text_of tickers d key text has = rw has.1 has.2
+
+text_where : (tickers : List (List ℕ)) (d : Data) (key text : List ℕ) → text_at key d ≡ Some text → HasAt tickers d key (Text text)
+text_where tickers d key text is = by (get key d) refl is
+  where
+    by : (o : Option Data) → get key d ≡ o → option_and_then as_str o ≡ Some text → HasAt tickers d key (Text text)
+    by None there is = absurd cc
+    by (Some value) there is = (value, there, is)
+
+-- an object's members begin with the word at `do`
+word_first : (command : Command) → members_of command ≡ (codes "do", Text (word_of command)) ∷ drop 1 (members_of command)
+word_first (AddAsset ticker) = refl
+word_first OpenAccount = refl
+word_first (DepositMoney account ticks) = refl
+word_first (DepositAsset account asset units) = refl
+word_first (WithdrawMoney account ticks) = refl
+word_first (WithdrawAsset account asset units) = refl
+word_first (PlaceOrder request) = refl
+word_first (CancelOrder account order) = refl
+word_first (RunBatch budget) = refl
+word_first (PlaceUntil last request) = refl
+word_first (SetMoneyCredit account ticks) = refl
+word_first (SetUnitCredit account asset units) = refl
+
+-- the members behind the first
+pub rest_of : (tickers : List (List ℕ)) (d : Data) (m : List ℕ × Value) (members : List (List ℕ × Value)) → Has tickers d (m ∷ members) → Has tickers d members
+rest_of tickers d m members has = has.1
+
+-- what an object that asks for a command has, in two parts
+all_asked : (version : Version) (tickers : List (List ℕ)) (d : Data) (command : Command) → Asks version tickers d command → Has tickers d ((codes "do", Text (word_of command)) ∷ drop 1 (members_of command))
+all_asked version tickers d command asks = subst (Has tickers d) (word_first command) (recursion_from_All (λ m. HasAt tickers d m.0 m.1) (members_of command) asks.members)
+
+pub word_asked : (version : Version) (tickers : List (List ℕ)) (d : Data) (command : Command) → Asks version tickers d command → text_at (codes "do") d ≡ Some (word_of command)
+word_asked version tickers d command asks = text_of tickers d (codes "do") (word_of command) (all_asked version tickers d command asks).0
+
+pub fits_asked : (version : Version) (tickers : List (List ℕ)) (d : Data) (command : Command) → Asks version tickers d command → Fits tickers d command
+fits_asked version tickers d command asks = (rest_of tickers d (codes "do", Text (word_of command)) (drop 1 (members_of command)) (all_asked version tickers d command asks), asks.keys)
+
+-- and back
+pub asks_of : (version : Version) (tickers : List (List ℕ)) (d : Data) (command : Command) → text_at (codes "do") d ≡ Some (word_of command) → Fits tickers d command → IsOfVersion version command → Asks version tickers d command
+asks_of version tickers d command word fits of = record {
+  members = All-from_recursion (λ m. HasAt tickers d m.0 m.1) (members_of command) (subst (Has tickers d) (sym (word_first command)) (text_where tickers d (codes "do") (word_of command) word, fits.0));
+  keys = fits.1;
+  of_version = of;
+}
+
 module _ (tickers : List (List ℕ)) (d : Data) where
+  -- this word stands at `do`
+  abbrev Word : List ℕ → Type 0
+  Word word = text_at (codes "do") d ≡ Some word
+
   -- the word of a command that is asked for
   pub one_word : {version : Version} → (word : List ℕ) (command : Command) → text_at (codes "do") d ≡ Some word → Asks version tickers d command → word_of command ≡ word
-  one_word word command asked asks = ap (λ o. unwrap_or o []) (sym asks.word ∙ asked)
+  one_word {version} word command asked asks = ap (λ o. unwrap_or o []) (sym (word_asked version tickers d command asks) ∙ asked)
 
   -- what is found by a word is what is asked for
   pub plain_of : (version : Version) (word : List ℕ) (found : Option owned.Command) → text_at (codes "do") d ≡ Some word → IsFound word version tickers d found → IsPlain version tickers d found
-  plain_of version word (Some command) asked found = (record { word = asked ∙ ap Some (sym found.0); fields = found.1.0; keys = found.1.1; of_version = found.2 }, found.3)
-  plain_of version word None asked found = λ command other asks. found command (one_word word command asked asks) (asks.fields, asks.keys)
+  plain_of version word (Some command) asked found = (asks_of version tickers d (command_in command) (asked ∙ ap Some (sym found.0)) found.1 found.2, found.3)
+  plain_of version word None asked found = λ command other asks. found command (one_word word command asked asks) (fits_asked version tickers d command asks)
 
   -- what is asked for in the first version, and no credit, is what is asked for in the second
   pub plain_two : (text_at (codes "do") d ≢ Some (codes "credit")) → (found : Option owned.Command) → IsPlain One tickers d found → IsPlain Two tickers d found
-  plain_two no_credit (Some command) (asks, short) = (record { word = asks.word; fields = asks.fields; keys = asks.keys; of_version = of_each Two (command_in command) asks.of_version }, short)
+  plain_two no_credit (Some command) (asks, short) = (record { members = asks.members; keys = asks.keys; of_version = of_each Two (command_in command) asks.of_version }, short)
   plain_two no_credit None none = λ command other asks. none command other (record {
-    word = asks.word;
-    fields = asks.fields;
+    members = asks.members;
     keys = asks.keys;
-    of_version = early command other (λ credit. no_credit (asks.word ∙ ap Some credit));
+    of_version = early command other (λ credit. no_credit (word_asked Two tickers d command asks ∙ ap Some credit));
   })
+
+  -- an object that lacks a field of a command with a word of its own doesn't ask for it
+  pub no_asset : ((ticker : List ℕ) → HasAt [] d (codes "ticker") (Ticker ticker) → ⊥) → (command : Command) → word_of command ≡ codes "asset" → Fits tickers d command → ⊥
+  no_asset none command word fits = let is = asset_is command word in none is.0 (subst (Fits tickers d) is.1 fits).0.0
+
+  pub no_cancel : ((account order : ℕ) → HasAt [] d (codes "account") (Small account) → HasAt [] d (codes "order") (Number order) → ⊥) → (command : Command) → word_of command ≡ codes "cancel" → Fits tickers d command → ⊥
+  no_cancel none command word fits =
+      let is = cancel_is command word in
+      let has = (subst (Fits tickers d) is.2 fits).0 in
+      none is.0 is.1 has.0 has.1.0
+
+  pub no_batch : ((budget : ℕ) → HasAt [] d (codes "budget") (Small budget) → ⊥) → (command : Command) → word_of command ≡ codes "batch" → Fits tickers d command → ⊥
+  no_batch none command word fits = let is = batch_is command word in none is.0 (subst (Fits tickers d) is.1 fits).0.0
+
+  -- an object with another word than those of the first version asks for no command of it but an order
+  pub no_plain : (¬ Word (codes "asset")) → (¬ Word (codes "account")) → (¬ Word (codes "deposit")) → (¬ Word (codes "withdraw")) → (¬ Word (codes "cancel")) → (¬ Word (codes "batch"))
+      → (command : Command) → word_of command ≢ codes "place" → Asks One tickers d command → ⊥
+  no_plain asset account deposit withdraw cancel batch command other asks = by command other (word_asked One tickers d command asks) asks.of_version
+    where
+      by : (command : Command) → word_of command ≢ codes "place" → Word (word_of command) → IsOfVersion One command → ⊥
+      by (AddAsset ticker) other word of = asset word
+      by OpenAccount other word of = account word
+      by (DepositMoney account ticks) other word of = deposit word
+      by (DepositAsset account asset units) other word of = deposit word
+      by (WithdrawMoney account ticks) other word of = withdraw word
+      by (WithdrawAsset account asset units) other word of = withdraw word
+      by (PlaceOrder request) other word of = other refl
+      by (CancelOrder account order) other word of = cancel word
+      by (RunBatch budget) other word of = batch word
+      by (PlaceUntil last request) other word of = other refl
+      by (SetMoneyCredit account ticks) other word of = let late : 11 ≤ 9 = of.1 in absurd (omega (arith, late))
+      by (SetUnitCredit account asset units) other word of = let late : 12 ≤ 9 = of.1 in absurd (omega (arith, late))
 
   -- an object with neither form of a deposit asks for none
   pub no_deposit : ((account ticks : ℕ) → HasMoney d account ticks → ⊥) → ((account asset units : ℕ) → HasUnits tickers d account asset units → ⊥)
       → (command : Command) → word_of command ≡ codes "deposit" → Fits tickers d command → ⊥
-  no_deposit by_money by_units (AddAsset ticker) is fits = let apart : 120 ≡ 119 = ap mark is in absurd (omega (arith, apart))
-  no_deposit by_money by_units OpenAccount is fits = let apart : 106 ≡ 119 = ap mark is in absurd (omega (arith, apart))
-  no_deposit by_money by_units (DepositMoney account ticks) is fits = by_money account ticks (record { account_at = fits.0.0; ticks_at = fits.0.1; keys = fits.1 })
-  no_deposit by_money by_units (DepositAsset account asset units) is fits = by_units account asset units (record { account_at = fits.0.0; asset_is = fits.0.1; units_at = fits.0.2; keys = fits.1 })
-  no_deposit by_money by_units (WithdrawMoney account ticks) is fits = let apart : 124 ≡ 119 = ap mark is in absurd (omega (arith, apart))
-  no_deposit by_money by_units (WithdrawAsset account asset units) is fits = let apart : 124 ≡ 119 = ap mark is in absurd (omega (arith, apart))
-  no_deposit by_money by_units (PlaceOrder request) is fits = let apart : 102 ≡ 119 = ap mark is in absurd (omega (arith, apart))
-  no_deposit by_money by_units (CancelOrder account order) is fits = let apart : 116 ≡ 119 = ap mark is in absurd (omega (arith, apart))
-  no_deposit by_money by_units (RunBatch budget) is fits = let apart : 121 ≡ 119 = ap mark is in absurd (omega (arith, apart))
-  no_deposit by_money by_units (PlaceUntil last request) is fits = let apart : 102 ≡ 119 = ap mark is in absurd (omega (arith, apart))
-  no_deposit by_money by_units (SetMoneyCredit account ticks) is fits = let apart : 107 ≡ 119 = ap mark is in absurd (omega (arith, apart))
-  no_deposit by_money by_units (SetUnitCredit account asset units) is fits = let apart : 107 ≡ 119 = ap mark is in absurd (omega (arith, apart))
+  no_deposit by_money by_units command word fits = elim (deposit_is command word) [
+    | inl is ↦ let has = subst (Fits tickers d) is.2 fits in by_money is.0 is.1 (has.0.0, has.0.1.0, has.1)
+    | inr is ↦ let has = subst (Fits tickers d) is.3 fits in by_units is.0 is.1 is.2 (has.0.0, has.0.1.0, has.0.1.1.0, has.1)
+  ]
 
-  -- an object with neither form of a withdraw asks for none
+  -- an object with neither form of a withdrawal asks for none
   pub no_withdraw : ((account ticks : ℕ) → HasMoney d account ticks → ⊥) → ((account asset units : ℕ) → HasUnits tickers d account asset units → ⊥)
       → (command : Command) → word_of command ≡ codes "withdraw" → Fits tickers d command → ⊥
-  no_withdraw by_money by_units (AddAsset ticker) is fits = let apart : 120 ≡ 124 = ap mark is in absurd (omega (arith, apart))
-  no_withdraw by_money by_units OpenAccount is fits = let apart : 106 ≡ 124 = ap mark is in absurd (omega (arith, apart))
-  no_withdraw by_money by_units (DepositMoney account ticks) is fits = let apart : 119 ≡ 124 = ap mark is in absurd (omega (arith, apart))
-  no_withdraw by_money by_units (DepositAsset account asset units) is fits = let apart : 119 ≡ 124 = ap mark is in absurd (omega (arith, apart))
-  no_withdraw by_money by_units (WithdrawMoney account ticks) is fits = by_money account ticks (record { account_at = fits.0.0; ticks_at = fits.0.1; keys = fits.1 })
-  no_withdraw by_money by_units (WithdrawAsset account asset units) is fits = by_units account asset units (record { account_at = fits.0.0; asset_is = fits.0.1; units_at = fits.0.2; keys = fits.1 })
-  no_withdraw by_money by_units (PlaceOrder request) is fits = let apart : 102 ≡ 124 = ap mark is in absurd (omega (arith, apart))
-  no_withdraw by_money by_units (CancelOrder account order) is fits = let apart : 116 ≡ 124 = ap mark is in absurd (omega (arith, apart))
-  no_withdraw by_money by_units (RunBatch budget) is fits = let apart : 121 ≡ 124 = ap mark is in absurd (omega (arith, apart))
-  no_withdraw by_money by_units (PlaceUntil last request) is fits = let apart : 102 ≡ 124 = ap mark is in absurd (omega (arith, apart))
-  no_withdraw by_money by_units (SetMoneyCredit account ticks) is fits = let apart : 107 ≡ 124 = ap mark is in absurd (omega (arith, apart))
-  no_withdraw by_money by_units (SetUnitCredit account asset units) is fits = let apart : 107 ≡ 124 = ap mark is in absurd (omega (arith, apart))
+  no_withdraw by_money by_units command word fits = elim (withdraw_is command word) [
+    | inl is ↦ let has = subst (Fits tickers d) is.2 fits in by_money is.0 is.1 (has.0.0, has.0.1.0, has.1)
+    | inr is ↦ let has = subst (Fits tickers d) is.3 fits in by_units is.0 is.1 is.2 (has.0.0, has.0.1.0, has.0.1.1.0, has.1)
+  ]
 
   -- an object with neither form of a credit asks for none
   pub no_credit : ((account ticks : ℕ) → HasMoney d account ticks → ⊥) → ((account asset units : ℕ) → HasUnits tickers d account asset units → ⊥)
       → (command : Command) → word_of command ≡ codes "credit" → Fits tickers d command → ⊥
-  no_credit by_money by_units (AddAsset ticker) is fits = let apart : 120 ≡ 107 = ap mark is in absurd (omega (arith, apart))
-  no_credit by_money by_units OpenAccount is fits = let apart : 106 ≡ 107 = ap mark is in absurd (omega (arith, apart))
-  no_credit by_money by_units (DepositMoney account ticks) is fits = let apart : 119 ≡ 107 = ap mark is in absurd (omega (arith, apart))
-  no_credit by_money by_units (DepositAsset account asset units) is fits = let apart : 119 ≡ 107 = ap mark is in absurd (omega (arith, apart))
-  no_credit by_money by_units (WithdrawMoney account ticks) is fits = let apart : 124 ≡ 107 = ap mark is in absurd (omega (arith, apart))
-  no_credit by_money by_units (WithdrawAsset account asset units) is fits = let apart : 124 ≡ 107 = ap mark is in absurd (omega (arith, apart))
-  no_credit by_money by_units (PlaceOrder request) is fits = let apart : 102 ≡ 107 = ap mark is in absurd (omega (arith, apart))
-  no_credit by_money by_units (CancelOrder account order) is fits = let apart : 116 ≡ 107 = ap mark is in absurd (omega (arith, apart))
-  no_credit by_money by_units (RunBatch budget) is fits = let apart : 121 ≡ 107 = ap mark is in absurd (omega (arith, apart))
-  no_credit by_money by_units (PlaceUntil last request) is fits = let apart : 102 ≡ 107 = ap mark is in absurd (omega (arith, apart))
-  no_credit by_money by_units (SetMoneyCredit account ticks) is fits = by_money account ticks (record { account_at = fits.0.0; ticks_at = fits.0.1; keys = fits.1 })
-  no_credit by_money by_units (SetUnitCredit account asset units) is fits = by_units account asset units (record { account_at = fits.0.0; asset_is = fits.0.1; units_at = fits.0.2; keys = fits.1 })
+  no_credit by_money by_units command word fits = elim (credit_is command word) [
+    | inl is ↦ let has = subst (Fits tickers d) is.2 fits in by_money is.0 is.1 (has.0.0, has.0.1.0, has.1)
+    | inr is ↦ let has = subst (Fits tickers d) is.3 fits in by_units is.0 is.1 is.2 (has.0.0, has.0.1.0, has.0.1.1.0, has.1)
+  ]
 
   -- an object without the fields of an order, with a last batch or without one, asks for none
-  no_order : (version : Version) → ((request : Request) → HasRequest tickers d request → HasKeys 7 d → ⊥)
-      → ((last : ℕ) (request : Request) → IsOfVersion version (PlaceUntil last request) → small_at (codes "last") d ≡ Some last → HasRequest tickers d request → HasKeys 8 d → ⊥)
+  no_order : (version : Version) → ((request : Request) → HasOrder tickers d request → HasKeys 7 d → ⊥)
+      → ((last : ℕ) (request : Request) → IsOfVersion version (PlaceUntil last request) → HasAt tickers d (codes "last") (Small last) → HasOrder tickers d request → HasKeys 8 d → ⊥)
       → (command : Command) → word_of command ≡ codes "place" → IsOfVersion version command → Fits tickers d command → ⊥
-  no_order version none no_until (AddAsset ticker) is of fits = let apart : 120 ≡ 102 = ap mark is in absurd (omega (arith, apart))
-  no_order version none no_until OpenAccount is of fits = let apart : 106 ≡ 102 = ap mark is in absurd (omega (arith, apart))
-  no_order version none no_until (DepositMoney account ticks) is of fits = let apart : 119 ≡ 102 = ap mark is in absurd (omega (arith, apart))
-  no_order version none no_until (DepositAsset account asset units) is of fits = let apart : 119 ≡ 102 = ap mark is in absurd (omega (arith, apart))
-  no_order version none no_until (WithdrawMoney account ticks) is of fits = let apart : 124 ≡ 102 = ap mark is in absurd (omega (arith, apart))
-  no_order version none no_until (WithdrawAsset account asset units) is of fits = let apart : 124 ≡ 102 = ap mark is in absurd (omega (arith, apart))
-  no_order version none no_until (PlaceOrder request) is of fits = none request fits.0 fits.1
-  no_order version none no_until (CancelOrder account order) is of fits = let apart : 116 ≡ 102 = ap mark is in absurd (omega (arith, apart))
-  no_order version none no_until (RunBatch budget) is of fits = let apart : 121 ≡ 102 = ap mark is in absurd (omega (arith, apart))
-  no_order version none no_until (PlaceUntil last request) is of fits = no_until last request of fits.0.0 fits.0.1 fits.1
-  no_order version none no_until (SetMoneyCredit account ticks) is of fits = let apart : 107 ≡ 102 = ap mark is in absurd (omega (arith, apart))
-  no_order version none no_until (SetUnitCredit account asset units) is of fits = let apart : 107 ≡ 102 = ap mark is in absurd (omega (arith, apart))
+  no_order version none no_until command word of fits = elim (place_is command word) [
+    | inl is ↦ let has = subst (Fits tickers d) is.1 fits in none is.0 has.0 has.1
+    | inr is ↦
+        let has = subst (Fits tickers d) is.2 fits in
+        no_until is.0 is.1 (subst (IsOfVersion version) is.2 of) has.0.0 (rest_of tickers d (codes "last", Small is.0) (order_members is.1) has.0) has.1
+  ]
 
   -- it doesn't have both seven keys and eight
   one_count : HasKeys 7 d → HasKeys 8 d → ⊥
@@ -143,6 +217,25 @@ module _ (tickers : List (List ℕ)) (d : Data) where
   placed_without_seven not_seven (Err NoCommand) none = no_order Two (λ request has keys. not_seven keys) (λ last request of at has keys. none last request at has keys)
   placed_without_seven not_seven (Err Memory) is = is
 
+  -- the row of an order that an object has
+  pub weights_of : (request : Request) → HasOrder tickers d request → HasAt tickers d (codes "weights") (Weights request.row)
+  weights_of request fields = fields.1.1.1.1.1.0
+
+  -- an object that has no row asks for no order
+  pub order_failed : (fault : LineFault) → (fault ≡ NoCommand → (row : List Entry) → HasAt tickers d (codes "weights") (Weights row) → ⊥) → IsOrder tickers d (Err fault)
+  order_failed NoCommand none = λ request fields keys. none refl request.row (weights_of request fields)
+  order_failed Memory none = tt
+
+  pub until_failed : (fault : LineFault) → (fault ≡ NoCommand → (row : List Entry) → HasAt tickers d (codes "weights") (Weights row) → ⊥) → IsUntil tickers d (Err fault)
+  until_failed NoCommand none = λ last request at fields keys. none refl request.row (weights_of request fields)
+  until_failed Memory none = tt
+
+  -- an order that is asked for is a command that is
+  pub placed_answered : (version : Version) → Word (codes "place") → (result : Result owned.Command LineFault) → IsPlaced version tickers d result → IsAnswered version tickers d result
+  placed_answered version asked (Ok command) is = (asks_of version tickers d (command_in command) (asked ∙ ap Some (sym is.0)) is.1 is.2, is.3)
+  placed_answered version asked (Err NoCommand) none = λ command asks. none command (one_word {version = version} (codes "place") command asked asks) asks.of_version (fits_asked version tickers d command asks)
+  placed_answered version asked (Err Memory) is = tt
+
   -- one without the numbers of an order has no order
-  pub no_request : ((account : ℕ) (low high : ℤ) (rate cap : ℕ) → HasLimits d account low high rate cap → ⊥) → (request : Request) → HasRequest tickers d request → ⊥
-  no_request none r fields = none r.account r.low r.high r.rate r.cap (record { account_at = fields.account; low_at = fields.low; high_at = fields.high; rate_at = fields.rate; cap_at = fields.cap })
+  pub no_request : ((account : ℕ) (low high : ℤ) (rate cap : ℕ) → HasLimits d account low high rate cap → ⊥) → (request : Request) → HasOrder tickers d request → ⊥
+  no_request none r fields = none r.account r.low r.high r.rate r.cap (fields.0, fields.1.0, fields.1.1.0, fields.1.1.1.0, fields.1.1.1.1.0)

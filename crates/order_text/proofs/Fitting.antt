@@ -1,23 +1,25 @@
 -- A command that a line asks for fits its record: each of its fields is within its width.
-use Rattle.std.proofs.Common.{◌≡◌, ℕ, ℤ, pos, ◌-◌, ◌<◌, ◌≤◌, ◌^◌, eqb, ltb, cond, Bool, true, false, List, [], ◌∷◌, ◌++◌, length, Option, Some, None, option_map, position, bytes_eq, refl, ap, subst, arith, ltb-true, leb-true, Ordering, Less, Equal, Greater}
-use Rattle.std.specs.Prelude.{option_and_then, unwrap_or, neg_ℤ, nat_lt, nat_le, int_le, int_lt, if◌then◌else◌, ◌&&◌, codes, replicate, All}
+use Rattle.std.proofs.Common.{◌≡◌, ℕ, ℤ, pos, ◌-◌, ◌<◌, ◌≤◌, ◌^◌, Bool, true, false, List, [], ◌++◌, length, Option, Some, None, refl, ap, subst, arith, ltb-true, leb-true, Ordering, Less, Equal, Greater, inl, inr}
+use Rattle.std.specs.Prelude.{option_and_then, unwrap_or, nat_lt, nat_le, if◌then◌else◌, codes, replicate, All}
 use Rattle.std.specs.Ordering.{nat_cmp, match_ordering}
 use Rattle.std.specs.Cmp.Lexicographic.{slice_cmp}
 use Rattle.std.proofs.lemmas.Int.{ints}
-use Rattle.std.proofs.lemmas.List.Quantifiers.{position-Some}
-use Rattle.std.proofs.lemmas.List.Elements.{All-nil, All-cons, All-head, All-tail, All-replicate, All-append, All-weaker}
+use Rattle.std.proofs.lemmas.List.Elements.{All-nil, All-cons, All-replicate, All-append, All-weaker}
 use Rattle.std.proofs.lemmas.List.{length-replicate, length-append}
 use Rattle.weight_rows.specs.declared.entries.Entry.{Entry}
 use Rattle.serde_json.specs.Data.{Num, unsigned, negative, float, Data, null, boolean, number, string, array, object, Members, no_members, member}
-use Rattle.serde_json.specs.Find.{get, get_member, as_number, as_u64, as_i64, as_object}
+use Rattle.serde_json.specs.Find.{get, get_member, as_number, as_u64, as_i64}
 use Rattle.wire_fields.specs.Numbers.{IsUnsigned, IsSigned}
 use Rattle.wire_records.specs.Records.{AreBytes}
 use Rattle.wire_records.specs.Commands.{Request, Command, AddAsset, OpenAccount, DepositMoney, DepositAsset, WithdrawMoney, WithdrawAsset, PlaceOrder, CancelOrder, RunBatch, PlaceUntil, SetMoneyCredit, SetUnitCredit}
 use Rattle.wire_records.specs.CommandRecords.{IsCommand, IsRequest, IsEntry}
 use Rattle.ticker_table.specs.Tickers.{AreTickers}
+use Rattle.wire_records.specs.Versions.{IsOfVersion}
 use Rattle.wire_records.specs.declared.version.Version.{Version}
-use Rattle.order_text.specs.Lines.{number_at, in_32_bits, small_at, signed_at, padded, asset_named, asset_at, in_signed_32_bits, weight_of, entry_of, put_entry, put_members, row_at, text_at, HasTicker, HasRequest, LineAsks}
-use Rattle.order_text.proofs.ShortRows.{row_is_short}
+use Rattle.order_text.specs.Lines.{whole_of, signed_of, asset_named, IsTickerText, IsEntryOf, AreWeights, Asset, Small, Number, Signed, HasAt, order_members, Asks, LineAsks}
+use Rattle.order_text.specs.Private.{HasOrder}
+use Rattle.order_text.proofs.AskedFor.{fits_asked, rest_of, weights_of}
+use Rattle.order_text.proofs.ShortRows.{named_below, row_is_short}
 use Rattle.order_text.proofs.ReadNumbers.{IsNum, Fits, MembersFit, read_fits}
 
 -- what two answers hold
@@ -57,14 +59,6 @@ number_fits (string s) n h e = absurd (cc)
 number_fits (array ds) n h e = absurd (cc)
 number_fits (object ms) n h e = absurd (cc)
 
--- the number at a key
-num_at : (k : List ℕ) (d : Data) (n : Num) → Fits d → option_and_then as_number (get k d) ≡ Some n → IsNum n
-num_at k d n h e = by (get k d) refl e
-  where
-    by : (o : Option Data) → get k d ≡ o → option_and_then as_number o ≡ Some n → IsNum n
-    by None p e = absurd (cc)
-    by (Some v) p e = number_fits v n (get_fits k d v h p) e
-
 -- a whole number without a sign, or with one
 whole : (n : Num) (m : ℕ) → IsNum n → as_u64 n ≡ Some m → m < 2 ^ 64
 whole (unsigned k) m h e = subst (λ (x : ℕ). x < 2 ^ 64) (nat_is k m e) h
@@ -82,118 +76,33 @@ whole_signed (unsigned k) z h e = by (nat_lt k (2 ^ 63)) refl e
 whole_signed (negative y) z h e = subst (IsSigned 8) (int_is y z e) h
 whole_signed (float x) z h e = absurd (cc)
 
--- the numbers at keys, by their widths
-number_below : (k : List ℕ) (d : Data) (m : ℕ) → Fits d → number_at k d ≡ Some m → IsUnsigned 8 m
-number_below k d m h e = by (option_and_then as_number (get k d)) refl e
+-- the numbers that values are, by their widths
+number_below : (d : Data) (m : ℕ) → Fits d → whole_of d ≡ Some m → IsUnsigned 8 m
+number_below d m h e = by (as_number d) refl e
   where
-    by : (o : Option Num) → option_and_then as_number (get k d) ≡ o → option_and_then as_u64 o ≡ Some m → IsUnsigned 8 m
+    by : (o : Option Num) → as_number d ≡ o → option_and_then as_u64 o ≡ Some m → IsUnsigned 8 m
     by None p e = absurd (cc)
-    by (Some n) p e = whole n m (num_at k d n h p) e
+    by (Some n) p e = whole n m (number_fits d n h p) e
 
-signed_within : (k : List ℕ) (d : Data) (z : ℤ) → Fits d → signed_at k d ≡ Some z → IsSigned 8 z
-signed_within k d z h e = by (option_and_then as_number (get k d)) refl e
+signed_within : (d : Data) (z : ℤ) → Fits d → signed_of d ≡ Some z → IsSigned 8 z
+signed_within d z h e = by (as_number d) refl e
   where
-    by : (o : Option Num) → option_and_then as_number (get k d) ≡ o → option_and_then as_i64 o ≡ Some z → IsSigned 8 z
+    by : (o : Option Num) → as_number d ≡ o → option_and_then as_i64 o ≡ Some z → IsSigned 8 z
     by None p e = absurd (cc)
-    by (Some n) p e = whole_signed n z (num_at k d n h p) e
-
-small_below : (k : List ℕ) (d : Data) (m : ℕ) → small_at k d ≡ Some m → IsUnsigned 4 m
-small_below k d m e = by (number_at k d) e
-  where
-    in_by : (n : ℕ) (b : Bool) → nat_lt n (2 ^ 32) ≡ b → (if b then Some n else None) ≡ Some m → IsUnsigned 4 m
-    in_by n true p e = subst (λ (x : ℕ). x < 2 ^ 32) (nat_is n m e) (ltb-true n (2 ^ 32) p)
-    in_by n false p e = absurd (cc)
-
-    by : (o : Option ℕ) → option_and_then in_32_bits o ≡ Some m → IsUnsigned 4 m
-    by None e = absurd (cc)
-    by (Some n) e = in_by n (nat_lt n (2 ^ 32)) refl e
+    by (Some n) p e = whole_signed n z (number_fits d n h p) e
 
 -- an asset that is named is one of the tickers
-named_below : (tickers : List (List ℕ)) (text : List ℕ) (asset : ℕ) → asset_named tickers text ≡ Some asset → asset < length tickers
-named_below tickers text asset is = by (padded text) is
-  where
-    by : (ticker : Option (List ℕ)) → option_and_then (λ t. position (bytes_eq t) tickers) ticker ≡ Some asset → asset < length tickers
-    by None e = absurd (cc)
-    by (Some ticker) e = (position-Some (bytes_eq ticker) tickers asset ticker e).0
+asset_fits : (tickers : List (List ℕ)) (text : List ℕ) (asset : ℕ) → AreTickers tickers → asset_named tickers text ≡ Some asset → IsUnsigned 2 asset
+asset_fits tickers text asset are is = omega (arith, are.few, named_below tickers text asset is)
 
-asset_fits : (tickers : List (List ℕ)) (k : List ℕ) (d : Data) (asset : ℕ) → AreTickers tickers → asset_at tickers k d ≡ Some asset → IsUnsigned 2 asset
-asset_fits tickers k d asset are e = by (text_at k d) e
-  where
-    by : (o : Option (List ℕ)) → option_and_then (asset_named tickers) o ≡ Some asset → IsUnsigned 2 asset
-    by None e = absurd (cc)
-    by (Some text) e = omega (arith, are.few, named_below tickers text asset e)
+-- an entry that a member says
+entry_fits : (tickers : List (List ℕ)) (members : Members) (e : Entry) → AreTickers tickers → IsEntryOf tickers members e → IsEntry e
+entry_fits tickers no_members e are is = absurd is
+entry_fits tickers (member key value others) e are (inl is) = (omega (arith, are.few, named_below tickers key e.asset is.0), is.2)
+entry_fits tickers (member key value members) e are (inr is) = entry_fits tickers members e are is
 
--- a weight, and an entry
-weight_fits : (d : Data) (z : ℤ) → weight_of d ≡ Some z → IsSigned 4 z
-weight_fits d z e = by (option_and_then as_i64 (as_number d)) e
-  where
-    in_by : (y : ℤ) (a b : Bool) → int_le (neg_ℤ (pos (2 ^ 31))) y ≡ a → int_lt y (pos (2 ^ 31)) ≡ b → (if a && b then Some y else None) ≡ Some z → IsSigned 4 z
-    in_by y true true p q e = subst (IsSigned 4) (int_is y z e) (omega (arith, ints, p, q), omega (arith, ints, p, q))
-    in_by y true false p q e = absurd (cc)
-    in_by y false b p q e = absurd (cc)
-
-    by : (o : Option ℤ) → option_and_then in_signed_32_bits o ≡ Some z → IsSigned 4 z
-    by None e = absurd (cc)
-    by (Some y) e = in_by y (int_le (neg_ℤ (pos (2 ^ 31))) y) (int_lt y (pos (2 ^ 31))) refl refl e
-
-entry_is : (a b : Entry) → Some a ≡ Some b → a ≡ b
-entry_is a b is = ap (λ o. unwrap_or o (record { asset = 0; weight = pos 0 })) is
-
-abbrev make : ℕ → ℤ → Entry
-make asset weight = record { asset = asset; weight = weight }
-
-entry_fits : (tickers : List (List ℕ)) (key : List ℕ) (d : Data) (x : Entry) → AreTickers tickers → entry_of tickers key d ≡ Some x → IsEntry x
-entry_fits tickers key d x are e = by (asset_named tickers key) refl e
-  where
-    weighed : (asset : ℕ) (o : Option ℤ) → IsUnsigned 2 asset → weight_of d ≡ o → option_map (λ weight. make asset weight) o ≡ Some x → IsEntry x
-    weighed asset None below p e = absurd (cc)
-    weighed asset (Some z) below p e = subst IsEntry (entry_is (make asset z) x e) (below, weight_fits d z p)
-
-    by : (o : Option ℕ) → asset_named tickers key ≡ o → option_and_then (λ asset. option_map (λ weight. make asset weight) (weight_of d)) o ≡ Some x → IsEntry x
-    by None p e = absurd (cc)
-    by (Some asset) p e = weighed asset (weight_of d) (omega (arith, are.few, named_below tickers key asset p)) refl e
-
-row_is : (a b : List Entry) → Some a ≡ Some b → a ≡ b
-row_is a b is = ap (λ o. unwrap_or o []) is
-
--- entries with one more at its place
-put_all : (x : Entry) (row more : List Entry) → IsEntry x → All IsEntry row → put_entry x row ≡ Some more → All IsEntry more
-put_all x [] more f h e = subst (All IsEntry) (row_is (x ∷ []) more e) (All-cons IsEntry x [] f (All-nil IsEntry))
-put_all x (first ∷ row) more f h e = by (λ xs is. put_all x row xs f (All-tail IsEntry first row h) is) (eqb x.asset first.asset) e
-  where
-    behind : ((xs : List Entry) → put_entry x row ≡ Some xs → All IsEntry xs) → (o : Option (List Entry)) → put_entry x row ≡ o → option_map (λ xs. first ∷ xs) o ≡ Some more → All IsEntry more
-    behind again None p e = absurd (cc)
-    behind again (Some xs) p e = subst (All IsEntry) (row_is (first ∷ xs) more e) (All-cons IsEntry first xs (All-head IsEntry first row h) (again xs p))
-
-    sides : ((xs : List Entry) → put_entry x row ≡ Some xs → All IsEntry xs) → (b : Bool) → cond b (Some (x ∷ first ∷ row)) (option_map (λ xs. first ∷ xs) (put_entry x row)) ≡ Some more → All IsEntry more
-    sides again true e = subst (All IsEntry) (row_is (x ∷ first ∷ row) more e) (All-cons IsEntry x (first ∷ row) f h)
-    sides again false e = behind again (put_entry x row) refl e
-
-    by : ((xs : List Entry) → put_entry x row ≡ Some xs → All IsEntry xs) → (b : Bool) → cond b None (cond (ltb x.asset first.asset) (Some (x ∷ first ∷ row)) (option_map (λ xs. first ∷ xs) (put_entry x row))) ≡ Some more → All IsEntry more
-    by again true e = absurd (cc)
-    by again false e = sides again (ltb x.asset first.asset) e
-
--- the row of members
-members_row : (tickers : List (List ℕ)) (members : Members) (row more : List Entry) → AreTickers tickers → All IsEntry row → put_members tickers members row ≡ Some more → All IsEntry more
-members_row tickers no_members row more are h e = subst (All IsEntry) (row_is row more e) h
-members_row tickers (member key value members) row more are h e = by (λ xs fits is. members_row tickers members xs more are fits is) (entry_of tickers key value) refl e
-  where
-    next : ((xs : List Entry) → All IsEntry xs → put_members tickers members xs ≡ Some more → All IsEntry more) → (x : Entry) (o : Option (List Entry)) → IsEntry x → put_entry x row ≡ o
-        → option_and_then (λ xs. put_members tickers members xs) o ≡ Some more → All IsEntry more
-    next again x None f p e = absurd (cc)
-    next again x (Some xs) f p e = again xs (put_all x row xs f h p) e
-
-    by : ((xs : List Entry) → All IsEntry xs → put_members tickers members xs ≡ Some more → All IsEntry more) → (o : Option Entry) → entry_of tickers key value ≡ o
-        → option_and_then (λ xs. put_members tickers members xs) (option_and_then (λ x. put_entry x row) o) ≡ Some more → All IsEntry more
-    by again None p e = absurd (cc)
-    by again (Some x) p e = next again x (put_entry x row) (entry_fits tickers key value x are p) refl e
-
-row_fits : (tickers : List (List ℕ)) (key : List ℕ) (d : Data) (row : List Entry) → AreTickers tickers → row_at tickers key d ≡ Some row → All IsEntry row
-row_fits tickers key d row are e = by (option_and_then as_object (get key d)) e
-  where
-    by : (o : Option Members) → option_and_then (λ members. put_members tickers members []) o ≡ Some row → All IsEntry row
-    by None e = absurd (cc)
-    by (Some members) e = members_row tickers members [] row are (All-nil IsEntry) e
+row_fits : (tickers : List (List ℕ)) (members : Members) (row : List Entry) → AreTickers tickers → AreWeights tickers members row → All IsEntry row
+row_fits tickers members row are weights = All-weaker (IsEntryOf tickers members) IsEntry (λ e is. entry_fits tickers members e are is) row weights.each
 
 -- a ticker is eight bytes
 list_is : (a b : List ℕ) → Some a ≡ Some b → a ≡ b
@@ -205,62 +114,69 @@ spaces_fit n = All-replicate (λ b. b < 256) n 32 (omega arith)
 join_fits : (xs ys : List ℕ) → All (λ b. b < 128) xs → AreBytes ys → AreBytes (xs ++ ys)
 join_fits xs ys h g = All-append (λ b. b < 256) xs ys (All-weaker (λ b. b < 128) (λ b. b < 256) (λ b small. omega (arith, small)) xs h) g
 
-ticker_fits : (key : List ℕ) (d : Data) (ticker : List ℕ) → HasTicker key d ticker → (length ticker ≡ 8) × AreBytes ticker
-ticker_fits key d ticker h = by (nat_le (length h.text) 8) refl h.whole
+ticker_fits : (text ticker : List ℕ) → IsTickerText text ticker → (length ticker ≡ 8) × AreBytes ticker
+ticker_fits text ticker h = by (nat_le (length text) 8) refl h.1
   where
-    by : (b : Bool) → nat_le (length h.text) 8 ≡ b → (if b then Some (h.text ++ replicate (8 - length h.text) 32) else None) ≡ Some ticker → (length ticker ≡ 8) × AreBytes ticker
+    by : (b : Bool) → nat_le (length text) 8 ≡ b → (if b then Some (text ++ replicate (8 - length text) 32) else None) ≡ Some ticker → (length ticker ≡ 8) × AreBytes ticker
     by true p e =
-        let short : length h.text ≤ 8 = leb-true (length h.text) 8 p in
-        subst (λ (t : List ℕ). (length t ≡ 8) × AreBytes t) (list_is (h.text ++ replicate (8 - length h.text) 32) ticker e) (omega (arith, short, length-append h.text (replicate (8 - length h.text) 32), length-replicate {A = ℕ} (8 - length h.text) 32), join_fits h.text (replicate (8 - length h.text) 32) h.ascii (spaces_fit (8 - length h.text)))
+        let short : length text ≤ 8 = leb-true (length text) 8 p in
+        subst (λ (t : List ℕ). (length t ≡ 8) × AreBytes t) (list_is (text ++ replicate (8 - length text) 32) ticker e) (omega (arith, short, length-append text (replicate (8 - length text) 32), length-replicate {A = ℕ} (8 - length text) 32), join_fits text (replicate (8 - length text) 32) h.0 (spaces_fit (8 - length text)))
     by false p e = absurd (cc)
 
--- the fields of an order
-request_fits : (tickers : List (List ℕ)) (d : Data) (r : Request) → AreTickers tickers → Fits d → length r.row ≤ 165 → HasRequest tickers d r → IsRequest r
-request_fits tickers d r are all few f = record {
-  account = small_below (codes "account") d r.account f.account;
-  low = signed_within (codes "low") d r.low all f.low;
-  high = signed_within (codes "high") d r.high all f.high;
-  rate = small_below (codes "rate") d r.rate f.rate;
-  cap = number_below (codes "cap") d r.cap all f.cap;
-  count = omega (arith, few);
-  row = row_fits tickers (codes "weights") d r.row are f.row;
-}
+module _ (tickers : List (List ℕ)) (d : Data) (are : AreTickers tickers) (all : Fits d) where
+  -- a number at a key
+  number_at_fits : (key : List ℕ) (m : ℕ) → HasAt tickers d key (Number m) → IsUnsigned 8 m
+  number_at_fits key m has = number_below has.0 m (get_fits key d has.0 all has.1) has.2
 
--- by the command
-pub command_fits : (version : Version) (tickers : List (List ℕ)) (line : List ℕ) (command : Command) → AreTickers tickers → LineAsks version tickers line command → IsCommand command
-command_fits version tickers line (AddAsset ticker) are asks = ticker_fits (codes "ticker") asks.value ticker asks.asks.fields
-command_fits version tickers line OpenAccount are asks = tt
-command_fits version tickers line (DepositMoney account ticks) are asks =
+  signed_at_fits : (key : List ℕ) (z : ℤ) → HasAt tickers d key (Signed z) → IsSigned 8 z
+  signed_at_fits key z has = signed_within has.0 z (get_fits key d has.0 all has.1) has.2
+
+  -- the fields of a movement of money, of units, and of an order
+  money_fits : (account ticks : ℕ) (more : Type 0) → (HasAt tickers d (codes "account") (Small account) × (HasAt tickers d (codes "ticks") (Number ticks) × more)) → IsUnsigned 4 account × IsUnsigned 8 ticks
+  money_fits account ticks more f = (f.0.2.1, number_at_fits (codes "ticks") ticks f.1.0)
+
+  units_fit : (account asset units : ℕ) (more : Type 0) → (HasAt tickers d (codes "account") (Small account) × (HasAt tickers d (codes "asset") (Asset asset) × (HasAt tickers d (codes "units") (Number units) × more)))
+      → IsUnsigned 4 account × IsUnsigned 2 asset × IsUnsigned 8 units
+  units_fit account asset units more f = (f.0.2.1, asset_fits tickers f.1.0.2.0 asset are f.1.0.2.2, number_at_fits (codes "units") units f.1.1.0)
+
+  request_fits : (r : Request) → length r.row ≤ 165 → HasOrder tickers d r → IsRequest r
+  request_fits r few f =
+      let weights = (weights_of tickers d r f).2 in
+      record {
+        account = f.0.2.1;
+        low = signed_at_fits (codes "low") r.low f.1.0;
+        high = signed_at_fits (codes "high") r.high f.1.1.0;
+        rate = f.1.1.1.0.2.1;
+        cap = number_at_fits (codes "cap") r.cap f.1.1.1.1.0;
+        count = omega (arith, few);
+        row = row_fits tickers weights.0 r.row are weights.2;
+      }
+
+  -- by the command
+  pub command_fits : (version : Version) (command : Command) → Asks version tickers d command → IsCommand command
+  command_fits version (AddAsset ticker) asks = let f = (fits_asked version tickers d (AddAsset ticker) asks).0.0.2 in ticker_fits f.0 ticker f.2
+  command_fits version OpenAccount asks = tt
+  command_fits version (DepositMoney account ticks) asks = money_fits account ticks _ (fits_asked version tickers d (DepositMoney account ticks) asks).0
+  command_fits version (DepositAsset account asset units) asks = units_fit account asset units _ (fits_asked version tickers d (DepositAsset account asset units) asks).0
+  command_fits version (WithdrawMoney account ticks) asks = money_fits account ticks _ (fits_asked version tickers d (WithdrawMoney account ticks) asks).0
+  command_fits version (WithdrawAsset account asset units) asks = units_fit account asset units _ (fits_asked version tickers d (WithdrawAsset account asset units) asks).0
+  command_fits version (PlaceOrder r) asks = request_fits r (omega (arith, row_is_short version tickers d (PlaceOrder r) are asks)) (fits_asked version tickers d (PlaceOrder r) asks).0
+  command_fits version (CancelOrder account order) asks =
+      let f = (fits_asked version tickers d (CancelOrder account order) asks).0 in
+      (f.0.2.1, number_at_fits (codes "order") order f.1.0)
+  command_fits version (RunBatch budget) asks = (fits_asked version tickers d (RunBatch budget) asks).0.0.2.1
+  command_fits version (PlaceUntil last r) asks =
+      let f = (fits_asked version tickers d (PlaceUntil last r) asks).0 in
+      (f.0.2.1, request_fits r (omega (arith, row_is_short version tickers d (PlaceUntil last r) are asks)) (rest_of tickers d (codes "last", Small last) (order_members r) f))
+  command_fits version (SetMoneyCredit account ticks) asks = money_fits account ticks _ (fits_asked version tickers d (SetMoneyCredit account ticks) asks).0
+  command_fits version (SetUnitCredit account asset units) asks = units_fit account asset units _ (fits_asked version tickers d (SetUnitCredit account asset units) asks).0
+
+-- all that a line asks for
+pub commands_fit : (version : Version) (tickers : List (List ℕ)) (line : List ℕ) (commands : List Command) → AreTickers tickers → LineAsks version tickers line commands → All IsCommand commands × All (IsOfVersion version) commands
+commands_fit version tickers line commands are asks =
+    let one = asks.asks in
     let all = read_fits line asks.value asks.reads in
-    let f = asks.asks.fields in
-    (small_below (codes "account") asks.value account f.0, number_below (codes "ticks") asks.value ticks all f.1)
-command_fits version tickers line (DepositAsset account asset units) are asks =
-    let all = read_fits line asks.value asks.reads in
-    let f = asks.asks.fields in
-    (small_below (codes "account") asks.value account f.0, asset_fits tickers (codes "asset") asks.value asset are f.1, number_below (codes "units") asks.value units all f.2)
-command_fits version tickers line (WithdrawMoney account ticks) are asks =
-    let all = read_fits line asks.value asks.reads in
-    let f = asks.asks.fields in
-    (small_below (codes "account") asks.value account f.0, number_below (codes "ticks") asks.value ticks all f.1)
-command_fits version tickers line (WithdrawAsset account asset units) are asks =
-    let all = read_fits line asks.value asks.reads in
-    let f = asks.asks.fields in
-    (small_below (codes "account") asks.value account f.0, asset_fits tickers (codes "asset") asks.value asset are f.1, number_below (codes "units") asks.value units all f.2)
-command_fits version tickers line (PlaceOrder r) are asks =
-    request_fits tickers asks.value r are (read_fits line asks.value asks.reads) (omega (arith, row_is_short version tickers line (PlaceOrder r) are asks)) asks.asks.fields
-command_fits version tickers line (CancelOrder account order) are asks =
-    let all = read_fits line asks.value asks.reads in
-    let f = asks.asks.fields in
-    (small_below (codes "account") asks.value account f.0, number_below (codes "order") asks.value order all f.1)
-command_fits version tickers line (RunBatch budget) are asks = small_below (codes "budget") asks.value budget asks.asks.fields
-command_fits version tickers line (PlaceUntil last r) are asks =
-    let f = asks.asks.fields in
-    (small_below (codes "last") asks.value last f.0, request_fits tickers asks.value r are (read_fits line asks.value asks.reads) (omega (arith, row_is_short version tickers line (PlaceUntil last r) are asks)) f.1)
-command_fits version tickers line (SetMoneyCredit account ticks) are asks =
-    let all = read_fits line asks.value asks.reads in
-    let f = asks.asks.fields in
-    (small_below (codes "account") asks.value account f.0, number_below (codes "ticks") asks.value ticks all f.1)
-command_fits version tickers line (SetUnitCredit account asset units) are asks =
-    let all = read_fits line asks.value asks.reads in
-    let f = asks.asks.fields in
-    (small_below (codes "account") asks.value account f.0, asset_fits tickers (codes "asset") asks.value asset are f.1, number_below (codes "units") asks.value units all f.2)
+    rw one.2 (
+      All-cons IsCommand one.0 [] (command_fits tickers asks.value are all version one.0 one.1) (All-nil IsCommand),
+      All-cons (IsOfVersion version) one.0 [] one.1.of_version (All-nil (IsOfVersion version)),
+    )

@@ -1,4 +1,5 @@
 pub mod Named
+pub mod Weights
 pub mod Rows
 pub mod AskedFor
 pub mod ShortRows

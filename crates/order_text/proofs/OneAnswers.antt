@@ -1,17 +1,24 @@
 -- A line has an answer, and one alone.
-use Rattle.std.proofs.Common.{◌≡◌, ◌≢◌, ℕ, List, [], ◌∷◌, ◌++◌, Result, Ok, Err, refl, sym, ap, ◌∙◌, inl, inr, rules, Bool, true, false, true≢false}
+use Rattle.std.proofs.Common.{◌≡◌, ◌≢◌, ℕ, List, [], ◌∷◌, ◌++◌, length, drop, Some, Result, Ok, Err, refl, sym, ap, subst, ◌∙◌, inl, inr, rules, Bool, true, false, true≢false}
 use Rattle.wire_records.specs.Commands.{Command, AddAsset, OpenAccount, DepositMoney, DepositAsset, WithdrawMoney, WithdrawAsset, PlaceOrder, CancelOrder, RunBatch, PlaceUntil, SetMoneyCredit, SetUnitCredit}
+use Rattle.serde_json.specs.Data.{Data}
 use Rattle.wire_records.specs.Views.{command_in}
 use Rattle.wire_records.specs.declared.command.Command as owned
 use Rattle.wire_records.specs.declared.command.Command.TheVariants as own
 use Rattle.order_text.specs.declared.line.LineRead.{LineRead}
-use Rattle.order_text.specs.declared.line.LineRead.TheVariants.{Blank, Asks}
+use Rattle.order_text.specs.declared.line.LineRead.TheVariants.{Blank}
+use Rattle.order_text.specs.declared.line.LineRead.TheVariants as line_is
 use Rattle.order_text.specs.declared.line.LineFault.{LineFault}
 use Rattle.order_text.specs.declared.line.LineFault.TheVariants.{NoCommand, Memory}
 use Rattle.wire_records.specs.declared.version.Version.{Version}
-use Rattle.order_text.specs.Lines.{AreAfter}
+use Rattle.order_text.specs.Lines.{HasKeys, padded, asset_named, Value, Text, Ticker, Asset, Small, Number, Signed, Weights, HasAt, members_of, Asks, AsksFor, LineAsks, Leaves, Leave}
+use Rattle.order_text.specs.Private.{text_at, number_at, signed_at, members_at, word_of, Has, put_members}
+use Rattle.order_text.proofs.AskedFor.{word_asked, fits_asked}
+use Rattle.order_text.proofs.Weights.{made_where}
+use Rattle.std.specs.Prelude.{option_and_then, codes}
+use Rattle.std.specs.List.{AllByRecursion}
 use Rattle.order_text.specs.Answers.{IsRead, wants_memory}
-use Rattle.order_text.specs.Laws.{OneSaying}
+use Rattle.order_text.specs.Laws.{OneSaying, OneTable}
 
 -- the program's own form of a command
 abbrev own_of : Command → owned.Command
@@ -59,48 +66,113 @@ plain_is (SetUnitCredit account asset units) = refl
 same_own : (a b : owned.Command) → command_in a ≡ command_in b → a ≡ b
 same_own a b same = sym (own_is a) ∙ ap own_of same ∙ own_is b
 
+-- a command alone
+abbrev alone : Command → List Command
+alone command = command ∷ []
+
+-- lists of one are one
+heads : (a b : Command) → alone a ≡ alone b → a ≡ b
+heads a b same = cc
+
 abbrev Answer : Type 0
 Answer = Result LineRead LineFault
 
 abbrev asks_own : owned.Command → Answer
-asks_own c = Ok (Asks c)
+asks_own c = Ok (line_is.Asks c)
+
+-- the same ticker
+ticker_is : (a b : List ℕ) → AddAsset a ≡ AddAsset b → a ≡ b
+ticker_is a b same = cc
+
+-- a command leaves one table
+one_after : (tickers : List (List ℕ)) (command : Command) (after other : List (List ℕ)) → Leaves tickers command after → Leaves tickers command other → after ≡ other
+one_after tickers command after other (inl a) (inl b) =
+    let ticker = ticker_is a.0 b.0 (sym a.1.0 ∙ b.1.0) in
+    a.2 ∙ ap (λ (t : List ℕ). tickers ++ t ∷ []) ticker ∙ sym b.2
+one_after tickers command after other (inl a) (inr b) = absurd (b.0 a.0 a.1)
+one_after tickers command after other (inr a) (inl b) = absurd (a.0 b.0 b.1)
+one_after tickers command after other (inr a) (inr b) = a.1 ∙ sym b.1
+
+pub one_table : OneTable
+one_table tickers [] after other a b = a ∙ sym b
+one_table tickers (command ∷ commands) after other a b =
+    let same = one_after tickers command a.0 b.0 a.1 b.1 in
+    one_table b.0 commands after other (subst (λ t. Leave t commands after) same a.2) b.2
+
+-- the value at a key, as an equation
+abbrev Gives : List (List ℕ) → Data → List ℕ → Value → Type 0
+Gives tickers d key (Text text) = text_at key d ≡ Some text
+Gives tickers d key (Ticker ticker) = option_and_then padded (text_at key d) ≡ Some ticker
+Gives tickers d key (Asset asset) = option_and_then (asset_named tickers) (text_at key d) ≡ Some asset
+Gives tickers d key (Small number) = number_at key d ≡ Some number
+Gives tickers d key (Number number) = number_at key d ≡ Some number
+Gives tickers d key (Signed number) = signed_at key d ≡ Some number
+Gives tickers d key (Weights row) = option_and_then (λ members. put_members tickers members []) (members_at key d) ≡ Some row
+
+gives : (tickers : List (List ℕ)) (d : Data) (key : List ℕ) (value : Value) → HasAt tickers d key value → Gives tickers d key value
+gives tickers d key (Text text) has = rw has.1 has.2
+gives tickers d key (Ticker ticker) has = rw (has.1, has.2.1) has.2.2.1
+gives tickers d key (Asset asset) has = rw (has.1, has.2.1) has.2.2
+gives tickers d key (Small number) has = rw has.1 has.2.0
+gives tickers d key (Number number) has = rw has.1 has.2
+gives tickers d key (Signed number) has = rw has.1 has.2
+gives tickers d key (Weights row) has = rw (has.1, has.2.1) (made_where tickers has.2.0 row has.2.2)
+
+all_give : (tickers : List (List ℕ)) (d : Data) (members : List (List ℕ × Value)) → Has tickers d members → AllByRecursion (λ m. Gives tickers d m.0 m.1) members
+all_give tickers d [] has = tt
+all_give tickers d (m ∷ members) has = (gives tickers d m.0 m.1 has.0, all_give tickers d members has.1)
+
+-- What an object that asks for a command gives.
+record Tells (tickers : List (List ℕ)) (d : Data) (command : Command) : Type 0 where
+  word : text_at (codes "do") d ≡ Some (word_of command)
+  fields : AllByRecursion (λ m. Gives tickers d m.0 m.1) (drop 1 (members_of command))
+  keys : HasKeys (length (members_of command)) d
+
+tells : (version : Version) (tickers : List (List ℕ)) (d : Data) (command : Command) → Asks version tickers d command → Tells tickers d command
+tells version tickers d command asks =
+    let fits = fits_asked version tickers d command asks in
+    record { word = word_asked version tickers d command asks; fields = all_give tickers d (drop 1 (members_of command)) fits.0; keys = fits.1 }
+
+-- that is given by one command alone
+one_told : (tickers : List (List ℕ)) (d : Data) (a b : Command) → Tells tickers d a → Tells tickers d b → a ≡ b
+one_told = search (rules, refl)
+
+-- an object asks for one command
+one_asked : (version : Version) (tickers : List (List ℕ)) (d : Data) (a b : Command) → Asks version tickers d a → Asks version tickers d b → a ≡ b
+one_asked version tickers d a b x y = one_told tickers d a b (tells version tickers d a x) (tells version tickers d b y)
+
+-- and so for one list
+one_list : (version : Version) (tickers : List (List ℕ)) (c d : Data) (a b : List Command) → Some c ≡ Some d → AsksFor version tickers c a → AsksFor version tickers d b → a ≡ b
+one_list version tickers c d a b same x y =
+    let value : c ≡ d = cc in
+    x.2 ∙ ap alone (one_asked version tickers d x.0 y.0 (subst (λ v. Asks version tickers v x.0) value x.1) y.1) ∙ sym y.2
 
 pub one_saying : OneSaying
-one_saying = search (rules, refl)
+one_saying version tickers line a b after other x y =
+    let same = one_list version tickers x.asks.value y.asks.value a b (sym x.asks.reads ∙ y.asks.reads) x.asks.asks y.asks.asks in
+    (same, one_table tickers b after other (subst (λ cs. Leave tickers cs after) same x.leaves) y.leaves)
 
 pub one_answer : OneSaying → (version : Version) (tickers : List (List ℕ)) (line : List ℕ) (a b : Answer) (after other : List (List ℕ)) → a ≢ wants_memory → b ≢ wants_memory
     → IsRead version tickers line after a → IsRead version tickers line other b → (a ≡ b) × (after ≡ other)
 one_answer one version tickers line (Ok Blank) (Ok Blank) after other x y p q = (refl, p.1 ∙ sym q.1)
-one_answer one version tickers line (Ok Blank) (Ok (Asks d)) after other x y p q = absurd (q.asks.written p.0)
+one_answer one version tickers line (Ok Blank) (Ok (line_is.Asks d)) after other x y p q = absurd (q.asks.written p.0)
 one_answer one version tickers line (Ok Blank) (Err NoCommand) after other x y p q = absurd (q.0.written p.0)
 one_answer one version tickers line (Ok Blank) (Err Memory) after other x y p q = absurd (y refl)
-one_answer one version tickers line (Ok (Asks c)) (Ok Blank) after other x y p q = absurd (p.asks.written q.0)
-one_answer one version tickers line (Ok (Asks c)) (Ok (Asks d)) after other x y p q =
-    let same = one version tickers line (command_in c) (command_in d) after other p q in
-    (ap asks_own (same_own c d same.0), same.1)
-one_answer one version tickers line (Ok (Asks c)) (Err NoCommand) after other x y p q = absurd (q.0.no_command (command_in c) p.asks)
-one_answer one version tickers line (Ok (Asks c)) (Err Memory) after other x y p q = absurd (y refl)
+one_answer one version tickers line (Ok (line_is.Asks c)) (Ok Blank) after other x y p q = absurd (p.asks.written q.0)
+one_answer one version tickers line (Ok (line_is.Asks c)) (Ok (line_is.Asks d)) after other x y p q =
+    let same = one version tickers line (alone (command_in c)) (alone (command_in d)) after other p q in
+    (ap asks_own (same_own c d (heads (command_in c) (command_in d) same.0)), same.1)
+one_answer one version tickers line (Ok (line_is.Asks c)) (Err NoCommand) after other x y p q = absurd (q.0.no_command (alone (command_in c)) p.asks)
+one_answer one version tickers line (Ok (line_is.Asks c)) (Err Memory) after other x y p q = absurd (y refl)
 one_answer one version tickers line (Err NoCommand) (Ok Blank) after other x y p q = absurd (p.0.written q.0)
-one_answer one version tickers line (Err NoCommand) (Ok (Asks d)) after other x y p q = absurd (p.0.no_command (command_in d) q.asks)
+one_answer one version tickers line (Err NoCommand) (Ok (line_is.Asks d)) after other x y p q = absurd (p.0.no_command (alone (command_in d)) q.asks)
 one_answer one version tickers line (Err NoCommand) (Err NoCommand) after other x y p q = (refl, p.1 ∙ sym q.1)
 one_answer one version tickers line (Err NoCommand) (Err Memory) after other x y p q = absurd (y refl)
 one_answer one version tickers line (Err Memory) b after other x y p q = absurd (x refl)
 
--- a command isn't without tickers after it
-some_after : (tickers : List (List ℕ)) (command : Command) → ((after : List (List ℕ)) → AreAfter tickers command after → ⊥) → ⊥
-some_after tickers (AddAsset ticker) none =
-    none tickers (inr (λ addable. none (tickers ++ ticker ∷ []) (inl (addable, refl)), refl))
-some_after tickers OpenAccount none = none tickers refl
-some_after tickers (DepositMoney account ticks) none = none tickers refl
-some_after tickers (DepositAsset account asset units) none = none tickers refl
-some_after tickers (WithdrawMoney account ticks) none = none tickers refl
-some_after tickers (WithdrawAsset account asset units) none = none tickers refl
-some_after tickers (PlaceOrder request) none = none tickers refl
-some_after tickers (CancelOrder account order) none = none tickers refl
-some_after tickers (RunBatch budget) none = none tickers refl
-some_after tickers (PlaceUntil last request) none = none tickers refl
-some_after tickers (SetMoneyCredit account ticks) none = none tickers refl
-some_after tickers (SetUnitCredit account asset units) none = none tickers refl
+-- a command isn't without tickers that it leaves
+some_after : (tickers : List (List ℕ)) (command : Command) → ((after : List (List ℕ)) → Leaves tickers command after → ⊥) → ⊥
+some_after tickers command none = none tickers (inr (λ ticker adds. none (tickers ++ ticker ∷ []) (inl (ticker, adds, refl)), refl))
 
 abbrev is_wanting : Answer → Bool
 is_wanting (Ok read) = false
@@ -115,8 +187,11 @@ none_is_unanswered version tickers line none =
     none tickers (Err NoCommand) (told (Err NoCommand) refl) (
       record {
         written = λ blank. none tickers (Ok Blank) (told (Ok Blank) refl) (blank, refl);
-        no_command = λ command asks. some_after tickers command (λ after leaves.
-            none after (Ok (Asks (own_of command))) (told (Ok (Asks (own_of command))) refl) (rw (plain_is command) (record { asks = asks; leaves = leaves })));
+        no_command = λ commands asks.
+            let command = asks.asks.0 in
+            let one = subst (λ cs. LineAsks version tickers line cs) asks.asks.2 asks in
+            some_after tickers command (λ after leaves.
+            none after (Ok (line_is.Asks (own_of command))) (told (Ok (line_is.Asks (own_of command))) refl) (rw (plain_is command) (record { asks = one; leaves = (after, leaves, refl) })));
       },
       refl,
     )

@@ -8,7 +8,7 @@ use Rattle.std.specs.Prelude.{String, string_bytes, option_and_then}
 use Rattle.std.specs.declared.alloc.Global.{Global}
 use Rattle.serde_json.specs.View.{view, members_view}
 use Rattle.serde_json.specs.declared.value.Value.{Value}
-use Rattle.order_text.specs.Lines.{entry_of, put_entry, put_members}
+use Rattle.order_text.specs.Private.{entry_of, put_entry, put_members}
 
 -- the entries before a place have lower assets
 pub record PutsBehind (row : List Entry) (asset place : ℕ) : Type 0 where

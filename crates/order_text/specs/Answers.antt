@@ -1,5 +1,5 @@
 -- What is answered to a line.
-use Rattle.std.specs.Prelude.{◌≡◌, ℕ, List, Result, Ok, Err}
+use Rattle.std.specs.Prelude.{◌≡◌, ℕ, List, [], ◌∷◌, Result, Ok, Err}
 use Rattle.wire_records.specs.CommandRecords.{HasShortRow}
 use Rattle.wire_records.specs.Views.{command_in}
 use Rattle.wire_records.specs.declared.version.Version.{Version}
@@ -13,7 +13,7 @@ use Rattle.order_text.specs.Lines.{IsBlank, Says, SaysNothing}
 -- answer but for want of memory, by the laws; a blank line wants none.
 abbrev pub IsRead : Version → List (List ℕ) → List ℕ → List (List ℕ) → Result LineRead LineFault → Type 0
 IsRead version tickers line after (Ok Blank) = IsBlank line × (after ≡ tickers)
-IsRead version tickers line after (Ok (Asks command)) = Says version tickers line (command_in command) after
+IsRead version tickers line after (Ok (Asks command)) = Says version tickers line (command_in command ∷ []) after
 IsRead version tickers line after (Err NoCommand) = SaysNothing version tickers line × (after ≡ tickers)
 IsRead version tickers line after (Err Memory) = (¬ IsBlank line) × (after ≡ tickers)
 

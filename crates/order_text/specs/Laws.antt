@@ -1,29 +1,35 @@
 -- What holds of lines. The module `laws` has a function for each of these.
-use Rattle.std.specs.Prelude.{◌≡◌, ◌≢◌, ℕ, List, Result}
+use Rattle.std.specs.Prelude.{◌≡◌, ◌≢◌, ℕ, List, All, Result}
 use Rattle.wire_records.specs.Commands.{Command}
 use Rattle.wire_records.specs.declared.version.Version.{Version}
 use Rattle.ticker_table.specs.Tickers.{AreTickers}
 use Rattle.wire_records.specs.CommandRecords.{IsCommand, HasShortRow}
+use Rattle.wire_records.specs.Versions.{IsOfVersion}
 use Rattle.order_text.specs.declared.line.LineRead.{LineRead}
 use Rattle.order_text.specs.declared.line.LineFault.{LineFault}
-use Rattle.order_text.specs.Lines.{LineAsks, Says}
+use Rattle.order_text.specs.Lines.{LineAsks, Leave, Says}
 use Rattle.order_text.specs.Answers.{IsRead, wants_memory}
 
--- a line says at most one command, and there is one table after it
+-- a line says at most one list of commands, and there is one table after it
 abbrev pub OneSaying : Type 0
 OneSaying =
-    (version : Version) (tickers : List (List ℕ)) (line : List ℕ) (a b : Command) (after other : List (List ℕ)) → Says version tickers line a after → Says version tickers line b other
+    (version : Version) (tickers : List (List ℕ)) (line : List ℕ) (a b : List Command) (after other : List (List ℕ)) → Says version tickers line a after → Says version tickers line b other
     → (a ≡ b) × (after ≡ other)
 
--- a command that a line asks for has a row, if it has one, that fits its record
-abbrev pub RowIsShort : Type 0
-RowIsShort =
-    (version : Version) (tickers : List (List ℕ)) (line : List ℕ) (command : Command) → AreTickers tickers → LineAsks version tickers line command → HasShortRow command
+-- the commands that a line asks for have rows, where they have one, that fit their records
+abbrev pub RowsAreShort : Type 0
+RowsAreShort =
+    (version : Version) (tickers : List (List ℕ)) (line : List ℕ) (commands : List Command) → AreTickers tickers → LineAsks version tickers line commands → All HasShortRow commands
 
--- a command that a line asks for has fields within their widths
-abbrev pub CommandFits : Type 0
-CommandFits =
-    (version : Version) (tickers : List (List ℕ)) (line : List ℕ) (command : Command) → AreTickers tickers → LineAsks version tickers line command → IsCommand command
+-- the commands that a line asks for have fields within their widths, and are of the version
+abbrev pub CommandsFit : Type 0
+CommandsFit =
+    (version : Version) (tickers : List (List ℕ)) (line : List ℕ) (commands : List Command) → AreTickers tickers → LineAsks version tickers line commands
+    → All IsCommand commands × All (IsOfVersion version) commands
+
+-- commands leave one table of tickers
+abbrev pub OneTable : Type 0
+OneTable = (tickers : List (List ℕ)) (commands : List Command) (after other : List (List ℕ)) → Leave tickers commands after → Leave tickers commands other → after ≡ other
 
 -- but for want of memory a line has at most one answer, with one table after it
 abbrev pub OneAnswer : Type 0

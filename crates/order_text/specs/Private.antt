@@ -1,7 +1,11 @@
 -- Words that only private code uses.
-use Rattle.std.specs.Prelude.{◌≡◌, ◌≢◌, ℕ, ℤ, List, codes, Option, Some, None, Result, Ok, Err}
-use Rattle.serde_json.specs.Data.{Data}
-use Rattle.wire_records.specs.Commands.{Request, Command}
+use Rattle.std.specs.Prelude.{◌≡◌, ◌≢◌, ℕ, ◌^◌, ◌==◌, ◌&&◌, ℤ, pos, neg_ℤ, int_lt, int_le, nat_lt, if◌then◌else◌, ◌⊎◌, List, [], ◌∷◌, ◌++◌, length, drop, codes, Option, Some, None, option_map, option_and_then, Result, Ok, Err}
+use Rattle.std.specs.List.{AllByRecursion}
+use Rattle.weight_rows.specs.declared.entries.Entry.{Entry}
+use Rattle.serde_json.specs.Data.{Data, Members, no_members, member}
+use Rattle.serde_json.specs.Find.{get, as_str, as_object}
+use Rattle.ticker_table.specs.Adding.{IsAddable}
+use Rattle.wire_records.specs.Commands.{Request, Command, AddAsset, OpenAccount, DepositMoney, DepositAsset, WithdrawMoney, WithdrawAsset, PlaceOrder, CancelOrder, RunBatch, PlaceUntil, SetMoneyCredit, SetUnitCredit}
 use Rattle.wire_records.specs.CommandRecords.{HasShortRow}
 use Rattle.wire_records.specs.Versions.{IsOfVersion}
 use Rattle.wire_records.specs.Views.{command_in}
@@ -10,11 +14,55 @@ use Rattle.wire_records.specs.declared.version.Version.{Version}
 use Rattle.wire_records.specs.declared.version.Version.TheVariants.{One, Two}
 use Rattle.order_text.specs.declared.line.LineFault.{LineFault}
 use Rattle.order_text.specs.declared.line.LineFault.TheVariants.{NoCommand, Memory}
-use Rattle.order_text.specs.Lines.{small_at, number_at, signed_at, asset_at, HasRequest, HasFields, HasKeys, keys_of, word_of, Asks}
+use Rattle.order_text.specs.Lines.{HasKeys, whole_of, signed_of, asset_named, Value, Asset, Small, Number, Signed, HasAt, order_members, members_of, Asks}
 
--- an object has the fields of a command and no further keys
+-- the text at a key
+abbrev pub text_at : List ℕ → Data → Option (List ℕ)
+text_at key d = option_and_then as_str (get key d)
+
+-- the whole number at a key, 0 or more
+abbrev pub number_at : List ℕ → Data → Option ℕ
+number_at key d = option_and_then whole_of (get key d)
+
+-- the whole number at a key, negative or not
+abbrev pub signed_at : List ℕ → Data → Option ℤ
+signed_at key d = option_and_then signed_of (get key d)
+
+-- the members of the object at a key
+abbrev pub members_at : List ℕ → Data → Option Members
+members_at key d = option_and_then as_object (get key d)
+
+-- the tickers after a ticker: with it, where it can be added
+abbrev pub AreWith : List (List ℕ) → List ℕ → List (List ℕ) → Type 0
+AreWith tickers ticker after =
+    (IsAddable tickers ticker × (after ≡ tickers ++ ticker ∷ [])) ⊎ ((¬ IsAddable tickers ticker) × (after ≡ tickers))
+
+-- the word that stands at `do`
+abbrev pub word_of : Command → List ℕ
+word_of (AddAsset ticker) = codes "asset"
+word_of OpenAccount = codes "account"
+word_of (DepositMoney account ticks) = codes "deposit"
+word_of (DepositAsset account asset units) = codes "deposit"
+word_of (WithdrawMoney account ticks) = codes "withdraw"
+word_of (WithdrawAsset account asset units) = codes "withdraw"
+word_of (PlaceOrder request) = codes "place"
+word_of (CancelOrder account order) = codes "cancel"
+word_of (RunBatch budget) = codes "batch"
+word_of (PlaceUntil last request) = codes "place"
+word_of (SetMoneyCredit account ticks) = codes "credit"
+word_of (SetUnitCredit account asset units) = codes "credit"
+
+-- an object has these members
+abbrev pub Has : List (List ℕ) → Data → List (List ℕ × Value) → Type 0
+Has tickers d members = AllByRecursion (λ m. HasAt tickers d m.0 m.1) members
+
+-- an object has the members of an order, besides `do`
+abbrev pub HasOrder : List (List ℕ) → Data → Request → Type 0
+HasOrder tickers d request = Has tickers d (order_members request)
+
+-- an object has the members of a command, besides `do`, and no further keys
 abbrev pub Fits : List (List ℕ) → Data → Command → Type 0
-Fits tickers d command = HasFields tickers d command × HasKeys (keys_of command) d
+Fits tickers d command = Has tickers d (drop 1 (members_of command)) × HasKeys (length (members_of command)) d
 
 -- the command of this word, of a version, that an object asks for, if it asks for one
 abbrev pub IsFound : List ℕ → Version → List (List ℕ) → Data → Option owned.Command → Type 0
@@ -31,14 +79,14 @@ IsPlain version tickers d None = (command : Command) → word_of command ≢ cod
 abbrev pub IsOrder : List (List ℕ) → Data → Result owned.Command LineFault → Type 0
 IsOrder tickers d (Ok command) =
     (word_of (command_in command) ≡ codes "place") × Fits tickers d (command_in command) × IsOfVersion One (command_in command) × HasShortRow (command_in command)
-IsOrder tickers d (Err NoCommand) = (request : Request) → HasRequest tickers d request → ¬ HasKeys 7 d
+IsOrder tickers d (Err NoCommand) = (request : Request) → HasOrder tickers d request → ¬ HasKeys 7 d
 IsOrder tickers d (Err Memory) = Unit {0}
 
 -- the order with a last batch that an object asks for
 abbrev pub IsUntil : List (List ℕ) → Data → Result owned.Command LineFault → Type 0
 IsUntil tickers d (Ok command) =
     (word_of (command_in command) ≡ codes "place") × Fits tickers d (command_in command) × IsOfVersion Two (command_in command) × HasShortRow (command_in command)
-IsUntil tickers d (Err NoCommand) = (last : ℕ) (request : Request) → small_at (codes "last") d ≡ Some last → HasRequest tickers d request → ¬ HasKeys 8 d
+IsUntil tickers d (Err NoCommand) = (last : ℕ) (request : Request) → HasAt tickers d (codes "last") (Small last) → HasOrder tickers d request → ¬ HasKeys 8 d
 IsUntil tickers d (Err Memory) = Unit {0}
 
 -- the order that an object asks for
@@ -54,23 +102,43 @@ IsAnswered version tickers d (Ok command) = Asks version tickers d (command_in c
 IsAnswered version tickers d (Err NoCommand) = (command : Command) → ¬ Asks version tickers d command
 IsAnswered version tickers d (Err Memory) = Unit {0}
 
--- an object with an account and ticks beside `do`, and no further keys
-pub record HasMoney (d : Data) (account ticks : ℕ) : Type 0 where
-  pub account_at : small_at (codes "account") d ≡ Some account
-  pub ticks_at : number_at (codes "ticks") d ≡ Some ticks
-  pub keys : HasKeys 3 d
+-- an object with an account and ticks besides `do`, and no further keys
+abbrev pub HasMoney : Data → ℕ → ℕ → Type 0
+HasMoney d account ticks = HasAt [] d (codes "account") (Small account) × HasAt [] d (codes "ticks") (Number ticks) × HasKeys 3 d
 
 -- the same with an asset and units
-pub record HasUnits (tickers : List (List ℕ)) (d : Data) (account asset units : ℕ) : Type 0 where
-  pub account_at : small_at (codes "account") d ≡ Some account
-  pub asset_is : asset_at tickers (codes "asset") d ≡ Some asset
-  pub units_at : number_at (codes "units") d ≡ Some units
-  pub keys : HasKeys 4 d
+abbrev pub HasUnits : List (List ℕ) → Data → ℕ → ℕ → ℕ → Type 0
+HasUnits tickers d account asset units =
+    HasAt tickers d (codes "account") (Small account) × HasAt tickers d (codes "asset") (Asset asset) × HasAt tickers d (codes "units") (Number units) × HasKeys 4 d
 
--- an object with what an order has beside its row
-pub record HasLimits (d : Data) (account : ℕ) (low high : ℤ) (rate cap : ℕ) : Type 0 where
-  pub account_at : small_at (codes "account") d ≡ Some account
-  pub low_at : signed_at (codes "low") d ≡ Some low
-  pub high_at : signed_at (codes "high") d ≡ Some high
-  pub rate_at : small_at (codes "rate") d ≡ Some rate
-  pub cap_at : number_at (codes "cap") d ≡ Some cap
+-- an object with what an order has besides its row
+abbrev pub HasLimits : Data → ℕ → ℤ → ℤ → ℕ → ℕ → Type 0
+HasLimits d account low high rate cap =
+    HasAt [] d (codes "account") (Small account) × HasAt [] d (codes "low") (Signed low) × HasAt [] d (codes "high") (Signed high) × HasAt [] d (codes "rate") (Small rate) × HasAt [] d (codes "cap") (Number cap)
+
+-- ---- the row of an object of weights, one member after the other
+
+-- a signed number of 32 bits, if it is one
+abbrev pub in_signed_32_bits : ℤ → Option ℤ
+in_signed_32_bits z = if int_le (neg_ℤ (pos (2 ^ 31))) z && int_lt z (pos (2 ^ 31)) then Some z else None
+
+-- the weight that a value is
+abbrev pub weight_of : Data → Option ℤ
+weight_of d = option_and_then in_signed_32_bits (signed_of d)
+
+-- the entry that a member is
+abbrev pub entry_of : List (List ℕ) → List ℕ → Data → Option Entry
+entry_of tickers key d =
+    option_and_then (λ asset. option_map (λ weight. record { asset = asset; weight = weight }) (weight_of d)) (asset_named tickers key)
+
+-- entries in ascending asset number with one more at its place, where its asset isn't there yet
+abbrev pub put_entry : Entry → List Entry → Option (List Entry)
+put_entry e [] = Some (e ∷ [])
+put_entry e (first ∷ row) =
+    if e.asset == first.asset then None else (if nat_lt e.asset first.asset then Some (e ∷ first ∷ row) else option_map (λ more. first ∷ more) (put_entry e row))
+
+-- entries in ascending asset number with one more for each member, where no two of them name one asset
+abbrev pub put_members : List (List ℕ) → Members → List Entry → Option (List Entry)
+put_members tickers no_members row = Some row
+put_members tickers (member key value members) row =
+    option_and_then (λ more. put_members tickers members more) (option_and_then (λ e. put_entry e row) (entry_of tickers key value))

@@ -2,7 +2,8 @@
 ghost use Rattle.std.specs.Prelude.{◌≡◌, ◌≤◌, ℕ, ℤ, length, List, codes, Some, None, IfSome, IfNone, IfOk, IsErrOf, option_and_then};
 ghost use Rattle.serde_json.specs.View.{view};
 ghost use Rattle.ticker_table.specs.Tickers.{ticker_limit};
-ghost use Rattle.order_text.specs.Lines.{HasKeys, small_at, number_at, signed_at, asset_at, row_at};
+ghost use Rattle.weight_rows.specs.declared.entries.Entry.{Entry};
+ghost use Rattle.order_text.specs.Lines.{Weights, HasAt};
 ghost use Rattle.order_text.specs.Private.{IsFound, IsPlain, IsOrder, IsUntil, IsPlaced, IsAnswered, HasMoney, HasUnits, HasLimits};
 
 use crate::LineFault;
@@ -139,9 +140,10 @@ fn limits_of(value: &Value) -> Option<Limits>
 }
 
 fn row_at(alloc: Global, tickers: &TickerTable, value: &Value) -> Result<EntryList, LineFault>
-    ensures row { IfOk result (λ row. row_at tickers.now (codes "weights") (view value.now) ≡ Some row) }
+    ensures row { IfOk result (λ row. HasAt tickers.now (view value.now) (codes "weights") (Weights row)) }
     ensures short { IfOk result (λ row. length row ≤ ticker_limit) }
-    ensures none { IsErrOf result LineFault.NoCommand → row_at tickers.now (codes "weights") (view value.now) ≡ None }
+    ensures none { IsErrOf result LineFault.NoCommand
+        → (row : List Entry) → ¬ HasAt tickers.now (view value.now) (codes "weights") (Weights row) }
 {
     match value.get("weights").and_then(Value::as_object) {
         Some(members) => row_of(alloc, tickers, members),

@@ -1,7 +1,8 @@
 //! What stands at the keys of an object.
-ghost use Rattle.std.specs.Prelude.{◌≡◌, ◌↔◌, codes, Some, IsTrue, IfSome, IfNone, option_map, ℕ, List};
+ghost use Rattle.std.specs.Prelude.{◌≡◌, ◌↔◌, codes, Some, IsTrue, IfSome, IfNone, option_map, ℕ, ℤ, List, []};
 ghost use Rattle.serde_json.specs.View.{view};
-ghost use Rattle.order_text.specs.Lines.{HasKeys, text_at, number_at, small_at, signed_at, padded, asset_named, asset_at, HasTicker};
+ghost use Rattle.order_text.specs.Lines.{HasKeys, padded, asset_named, Ticker, Asset, Small, Number, Signed, HasAt};
+ghost use Rattle.order_text.specs.Private.{text_at};
 
 use serde_json::Value;
 use ticker_table::TickerTable;
@@ -35,13 +36,15 @@ pub(crate) fn has_keys(value: &Value, count: usize) -> bool
 }
 
 pub(crate) fn number_at(value: &Value, key: &str) -> Option<u64>
-    ensures { result ≡ number_at key.now (view value.now) }
+    ensures some { IfSome result (λ number. HasAt [] (view value.now) key.now (Number number)) }
+    ensures none { IfNone result ((number : ℕ) → ¬ HasAt [] (view value.now) key.now (Number number)) }
 {
     value.get(key)?.as_u64()
 }
 
 pub(crate) fn small_at(value: &Value, key: &str) -> Option<u32>
-    ensures { result ≡ small_at key.now (view value.now) }
+    ensures some { IfSome result (λ number. HasAt [] (view value.now) key.now (Small number)) }
+    ensures none { IfNone result ((number : ℕ) → ¬ HasAt [] (view value.now) key.now (Small number)) }
 {
     let number = number_at(value, key)?;
     if number > u32::MAX as u64 {
@@ -51,7 +54,8 @@ pub(crate) fn small_at(value: &Value, key: &str) -> Option<u32>
 }
 
 pub(crate) fn signed_at(value: &Value, key: &str) -> Option<i64>
-    ensures { result ≡ signed_at key.now (view value.now) }
+    ensures some { IfSome result (λ number. HasAt [] (view value.now) key.now (Signed number)) }
+    ensures none { IfNone result ((number : ℤ) → ¬ HasAt [] (view value.now) key.now (Signed number)) }
 {
     value.get(key)?.as_i64()
 }
@@ -76,14 +80,15 @@ pub(crate) fn asset_named(tickers: &TickerTable, text: &str) -> Option<u16>
 }
 
 pub(crate) fn asset_at(tickers: &TickerTable, value: &Value, key: &str) -> Option<u16>
-    ensures { result ≡ asset_at tickers.now key.now (view value.now) }
+    ensures some { IfSome result (λ asset. HasAt tickers.now (view value.now) key.now (Asset asset)) }
+    ensures none { IfNone result ((asset : ℕ) → ¬ HasAt tickers.now (view value.now) key.now (Asset asset)) }
 {
     asset_named(tickers, text_at(value, key)?)
 }
 
 pub(crate) fn ticker_at(value: &Value, key: &str) -> Option<[u8; 8]>
-    ensures some { IfSome result (λ ticker. HasTicker key.now (view value.now) ticker) }
-    ensures none { IfNone result ((ticker : List ℕ) → ¬ HasTicker key.now (view value.now) ticker) }
+    ensures some { IfSome result (λ ticker. HasAt [] (view value.now) key.now (Ticker ticker)) }
+    ensures none { IfNone result ((ticker : List ℕ) → ¬ HasAt [] (view value.now) key.now (Ticker ticker)) }
 {
     let text = text_at(value, key)?;
     if !text.is_ascii() {

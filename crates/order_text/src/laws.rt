@@ -1,19 +1,24 @@
 //! What holds of lines. Each law is the contract of a function that does nothing.
-ghost use Rattle.order_text.specs.Laws.{OneSaying, RowIsShort, CommandFits, OneAnswer, NoneIsUnanswered};
+ghost use Rattle.order_text.specs.Laws.{OneSaying, OneTable, RowsAreShort, CommandsFit, OneAnswer, NoneIsUnanswered};
 
-/// A line says at most one command, and there is one table after it.
+/// A line says at most one list of commands, and there is one table after it.
 pub fn one_saying()
     ensures { OneSaying }
 {}
 
-/// The row of a command that a line asks for is within what a record holds.
-pub fn row_is_short()
-    ensures { RowIsShort }
+/// Commands leave one table of tickers.
+pub fn one_table()
+    ensures { OneTable }
 {}
 
-/// The fields of a command that a line asks for are within the widths of its record.
-pub fn command_fits()
-    ensures { CommandFits }
+/// The row of each command that a line asks for is within what a record holds.
+pub fn rows_are_short()
+    ensures { RowsAreShort }
+{}
+
+/// The fields of each command that a line asks for are within the widths of its record, and the version has the command.
+pub fn commands_fit()
+    ensures { CommandsFit }
 {}
 
 /// But for want of memory a line has at most one answer, with one table after it.

@@ -4,7 +4,8 @@ ghost use Rattle.serde_json.specs.View.{view};
 ghost use Rattle.serde_json.specs.Read.{read};
 ghost use Rattle.ticker_table.specs.Tickers.{AreTickers};
 ghost use Rattle.wire_records.specs.Views.{command_in};
-ghost use Rattle.order_text.specs.Lines.{IsBlank, AreWith, AreAfter};
+ghost use Rattle.order_text.specs.Lines.{IsBlank, Leaves};
+ghost use Rattle.order_text.specs.Private.{AreWith};
 ghost use Rattle.order_text.specs.Answers.{IsRead, IsShort};
 
 use crate::asking::command_of;
@@ -74,7 +75,7 @@ fn add(tickers: &mut TickerTable, ticker: [u8; 8]) -> Result<(), LineFault>
 
 // The tickers after a line that asks for this command.
 fn add_ticker(tickers: &mut TickerTable, command: &Command) -> Result<(), LineFault>
-    ensures after { OnOk result (AreAfter tickers.old (command_in command.now) tickers.new) }
+    ensures after { OnOk result (Leaves tickers.old (command_in command.now) tickers.new) }
     ensures stays { OnErr result (tickers.new ≡ tickers.old) }
     ensures fault { ¬ IsErrOf result LineFault.NoCommand }
 {

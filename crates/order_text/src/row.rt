@@ -1,10 +1,10 @@
-//! The row that an object of weights asks for.
+//! The row that an object of weights is.
 ghost use Rattle.std.specs.Prelude.{◌≡◌, ◌≤◌, length, option_map, option_and_then, Some, None, [], IfOk, IfSome, IsErrOf};
 ghost use Rattle.std.specs.List.{insert};
 ghost use Rattle.weight_rows.specs.declared.entries.Entry.{Entry};
 ghost use Rattle.serde_json.specs.View.{view, members_view};
 ghost use Rattle.ticker_table.specs.Tickers.{ticker_limit};
-ghost use Rattle.order_text.specs.Lines.{weight_of, entry_of, put_entry, put_members};
+ghost use Rattle.order_text.specs.Private.{weight_of, entry_of, put_entry, put_members};
 
 use crate::LineFault;
 use crate::fields::asset_named;
@@ -83,7 +83,7 @@ fn put_member(
     }
 }
 
-/// The row that the members ask for, in ascending asset number.
+/// The row that the members are, in ascending asset number.
 pub(crate) fn row_of(
     alloc: Global,
     tickers: &TickerTable,

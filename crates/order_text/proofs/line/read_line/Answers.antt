@@ -1,4 +1,4 @@
-use Rattle.std.proofs.Common.{sym, ◌∙◌}
+use Rattle.std.proofs.Common.{refl, sym, ◌∙◌}
 use Rattle.std.proofs.lemmas.Bool.{false≢true}
 use Rattle.order_text.proofs.line.read_line.Goals as goal
 
@@ -11,7 +11,7 @@ returns-clause-read c =
         utf8 = value.0;
         value = _;
         reads = value.1;
-        asks = c.in_ok-command.ensures.0;
+        asks = (_, c.in_ok-command.ensures.0, refl);
       };
-      leaves = c.in_ok-add_ticker.ensures.after;
+      leaves = (_, c.in_ok-add_ticker.ensures.after, refl);
     }

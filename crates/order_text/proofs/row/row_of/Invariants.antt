@@ -1,6 +1,6 @@
 use Rattle.std.proofs.Common.{◌≡◌, []}
 use Rattle.serde_json.specs.View.{members_view}
-use Rattle.order_text.specs.Lines.{put_members}
+use Rattle.order_text.specs.Private.{put_members}
 use Rattle.order_text.proofs.row.row_of.Given as goal
 
 abbrev pub invariant-loop-key : goal.invariant-loop-key
