@@ -4,11 +4,5 @@ pub mod FileOf
 pub mod Words
 pub mod Pace
 pub mod JournalForms
-pub mod AuditLaws
-pub mod RunsAudited
 pub mod EncodeForm
-pub mod EncodeLaws
-pub mod SomeOutcome
-pub mod TickersAgree
-pub mod Fronts
 pub mod Dispatch

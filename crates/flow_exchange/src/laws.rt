@@ -1,7 +1,7 @@
-//! What holds of the program's words and outcomes, whatever code there is. Each law is the contract of a function that
-//! does nothing.
+//! What holds of the program's words and outcomes, whatever code there is, where its own promise rests on it. Each law is the
+//! contract of a function that does nothing. What else holds stands in the crate `flow_laws`.
 ghost use Rattle.std.specs.Prelude.{◌≡◌, ◌↔◌, IsTrue};
-ghost use Rattle.flow_exchange.specs.Laws.{OneForm, OneOutcome, DoneIsForLegalJournals, RejectedIsFirstIllegal, EncodedIsRead, EncodedIsServed, RunsAreAudited, NoneIsWithoutOutcome, BegunIsAFront, TickersAgree};
+ghost use Rattle.flow_exchange.specs.Laws.{OneForm, OneOutcome};
 
 use crate::Status;
 
@@ -13,51 +13,6 @@ pub fn one_form()
 /// For each form the bytes of the source determine one status, and one text for out.
 pub fn one_outcome()
     ensures { OneOutcome }
-{}
-
-/// `audit` is done exactly for the spelling of a legal journal with nothing past the limit, whoever wrote it, and the line that
-/// it writes counts the journal's pairs, and the batches that cleared and that were skipped.
-pub fn done_is_for_legal_journals()
-    ensures { DoneIsForLegalJournals }
-{}
-
-/// `audit` rejects a pair exactly where it is the first that isn't legal, by its number, counted from 1.
-pub fn rejected_is_first_illegal()
-    ensures { RejectedIsFirstIllegal }
-{}
-
-/// What `encode` makes of lines, up to the first that is no command, is a command file. It is read to its end as the records of
-/// the commands that the lines ask for, and each of these records as its command.
-pub fn encoded_is_read()
-    ensures { EncodedIsRead }
-{}
-
-/// `run` of what `encode` makes of lines is done, and writes the journal that holds each command of the lines with its one
-/// reply.
-pub fn encoded_is_served()
-    ensures { EncodedIsServed }
-{}
-
-/// What `run` writes of a command file is a legal journal: `audit` of it is done, where it is within the limit of the audit, which is
-/// below 2^64. So it is of what stands in out after a fault of the source, or where memory ran out.
-pub fn runs_are_audited()
-    ensures { RunsAreAudited }
-{}
-
-/// The tickers by which lines name assets are those of the market that `run` of their command file leads to.
-pub fn tickers_agree()
-    ensures { TickersAgree }
-{}
-
-/// For each form no bytes are without a status and a text.
-pub fn none_is_without_outcome()
-    ensures { NoneIsWithoutOutcome }
-{}
-
-/// What stands in out after a fault, up to a whole unit, or where memory ran out, is a front of the text that the bytes
-/// determine.
-pub fn begun_is_a_front()
-    ensures { BegunIsAFront }
 {}
 
 /// Two statuses are equal in a test exactly where they are the same.

@@ -25,8 +25,8 @@ use Rattle.flow_exchange.specs.Statuses.{reading_status}
 use Rattle.flow_exchange.specs.Running.{WritesOf}
 use Rattle.flow_exchange.specs.Auditing.{legal_line}
 use Rattle.flow_exchange.specs.Program.{ComesTo, GetsTo, LacksAt}
-use Rattle.flow_exchange.specs.Laws.{RunsAreAudited}
-use Rattle.flow_exchange.proofs.AuditLaws.{done_is_for_legal}
+use Rattle.flow_laws.specs.Laws.{RunsAreAudited}
+use Rattle.flow_laws.proofs.AuditLaws.{done_is_for_legal}
 
 -- a pair takes ten bytes at least
 pair_long : (pair : Pair Record Outcome) → 10 ≤ length (pair_spelling pair)

@@ -22,7 +22,7 @@ use Rattle.flow_exchange.specs.declared.status.Status.{Status}
 use Rattle.flow_exchange.specs.declared.status.Status.TheVariants as answer
 use Rattle.flow_exchange.specs.Statuses.{reading_status}
 use Rattle.flow_exchange.specs.Running.{WritesOf, RunsTo}
-use Rattle.flow_exchange.specs.Laws.{EncodedIsRead, EncodedIsServed}
+use Rattle.flow_laws.specs.Laws.{EncodedIsRead, EncodedIsServed}
 
 -- commands that fit, with short rows, have records within the limit
 all_within : (cs : List Command) → All IsCommand cs → All HasShortRow cs → All (IsRecord most_body) (map record_of cs)

@@ -35,7 +35,7 @@ use Rattle.flow_exchange.specs.declared.form.Form.TheVariants.{Run, Audit, Repor
 use Rattle.flow_exchange.specs.declared.status.Status.{Status}
 use Rattle.flow_exchange.specs.Running.{WritesOf, RunsTo, RunsInto, RunsShort}
 use Rattle.flow_exchange.specs.Reporting.{AreReported, ReportsTo, ReportsInto, ReportsShort}
-use Rattle.flow_exchange.specs.Laws.{BegunIsAFront}
+use Rattle.flow_laws.specs.Laws.{BegunIsAFront}
 
 -- a text begins with another
 abbrev Begins : List ℕ → List ℕ → Type 0

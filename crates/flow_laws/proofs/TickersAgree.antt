@@ -21,7 +21,7 @@ use Rattle.order_text.specs.Lines.{Leaves, Leave}
 use Rattle.order_text.proofs.OneAnswers.{one_table}
 use Rattle.line_records.proofs.Saying.{lines_leave}
 use Rattle.line_records.proofs.Fitting.{commands_fit}
-use Rattle.flow_exchange.specs.Laws.{TickersAgree}
+use Rattle.flow_laws.specs.Laws.{TickersAgree}
 
 -- a ticker that is refused can't be added
 not_addable : (m : Market) (ticker : List ℕ) (first : Refusal) → FirstRefusal m (AddAsset ticker) (Some first) → IsAddable m.tickers ticker → ⊥

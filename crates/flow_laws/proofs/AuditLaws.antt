@@ -19,7 +19,7 @@ use Rattle.journal_replay.proofs.Judged.{read_more}
 use Rattle.journal_replay.proofs.LawProofs.{audits_to_end}
 use Rattle.flow_exchange.specs.declared.status.Status.TheVariants as answer
 use Rattle.flow_exchange.specs.Auditing.{legal_line, audit_status, AuditsFile}
-use Rattle.flow_exchange.specs.Laws.{DoneIsForLegalJournals, HasFirstIllegal, RejectedIsFirstIllegal}
+use Rattle.flow_laws.specs.Laws.{DoneIsForLegalJournals, HasFirstIllegal, RejectedIsFirstIllegal}
 use Rattle.flow_exchange.proofs.FileOf.{file_of}
 
 -- a status that is done leaves no pair, and comes of the end

@@ -15,7 +15,7 @@ use Rattle.flow_exchange.specs.declared.status.Status.{Status}
 use Rattle.flow_exchange.specs.Statuses.{ended_status, bad_text}
 use Rattle.flow_exchange.specs.Private.{no_reason, rejected}
 use Rattle.flow_exchange.specs.Program.{ComesTo}
-use Rattle.flow_exchange.specs.Laws.{NoneIsWithoutOutcome}
+use Rattle.flow_laws.specs.Laws.{NoneIsWithoutOutcome}
 use Rattle.flow_exchange.proofs.Words.{IsForm}
 use Rattle.flow_exchange.proofs.RunWord.{run_form, start}
 use Rattle.flow_exchange.proofs.EncodeForm.{encode_form}

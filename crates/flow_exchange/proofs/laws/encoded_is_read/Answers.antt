@@ -1,5 +1,0 @@
-use Rattle.flow_exchange.proofs.EncodeLaws.{encoded_is_read}
-use Rattle.flow_exchange.proofs.laws.encoded_is_read.Goals as goal
-
-pub returns : goal.returns
-returns c = encoded_is_read

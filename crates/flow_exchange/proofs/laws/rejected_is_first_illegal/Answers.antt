@@ -1,5 +1,0 @@
-use Rattle.flow_exchange.proofs.AuditLaws.{rejected_is_first}
-use Rattle.flow_exchange.proofs.laws.rejected_is_first_illegal.Goals as goal
-
-pub returns : goal.returns
-returns c = rejected_is_first

@@ -1,0 +1,6 @@
+mod AuditLaws
+mod EncodeLaws
+mod TickersAgree
+mod RunsAudited
+mod SomeOutcome
+mod Fronts

@@ -1,0 +1,82 @@
+-- What holds between the program's words, and of their outcomes, whatever code there is.
+use Rattle.std.specs.Prelude.{◌≡◌, ◌≢◌, ◌⊎◌, ◌<◌, ◌≤◌, ◌+◌, ◌^◌, ◌↔◌, ℕ, List, [], ◌++◌, length, take, map, All, Ok}
+use Rattle.wire_records.specs.Records.{Record}
+use Rattle.wire_records.specs.Commands.{Pair}
+use Rattle.wire_records.specs.CommandRecords.{record_of}
+use Rattle.wire_records.specs.Versions.{IsReadAs}
+use Rattle.wire_records.specs.Reading.{Reads, File, End}
+use Rattle.wire_records.specs.declared.version.Version.{Version}
+use Rattle.wire_records.specs.Formats.{commands}
+use Rattle.flow_orders.specs.Outcomes.{Outcome}
+use Rattle.journal_records.specs.Formats.{journals, journal_in}
+use Rattle.market_core.specs.Market.{Market}
+use Rattle.batch_audit.specs.Legal.{IsLegalJournal, IsIllegalPair}
+use Rattle.word_driver.specs.Ended.{Ended}
+use Rattle.line_records.specs.Encoding.{EncodesTo}
+use Rattle.exchange_session.specs.Journals.{Journals}
+use Rattle.flow_exchange.specs.declared.form.Form.{Form}
+use Rattle.flow_exchange.specs.declared.form.Form.TheVariants.{Run, Audit}
+use Rattle.flow_exchange.specs.declared.status.Status.{Status}
+use Rattle.flow_exchange.specs.declared.status.Status.TheVariants.{Done, NotFlow, Rejected}
+use Rattle.flow_exchange.specs.Auditing.{legal_line}
+use Rattle.flow_exchange.specs.Program.{ComesTo, GetsTo, LacksAt}
+
+-- an audit is done exactly for the spelling of a legal journal of either version with nothing past the limit, and the line counts its pairs
+abbrev pub DoneIsForLegalJournals : Type 0
+DoneIsForLegalJournals = (limit : ℕ) (bytes text : List ℕ)
+    → ComesTo Audit limit bytes Done text
+    ↔ ((version : Version) × (pairs : List (Pair Record Outcome)) × (market : Market) × IsLegalJournal version pairs market × (bytes ≡ journal_in version pairs) × (length bytes ≤ limit) × (text ≡ legal_line pairs))
+
+-- The first `limit` bytes are the spelling of a legal journal, of a pair of records behind it that is no step of its market, and
+-- of some rest; the pair has this number, counted from 1.
+pub record HasFirstIllegal (limit : ℕ) (bytes : List ℕ) (number : ℕ) : Type 0 where
+  pub version : Version
+  pub pairs : List (Pair Record Outcome)
+  pub market : Market
+  pub bad : Record × Record
+  pub rest : List ℕ
+  pub legal : IsLegalJournal version pairs market
+  pub whole : take limit bytes ≡ journal_in version pairs ++ (journals.units.spell bad ++ rest)
+  pub lawful : journals.units.IsLawful bad
+  pub illegal : IsIllegalPair market bad
+  pub counted : number ≡ length pairs + 1
+
+-- an audit rejects a pair exactly where it is the first that isn't legal
+abbrev pub RejectedIsFirstIllegal : Type 0
+RejectedIsFirstIllegal = (limit number : ℕ) (bytes text : List ℕ)
+    → ComesTo Audit limit bytes (Rejected number) text ↔ (HasFirstIllegal limit bytes number × (text ≡ []))
+
+-- what is encoded is a command file of the version, which is read to its end as the records of the commands that the lines ask for, and each
+-- of these records as its command
+abbrev pub EncodedIsRead : Type 0
+EncodedIsRead = (version : Version) (limit most : ℕ) (bytes text : List ℕ) (ended : Ended ℕ) (encoded : EncodesTo version limit bytes ended text) → length text ≤ most
+    → Reads commands most text (File version (map record_of encoded.commands) End) × All (λ command. IsReadAs version (record_of command) (Ok command)) encoded.commands
+
+-- and a run of it is done, and writes the journal of these records, each with its reply
+abbrev pub EncodedIsServed : Type 0
+EncodedIsServed = (version : Version) (limit most : ℕ) (bytes text journal : List ℕ) (ended : Ended ℕ) (ran : Status) (encoded : EncodesTo version limit bytes ended text) → length text ≤ most
+    → ComesTo Run most text ran journal → (ran ≡ Done) × (market : Market) × Journals version (map record_of encoded.commands) market journal
+
+-- What a run writes is a legal journal, and an audit of it is done: of the whole text, and of what stands in out where it was cut short
+-- behind a whole pair.
+pub record RunsAreAudited : Type 0 where
+  pub journal : (most : ℕ) (version : Version) (records : List Record) (market : Market) (text : List ℕ) (writes : Journals version records market text)
+      → most < 2 ^ 64 → length text ≤ most → IsLegalJournal version writes.pairs market × ComesTo Audit most text Done (legal_line writes.pairs)
+  pub done : (limit most : ℕ) (bytes text : List ℕ) (status : Status) → ComesTo Run limit bytes status text → status ≢ NotFlow
+      → most < 2 ^ 64 → length text ≤ most → (line : List ℕ) × ComesTo Audit most text Done line
+  pub begun : (limit most : ℕ) (bytes text : List ℕ) → GetsTo Run limit bytes text ⊎ LacksAt Run limit bytes text
+      → most < 2 ^ 64 → length text ≤ most → (line : List ℕ) × ComesTo Audit most text Done line
+
+-- no bytes are without an outcome, whatever the form
+abbrev pub NoneIsWithoutOutcome : Type 0
+NoneIsWithoutOutcome = (form : Form) (limit : ℕ) (bytes : List ℕ) → ¬ ((status : Status) (text : List ℕ) → ¬ ComesTo form limit bytes status text)
+
+-- what may stand in out while a form is at work, or where memory ran out, is a front of the text that the bytes determine
+abbrev pub BegunIsAFront : Type 0
+BegunIsAFront = (form : Form) (limit : ℕ) (bytes : List ℕ) (status : Status) (text begun : List ℕ)
+    → ComesTo form limit bytes status text → GetsTo form limit bytes begun ⊎ LacksAt form limit bytes begun → (rest : List ℕ) × (text ≡ begun ++ rest)
+
+-- the tickers by which lines name assets are those of the market that a run of their file leads to
+abbrev pub TickersAgree : Type 0
+TickersAgree = (version : Version) (limit : ℕ) (bytes text journal : List ℕ) (ended : Ended ℕ) (encoded : EncodesTo version limit bytes ended text) (market : Market)
+    → Journals version (map record_of encoded.commands) market journal → market.tickers ≡ encoded.reads.tickers
