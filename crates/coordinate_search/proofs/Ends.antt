@@ -21,18 +21,18 @@ pub all_sound : (orders : List Order) → All IsOrder orders → All IsSound ord
 all_sound orders each k d inside = let o = each k d inside in record { limits = o.terms; lawful = o.row }
 
 -- one of two is true
-either : (a b : Bool) → (a || b) ≡ true → (a ≡ true) ⊎ (b ≡ true)
+pub either : (a b : Bool) → (a || b) ≡ true → (a ≡ true) ⊎ (b ≡ true)
 either true b e = inl refl
 either false b e = inr e
 
-first_of : (a b : Bool) → a ≡ true → (a || b) ≡ true
+pub first_of : (a b : Bool) → a ≡ true → (a || b) ≡ true
 first_of a b e = ap (λ c. c || b) e
 
-second_of : (a b : Bool) → b ≡ true → (a || b) ≡ true
+pub second_of : (a b : Bool) → b ≡ true → (a || b) ≡ true
 second_of true b e = refl
 second_of false b e = e
 
-le_is : (x y : ℤ) → x ≤ℤ y → int_le x y ≡ true
+pub le_is : (x y : ℤ) → x ≤ℤ y → int_le x y ≡ true
 le_is x y h = sym (true_is_le x y (omega (arith, ints, h)))
 
 -- an asset that is above, or below, is unsettled

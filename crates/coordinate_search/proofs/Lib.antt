@@ -1,4 +1,5 @@
 pub mod Ends
+pub mod Between
 pub mod InTurn
 pub mod Lowering
 pub mod MadeAgain

@@ -11,9 +11,12 @@
 //!
 //! # Costs
 //!
-//! A move asks for the excess of its asset at most 64 times, however far it goes, and once for its steepness. Each ask
-//! is one pass over the entries of all orders. To look whether an asset is settled costs two such passes; a search looks
-//! at each asset at most once before each move. No call takes memory.
+//! The column of an asset has the orders that name it. To look whether an asset is settled costs one pass over its column,
+//! without a division; a search looks at each asset at most once before each move. A move costs such a pass, one in which
+//! its end is guessed, and one to set the price, with at most one division for each order in each of the two. Between the
+//! ends of a guess fewer and fewer orders of the column are left, and the end is found among them: it costs at most 160
+//! more passes over these, and no more asks than a halving of what is left then takes, which mostly is nothing. No call
+//! takes memory.
 #![tactic(auto)]
 
 mod moves;

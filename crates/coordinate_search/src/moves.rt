@@ -1,5 +1,5 @@
 //! The move of one asset's price.
-ghost use Rattle.std.specs.Prelude.{◌≡◌, ◌^◌, ◌<◌, ◌≤ℤ◌, ◌+ℤ◌, ◌-ℤ◌, pos, neg_ℤ, true, length, slice_set, unsigned_abs, All};
+ghost use Rattle.std.specs.Prelude.{◌≡◌, ◌^◌, ◌<◌, ◌≤◌, ◌≤ℤ◌, ◌+ℤ◌, ◌-ℤ◌, pos, neg_ℤ, true, length, slice_set, unsigned_abs, All};
 ghost use Rattle.weight_rows.specs.Rows.{IsPrice, price_of};
 ghost use Rattle.flow_orders.specs.Orders.{IsOrder};
 ghost use Rattle.flow_orders.specs.Excess.{is_above, is_below, is_unsettled, steepness};
@@ -17,8 +17,7 @@ use single_bisect::{greatest_true, least_true};
 /// longer is, else by `reach`. Where the high excess is below minus the steepness, the price falls in the same way. The
 /// other prices stay.
 ///
-/// It asks for the excess of the asset at most 64 times and once for its steepness, each in one pass over the entries of
-/// all orders, and takes no memory.
+/// It goes over the orders that name the asset, and then over ever fewer of them, and takes no memory.
 pub fn step(work: &mut Workspace<'_>, asset: u16, reach: i64)
     requires asset { asset < length work.old.prices }
     requires unsettled { is_unsettled work.old.orders work.old.prices asset ≡ true }
@@ -38,16 +37,17 @@ pub fn step(work: &mut Workspace<'_>, asset: u16, reach: i64)
 }
 
 // The price at which a move ends.
-fn end_of_move(work: &Workspace<'_>, asset: u16, reach: i64) -> i64
-    requires asset { asset < length work.now.prices }
-    requires unsettled { is_unsettled work.now.orders work.now.prices asset ≡ true }
+fn end_of_move(work: &mut Workspace<'_>, asset: u16, reach: i64) -> i64
+    requires asset { asset < length work.old.prices }
+    requires unsettled { is_unsettled work.old.orders work.old.prices asset ≡ true }
     requires some { pos 1 ≤ℤ reach }
     requires far { reach ≤ℤ pos (2 ^ 61) }
-    requires room_below { neg_ℤ (pos (2 ^ 62)) ≤ℤ (price_of work.now.prices asset -ℤ reach) }
-    requires room_above { (price_of work.now.prices asset +ℤ reach) ≤ℤ pos (2 ^ 62) }
-    ensures moved { slice_set work.now.prices asset result ≡ moved work.now.orders (unsigned_abs reach) work.now.prices asset }
+    requires room_below { neg_ℤ (pos (2 ^ 62)) ≤ℤ (price_of work.old.prices asset -ℤ reach) }
+    requires room_above { (price_of work.old.prices asset +ℤ reach) ≤ℤ pos (2 ^ 62) }
+    ensures moved { slice_set work.old.prices asset result ≡ moved work.old.orders (unsigned_abs reach) work.old.prices asset }
     ensures range { IsPrice result }
-    ensures priced { ArePriced work.now.orders work.now.prices }
+    ensures stays { work.new ≡ work.old }
+    ensures priced { ArePriced work.old.orders work.old.prices }
 {
     let price = price_in(work, asset);
     let steepness = work.steepness(asset);
@@ -68,18 +68,21 @@ fn price_in(work: &Workspace<'_>, asset: u16) -> i64
 }
 
 // The price at which a rise from a price by `reach` at most ends.
-fn end_of_rise(work: &Workspace<'_>, asset: u16, bound: i64, price: i64, reach: i64) -> i64
-    requires asset { asset < length work.now.prices }
-    requires above { is_above work.now.orders work.now.prices asset ≡ true }
-    requires bound { bound ≡ pos (steepness work.now.orders asset) }
-    requires price { price ≡ price_of work.now.prices asset }
+fn end_of_rise(work: &mut Workspace<'_>, asset: u16, bound: i64, price: i64, reach: i64) -> i64
+    requires asset { asset < length work.old.prices }
+    requires above { is_above work.old.orders work.old.prices asset ≡ true }
+    requires bound { bound ≡ pos (steepness work.old.orders asset) }
+    requires price { price ≡ price_of work.old.prices asset }
     requires range { IsPrice price }
+    requires far { reach ≤ℤ pos (2 ^ 61) }
     requires some { pos 1 ≤ℤ reach }
     requires room { (price +ℤ reach) ≤ℤ pos (2 ^ 62) }
-    requires each { All IsOrder work.now.orders }
-    ensures moved { slice_set work.now.prices asset result ≡ moved work.now.orders (unsigned_abs reach) work.now.prices asset }
+    requires each { All IsOrder work.old.orders }
+    ensures moved { slice_set work.old.prices asset result ≡ moved work.old.orders (unsigned_abs reach) work.old.prices asset }
     ensures range { IsPrice result }
+    ensures stays { work.new ≡ work.old }
 {
+    let bracket = work.narrow_rise(asset, reach.unsigned_abs());
     let last = price + reach;
     let mut rise = Rise {
         work,
@@ -89,22 +92,29 @@ fn end_of_rise(work: &Workspace<'_>, asset: u16, bound: i64, price: i64, reach: 
         last,
         asks: 0,
     };
-    least_true(&mut rise, price, last)
+    least_true(
+        &mut rise,
+        risen(price, bracket.low),
+        risen(price, bracket.high),
+    )
 }
 
 // The price at which a fall from a price by `reach` at most ends.
-fn end_of_fall(work: &Workspace<'_>, asset: u16, bound: i64, price: i64, reach: i64) -> i64
-    requires asset { asset < length work.now.prices }
-    requires below { is_below work.now.orders work.now.prices asset ≡ true }
-    requires bound { bound ≡ neg_ℤ (pos (steepness work.now.orders asset)) }
-    requires price { price ≡ price_of work.now.prices asset }
+fn end_of_fall(work: &mut Workspace<'_>, asset: u16, bound: i64, price: i64, reach: i64) -> i64
+    requires asset { asset < length work.old.prices }
+    requires below { is_below work.old.orders work.old.prices asset ≡ true }
+    requires bound { bound ≡ neg_ℤ (pos (steepness work.old.orders asset)) }
+    requires price { price ≡ price_of work.old.prices asset }
     requires range { IsPrice price }
+    requires far { reach ≤ℤ pos (2 ^ 61) }
     requires some { pos 1 ≤ℤ reach }
     requires room { neg_ℤ (pos (2 ^ 62)) ≤ℤ (price -ℤ reach) }
-    requires each { All IsOrder work.now.orders }
-    ensures moved { slice_set work.now.prices asset result ≡ moved work.now.orders (unsigned_abs reach) work.now.prices asset }
+    requires each { All IsOrder work.old.orders }
+    ensures moved { slice_set work.old.prices asset result ≡ moved work.old.orders (unsigned_abs reach) work.old.prices asset }
     ensures range { IsPrice result }
+    ensures stays { work.new ≡ work.old }
 {
+    let bracket = work.narrow_fall(asset, reach.unsigned_abs());
     let first = price - reach;
     let mut fall = Fall {
         work,
@@ -114,5 +124,27 @@ fn end_of_fall(work: &Workspace<'_>, asset: u16, bound: i64, price: i64, reach: 
         last: price,
         asks: 0,
     };
-    greatest_true(&mut fall, first, price)
+    greatest_true(
+        &mut fall,
+        fallen(price, bracket.high),
+        fallen(price, bracket.low),
+    )
+}
+
+// A price that rose by an amount.
+fn risen(price: i64, amount: u64) -> i64
+    requires range { IsPrice price }
+    requires amount { amount ≤ 2 ^ 61 }
+    ensures { result ≡ price +ℤ pos amount }
+{
+    price + amount as i64
+}
+
+// A price that fell by an amount.
+fn fallen(price: i64, amount: u64) -> i64
+    requires range { IsPrice price }
+    requires amount { amount ≤ 2 ^ 61 }
+    ensures { result ≡ price -ℤ pos amount }
+{
+    price - amount as i64
 }

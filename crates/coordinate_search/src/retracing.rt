@@ -23,8 +23,8 @@ pub enum Retraced {
 /// Each byte is the number of an asset. Its move is legal where the asset is there and isn't settled when its turn
 /// comes; the order of the assets is free.
 ///
-/// The prices are within 2^60 grains of 0 at the start, and there are at most 65,536 bytes. A byte costs two passes over
-/// the entries of all orders, and its move at most 65. No memory is taken.
+/// The prices are within 2^60 grains of 0 at the start, and there are at most 65,536 bytes. A byte costs a look and its
+/// move. No memory is taken.
 pub fn retrace(work: &mut Workspace<'_>, trace: &[u8]) -> Retraced
     requires most { length trace.now ≤ most_budget }
     requires start { All (IsWithin (2 ^ 60)) work.old.prices }

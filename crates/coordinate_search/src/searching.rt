@@ -34,8 +34,8 @@ pub enum Found {
 /// last move used up the budget.
 ///
 /// The prices are within 2^60 grains of 0 at the start, and no price moves further than 2^61 grains from there. `trace`
-/// is empty and has room for `budget` bytes. Before each move, and at the end, each asset is looked at once at most. A look
-/// costs two passes over the entries of all orders, a move at most 65. No memory is taken.
+/// is empty and has room for `budget` bytes. Before each move, and at the end, each asset is looked at once at most. No
+/// memory is taken.
 pub fn search(work: &mut Workspace<'_>, budget: u32, trace: &mut Vec<u8>) -> Found
     requires empty { trace.old.items ≡ [] }
     requires room { budget ≤ vec_capacity trace.old }

@@ -18,8 +18,7 @@ const REACH: i64 = 1 << 61;
 /// needed.
 ///
 /// The prices are within 2^60 grains of 0, as all limits of orders are, and stay so. An asset that was settled keeps its
-/// price. Each asset costs two passes over the entries of all orders, and one that isn't settled a move besides. No
-/// memory is taken.
+/// price. Each asset costs a look, and one that isn't settled a move besides. No memory is taken.
 pub fn settle_single(work: &mut Workspace<'_>)
     requires single { are_single work.old.orders ≡ true }
     requires start { All (IsWithin (2 ^ 60)) work.old.prices }

@@ -1,5 +1,5 @@
 //! The excess of assets, as prices move.
-use crate::orders::{Placed, SELLER, are_priced, are_prices, orders_of};
+use crate::orders::{BASKET, Placed, SELLER, are_priced, are_prices, orders_of};
 use excess_bounds::{Excess, Workspace};
 use flow_orders::Order;
 use std::alloc::Global;
@@ -36,6 +36,16 @@ fn bounds(workspace: &Workspace<'_>, asset: u16) -> Option<(i64, i64)> {
     Some((workspace.spread(asset), workspace.steepness(asset)))
 }
 
+// Whether the column of the asset has these places with these weights.
+fn has_column(workspace: &Workspace<'_>, asset: u16, cells: &[(u32, i32)]) -> bool {
+    usize::from(asset) < workspace.prices().len()
+        && workspace
+            .column(asset)
+            .iter()
+            .map(|cell| (cell.place, cell.weight))
+            .eq(cells.iter().copied())
+}
+
 #[test]
 fn excess_follows_the_prices(rt: HostRuntime) -> Result<(), Fail> {
     let pair: Placed<'_> = ((-5, 20), (10, 100), 0, &[(0, 2), (1, -3)]);
@@ -63,6 +73,22 @@ fn excess_follows_the_prices(rt: HostRuntime) -> Result<(), Fail> {
     for ((asset, price), (low, high), settled) in cases {
         let excess = Excess { low, high };
         assert!(rt; moved(&mut made, asset, price) == Some((excess, excess, settled)));
+    }
+    Ok(())
+}
+
+#[test]
+fn columns_have_the_orders_that_name_an_asset(rt: HostRuntime) -> Result<(), Fail> {
+    let orders = orders_of(rt.alloc(), &BASKET)?;
+    assert_eq!(rt; orders.len(), 3);
+    let made = workspace(rt.alloc(), orders.as_slice(), &[0, 0, 0]).ok_or("no workspace")?;
+    let cases: [(u16, &[(u32, i32)]); 3] = [
+        (0, &[(0, 1), (1, -1)]),
+        (1, &[(0, 1), (2, -1)]),
+        (2, &[]),
+    ];
+    for (asset, cells) in cases {
+        assert!(rt; has_column(&made, asset, cells));
     }
     Ok(())
 }

@@ -1,3 +1,9 @@
 pub mod Sums
+pub mod ColumnSums
+pub mod ColumnLaws
+pub mod Requoting
+pub mod Kept
+pub mod StepFacts
+pub mod Moves
 pub mod Settled
 pub mod ExcessLaws

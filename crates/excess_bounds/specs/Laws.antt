@@ -1,5 +1,6 @@
--- What holds of the excess of an asset as its price moves.
-use Rattle.std.specs.Prelude.{◌≡◌, ◌⊎◌, ℕ, ◌*◌, ◌<◌, ◌≤◌, ℤ, pos, neg_ℤ, ◌+ℤ◌, ◌*ℤ◌, ◌≤ℤ◌, ◌<ℤ◌, true, List, length, All, slice_set}
+-- What holds of the column of an asset, and of its excess as its price moves.
+use Rattle.std.specs.Prelude.{◌≡◌, ◌≢◌, ◌↔◌, ◌⊎◌, ℕ, ◌*◌, ◌<◌, ◌≤◌, ℤ, pos, neg_ℤ, ◌+ℤ◌, ◌*ℤ◌, ◌≤ℤ◌, ◌<ℤ◌, true, List, length, map, All, AllPairs, slice_index_or, slice_set}
+use Rattle.std.specs.List.{Contains}
 use Rattle.list_sums.specs.Sums.{int_sum_by}
 use Rattle.weight_rows.specs.Rows.{weight_in, price_of}
 use Rattle.demand_curve.specs.Demand.{scaled_demand}
@@ -7,6 +8,21 @@ use Rattle.flow_orders.specs.Orders.{Order, IsOrder, terms_of}
 use Rattle.flow_orders.specs.Excess.{price_for, low_excess, high_excess, steepness, is_unsettled}
 use Rattle.flow_orders.specs.Moves.{moved}
 use Rattle.flow_orders.specs.Duals.{share, IsCommonPart}
+use Rattle.excess_bounds.specs.declared.columns.Cell.{Cell}
+use Rattle.excess_bounds.specs.Columns.{column_of}
+
+-- the weight of an asset in the order at a place, 0 where the order doesn't name it or none stands there
+abbrev pub weight_at : List Order → ℕ → ℕ → ℤ
+weight_at orders asset place = slice_index_or (map (λ (o : Order). weight_in o.row asset) orders) place (pos 0)
+
+-- each order that names an asset has its cell, with its place and the weight, and there are no other cells; places ascend
+pub record ListsOrders (orders : List Order) (asset : ℕ) (column : List Cell) : Type 0 where
+  pub cells : (c : Cell) → Contains column c ↔ ((c.weight ≡ weight_at orders asset c.place) × (c.weight ≢ pos 0))
+  pub ascending : AllPairs (λ (c : Cell) (later : Cell). c.place < later.place) column
+
+-- the column of an asset lists the orders that name it
+abbrev pub ColumnsListOrders : Type 0
+ColumnsListOrders = (orders : List Order) (asset : ℕ) → ListsOrders orders asset (column_of orders asset)
 
 -- the true excess of an asset, in parts of 1/N of a unit: each weight times the demand, not rounded
 abbrev pub true_excess : ℕ → List Order → List ℤ → ℕ → ℤ

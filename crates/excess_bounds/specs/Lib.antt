@@ -1,3 +1,7 @@
 pub mod Workspace
+pub mod Columns
+pub mod Brackets
 pub mod Parts
+pub mod Private
+pub mod Steps
 pub mod Laws

@@ -1,5 +1,11 @@
-//! What holds of the excess of an asset as its price moves. Each law is the contract of a function that does nothing.
-ghost use Rattle.excess_bounds.specs.Laws.{ExcessIsEnclosed, GrainsMoveExcessLittle, MovesLeaveExcess};
+//! What holds of the column of an asset, and of its excess as its price moves. Each law is the contract of a function that does nothing.
+ghost use Rattle.excess_bounds.specs.Laws.{ColumnsListOrders, ExcessIsEnclosed, GrainsMoveExcessLittle, MovesLeaveExcess};
+
+/// The column of an asset has a cell for each order that names the asset, with its place and its weight, and no others;
+/// the places ascend.
+pub fn columns_list_orders()
+    ensures { ColumnsListOrders }
+{}
 
 /// The true excess of an asset, of demands that aren't rounded, lies between the low and the high excess.
 pub fn excess_is_enclosed()

@@ -2,18 +2,31 @@
 //!
 //! A [`Workspace`] answers how much of an asset the orders ask for at its prices, bought less sold, as an [`Excess`]: a
 //! lower and an upper bound in whole units. It answers the same with one price changed, and whether the asset is
-//! settled. The words are those of `flow_orders`; [`laws`] has what holds as a price moves.
+//! settled. [`Workspace::narrow_rise`] and its like tell between which two amounts, a [`Bracket`], a move of a price
+//! ends. The words are those of `flow_orders`; [`laws`] has what holds as a price moves.
 //!
 //! # Costs
 //!
-//! [`Workspace::new`] copies the prices, takes memory for them, 8 bytes each, and goes once over the orders. No other
-//! call takes memory. Each ask for an asset goes once over the entries of all orders, and divides once for each order
-//! that names the asset and whose demand isn't cut, to nothing or to the whole room. To set a price takes constant time.
+//! For each asset there is a column of the orders that name it, a [`Cell`] each, and for each order its curve, the price
+//! of its portfolio and its demand at the prices. [`Workspace::new`] takes memory for all of them: 8 bytes for each
+//! price, up to 16 for each entry of an order, and 144 for each order, of which 80 are to narrow a move down. It goes once
+//! over the entries of all orders for each asset. No other call takes memory.
+//!
+//! The excess at the prices costs one pass over the asset's column, without a division. The excess at another price of
+//! the asset costs such a pass, and for each order of the column a multiplication and at most one division. To set a price
+//! costs the same. To narrow a move down costs two such passes, and then ever shorter ones. Spread and steepness take
+//! constant time.
 #![tactic(auto)]
 
+mod columns;
 pub mod laws;
+mod narrowing;
 mod parts;
+mod slots;
+mod steps;
 mod workspace;
 
+pub use columns::Cell;
+pub use narrowing::Bracket;
 pub use parts::Excess;
 pub use workspace::{Memory, Workspace};

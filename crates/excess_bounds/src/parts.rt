@@ -1,12 +1,14 @@
 //! What orders ask for of an asset, rounded both ways.
-ghost use Rattle.std.specs.Prelude.{◌≡◌, ◌^◌, ◌<◌, ◌≤◌, length, slice_set, unsigned_abs, All};
-ghost use Rattle.weight_rows.specs.Rows.{most_weight, IsPrice, IsPricedBy, weight_in};
+ghost use Rattle.std.specs.Prelude.{◌≡◌, ◌^◌, ◌<◌, ◌≤◌, ◌+ℤ◌, ◌*ℤ◌, pos, length, unsigned_abs, All};
+ghost use Rattle.list_sums.specs.Sums.{int_sum_by};
+ghost use Rattle.weight_rows.specs.Rows.{most_weight};
 ghost use Rattle.demand_curve.specs.Demand.{most_rate};
-ghost use Rattle.flow_orders.specs.Orders.{most_orders, terms_of};
-ghost use Rattle.flow_orders.specs.Excess.{price_for, low_part, high_part, low_excess, high_excess};
 ghost use Rattle.excess_bounds.specs.Parts.{part_by_sign};
+ghost use Rattle.excess_bounds.specs.Private.{IsColumn, StaysInRange, low_in, high_in};
 
-use flow_orders::Order;
+use crate::columns::Cell;
+use crate::slots::Slot;
+use demand_curve::Roundings;
 
 /// How much of an asset orders ask for, bought less sold, in whole units: at least the low bound and at most the high
 /// one. The low bound rounds purchases down and sales up, the high one the other way round.
@@ -18,59 +20,84 @@ pub struct Excess {
     pub high: i64,
 }
 
-/// The excess of an asset with this one price in place.
-pub(crate) fn excess_with(orders: &[Order], prices: &[i64], asset: u16, price: i64) -> Excess
-    requires few { length orders.now ≤ most_orders }
-    requires range { All IsPrice prices.now }
-    requires priced { All (λ o. IsPricedBy o.row prices.now) orders.now }
-    requires asset { asset < length prices.now }
-    requires price { IsPrice price }
-    ensures low { result.low ≡ low_excess orders.now (slice_set prices.now asset price) asset }
-    ensures high { result.high ≡ high_excess orders.now (slice_set prices.now asset price) asset }
+// The excess of the asset of a column.
+pub(crate) fn excess_of(slots: &[Slot], cells: &[Cell]) -> Excess
+    requires column { IsColumn cells.now }
+    requires there { All (λ c. c.place < length slots.now) cells.now }
+    ensures low { result.low ≡ int_sum_by (low_in slots.now (pos 0)) cells.now }
+    ensures high { result.high ≡ int_sum_by (high_in slots.now (pos 0)) cells.now }
     ensures low_bound { unsigned_abs result.low ≤ 2 ^ 50 }
     ensures high_bound { unsigned_abs result.high ≤ 2 ^ 50 }
 {
     let mut low = 0;
     let mut high = 0;
-    for order in orders {
-        let part = part_with(order, prices, asset, price);
+    for cell in cells {
+        let part = part_now(slots, *cell);
         low += part.low;
         high += part.high;
     }
     Excess { low, high }
 }
 
-// What one order asks for of the asset. Where it doesn't name the asset, its price isn't wanted.
-fn part_with(order: &Order, prices: &[i64], asset: u16, price: i64) -> Excess
-    requires range { All IsPrice prices.now }
-    requires priced { IsPricedBy order.now.row prices.now }
-    requires asset { asset < length prices.now }
-    requires price { IsPrice price }
-    ensures low { result.low ≡ low_part (weight_in order.now.row asset) (terms_of order.now)
-        (price_for (slice_set prices.now asset price) order.now) }
-    ensures high { result.high ≡ high_part (weight_in order.now.row asset) (terms_of order.now)
-        (price_for (slice_set prices.now asset price) order.now) }
-    ensures low_bound { unsigned_abs result.low ≤ 2 ^ 36 }
-    ensures high_bound { unsigned_abs result.high ≤ 2 ^ 36 }
+// The excess of the asset of a column once its price has moved by an amount.
+pub(crate) fn excess_after(slots: &[Slot], cells: &[Cell], amount: i128) -> Excess
+    requires column { IsColumn cells.now }
+    requires there { All (λ c. c.place < length slots.now) cells.now }
+    requires amount { unsigned_abs amount ≤ 2 ^ 63 }
+    requires stays { All (StaysInRange slots.now amount) cells.now }
+    ensures low { result.low ≡ int_sum_by (low_in slots.now amount) cells.now }
+    ensures high { result.high ≡ int_sum_by (high_in slots.now amount) cells.now }
+    ensures low_bound { unsigned_abs result.low ≤ 2 ^ 50 }
+    ensures high_bound { unsigned_abs result.high ≤ 2 ^ 50 }
 {
-    let row = order.row();
-    let weight = row.weight_of(asset);
-    if weight == 0 {
-        return Excess { low: 0, high: 0 };
+    let mut low = 0;
+    let mut high = 0;
+    for cell in cells {
+        let part = part_after(slots, *cell, amount);
+        low += part.low;
+        high += part.high;
     }
-    part_at(order, weight, row.price_with(prices, asset, price))
+    Excess { low, high }
 }
 
-// What one order asks for of an asset of this weight, at this price of its portfolio.
-fn part_at(order: &Order, weight: i64, price: i128) -> Excess
-    requires weight { unsigned_abs weight ≤ most_weight }
-    requires price { unsigned_abs price ≤ 2 ^ 78 }
-    ensures low { result.low ≡ low_part weight (terms_of order.now) price }
-    ensures high { result.high ≡ high_part weight (terms_of order.now) price }
+// What the order of a cell asks for of the cell's asset.
+fn part_now(slots: &[Slot], cell: Cell) -> Excess
+    requires there { cell.place < length slots.now }
+    requires light { unsigned_abs cell.weight ≤ most_weight }
+    ensures low { result.low ≡ low_in slots.now (pos 0) cell }
+    ensures high { result.high ≡ high_in slots.now (pos 0) cell }
     ensures low_bound { unsigned_abs result.low ≤ 2 ^ 36 }
     ensures high_bound { unsigned_abs result.high ≤ 2 ^ 36 }
 {
-    let demand = order.curve().roundings(price);
+    part_of(cell.weight, slots[cell.place as usize].demand())
+}
+
+// What it asks for once the asset's price has moved by an amount.
+fn part_after(slots: &[Slot], cell: Cell, amount: i128) -> Excess
+    requires there { cell.place < length slots.now }
+    requires light { unsigned_abs cell.weight ≤ most_weight }
+    requires amount { unsigned_abs amount ≤ 2 ^ 63 }
+    requires stays { StaysInRange slots.now amount cell }
+    ensures low { result.low ≡ low_in slots.now amount cell }
+    ensures high { result.high ≡ high_in slots.now amount cell }
+    ensures low_bound { unsigned_abs result.low ≤ 2 ^ 36 }
+    ensures high_bound { unsigned_abs result.high ≤ 2 ^ 36 }
+{
+    let slot = &slots[cell.place as usize];
+    part_of(cell.weight, slot.demand_after(cell.weight, amount))
+}
+
+// What an order asks for of an asset of this weight.
+fn part_of(weight: i32, demand: Roundings) -> Excess
+    requires weight { unsigned_abs weight ≤ most_weight }
+    requires floor { demand.floor ≤ most_rate }
+    requires ceil { demand.ceil ≤ most_rate }
+    ensures low { result.low ≡ part_by_sign weight demand.floor demand.ceil }
+    ensures high { result.high ≡ part_by_sign weight demand.ceil demand.floor }
+    ensures low_bound { unsigned_abs result.low ≤ 2 ^ 36 }
+    ensures high_bound { unsigned_abs result.high ≤ 2 ^ 36 }
+{
+    let weight = i64::from(weight);
     Excess {
         low: units(weight, demand.floor, demand.ceil),
         high: units(weight, demand.ceil, demand.floor),
@@ -86,4 +113,45 @@ fn units(weight: i64, bought: u32, sold: u32) -> i64
     ensures bound { unsigned_abs result ≤ 2 ^ 36 }
 {
     weight * i64::from(if weight < 0 { sold } else { bought })
+}
+
+// The low part of an asset of this weight.
+pub(crate) fn low_units(weight: i32, demand: Roundings) -> i64
+    requires weight { unsigned_abs weight ≤ most_weight }
+    requires floor { demand.floor ≤ most_rate }
+    requires ceil { demand.ceil ≤ most_rate }
+    ensures value { result ≡ part_by_sign weight demand.floor demand.ceil }
+    ensures bound { unsigned_abs result ≤ 2 ^ 36 }
+{
+    units(i64::from(weight), demand.floor, demand.ceil)
+}
+
+// The least that an order of this room asks for of an asset of this weight.
+pub(crate) fn least_units(weight: i32, room: u32) -> i64
+    requires weight { unsigned_abs weight ≤ most_weight }
+    requires room { room ≤ most_rate }
+    ensures value { result ≡ part_by_sign weight 0 room }
+    ensures bound { unsigned_abs result ≤ 2 ^ 36 }
+{
+    units(i64::from(weight), 0, room)
+}
+
+// The price of a portfolio after that of an asset of this weight has moved by an amount.
+pub(crate) fn price_after(price: i128, weight: i32, amount: i128) -> i128
+    requires price { unsigned_abs price ≤ 2 ^ 78 }
+    requires weight { unsigned_abs weight ≤ most_weight }
+    requires amount { unsigned_abs amount ≤ 2 ^ 63 }
+    ensures { result ≡ price +ℤ weight *ℤ amount }
+{
+    price + cost(weight, amount)
+}
+
+// What so many units cost.
+fn cost(weight: i32, amount: i128) -> i128
+    requires weight { unsigned_abs weight ≤ most_weight }
+    requires amount { unsigned_abs amount ≤ 2 ^ 63 }
+    ensures value { result ≡ weight *ℤ amount }
+    ensures bound { unsigned_abs result ≤ 2 ^ 75 }
+{
+    i128::from(weight) * amount
 }

@@ -1,16 +1,25 @@
 //! The orders of a batch and the prices of its search.
-ghost use Rattle.std.specs.Prelude.{◌≡◌, ◌^◌, ◌<◌, ◌≤◌, ◌≤ℤ◌, ◌↔◌, pos, neg_ℤ, false, length, slice_set, unsigned_abs, All, IsTrue, IfOk};
+ghost use Rattle.std.specs.Prelude.{◌≡◌, ◌^◌, ◌<◌, ◌≤◌, ◌≤ℤ◌, ◌+ℤ◌, ◌-ℤ◌, ◌↔◌, pos, neg_ℤ, false, length, slice_set, unsigned_abs, map, All, IsTrue, IfOk};
+ghost use Rattle.std.specs.List.{range_with_len};
 ghost use Rattle.weight_rows.specs.Rows.{IsPrice, IsPricedBy, price_of};
 ghost use Rattle.flow_orders.specs.Orders.{IsOrder, most_orders};
 ghost use Rattle.flow_orders.specs.Excess.{low_excess, high_excess, spread, steepness, is_unsettled};
 ghost use Rattle.excess_bounds.specs.Workspace.{most_prices};
+ghost use Rattle.flow_orders.specs.Moves.{risen, fallen};
+ghost use Rattle.excess_bounds.specs.Brackets.{IsBracket};
+ghost use Rattle.excess_bounds.specs.Columns.{column_of};
+ghost use Rattle.excess_bounds.specs.Private.{IsColumn};
 
-use crate::parts::{Excess, excess_with};
+use crate::columns::{Cell, Column};
+use crate::narrowing::{Bracket, narrow};
+use crate::parts::{Excess, excess_after, excess_of};
+use crate::slots::{Slot, requote, slots_of};
+use crate::steps::Step;
 use flow_orders::Order;
 use std::alloc::{AllocError, Global};
 use std::marker::Model;
 
-/// There is no memory for the prices.
+/// There is no memory for the workspace.
 #[derive(Clone, Copy, Debug, PartialEq, Eq)]
 pub struct Memory;
 
@@ -28,23 +37,33 @@ impl From<AllocError> for Memory {
 pub struct Workspace<'a> {
     orders: &'a [Order],
     prices: Vec<i64>,
+    // The order at each place, at the prices.
+    slots: Vec<Slot>,
+    // The column of each asset.
+    columns: Vec<Column>,
+    // Room for the steps of a column.
+    steps: Vec<Step>,
 }
 
 impl<'a> Model for Workspace<'a> {
-    ghost use Rattle.excess_bounds.specs.Workspace.{Workspace as workspace_value, ArePriced};
+    ghost use Rattle.std.specs.Prelude.{◌≤◌, length, vec_capacity};
+    ghost use Rattle.excess_bounds.specs.Workspace.{Workspace as workspace_value};
+    ghost use Rattle.excess_bounds.specs.Private.{IsKept};
 
     ghost Value = { workspace_value };
 
     ghost view = { λ w. record { orders = w.orders.now; prices = w.prices.items } };
 
-    ghost invariant = { λ w. ArePriced w.orders.now w.prices.items };
+    ghost invariant = { λ w. IsKept w.orders.now w.prices.items w.slots.items w.columns.items
+        × (length w.orders.now ≤ vec_capacity w.steps) };
 }
 
 impl<'a> Workspace<'a> {
     ghost use Rattle.excess_bounds.specs.Workspace.{ArePriced};
 
     /// The state at the start of a search: the prices, in grains by the assets' numbers, are copied. It costs one pass over
-    /// them and one over the orders. `Memory` comes only where there is none for the copy.
+    /// the entries of all orders, and one for each asset. `Memory` comes only where there is none for prices, orders or
+    /// columns.
     pub fn new(alloc: Global, orders: &'a [Order], prices: &[i64]) -> Result<Workspace<'a>, Memory>
         requires few { length orders.now ≤ most_orders }
         requires assets { length prices.now ≤ most_prices }
@@ -53,11 +72,35 @@ impl<'a> Workspace<'a> {
         ensures orders { IfOk result (λ w. w.orders ≡ orders.now) }
         ensures prices { IfOk result (λ w. w.prices ≡ prices.now) }
     {
-        see_orders(orders);
+        let slots = slots_of(alloc, orders, prices)?;
+        let columns = columns_of(alloc, orders, prices.len() as u16)?;
+        let prices = Vec::from_slice(alloc, prices)?;
+        let steps = Vec::with_capacity(alloc, orders.len())?;
         Ok(Workspace {
             orders,
-            prices: Vec::from_slice(alloc, prices)?,
+            prices,
+            slots,
+            columns,
+            steps,
         })
+    }
+
+    /// The column of an asset: the places of the orders that name it, ascending, with its weight in each. Constant
+    /// time.
+    pub fn column(&self, asset: u16) -> &[Cell]
+        requires { asset < length self.now.prices }
+        ensures { result.now ≡ column_of self.now.orders asset }
+    {
+        self.cells(asset)
+    }
+
+    // The same, with what holds of each column.
+    fn cells(&self, asset: u16) -> &[Cell]
+        requires { asset < length self.now.prices }
+        ensures value { result.now ≡ column_of self.now.orders asset }
+        ensures column { IsColumn result.now }
+    {
+        self.columns[usize::from(asset)].cells()
     }
 
     /// The prices, in grains, by the assets' numbers.
@@ -69,7 +112,7 @@ impl<'a> Workspace<'a> {
     }
 
     /// The excess of an asset at the prices, in units: both bounds are within 2^50 of 0. It costs one pass over the
-    /// entries of all orders.
+    /// asset's column, without a division.
     pub fn excess(&self, asset: u16) -> Excess
         requires { asset < length self.now.prices }
         ensures low { result.low ≡ low_excess self.now.orders self.now.prices asset }
@@ -77,11 +120,11 @@ impl<'a> Workspace<'a> {
         ensures low_bound { unsigned_abs result.low ≤ 2 ^ 50 }
         ensures high_bound { unsigned_abs result.high ≤ 2 ^ 50 }
     {
-        self.excess_at(asset, self.price(asset))
+        excess_of(&self.slots, self.cells(asset))
     }
 
     /// The excess of an asset with this one price in place, in units: both bounds are within 2^50 of 0. The prices stay.
-    /// It costs one pass over the entries of all orders.
+    /// It costs one pass over the asset's column, with at most one division for each order.
     pub fn excess_at(&self, asset: u16, price: i64) -> Excess
         requires asset { asset < length self.now.prices }
         requires price { IsPrice price }
@@ -92,36 +135,89 @@ impl<'a> Workspace<'a> {
         ensures low_bound { unsigned_abs result.low ≤ 2 ^ 50 }
         ensures high_bound { unsigned_abs result.high ≤ 2 ^ 50 }
     {
-        excess_with(self.orders, &self.prices, asset, price)
+        excess_after(&self.slots, self.cells(asset), self.amount(asset, price))
     }
 
-    /// The spread of an asset, in units: the sum of its absolute weights in all orders, at most 2^26. It costs one pass
-    /// over the entries of all orders.
+    /// Two amounts between which a rise of an asset's price by at most `reach` grains ends: where its low excess is no longer
+    /// above the steepness, or after `reach`. They lie side by side but in rare cases. It costs some passes over the asset's
+    /// column at most, each with at most one division for each order, and passes over ever fewer orders of it.
+    pub fn narrow_rise(&mut self, asset: u16, reach: u64) -> Bracket
+        requires asset { asset < length self.old.prices }
+        requires some { 0 < reach }
+        requires far { reach ≤ 2 ^ 61 }
+        requires room { (price_of self.old.prices asset +ℤ pos reach) ≤ℤ pos (2 ^ 62) }
+        ensures stays { self.new ≡ self.old }
+        ensures bracket { IsBracket (λ d. low_excess self.old.orders (risen self.old.prices asset d) asset)
+            (pos (steepness self.old.orders asset)) reach result.low result.high }
+    {
+        let column = &self.columns[usize::from(asset)];
+        narrow(
+            &self.slots,
+            column.cells(),
+            false,
+            &mut self.steps,
+            column.steepness(),
+            reach,
+        )
+    }
+
+    /// The same of a fall, which ends where the high excess is no longer below minus the steepness.
+    pub fn narrow_fall(&mut self, asset: u16, reach: u64) -> Bracket
+        requires asset { asset < length self.old.prices }
+        requires some { 0 < reach }
+        requires far { reach ≤ 2 ^ 61 }
+        requires room { neg_ℤ (pos (2 ^ 62)) ≤ℤ (price_of self.old.prices asset -ℤ pos reach) }
+        ensures stays { self.new ≡ self.old }
+        ensures bracket { IsBracket (λ d. neg_ℤ (high_excess self.old.orders (fallen self.old.prices asset d) asset))
+            (pos (steepness self.old.orders asset)) reach result.low result.high }
+    {
+        let column = &self.columns[usize::from(asset)];
+        narrow(
+            &self.slots,
+            column.cells(),
+            true,
+            &mut self.steps,
+            column.steepness(),
+            reach,
+        )
+    }
+
+    /// The spread of an asset, in units: the sum of its absolute weights in all orders, at most 2^26. Constant time.
     pub fn spread(&self, asset: u16) -> i64
         requires { asset < length self.now.prices }
         ensures value { result ≡ pos (spread self.now.orders asset) }
         ensures most { result ≤ℤ pos (2 ^ 26) }
     {
-        flow_orders::spread(self.orders, asset)
+        self.columns[usize::from(asset)].spread()
     }
 
     /// The steepness of an asset, in units, at most 2^30: a grain of its price moves what the orders ask for of it by at most
-    /// as much. It costs one pass over the entries of all orders.
+    /// as much. Constant time.
     pub fn steepness(&self, asset: u16) -> i64
         requires { asset < length self.now.prices }
         ensures value { result ≡ pos (steepness self.now.orders asset) }
         ensures most { result ≤ℤ pos (2 ^ 30) }
     {
-        flow_orders::steepness(self.orders, asset)
+        self.columns[usize::from(asset)].steepness()
     }
 
     /// Whether an asset is settled at the prices: its low excess is at most its steepness, and its high excess at least
-    /// minus that. It costs two passes over the entries of all orders.
+    /// minus that. It costs one pass over the asset's column, without a division.
     pub fn is_settled(&self, asset: u16) -> bool
         requires { asset < length self.now.prices }
         ensures { IsTrue result ↔ (is_unsettled self.now.orders self.now.prices asset ≡ false) }
     {
         is_near(self.excess(asset), self.steepness(asset))
+    }
+
+    // By how much the price of an asset differs from its own one.
+    fn amount(&self, asset: u16, price: i64) -> i128
+        requires asset { asset < length self.now.prices }
+        requires price { IsPrice price }
+        ensures value { result ≡ price -ℤ price_of self.now.prices asset }
+        ensures bound { unsigned_abs result ≤ 2 ^ 63 }
+    {
+        i128::from(price) - i128::from(self.price(asset))
     }
 
     // The price of an asset.
@@ -133,24 +229,34 @@ impl<'a> Workspace<'a> {
         self.prices[usize::from(asset)]
     }
 
-    /// Sets the price of an asset, in grains. Constant time.
+    /// Sets the price of an asset, in grains. It costs one pass over the asset's column, with at most one division for each
+    /// order.
     pub fn set_price(&mut self, asset: u16, price: i64)
         requires asset { asset < length self.old.prices }
         requires price { IsPrice price }
         ensures orders { self.new.orders ≡ self.old.orders }
         ensures prices { self.new.prices ≡ slice_set self.old.prices asset price }
     {
+        let amount = self.amount(asset, price);
+        requote(
+            &mut self.slots,
+            self.columns[usize::from(asset)].cells(),
+            amount,
+        );
         self.prices[usize::from(asset)] = price;
     }
 }
 
-// Each of them is within the limits, as `Order` itself keeps.
-fn see_orders(orders: &[Order])
-    ensures { All IsOrder orders.now }
+// The column of each asset, of which there are so many.
+fn columns_of(alloc: Global, orders: &[Order], count: u16) -> Result<Vec<Column>, AllocError>
+    requires { length orders.now ≤ most_orders }
+    ensures { IfOk result (λ columns. columns.items ≡ map (column_of orders.now) (range_with_len 0 count)) }
 {
-    for order in orders {
-        order.number();
+    let mut columns = Vec::with_capacity(alloc, usize::from(count))?;
+    for asset in 0..count {
+        columns.push(Column::of(alloc, orders, asset)?)?;
     }
+    Ok(columns)
 }
 
 // Whether the low bound is at most the steepness, and the high one at least minus that.

@@ -1,16 +1,23 @@
-use Rattle.std.proofs.Common.{◌≡◌, to_z, of_z, w64, set, ap, ◌∙◌}
-use Rattle.std.proofs.lemmas.Int.{to_z-of_z}
-use Rattle.flow_orders.proofs.BookSums.{own_price}
+use Rattle.std.proofs.Common.{◌∙◌}
+use Rattle.excess_bounds.proofs.Kept.{are_there, low_now, high_now}
 use Rattle.excess_bounds.proofs.workspace.Workspace.excess.Goals as goal
 
--- the asset's own price in place leaves the prices as they are
-own : (c : goal.After-excess_at) → set c.args.self.now.prices c.args.asset (to_z w64 (of_z w64 c.price.result)) ≡ c.args.self.now.prices
-own c =
-    let same = to_z-of_z w64 c.price.result (record { sfits = c.price.type_inv }) ∙ c.price.ensures.value in
-    ap (λ p. set c.args.self.now.prices c.args.asset p) same ∙ own_price c.args.self.now.prices c.args.asset
+pub excess_of-requires-clause-there : goal.excess_of-requires-clause-there
+excess_of-requires-clause-there c =
+    let there = rw (← c.self.view_is) at c.requires in
+    let cells = rw (← c.self.view_is) at c.cells.ensures.value in
+    rw (c.deref.ensures.value, cells) (are_there _ _ _ _ c.self.invariant.0 c.args.asset there)
 
 pub returns-clause-low : goal.returns-clause-low
-returns-clause-low c = rw (own c) at c.excess_at.ensures.low
+returns-clause-low c =
+    let there = rw (← c.self.view_is) at c.requires in
+    let cells = rw (← c.self.view_is) at c.cells.ensures.value in
+    let sum = rw (c.deref.ensures.value, cells) at c.excess_of.ensures.low in
+    rw (← c.self.view_is) (sum ∙ low_now _ _ _ _ c.self.invariant.0 c.args.asset there)
 
 pub returns-clause-high : goal.returns-clause-high
-returns-clause-high c = rw (own c) at c.excess_at.ensures.high
+returns-clause-high c =
+    let there = rw (← c.self.view_is) at c.requires in
+    let cells = rw (← c.self.view_is) at c.cells.ensures.value in
+    let sum = rw (c.deref.ensures.value, cells) at c.excess_of.ensures.high in
+    rw (← c.self.view_is) (sum ∙ high_now _ _ _ _ c.self.invariant.0 c.args.asset there)

@@ -1,0 +1,328 @@
+-- Steps between two amounts: what they ask for together, and what is left of them as the amounts come nearer.
+use Rattle.std.proofs.Common.{◌≡◌, ◌⊎◌, inl, inr, ⊎_elim, ℕ, zero, suc, ◌+◌, ◌-◌, ◌*◌, ◌^◌, ◌≤◌, ◌<◌, ℤ, pos, negsuc, ◌+ℤ◌, ◌*ℤ◌, ◌≤ℤ◌, ◌<ℤ◌, Bool, true, false, List, [], ◌∷◌, ◌++◌, length, map, take, drop, set, get_or, append_assoc, refl, ap, sym, subst, ◌∙◌, length-append, arith}
+use Rattle.std.specs.Prelude.{unsigned_abs, All, neg_ℤ, int_lt, if◌then◌else◌}
+use Rattle.std.specs.Ordering.{int_eq}
+use Rattle.std.proofs.Math.Nat.{mul-le-mul_left}
+use Rattle.std.proofs.lemmas.Int.{ints}
+use Rattle.std.proofs.lemmas.Bool.{cases_Bool}
+use Rattle.std.proofs.lemmas.Bool.Decides.{Decides-int_eq}
+use Rattle.std.proofs.lemmas.List.{length-map, length-take, drop_more, get_or_at, get_or_default, take_more_set, drop-set-lt}
+use Rattle.std.proofs.lemmas.List.Elements.{All-push, All-set}
+use Rattle.list_sums.specs.Sums.{int_sum_by}
+use Rattle.list_sums.proofs.Products.{*ℤ-add, unsigned_abs-add}
+use Rattle.list_sums.proofs.SumLemmas.{int_sum_by_more, int_sum_by-push, int_sum_by-map_same, int_sum_by-same}
+use Rattle.weight_rows.specs.Rows.{most_weight}
+use Rattle.demand_curve.specs.Demand.{Terms, IsWithinLimits, floor_rate, ceil_rate}
+use Rattle.demand_curve.specs.Curve.{terms}
+use Rattle.demand_curve.proofs.RoundingLaws.{roundings_enclose_demand}
+use Rattle.flow_orders.specs.Excess.{low_part}
+use Rattle.flow_orders.proofs.BookLaws.{low_part-falls}
+use Rattle.excess_bounds.specs.declared.columns.Cell.{Cell}
+use Rattle.excess_bounds.specs.declared.narrowing.Bracket.{Bracket}
+use Rattle.excess_bounds.specs.declared.steps.Step.{Step}
+use Rattle.excess_bounds.specs.Parts.{part_by_sign}
+use Rattle.excess_bounds.specs.Brackets.{IsBracket}
+use Rattle.excess_bounds.specs.Private.{Quote, quote_in, no_quote, low_in}
+use Rattle.excess_bounds.specs.Steps.{part_after, looked, closed, still_open, settled_sum, CanLook, IsSmall, IsStep, IsNarrowed, turned, asked_after, CanMove}
+
+-- ---- one step
+
+no_move : (price w : ℤ) → price +ℤ w *ℤ pos 0 ≡ price
+no_move price w = omega (arith, ints)
+
+-- a step never asks for more after a greater amount
+part_falls : (s : Step) (m d : ℕ) → part_after (m + d) s ≤ℤ part_after m s
+part_falls s m d =
+    let whole : pos (m + d) ≡ pos m +ℤ pos d = omega (arith, ints) in
+    let moved : s.price +ℤ s.weight *ℤ pos (m + d) ≡ s.price +ℤ s.weight *ℤ pos m +ℤ s.weight *ℤ pos d = rw whole (omega (arith, ints, *ℤ-add s.weight (pos m) (pos d))) in
+    subst (λ c. low_part s.weight (terms s.curve) c ≤ℤ part_after m s) (sym moved) (low_part-falls s.weight (terms s.curve) s.curve.within_limits (s.price +ℤ s.weight *ℤ pos m) d)
+
+falls_to : (s : Step) (m n : ℕ) → m ≤ n → part_after n s ≤ℤ part_after m s
+falls_to s m n h =
+    let whole : m + (n - m) ≡ n = omega (arith, h) in
+    rw whole at (part_falls s m (n - m))
+
+-- and no order asks for less than its room allows
+least_below : (w : ℤ) (t : Terms) → IsWithinLimits t → (c : ℤ) → part_by_sign w 0 t.room ≤ℤ low_part w t c
+least_below (pos n) t h c = omega (arith, ints)
+least_below (negsuc n) t h c = omega (arith, ints, mul-le-mul_left (suc n) (roundings_enclose_demand t h c).within_room)
+
+part_is : (w : ℤ) (t : Terms) (c : ℤ) → part_by_sign w (floor_rate t c) (ceil_rate t c) ≡ low_part w t c
+part_is (pos n) t c = refl
+part_is (negsuc n) t c = refl
+
+-- the step of an order before the move
+pub first_step : (s : Step) (q : Quote) (w : ℤ) (reach : ℕ) → terms s.curve ≡ q.terms → s.price ≡ q.price → s.weight ≡ w
+    → s.first ≡ part_by_sign w (floor_rate q.terms q.price) (ceil_rate q.terms q.price) → s.last ≡ part_by_sign w 0 q.terms.room → IsSmall s
+    → unsigned_abs w ≤ most_weight → ((m : ℕ) → m ≤ reach → unsigned_abs (q.price +ℤ w *ℤ pos m) ≤ 2 ^ 78)
+    → IsStep 0 reach s × ((m : ℕ) → part_after m s ≡ low_part w q.terms (q.price +ℤ w *ℤ pos m))
+first_step s q w reach terms_are price_is weight_is first_is last_is small light stays =
+    let part : (m : ℕ) → part_after m s ≡ low_part w q.terms (q.price +ℤ w *ℤ pos m) = λ m. rw (terms_are, price_is, weight_is) refl in
+    let start : part_after 0 s ≡ s.first = part 0 ∙ ap (low_part w q.terms) (no_move q.price w) ∙ sym (part_is w q.terms q.price) ∙ sym first_is in
+    let limits : IsWithinLimits q.terms = rw terms_are at s.curve.within_limits in (
+      record {
+        light = rw weight_is light;
+        stays = λ m inside. rw (price_is, weight_is) (stays m inside);
+        within = λ m least most. (
+          rw (last_is, part m) (least_below w q.terms limits (q.price +ℤ w *ℤ pos m)),
+          rw start at (falls_to s 0 m (omega arith)),
+        );
+        small = small;
+      },
+      part,
+    )
+
+pub can_look : (low high amount : ℕ) (s : Step) → amount ≤ high → IsStep low high s → CanLook amount s
+can_look low high amount s inside step = record {
+  light = step.light;
+  start = rw (no_move s.price s.weight) at (step.stays 0 (omega arith));
+  stays = step.stays amount inside;
+}
+
+between : (x low high : ℤ) → low ≤ℤ x → x ≤ℤ high → unsigned_abs low ≤ 2 ^ 36 → unsigned_abs high ≤ 2 ^ 36 → unsigned_abs x ≤ 2 ^ 36
+between x low high from to least most = omega (arith, ints, from, to, least, most)
+
+pub looked_small : (low high mid : ℕ) (s : Step) → low ≤ mid → mid ≤ high → IsStep low high s → IsSmall (looked mid s)
+looked_small low high mid s from to step =
+    let here = step.within mid from to in
+    record { first = step.small.first; last = step.small.last; here = between (part_after mid s) s.last s.first here.0 here.1 step.small.last step.small.first }
+
+closed_low : (low high mid : ℕ) (s : Step) → low ≤ mid → mid ≤ high → IsStep low high s → IsStep mid high (closed true (looked mid s))
+closed_low low high mid s from to step =
+    let small = looked_small low high mid s from to step in
+    record {
+      light = step.light;
+      stays = step.stays;
+      within = λ m least most. ((step.within m (omega (arith, from, least)) most).0, falls_to s mid m least);
+      small = record { first = small.here; last = small.last; here = small.here };
+    }
+
+closed_high : (low high mid : ℕ) (s : Step) → low ≤ mid → mid ≤ high → IsStep low high s → IsStep low mid (closed false (looked mid s))
+closed_high low high mid s from to step =
+    let small = looked_small low high mid s from to step in
+    record {
+      light = step.light;
+      stays = λ m inside. step.stays m (omega (arith, inside, to));
+      within = λ m least most. (falls_to s m mid most, (step.within m least (omega (arith, most, to))).1);
+      small = record { first = small.first; last = small.here; here = small.here };
+    }
+
+-- ---- all steps
+
+-- where a step asks for the same at both ends it does so between them
+constant : (low high m : ℕ) (s : Step) → low ≤ m → m ≤ high → IsStep low high s → int_eq s.first s.last ≡ true → part_after m s ≡ s.first
+constant low high m s from to step same =
+    let both : s.first ≡ s.last = (Decides-int_eq s.first s.last).0 same in
+    let here = step.within m from to in
+    omega (arith, ints, both, here)
+
+tail : (P : Step → Type 0) (s : Step) (steps : List Step) → All P (s ∷ steps) → All P steps
+tail P s steps all = λ k d inside. all (suc k) d (omega (arith, inside))
+
+head : (P : Step → Type 0) (s : Step) (steps : List Step) → All P (s ∷ steps) → P s
+head P s steps all = all 0 s (omega arith)
+
+cons : (P : Step → Type 0) (s : Step) (steps : List Step) → P s → All P steps → All P (s ∷ steps)
+cons P s steps here rest zero d inside = here
+cons P s steps here rest (suc k) d inside = rest k d (omega (arith, inside))
+
+module _ (low high : ℕ) where
+  open_sum : (m : ℕ) → low ≤ m → m ≤ high → (steps : List Step) → All (IsStep low high) steps
+      → int_sum_by (part_after m) steps ≡ settled_sum steps +ℤ int_sum_by (part_after m) (still_open steps)
+  open_sum m from to [] all = refl
+  open_sum m from to (s ∷ steps) all =
+      let rest = open_sum m from to steps (tail (IsStep low high) s steps all) in
+      ⊎_elim
+      (λ same. rw same (omega (arith, ints, rest, constant low high m s from to (head (IsStep low high) s steps all) same)))
+      (λ other. rw other (omega (arith, ints, rest)))
+      (cases_Bool (int_eq s.first s.last))
+
+  open_each : (steps : List Step) → All (IsStep low high) steps → All (IsStep low high) (still_open steps)
+  open_each [] all = λ k d inside. absurd (omega (arith, inside))
+  open_each (s ∷ steps) all =
+      let rest = open_each steps (tail (IsStep low high) s steps all) in
+      ⊎_elim
+      (λ same. rw same rest)
+      (λ other. rw other (cons (IsStep low high) s (still_open steps) (head (IsStep low high) s steps all) rest))
+      (cases_Bool (int_eq s.first s.last))
+
+  open_room : (steps : List Step) → All (IsStep low high) steps → unsigned_abs (settled_sum steps) + length (still_open steps) * 2 ^ 36 ≤ length steps * 2 ^ 36
+  open_room [] all = omega arith
+  open_room (s ∷ steps) all =
+      let rest = open_room steps (tail (IsStep low high) s steps all) in
+      let small = (head (IsStep low high) s steps all).small.first in
+      ⊎_elim
+      (λ same. rw same (omega (arith, rest, small, unsigned_abs-add s.first (settled_sum steps))))
+      (λ other. rw other (omega (arith, rest)))
+      (cases_Bool (int_eq s.first s.last))
+
+mapped : (P Q : Step → Type 0) (f : Step → Step) → ((s : Step) → P s → Q (f s)) → (steps : List Step) → All P steps → All Q (map f steps)
+mapped P Q f each [] all = λ k d inside. absurd (omega (arith, inside))
+mapped P Q f each (s ∷ steps) all =
+    cons Q (f s) (map f steps) (each s (head P s steps all)) (mapped P Q f each steps (tail P s steps all))
+
+same_part : (m : ℕ) (is_low : Bool) (s : Step) → part_after m (closed is_low s) ≡ part_after m s
+same_part m true s = refl
+same_part m false s = refl
+
+module _ (asked : ℕ → ℤ) where
+  -- an order more that asks for the same between both ends
+  pub add_settled : (next : ℕ → ℤ) (steps : List Step) (rest : ℤ) (most low high : ℕ) (s : Step) → IsNarrowed asked steps rest most low high → IsStep low high s → s.first ≡ s.last
+      → ((m : ℕ) → next m ≡ asked m +ℤ part_after m s) → IsNarrowed next steps (rest +ℤ s.first) (most + 1) low high
+  add_settled next steps rest most low high s before step same more = record {
+    sum = λ m from to. let here = step.within m from to in omega (arith, ints, more m, before.sum m from to, here, same);
+    each = before.each;
+    room = omega (arith, before.room, step.small.first, unsigned_abs-add rest s.first);
+  }
+
+  -- and one that may ask for less at the high end
+  pub add_open : (next : ℕ → ℤ) (steps : List Step) (rest : ℤ) (most low high : ℕ) (s : Step) → IsNarrowed asked steps rest most low high → IsStep low high s
+      → ((m : ℕ) → next m ≡ asked m +ℤ part_after m s) → IsNarrowed next (steps ++ s ∷ []) rest (most + 1) low high
+  add_open next steps rest most low high s before step more = record {
+    sum = λ m from to. omega (arith, ints, more m, before.sum m from to, int_sum_by-push (part_after m) steps s);
+    each = All-push (IsStep low high) steps s before.each step;
+    room = omega (arith, before.room, length-append steps (s ∷ []));
+  }
+
+  -- the ends come nearer, and steps that are closed leave
+  closing : (steps : List Step) (rest : ℤ) (most low high mid : ℕ) (is_low : Bool) (from to : ℕ) → IsNarrowed asked steps rest most low high
+      → low ≤ from → to ≤ high → ((s : Step) → IsStep low high s → IsStep from to (closed is_low (looked mid s)))
+      → IsNarrowed asked (still_open (map (closed is_low) (map (looked mid) steps))) (rest +ℤ settled_sum (map (closed is_low) (map (looked mid) steps))) most from to
+  closing steps rest most low high mid is_low from to before least greatest step =
+      let looks = map (looked mid) steps in
+      let next = map (closed is_low) looks in
+      let each : All (IsStep from to) next = mapped (λ s. IsStep from to (closed is_low s)) (IsStep from to) (closed is_low) (λ s h. h) looks (mapped (IsStep low high) (λ s. IsStep from to (closed is_low s)) (looked mid) step steps before.each) in
+      let count : length next ≡ length steps = length-map looks (closed is_low) ∙ length-map steps (looked mid) in
+      record {
+        sum = λ m inside within.
+            let all = before.sum m (omega (arith, least, inside)) (omega (arith, greatest, within)) in
+            let moved = int_sum_by-map_same (part_after m) (closed is_low) (same_part m is_low) looks ∙ int_sum_by-map_same (part_after m) (looked mid) (λ s. refl) steps in
+            omega (arith, ints, all, moved, open_sum from to m inside within next each);
+        each = open_each from to next each;
+        room = omega (arith, before.room, count, open_room from to next each, unsigned_abs-add rest (settled_sum next));
+      }
+
+  -- a turn: an amount is looked at, and becomes an end of the bracket
+  pub one_turn : (bound : ℤ) (reach most : ℕ) (steps next : List Step) (rest sum after : ℤ) (low high mid : ℕ) (is_low : Bool) (b : Bracket)
+      → IsNarrowed asked steps rest most low high → IsBracket asked bound reach low high → low < mid → mid < high
+      → sum ≡ int_sum_by (part_after mid) steps → is_low ≡ int_lt bound (rest +ℤ sum)
+      → next ≡ still_open (map (closed is_low) (map (looked mid) steps)) → after ≡ rest +ℤ settled_sum (map (closed is_low) (map (looked mid) steps))
+      → b ≡ (if is_low then record { low = mid; high = high } else record { low = low; high = mid })
+      → IsNarrowed asked next after most b.low b.high × IsBracket asked bound reach b.low b.high
+  one_turn bound reach most steps next rest sum after low high mid true b narrowed bracket above below sum_is tells next_is after_is b_is =
+      let total : asked mid ≡ rest +ℤ sum = rw sum_is (narrowed.sum mid (omega (arith, above)) (omega (arith, below))) in
+      rw (b_is, next_is, after_is) (
+        closing steps rest most low high mid true mid high narrowed (omega (arith, above)) (omega arith) (λ s h. closed_low low high mid s (omega (arith, above)) (omega (arith, below)) h),
+        record { some = below; most = bracket.most; goes_on = inr (omega (arith, ints, total, tells)); ends = bracket.ends },
+      )
+  one_turn bound reach most steps next rest sum after low high mid false b narrowed bracket above below sum_is tells next_is after_is b_is =
+      let total : asked mid ≡ rest +ℤ sum = rw sum_is (narrowed.sum mid (omega (arith, above)) (omega (arith, below))) in
+      rw (b_is, next_is, after_is) (
+        closing steps rest most low high mid false low mid narrowed (omega arith) (omega (arith, below)) (λ s h. closed_high low high mid s (omega (arith, above)) (omega (arith, below)) h),
+        record { some = above; most = omega (arith, below, bracket.most); goes_on = bracket.goes_on; ends = inr (omega (arith, ints, total, tells)) },
+      )
+
+  pub turn_room : (steps : List Step) (rest : ℤ) (most low high mid : ℕ) (is_low : Bool) → IsNarrowed asked steps rest most low high → low < mid → mid < high
+      → unsigned_abs (rest +ℤ settled_sum (map (closed is_low) (map (looked mid) steps))) ≤ most * 2 ^ 36
+  turn_room steps rest most low high mid true narrowed above below =
+      omega (arith, (closing steps rest most low high mid true mid high narrowed (omega (arith, above)) (omega arith) (λ s h. closed_low low high mid s (omega (arith, above)) (omega (arith, below)) h)).room)
+  turn_room steps rest most low high mid false narrowed above below =
+      omega (arith, (closing steps rest most low high mid false low mid narrowed (omega arith) (omega (arith, below)) (λ s h. closed_high low high mid s (omega (arith, above)) (omega (arith, below)) h)).room)
+
+  pub all_small : (steps : List Step) (rest : ℤ) (most low high mid : ℕ) → IsNarrowed asked steps rest most low high → low < mid → mid < high → All IsSmall (map (looked mid) steps)
+  all_small steps rest most low high mid narrowed above below =
+      mapped (IsStep low high) IsSmall (looked mid) (λ s h. looked_small low high mid s (omega (arith, above)) (omega (arith, below)) h) steps narrowed.each
+
+  -- before any order there are no steps
+  pub none_narrowed : (high : ℕ) (steps : List Step) → steps ≡ [] → ((m : ℕ) → asked m ≡ pos 0) → IsNarrowed asked steps (pos 0) 0 0 high
+  none_narrowed high steps none nothing =
+      rw none (record { sum = λ m from to. nothing m; each = λ k d inside. absurd (omega (arith, inside)); room = omega arith })
+
+  -- what is asked for alike has the same brackets
+  pub same_bracket : (other : ℕ → ℤ) (bound : ℤ) (reach low high : ℕ) → ((m : ℕ) → m ≤ reach → asked m ≡ other m) → IsBracket asked bound reach low high → IsBracket other bound reach low high
+  same_bracket other bound reach low high same b = record {
+    some = b.some;
+    most = b.most;
+    goes_on = ⊎_elim inl (λ above. inr (rw (same low (omega (arith, b.some, b.most))) at above)) b.goes_on;
+    ends = ⊎_elim inl (λ near. inr (rw (same high b.most) at near)) b.ends;
+  }
+
+pub with_order : (is_low : Bool) (low mid high : ℕ) (b : Bracket) → b ≡ (if is_low then record { low = mid; high = high } else record { low = low; high = mid }) → low < mid → mid < high → b.low ≤ b.high
+with_order true low mid high b is above below = rw is (omega (arith, below))
+with_order false low mid high b is above below = rw is (omega (arith, above))
+
+-- ---- the loops
+
+-- what stands at a place, in a loop that changes one member after the other
+pub mixed_at : {X : Type 0} (f : X → X) (xs ys : List X) (i : ℕ) (d : X) → i < length xs → ys ≡ map f (take i xs) ++ drop i xs → get_or ys i d ≡ get_or xs i d
+mixed_at f xs ys i d within is =
+    let count : length (map f (take i xs)) ≡ i = omega (arith, length-map (take i xs) f, length-take i xs, within) in
+    rw (is, drop_more xs i d within) (get_or_at (map f (take i xs)) (get_or xs i d) (drop (i + 1) xs) d i count)
+
+turned_place : (falls : Bool) (c : Cell) → (turned falls c).place ≡ c.place
+turned_place true c = refl
+turned_place false c = refl
+
+-- the step of one cell more
+pub begin_more : (slots : List Quote) (falls : Bool) (cells : List Cell) (i : ℕ) (d t : Cell) (reach : ℕ) (steps next : List Step) (s : Step) (q : Quote)
+    → i < length cells → All (λ c. c.place < length slots) cells → All (CanMove slots falls reach) cells
+    → IsNarrowed (asked_after slots falls (take i cells)) steps (pos 0) i 0 reach
+    → t ≡ turned falls (get_or cells i d) → unsigned_abs t.weight ≤ most_weight → q ≡ get_or slots t.place q
+    → terms s.curve ≡ q.terms → s.price ≡ q.price → s.weight ≡ t.weight
+    → s.first ≡ part_by_sign t.weight (floor_rate q.terms q.price) (ceil_rate q.terms q.price) → s.last ≡ part_by_sign t.weight 0 q.terms.room → IsSmall s
+    → next ≡ steps ++ s ∷ []
+    → IsNarrowed (asked_after slots falls (take (i + 1) cells)) next (pos 0) (i + 1) 0 reach
+begin_more slots falls cells i d t reach steps next s q within there moves before t_is light q_is terms_are price_is weight_is first_is last_is small next_is =
+    let c : Cell = get_or cells i d in
+    let place : t.place ≡ c.place = ap (λ (x : Cell). x.place) t_is ∙ turned_place falls c in
+    let inside : t.place < length slots = omega (arith, place, there i d within) in
+    let quote : q ≡ quote_in slots t.place = q_is ∙ get_or_default slots t.place q no_quote inside in
+    let stays : (m : ℕ) → m ≤ reach → unsigned_abs (q.price +ℤ t.weight *ℤ pos m) ≤ 2 ^ 78 = λ m h. rw (quote, t_is) (moves i d within m h) in
+    let step = first_step s q t.weight reach terms_are price_is weight_is first_is last_is small light stays in
+    rw next_is
+    (add_open (asked_after slots falls (take i cells)) (asked_after slots falls (take (i + 1) cells)) steps (pos 0) i 0 reach s before step.0
+    (λ m.
+    let part : part_after m s ≡ low_in slots (pos m) (turned falls c) = step.1 m ∙ rw (quote, t_is) refl in
+    int_sum_by_more (λ c. low_in slots (pos m) (turned falls c)) cells i d within ∙ ap (λ x. asked_after slots falls (take i cells) m +ℤ x) (sym part)))
+
+-- the steps before a place are kept where they are open
+pub record IsClosing (is_low : Bool) (steps now : List Step) (kept at : ℕ) (rest : ℤ) : Type 0 where
+  pub opened : take kept now ++ still_open (map (closed is_low) (drop at now)) ≡ still_open (map (closed is_low) steps)
+  pub sum : rest +ℤ settled_sum (map (closed is_low) (drop at now)) ≡ settled_sum (map (closed is_low) steps)
+  pub each : All IsSmall now
+  pub behind : kept ≤ at
+  pub small : unsigned_abs rest ≤ at * 2 ^ 36
+
+closed_small : (is_low : Bool) (s : Step) → IsSmall s → IsSmall (closed is_low s)
+closed_small true s h = record { first = h.here; last = h.last; here = h.here }
+closed_small false s h = record { first = h.first; last = h.here; here = h.here }
+
+module _ (is_low : Bool) (steps now : List Step) (kept at : ℕ) (rest : ℤ) (s : Step) (within : at < length now) (before : IsClosing is_low steps now kept at rest) (is : s ≡ closed is_low (get_or now at s)) where
+  pub next_small : IsSmall s
+  next_small = rw is (closed_small is_low (get_or now at s) (before.each at s within))
+
+  pub one_settled : int_eq s.first s.last ≡ true → IsClosing is_low steps now kept (at + 1) (rest +ℤ s.first)
+  one_settled same =
+      let split = drop_more now at s within in
+      let test : int_eq (closed is_low (get_or now at s)).first (closed is_low (get_or now at s)).last ≡ true = rw (← is) same in
+      record {
+        opened = rw test at (rw split at before.opened);
+        sum = let first = ap (λ (x : Step). x.first) is in omega (arith, ints, first, rw test at (rw split at before.sum));
+        each = before.each;
+        behind = omega (arith, before.behind);
+        small = omega (arith, before.small, next_small.first, unsigned_abs-add rest s.first);
+      }
+
+  pub one_open : int_eq s.first s.last ≡ false → IsClosing is_low steps (set now kept s) (kept + 1) (at + 1) rest
+  one_open other =
+      let split = drop_more now at s within in
+      let test : int_eq (closed is_low (get_or now at s)).first (closed is_low (get_or now at s)).last ≡ false = rw (← is) other in
+      let inside : kept < length now = omega (arith, before.behind, within) in
+      record {
+        opened = rw (take_more_set now kept s inside, drop-set-lt (at + 1) now kept s (omega (arith, before.behind)), append_assoc (take kept now) (s ∷ []) (still_open (map (closed is_low) (drop (at + 1) now))))
+            (subst (λ x. take kept now ++ x ∷ still_open (map (closed is_low) (drop (at + 1) now)) ≡ still_open (map (closed is_low) steps)) (sym is) (rw test at (rw split at before.opened)));
+        sum = rw (drop-set-lt (at + 1) now kept s (omega (arith, before.behind))) (rw test at (rw split at before.sum));
+        each = All-set IsSmall now kept s next_small before.each;
+        behind = omega (arith, before.behind);
+        small = omega (arith, before.small);
+      }

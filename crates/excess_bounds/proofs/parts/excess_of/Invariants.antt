@@ -1,0 +1,8 @@
+use Rattle.std.proofs.Common.{pos}
+use Rattle.excess_bounds.specs.Private.{low_in, high_in}
+use Rattle.excess_bounds.proofs.Sums.{IsSumBefore}
+use Rattle.excess_bounds.proofs.parts.excess_of.Given as goal
+
+abbrev pub invariant-loop-cell : goal.invariant-loop-cell
+invariant-loop-cell l =
+    IsSumBefore (low_in l.slots (pos 0)) l.cells l.cell-index l.low × IsSumBefore (high_in l.slots (pos 0)) l.cells l.cell-index l.high

@@ -1,0 +1,40 @@
+use Rattle.std.proofs.Common.{◌≡◌, length, w64, ap, sym, subst, ◌∙◌, arith, pos}
+use Rattle.std.proofs.lemmas.Int.{to_z-of_z}
+use Rattle.excess_bounds.specs.Private.{IsColumn, steepness_in}
+use Rattle.excess_bounds.proofs.ColumnSums.{column_length, steepness_is}
+use Rattle.excess_bounds.proofs.Kept.{columns_count, column_at, are_there}
+use Rattle.excess_bounds.proofs.StepFacts.{same_bracket}
+use Rattle.excess_bounds.proofs.Moves.{can_fall, asked_fallen}
+use Rattle.excess_bounds.proofs.workspace.Workspace.narrow_fall.Goals as goal
+
+pub index-column-requires : goal.index-column-requires
+index-column-requires c =
+    let count : length c.self.inside.columns.items ≡ length c.self.inside.prices.items = columns_count _ _ _ _ c.self.invariant.0 in
+    let there = rw (← c.self.view_is) at c.requires.asset in
+    omega (arith, count, there, c.from.ensures)
+
+pub narrow-requires : goal.narrow-requires
+narrow-requires c =
+    let kept = c.self.invariant.0 in
+    let there = rw (← c.self.view_is) at c.requires.asset in
+    let room = rw (← c.self.view_is) at c.requires.room in
+    let cells = c.cells.ensures.value ∙ rw c.from.ensures at c.index-column.ensures ∙ column_at _ _ _ _ c.args.asset c.index-column.result.now kept there in
+    record {
+      column = subst IsColumn (sym c.cells.ensures.value) c.cells.ensures.column;
+      there = rw (c.deref.ensures.value, cells) (are_there _ _ _ _ kept c.args.asset there);
+      moves = rw (c.deref.ensures.value, cells) (can_fall _ _ _ _ kept c.args.asset there c.args.reach room);
+      room = rw cells (omega (arith, column_length c.args.asset 0 c.self.inside.orders.now, c.self.invariant.1));
+      some = c.requires.some;
+      most = omega (arith, c.requires.far);
+    }
+
+pub returns-clause-bracket : goal.returns-clause-bracket
+returns-clause-bracket c =
+    let kept = c.self.invariant.0 in
+    let there = rw (← c.self.view_is) at c.requires.asset in
+    let room = rw (← c.self.view_is) at c.requires.room in
+    let column = rw c.from.ensures at c.index-column.ensures ∙ column_at _ _ _ _ c.args.asset c.index-column.result.now kept there in
+    let same = to_z-of_z w64 c.steepness.result (record { sfits = c.steepness.type_inv }) in
+    let steep = same ∙ c.steepness.ensures.value ∙ ap (λ cells. pos (steepness_in cells)) column ∙ ap pos (steepness_is c.args.asset _) in
+    let found = rw (c.deref.ensures.value, c.cells.ensures.value ∙ column, steep) at c.narrow.ensures.bracket in
+    rw (← c.self.view_is) (same_bracket _ _ _ _ _ _ (asked_fallen _ _ _ _ kept c.args.asset there c.args.reach room) found)

@@ -1,0 +1,73 @@
+-- What private functions keep of each order and of each column.
+use Rattle.std.specs.Prelude.{◌≡◌, ℕ, ◌*◌, ◌^◌, ◌<◌, ◌≤◌, ℤ, pos, ◌+ℤ◌, ◌*ℤ◌, unsigned_abs, List, [], ◌∷◌, length, map, slice_index_or, slice_set, All}
+use Rattle.std.specs.List.{range_with_len, sum_by}
+use Rattle.std.specs.Int.{div_ceil}
+use Rattle.list_sums.specs.Sums.{int_sum_by}
+use Rattle.weight_rows.specs.Rows.{most_weight}
+use Rattle.demand_curve.specs.Demand.{Terms, floor_rate, ceil_rate}
+use Rattle.flow_orders.specs.Orders.{Order, most_orders, terms_of}
+use Rattle.flow_orders.specs.Excess.{price_for, low_part, high_part}
+use Rattle.excess_bounds.specs.declared.columns.Cell.{Cell}
+use Rattle.excess_bounds.specs.Workspace.{ArePriced}
+use Rattle.excess_bounds.specs.Columns.{column_of}
+
+-- an order at some price of its portfolio
+pub record Quote : Type 0 where
+  pub terms : Terms
+  pub price : ℤ
+
+-- an order at the prices of the assets
+abbrev pub quote_at : List ℤ → Order → Quote
+quote_at prices o = record { terms = terms_of o; price = price_for prices o }
+
+-- what stands for an order that isn't there
+abbrev pub no_quote : Quote
+no_quote = record { terms = record { low = pos 0; high = pos 0; rate = 0; room = 0 }; price = pos 0 }
+
+abbrev pub quote_in : List Quote → ℕ → Quote
+quote_in quotes place = slice_index_or quotes place no_quote
+
+-- what the order of a cell asks for of the cell's asset, once that asset's price has moved by an amount
+abbrev pub low_in : List Quote → ℤ → Cell → ℤ
+low_in quotes amount c = let q = quote_in quotes c.place in low_part c.weight q.terms (q.price +ℤ c.weight *ℤ amount)
+
+abbrev pub high_in : List Quote → ℤ → Cell → ℤ
+high_in quotes amount c = let q = quote_in quotes c.place in high_part c.weight q.terms (q.price +ℤ c.weight *ℤ amount)
+
+-- the price of the portfolio of a cell's order stays in range as the asset's price moves by an amount
+abbrev pub StaysInRange : List Quote → ℤ → Cell → Type 0
+StaysInRange quotes amount c = unsigned_abs ((quote_in quotes c.place).price +ℤ c.weight *ℤ amount) ≤ 2 ^ 78
+
+-- the quotes after the price of a column's asset has moved by an amount
+abbrev pub requoted : List Quote → List Cell → ℤ → List Quote
+requoted quotes [] amount = quotes
+requoted quotes (c ∷ cells) amount =
+    let q = quote_in quotes c.place in
+    requoted (slice_set quotes c.place (record { terms = q.terms; price = q.price +ℤ c.weight *ℤ amount })) cells amount
+
+-- each order of a column is there when it is requoted, and its price stays in range
+abbrev pub CanRequote : List Quote → List Cell → ℤ → Type 0
+CanRequote quotes [] amount = Unit {0}
+CanRequote quotes (c ∷ cells) amount =
+    let q = quote_in quotes c.place in
+    (c.place < length quotes) × StaysInRange quotes amount c
+    × CanRequote (slice_set quotes c.place (record { terms = q.terms; price = q.price +ℤ c.weight *ℤ amount })) cells amount
+
+-- not too many cells, and no weight is too large
+pub record IsColumn (cells : List Cell) : Type 0 where
+  pub few : length cells ≤ most_orders
+  pub light : All (λ c. unsigned_abs c.weight ≤ most_weight) cells
+
+-- the sum of the absolute weights of a column
+abbrev pub spread_in : List Cell → ℕ
+spread_in cells = sum_by (λ c. unsigned_abs c.weight) cells
+
+-- the sum of the squares of its weights, divided by 256 and rounded up
+unfoldable pub steepness_in : List Cell → ℕ
+steepness_in cells = div_ceil (sum_by (λ c. unsigned_abs c.weight * unsigned_abs c.weight) cells) 256
+
+-- each order is kept at the prices, and a column for each asset
+pub record IsKept (orders : List Order) (prices : List ℤ) (quotes : List Quote) (columns : List (List Cell)) : Type 0 where
+  pub priced : ArePriced orders prices
+  pub quoted : quotes ≡ map (quote_at prices) orders
+  pub listed : columns ≡ map (column_of orders) (range_with_len 0 (length prices))

@@ -1,0 +1,232 @@
+//! How far the price of an asset has to move, narrowed down.
+//!
+//! As a price moves, what an order asks for of the asset never grows: it falls in steps. Between two amounts most orders
+//! soon ask for the same at both ends, and aren't looked at again.
+
+ghost use Rattle.std.specs.Prelude.{◌≡◌, ◌*◌, ◌^◌, ◌+◌, ◌-◌, ◌<◌, ◌≤◌, if◌then◌else◌, int_lt, pos, length, map, unsigned_abs, vec_len, vec_capacity, All};
+ghost use Rattle.list_sums.specs.Sums.{int_sum_by};
+ghost use Rattle.flow_orders.specs.Orders.{most_orders};
+ghost use Rattle.excess_bounds.specs.Brackets.{IsBracket};
+ghost use Rattle.excess_bounds.specs.Private.{IsColumn};
+ghost use Rattle.excess_bounds.specs.Steps.{CanLook, IsSmall, IsNarrowed, CanMove, asked_after, part_after, looked, closed, still_open, settled_sum};
+
+use crate::columns::Cell;
+use crate::slots::Slot;
+use crate::steps::Step;
+
+/// Two amounts, in grains, between which the move of a price ends: after the low one it has to go on, and after the high
+/// one it has ended, or it can't go further.
+#[derive(Clone, Copy)]
+pub struct Bracket {
+    /// The low amount: 0, or it is known that the move goes on.
+    pub low: u64,
+    /// The high amount: the reach of the move, or it is known that the move has ended.
+    pub high: u64,
+}
+
+// What steps ask for together, in units, and how fast that falls: 2^40 times the units for each grain, about.
+#[derive(Clone, Copy)]
+struct Seen {
+    sum: i64,
+    slope: u64,
+}
+
+// A bracket is narrowed down at most so often. Each other time at least it is halved.
+const MOST_TURNS: u32 = 160;
+
+// Narrows down after which amount, of at most `reach`, the orders of a column ask for no more than the bound.
+pub(crate) fn narrow(
+    slots: &[Slot],
+    cells: &[Cell],
+    falls: bool,
+    steps: &mut Vec<Step>,
+    bound: i64,
+    reach: u64,
+) -> Bracket
+    requires column { IsColumn cells.now }
+    requires there { All (λ c. c.place < length slots.now) cells.now }
+    requires moves { All (CanMove slots.now falls reach) cells.now }
+    requires room { length cells.now ≤ vec_capacity steps.old }
+    requires some { 0 < reach }
+    requires most { reach ≤ 2 ^ 62 }
+    ensures bracket { IsBracket (asked_after slots.now falls cells.now) bound reach result.low result.high }
+    ensures capacity { vec_capacity steps.new ≡ vec_capacity steps.old }
+{
+    let seen = begin(slots, cells, falls, reach, steps);
+    let mut rest = 0;
+    let mut bracket = Bracket {
+        low: 0,
+        high: reach,
+    };
+    let mut guess = Guess::from_low(missing(seen.sum, bound), seen.slope);
+    for _turn in 0..MOST_TURNS {
+        if bracket.high - bracket.low <= 1 {
+            return bracket;
+        }
+        let amount = guess.amount(bracket, reach);
+        let seen = ask(steps, amount);
+        let asked = rest + seen.sum;
+        let is_low = is_above(asked, bound);
+        rest += close(steps, is_low);
+        let next = bracket.with(amount, is_low);
+        guess = Guess::next(bracket, next, is_low, missing(asked, bound), seen.slope);
+        bracket = next;
+    }
+    bracket
+}
+
+impl Bracket {
+    fn with(self, amount: u64, is_low: bool) -> Bracket
+        ensures { result ≡ (if is_low then record { low = amount; high = self.high } else record { low = self.low; high = amount }) }
+    {
+        if is_low {
+            Bracket {
+                low: amount,
+                high: self.high,
+            }
+        } else {
+            Bracket {
+                low: self.low,
+                high: amount,
+            }
+        }
+    }
+}
+
+// By how much what is asked for differs from the bound, and a little more, so that guesses go a little too far.
+fn missing(asked: i64, bound: i64) -> u64 {
+    asked.abs_diff(bound).saturating_add(8)
+}
+
+fn is_above(asked: i64, bound: i64) -> bool
+    ensures { result ≡ int_lt bound asked }
+{
+    bound < asked
+}
+
+// The steps of a column's orders before the move, and what they do.
+fn begin(slots: &[Slot], cells: &[Cell], falls: bool, reach: u64, steps: &mut Vec<Step>) -> Seen
+    requires column { IsColumn cells.now }
+    requires there { All (λ c. c.place < length slots.now) cells.now }
+    requires moves { All (CanMove slots.now falls reach) cells.now }
+    requires room { length cells.now ≤ vec_capacity steps.old }
+    ensures narrowed { IsNarrowed (asked_after slots.now falls cells.now) steps.new.items (pos 0) (length cells.now) 0 reach }
+    ensures capacity { vec_capacity steps.new ≡ vec_capacity steps.old }
+{
+    let mut sum = 0i64;
+    let mut slope = 0u64;
+    steps.clear();
+    for cell in cells {
+        let cell = cell.turned(falls);
+        let step = slots[cell.place as usize].step(cell);
+        sum = sum.wrapping_add(step.first);
+        slope = slope.saturating_add(step.pull_now());
+        steps.push_reserved(step);
+    }
+    Seen { sum, slope }
+}
+
+// Looks at what each step asks for after an amount.
+fn ask(steps: &mut Vec<Step>, amount: u64) -> Seen
+    requires few { length steps.old.items ≤ most_orders }
+    requires each { All (CanLook amount) steps.old.items }
+    requires amount { amount ≤ 2 ^ 62 }
+    ensures steps { steps.new.items ≡ map (looked amount) steps.old.items }
+    ensures sum { result.sum ≡ int_sum_by (part_after amount) steps.old.items }
+    ensures bound { unsigned_abs result.sum ≤ length steps.old.items * 2 ^ 36 }
+    ensures capacity { vec_capacity steps.new ≡ vec_capacity steps.old }
+{
+    let mut sum = 0;
+    let mut slope = 0u64;
+    for at in 0..steps.len() {
+        let step = steps[at].looked(amount);
+        sum += step.here;
+        slope = slope.saturating_add(step.pull_here());
+        steps[at] = step;
+    }
+    Seen { sum, slope }
+}
+
+// Takes what was looked at last as an end of the bracket, and lets those steps go that ask for the same at both ends. The
+// answer is what these ask for together.
+fn close(steps: &mut Vec<Step>, is_low: bool) -> i64
+    requires few { length steps.old.items ≤ most_orders }
+    requires each { All IsSmall steps.old.items }
+    ensures steps { steps.new.items ≡ still_open (map (closed is_low) steps.old.items) }
+    ensures rest { result ≡ settled_sum (map (closed is_low) steps.old.items) }
+    ensures capacity { vec_capacity steps.new ≡ vec_capacity steps.old }
+{
+    let mut kept = 0;
+    let mut rest = 0;
+    for at in 0..steps.len() {
+        let step = steps[at].closed(is_low);
+        if step.is_closed() {
+            rest += step.first;
+        } else {
+            steps[kept] = step;
+            kept += 1;
+        }
+    }
+    steps.truncate(kept);
+    rest
+}
+
+// Which amount to look at next: one so far from an end of the bracket, or its middle.
+#[derive(Clone, Copy)]
+struct Guess {
+    is_from_low: bool,
+    // 1 at least.
+    far: u64,
+    halves: bool,
+    ghost some: { 0 < far },
+}
+
+impl Guess {
+    // Where so many units are missing at the low end.
+    fn from_low(missing: u64, slope: u64) -> Guess {
+        Guess {
+            is_from_low: true,
+            far: distance(missing, slope),
+            halves: false,
+        }
+    }
+
+    // After a bracket has become a smaller one, at the end of which so many units are missing, or too many. Where it was
+    // not halved the next one is.
+    fn next(before: Bracket, next: Bracket, is_from_low: bool, missing: u64, slope: u64) -> Guess
+        requires before { before.low ≤ before.high }
+        requires next { next.low ≤ next.high }
+    {
+        Guess {
+            is_from_low,
+            far: distance(missing, slope),
+            halves: next.high - next.low > (before.high - before.low) / 2,
+        }
+    }
+
+    // An amount between both ends. Where the guess is beyond the reach, it is the last one before it.
+    fn amount(self, bracket: Bracket, reach: u64) -> u64
+        requires { bracket.low + 1 < bracket.high }
+        ensures above { bracket.low < result }
+        ensures below { result < bracket.high }
+    {
+        let width = bracket.high - bracket.low;
+        if self.far >= width && bracket.high == reach {
+            bracket.high - 1
+        } else if self.far >= width || self.halves {
+            bracket.low + width / 2
+        } else if self.is_from_low {
+            bracket.low + self.far
+        } else {
+            bracket.high - self.far
+        }
+    }
+}
+
+// Twice the grains over which so many units are asked for less, 1 to 2^62.
+fn distance(units: u64, slope: u64) -> u64
+    ensures { 0 < result }
+{
+    let grains = (u128::from(units) << 41) / u128::from(slope.max(1));
+    grains.clamp(1, 1 << 62) as u64
+}

@@ -1,0 +1,94 @@
+//! The steps of one order as the price of an asset moves.
+ghost use Rattle.std.specs.Prelude.{◌≡◌, ◌^◌, ◌≤◌, ◌<◌, ◌+ℤ◌, ◌*ℤ◌, pos, unsigned_abs};
+ghost use Rattle.std.specs.Ordering.{int_eq};
+ghost use Rattle.weight_rows.specs.Rows.{most_weight};
+ghost use Rattle.excess_bounds.specs.Steps.{CanLook, looked, closed, part_after};
+
+use crate::parts::{low_units, price_after};
+use demand_curve::Curve;
+
+// An order that may ask for less of the asset after a high amount than after a low one.
+#[derive(Clone, Copy)]
+pub(crate) struct Step {
+    pub(crate) curve: Curve,
+    // The price of its portfolio before the move.
+    pub(crate) price: i128,
+    // The asset's weight, turned where the asset's price falls.
+    pub(crate) weight: i32,
+    // How fast the demand falls where it isn't cut.
+    pub(crate) pull: u32,
+    // It asks for at most so much after the low amount, in units, and for at least so much after the high one.
+    pub(crate) first: i64,
+    pub(crate) last: i64,
+    // What it asks for after the amount that was looked at last.
+    pub(crate) here: i64,
+}
+
+impl Step {
+    // The step with what it asks for after an amount.
+    pub(crate) fn looked(self, amount: u64) -> Step
+        requires can { CanLook amount self }
+        requires amount { amount ≤ 2 ^ 62 }
+        ensures step { result ≡ looked amount self }
+        ensures small { unsigned_abs result.here ≤ 2 ^ 36 }
+    {
+        Step {
+            here: self.units_after(amount),
+            ..self
+        }
+    }
+
+    // What it asks for after an amount.
+    fn units_after(&self, amount: u64) -> i64
+        requires can { CanLook amount self.now }
+        requires amount { amount ≤ 2 ^ 62 }
+        ensures units { result ≡ part_after amount self.now }
+        ensures small { unsigned_abs result ≤ 2 ^ 36 }
+    {
+        let price = price_after(self.price, self.weight, i128::from(amount));
+        low_units(self.weight, self.curve.roundings(price))
+    }
+
+    // What was looked at last, taken as an end of the bracket.
+    pub(crate) fn closed(self, is_low: bool) -> Step
+        ensures { result ≡ closed is_low self }
+    {
+        if is_low {
+            Step {
+                first: self.here,
+                ..self
+            }
+        } else {
+            Step {
+                last: self.here,
+                ..self
+            }
+        }
+    }
+
+    // Whether it asks for the same at both ends.
+    pub(crate) fn is_closed(&self) -> bool
+        ensures { result ≡ int_eq self.now.first self.now.last }
+    {
+        self.first == self.last
+    }
+
+    // How fast what it asks for falls, where it asks for so much: not at all where that is cut.
+    fn pull_at(&self, units: i64) -> u64 {
+        let size = u64::from(self.weight.unsigned_abs());
+        let full = size.wrapping_mul(u64::from(self.curve.room));
+        let part = units.unsigned_abs();
+        if part == 0 || full <= part {
+            return 0;
+        }
+        size.wrapping_mul(size).wrapping_mul(u64::from(self.pull))
+    }
+
+    pub(crate) fn pull_now(&self) -> u64 {
+        self.pull_at(self.first)
+    }
+
+    pub(crate) fn pull_here(&self) -> u64 {
+        self.pull_at(self.here)
+    }
+}

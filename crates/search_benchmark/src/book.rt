@@ -1,0 +1,81 @@
+//! The book of the benchmark.
+ghost use Rattle.std.specs.Prelude.{◌<◌};
+
+use flow_orders::{Order, order_fault};
+use std::alloc::{AllocError, Global};
+use weight_rows::{Entry, EntryList, WeightRow, row_fault};
+
+// Numbers that look as if they were drawn by lot.
+#[derive(Drop)]
+struct Draws {
+    state: u64,
+}
+
+impl Draws {
+    // A number below `end`, which isn't 0.
+    fn below(&mut self, end: u32) -> u32
+        requires { 0 < end }
+        ensures { result < end }
+    {
+        self.state = self
+            .state
+            .wrapping_mul(6_364_136_223_846_793_005)
+            .wrapping_add(1_442_695_040_888_963_407);
+        (self.state >> 33) as u32 % end
+    }
+}
+
+// The entry of an asset: a weight of 1 to 4, bought or sold.
+fn entry(draws: &mut Draws, asset: u16) -> Entry {
+    let size = draws.below(4) as i32 + 1;
+    let sells = draws.below(2) == 1;
+    Entry {
+        asset,
+        weight: if sells { -size } else { size },
+    }
+}
+
+// The next order, or None where its numbers or its row had a fault: one to three assets side by side, around prices of
+// 1,000 ticks for each asset's number.
+fn order(alloc: Global, draws: &mut Draws, assets: u16) -> Result<Option<Order>, AllocError> {
+    let count = (draws.below(3) as u16 + 1).min(assets);
+    let first = draws.below(u32::from(assets.saturating_sub(count)) + 1) as u16;
+    let mut entries = Vec::with_capacity(alloc, usize::from(count))?;
+    let mut middle = 0i64;
+    for at in 0..count {
+        let entry = entry(draws, first.saturating_add(at));
+        middle = middle.saturating_add(i64::from(entry.weight).saturating_mul(
+            1000 * (i64::from(entry.asset) + 1),
+        ));
+        entries.push(entry)?;
+    }
+    let middle = middle.saturating_add(i64::from(draws.below(41)) - 20);
+    let half = i64::from(draws.below(50)) + 1;
+    let rate = draws.below(1000) + 1;
+    let turns = draws.below(20) + 1;
+    let low = middle.saturating_sub(half);
+    let high = middle.saturating_add(half);
+    let cap = u64::from(rate) * u64::from(turns);
+    Ok(made((low, high), rate, cap, EntryList::new(entries)))
+}
+
+// The order, or None where its numbers or its row have a fault.
+fn made(limits: (i64, i64), rate: u32, cap: u64, entries: EntryList) -> Option<Order> {
+    let (low, high) = limits;
+    if row_fault(entries.as_slice()).is_some() || order_fault(low, high, rate, cap).is_some() {
+        return None;
+    }
+    Some(Order::new(1, 1, low, high, rate, cap, WeightRow::new(entries)))
+}
+
+/// So many orders of so many assets, at most 64.
+pub fn drawn(alloc: Global, assets: u16, count: u32) -> Result<Vec<Order>, AllocError> {
+    let mut draws = Draws { state: 7 };
+    let mut orders = Vec::new(alloc);
+    for _ in 0..count {
+        if let Some(order) = order(alloc, &mut draws, assets)? {
+            orders.push(order)?;
+        }
+    }
+    Ok(orders)
+}
