@@ -7,9 +7,9 @@ use Rattle.flow_orders.specs.Outcomes.{Outcome, IsRightOutcome}
 use Rattle.journal_records.specs.Pairs.{IsPair}
 use Rattle.journal_records.specs.Formats.{records_of}
 use Rattle.journal_records.proofs.Spelled.{answer_unique}
-use Rattle.market_core.specs.Market.{Market, empty_market}
-use Rattle.market_core.specs.Journal.{Step, Follows}
-use Rattle.market_core.proofs.LawProofs.{market_is_determined, legal_steps_number_one}
+use Rattle.market_rules.specs.Market.{Market, empty_market}
+use Rattle.market_rules.specs.Journal.{Step, Follows}
+use Rattle.market_rules.proofs.LawProofs.{market_is_determined, legal_steps_number_one}
 use Rattle.batch_audit.specs.Legal.{IsLegalPair, StopsAt}
 use Rattle.batch_audit.specs.Laws.{OneMarket, OneJudgement, PairsNumberOne}
 use Rattle.std.specs.Prelude.{All}

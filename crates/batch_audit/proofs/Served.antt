@@ -14,12 +14,12 @@ use Rattle.flow_orders.specs.Outcomes.{Outcome, IsRightOutcome}
 use Rattle.flow_orders.specs.Own.{IsOwnOutcome}
 use Rattle.journal_records.specs.Replies.{SpellsAnswer}
 use Rattle.journal_records.proofs.Spelled.{answer_unique}
-use Rattle.market_core.specs.Market.{Market}
-use Rattle.market_core.specs.Step.{FirstRefusal, Answers, Serves, ServesRead, refusal_of, after_batch}
-use Rattle.market_core.specs.Journal.{Step}
+use Rattle.market_rules.specs.Market.{Market}
+use Rattle.market_rules.specs.Step.{FirstRefusal, Answers, Serves, ServesRead, refusal_of, after_batch}
+use Rattle.market_rules.specs.Journal.{Step}
 use Rattle.market_core.specs.Expected.{IsExpected}
-use Rattle.market_core.proofs.LawProofs.{plain_commands_have_one_answer, plain_commands_need_no_rule, one_refusal}
-use Rattle.market_core.proofs.OneStep.{one_first}
+use Rattle.market_rules.proofs.LawProofs.{plain_commands_have_one_answer, plain_commands_need_no_rule, one_refusal}
+use Rattle.market_rules.proofs.OneStep.{one_first}
 use Rattle.batch_audit.specs.Judging.{IsJudged}
 use Rattle.batch_audit.specs.Private.{IsServed, IsAnswerJudged, IsOutcomeFor}
 use Rattle.batch_certificate.specs.declared.outcome.Outcome as parts

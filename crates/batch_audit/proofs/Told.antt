@@ -9,8 +9,8 @@ use Rattle.batch_certificate.specs.declared.outcome.Cleared as copied
 use Rattle.batch_certificate.specs.declared.outcome.Outcome.TheVariants as parts
 use Rattle.batch_certificate.specs.Published.{clearing_of}
 use Rattle.batch_certificate.specs.Verdicts.{rates_in}
-use Rattle.market_core.specs.Market.{Market, start_prices}
-use Rattle.market_core.specs.Step.{after_batch}
+use Rattle.market_rules.specs.Market.{Market, start_prices}
+use Rattle.market_rules.specs.Step.{after_batch}
 use Rattle.batch_audit.specs.Private.{IsOutcomeFor}
 
 -- lists of numbers that begin alike

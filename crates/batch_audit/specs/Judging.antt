@@ -1,7 +1,7 @@
 -- What the audit of one pair answers, and what it makes of the audit's market.
 use Rattle.std.specs.Prelude.{◌≡◌}
 use Rattle.wire_records.specs.Records.{Record}
-use Rattle.market_core.specs.Market.{Market}
+use Rattle.market_rules.specs.Market.{Market}
 use Rattle.batch_audit.specs.Legal.{IsLegalPair, IsIllegalPair}
 use Rattle.batch_audit.specs.declared.audit.Legality.{Legality}
 use Rattle.batch_audit.specs.declared.audit.Legality.TheVariants.{Legal, Illegal}

@@ -4,7 +4,7 @@ use Rattle.wire_records.specs.Records.{Record}
 use Rattle.wire_records.specs.Commands.{Pair}
 use Rattle.wire_records.specs.declared.version.Version.{Version}
 use Rattle.flow_orders.specs.Outcomes.{Outcome}
-use Rattle.market_core.specs.Market.{Market}
+use Rattle.market_rules.specs.Market.{Market}
 use Rattle.batch_audit.specs.Legal.{IsLegalPair, AreJudged}
 
 -- a pair of records makes one market

@@ -8,8 +8,8 @@ use Rattle.flow_orders.specs.Outcomes.{Outcome, IsRightOutcome}
 use Rattle.journal_records.specs.Replies.{SpellsAnswer}
 use Rattle.journal_records.specs.Pairs.{IsPair}
 use Rattle.journal_records.specs.Formats.{records_of}
-use Rattle.market_core.specs.Market.{Market, empty_market}
-use Rattle.market_core.specs.Journal.{Step, Follows}
+use Rattle.market_rules.specs.Market.{Market, empty_market}
+use Rattle.market_rules.specs.Journal.{Step, Follows}
 
 -- A pair of records is a step of a market: the second spells the answer that the first gets, which makes the new market. A batch
 -- may end with any right outcome.

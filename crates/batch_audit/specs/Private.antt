@@ -8,10 +8,10 @@ use Rattle.flow_orders.specs.Orders.{Order}
 use Rattle.flow_orders.specs.Outcomes.{Skipping, Outcome, IsRightOutcome, IsLegalFrom, EndsSettled, skipping_at}
 use Rattle.batch_certificate.specs.declared.outcome.Outcome as parts
 use Rattle.batch_certificate.specs.Published.{outcome_of}
-use Rattle.market_core.specs.Market.{Market}
-use Rattle.market_core.specs.Step.{ServesRead, holds_batch, after_batch}
-use Rattle.market_core.specs.Journal.{Step}
-use Rattle.market_core.specs.Settling.{MaySettle}
+use Rattle.market_rules.specs.Market.{Market}
+use Rattle.market_rules.specs.Step.{ServesRead, holds_batch, after_batch}
+use Rattle.market_rules.specs.Journal.{Step}
+use Rattle.market_rules.specs.Settling.{MaySettle}
 use Rattle.batch_audit.specs.declared.audit.Legality.{Legality}
 use Rattle.batch_audit.specs.declared.audit.Legality.TheVariants.{Legal, Illegal}
 

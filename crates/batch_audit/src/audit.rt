@@ -5,7 +5,7 @@ ghost use Rattle.wire_records.specs.CommandRecords.{IsCommand};
 ghost use Rattle.wire_records.specs.Versions.{IsOfVersion};
 ghost use Rattle.wire_records.specs.Views.{command_of};
 ghost use Rattle.journal_records.specs.Views.{answer_of};
-ghost use Rattle.market_core.specs.Wanting.{MayWant, RecordMayWant};
+ghost use Rattle.market_rules.specs.Wanting.{MayWant, RecordMayWant};
 ghost use Rattle.batch_audit.specs.declared.audit.Legality.TheVariants.{Legal, Illegal};
 ghost use Rattle.batch_audit.specs.Private.{IsServed, IsAnswerJudged};
 
@@ -33,7 +33,7 @@ pub struct Audit {
 }
 
 impl Model for Audit {
-    ghost use Rattle.market_core.specs.Market.{Market as market_value};
+    ghost use Rattle.market_rules.specs.Market.{Market as market_value};
 
     ghost Value = { market_value };
 
@@ -133,7 +133,7 @@ fn serve(
 
 impl Audit {
     ghost use Rattle.wire_records.specs.declared.version.Version.TheVariants.{One};
-    ghost use Rattle.market_core.specs.Market.{empty_market, IsSound};
+    ghost use Rattle.market_rules.specs.Market.{empty_market, IsSound};
     ghost use Rattle.batch_audit.specs.Judging.{IsJudged};
 
     /// An audit of a journal of version One from its first pair on. Takes no memory.

@@ -9,8 +9,8 @@ ghost use Rattle.flow_orders.specs.Outcomes.{IsWide, IsRightClearing, IsRightSki
 ghost use Rattle.flow_orders.specs.Outcomes as outcomes;
 ghost use Rattle.flow_orders.specs.Walks.{AreSettled};
 ghost use Rattle.journal_records.specs.Views.{answer_of};
-ghost use Rattle.market_core.specs.Market.{most_batches, start_prices};
-ghost use Rattle.market_core.specs.Step.{FirstRefusal};
+ghost use Rattle.market_rules.specs.Market.{most_batches, start_prices};
+ghost use Rattle.market_rules.specs.Step.{FirstRefusal};
 ghost use Rattle.batch_audit.specs.Private.{IsOutcomeFor, IsWalkTold};
 
 use batch_certificate::{Outcome, Skipped, Trace, Verdict, check_cleared};

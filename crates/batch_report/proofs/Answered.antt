@@ -10,11 +10,11 @@ use Rattle.wire_records.specs.declared.reply.Reply.TheVariants.{Done, Asset, Acc
 use Rattle.wire_records.specs.declared.reply.Refusal.{Refusal}
 use Rattle.wire_records.proofs.Readings.{command_seen}
 use Rattle.flow_orders.specs.Outcomes.{Outcome, IsRightOutcome}
-use Rattle.market_core.specs.Market.{Market}
-use Rattle.market_core.specs.Step.{Answers, Serves, ServesRead, refusal_of}
+use Rattle.market_rules.specs.Market.{Market}
+use Rattle.market_rules.specs.Step.{Answers, Serves, ServesRead, refusal_of}
 use Rattle.journal_records.specs.Replies.{SpellsAnswer}
 use Rattle.journal_records.proofs.Spelled.{answer_unique}
-use Rattle.market_core.specs.Journal.{Step}
+use Rattle.market_rules.specs.Journal.{Step}
 use Rattle.batch_audit.specs.Legal.{IsLegalPair}
 use Rattle.batch_report.specs.Reports.{◌then◌, Tells, IsReport}
 use Rattle.batch_report.proofs.Joining.{joined}

@@ -5,8 +5,8 @@ use Rattle.wire_records.specs.Records.{Record}
 use Rattle.wire_records.specs.Commands.{Command, AddAsset, OpenAccount, DepositMoney, DepositAsset, WithdrawMoney, WithdrawAsset, PlaceOrder, CancelOrder, RunBatch, PlaceUntil, SetMoneyCredit, SetUnitCredit, Answer}
 use Rattle.wire_records.specs.Versions.{IsReadAs}
 use Rattle.flow_orders.specs.Outcomes.{Fill, Outcome, IsRightOutcome}
-use Rattle.market_core.specs.Market.{Market}
-use Rattle.market_core.specs.Journal.{Step}
+use Rattle.market_rules.specs.Market.{Market}
+use Rattle.market_rules.specs.Journal.{Step}
 
 -- the fill at a place that has one
 abbrev pub fill_at : List Fill → ℕ → Fill

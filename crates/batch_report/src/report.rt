@@ -1,7 +1,7 @@
 //! The lines of a pair.
 ghost use Rattle.std.specs.Prelude.{◌≡◌, ◌≤◌, ◌++◌, ℕ, List, OnOk, OnErr, vec_capacity};
 ghost use Rattle.journal_records.specs.Views.{answer_of};
-ghost use Rattle.market_core.specs.Market.{Market};
+ghost use Rattle.market_rules.specs.Market.{Market};
 ghost use Rattle.batch_audit.specs.Legal.{IsLegalPair};
 ghost use Rattle.batch_report.specs.Reports.{Tells, IsReport};
 ghost use Rattle.batch_report.specs.Private.{IsAnswered};

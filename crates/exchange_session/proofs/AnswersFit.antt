@@ -18,12 +18,12 @@ use Rattle.journal_records.specs.Replies.{answer_record, IsReply, IsAnswer, most
 use Rattle.journal_records.specs.Pairs.{IsPair}
 use Rattle.journal_records.proofs.Spelled.{plain_short, batch_short}
 use Rattle.journal_records.proofs.OutcomesFit.{right_outcomes_fit}
-use Rattle.market_core.specs.Market.{Market, IsSound, start_prices}
-use Rattle.market_core.specs.Step.{FirstRefusal, Accepts, Answers, Serves, ServesRead, after_batch}
-use Rattle.market_core.specs.Journal.{Step, Follows}
-use Rattle.market_core.proofs.Accepted.{past_unless}
-use Rattle.market_core.proofs.LawProofs.{steps_keep_soundness}
-use Rattle.market_core.proofs.OwnIsLegal.{start_within, own_served_is_right}
+use Rattle.market_rules.specs.Market.{Market, IsSound, start_prices}
+use Rattle.market_rules.specs.Step.{FirstRefusal, Accepts, Answers, Serves, ServesRead, after_batch}
+use Rattle.market_rules.specs.Journal.{Step, Follows}
+use Rattle.market_rules.proofs.Accepted.{past_unless}
+use Rattle.market_rules.proofs.LawProofs.{steps_keep_soundness}
+use Rattle.market_rules.proofs.OwnIsLegal.{start_within, own_served_is_right}
 use Rattle.exchange_session.proofs.Writable.{few_start_prices}
 
 -- an answer that can be written

@@ -6,7 +6,7 @@ use Rattle.wire_records.specs.declared.version.Version.{Version}
 use Rattle.wire_records.specs.declared.version.Version.TheVariants.{One, Two}
 use Rattle.wire_records.specs.Formats.{command_magic_of, commands}
 use Rattle.journal_records.specs.Formats.{journal_magic_of}
-use Rattle.market_core.specs.Market.{Market, empty_market}
+use Rattle.market_rules.specs.Market.{Market, empty_market}
 use Rattle.word_driver.specs.Private.{OpensAt}
 use Rattle.exchange_session.specs.Running.{run}
 

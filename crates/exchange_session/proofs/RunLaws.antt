@@ -19,13 +19,13 @@ use Rattle.flow_orders.specs.Outcomes.{Outcome}
 use Rattle.flow_orders.specs.Own.{IsOwnOutcome}
 use Rattle.journal_records.specs.Pairs.{pair_spelling}
 use Rattle.journal_records.specs.Formats.{journal_magic_of}
-use Rattle.market_core.specs.Market.{Market, IsSound, empty_market}
-use Rattle.market_core.specs.Journal.{IsAnswered}
-use Rattle.market_core.proofs.OneJournal.{own_step}
-use Rattle.market_core.proofs.Exists.{step_is_there}
-use Rattle.market_core.proofs.LawProofs.{own_journals_are_legal, journals_hold_deposits, steps_keep_soundness}
-use Rattle.market_core.proofs.Versions.{follows_version}
-use Rattle.market_core.proofs.Promised.{legal_journal_keeps_promises, own_journal_clears_near}
+use Rattle.market_rules.specs.Market.{Market, IsSound, empty_market}
+use Rattle.market_rules.specs.Journal.{IsAnswered}
+use Rattle.market_rules.proofs.OneJournal.{own_step}
+use Rattle.market_rules.proofs.Exists.{step_is_there}
+use Rattle.market_rules.proofs.LawProofs.{own_journals_are_legal, journals_hold_deposits, steps_keep_soundness}
+use Rattle.market_rules.proofs.Versions.{follows_version}
+use Rattle.market_rules.proofs.Promised.{legal_journal_keeps_promises, own_journal_clears_near}
 use Rattle.word_driver.specs.Word.{Goes}
 use Rattle.word_driver.specs.Laws.{IsExact, IsKept, IsNotDenied, HasNext}
 use Rattle.word_driver.proofs.Denying.{not_denied, follows}

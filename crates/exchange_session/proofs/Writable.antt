@@ -8,7 +8,7 @@ use Rattle.flow_orders.specs.Outcomes.{most_budget, IsRightOutcome}
 use Rattle.batch_certificate.specs.declared.outcome.Outcome.{Outcome}
 use Rattle.batch_certificate.specs.declared.outcome.Outcome.TheVariants as parts
 use Rattle.batch_certificate.specs.Published.{outcome_of, HasOneRateEach}
-use Rattle.market_core.specs.Market.{Market, IsSound, start_prices, cut_price}
+use Rattle.market_rules.specs.Market.{Market, IsSound, start_prices, cut_price}
 use Rattle.exchange_session.specs.Private.{IsWritable}
 
 -- a market has at most 64 start prices

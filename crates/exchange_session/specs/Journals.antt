@@ -8,9 +8,9 @@ use Rattle.flow_orders.specs.Outcomes.{Outcome}
 use Rattle.flow_orders.specs.Own.{IsOwnOutcome}
 use Rattle.journal_records.specs.Pairs.{IsPair}
 use Rattle.journal_records.specs.Formats.{journal_in}
-use Rattle.market_core.specs.Market.{Market, empty_market}
-use Rattle.market_core.specs.Journal.{IsJournal, HoldsDeposits}
-use Rattle.market_core.specs.Promises.{KeepsPromises, ClearNear}
+use Rattle.market_rules.specs.Market.{Market, empty_market}
+use Rattle.market_rules.specs.Journal.{IsJournal, HoldsDeposits}
+use Rattle.market_rules.specs.Promises.{KeepsPromises, ClearNear}
 
 -- The text is the journal of these command records in a version, each with its one answer by the program's own rule. It leads
 -- to this market, which holds the accepted deposits less the accepted withdrawals. The promises of the exchange are kept in it,

@@ -8,9 +8,9 @@ use Rattle.flow_orders.specs.Outcomes.{most_budget}
 use Rattle.batch_certificate.specs.declared.outcome.Outcome.{Outcome}
 use Rattle.batch_certificate.specs.declared.outcome.Outcome.TheVariants as parts
 use Rattle.flow_orders.specs.Own.{IsOwnOutcome}
-use Rattle.market_core.specs.Market.{Market, most_batches}
-use Rattle.market_core.specs.Step.{FirstRefusal}
-use Rattle.market_core.specs.Journal.{Step}
+use Rattle.market_rules.specs.Market.{Market, most_batches}
+use Rattle.market_rules.specs.Step.{FirstRefusal}
+use Rattle.market_rules.specs.Journal.{Step}
 use Rattle.exchange_session.specs.declared.session.Asked.{Asked}
 use Rattle.exchange_session.specs.declared.session.Asked.TheVariants as asks
 

@@ -3,8 +3,8 @@ use Rattle.std.specs.Prelude.{◌≡◌, ◌++◌, [], Option, Some, None}
 use Rattle.wire_records.specs.Records.{Record}
 use Rattle.wire_records.specs.Formats.{commands}
 use Rattle.journal_records.specs.Formats.{journal_magic_of}
-use Rattle.market_core.specs.Market.{Market}
-use Rattle.market_core.specs.Wanting.{RecordMayWant}
+use Rattle.market_rules.specs.Market.{Market}
+use Rattle.market_rules.specs.Wanting.{RecordMayWant}
 use Rattle.word_driver.specs.Word.{Word}
 use Rattle.word_driver.specs.declared.fault.Never.{Never}
 use Rattle.exchange_session.specs.Serving.{AnswersOne}

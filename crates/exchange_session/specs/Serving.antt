@@ -6,8 +6,8 @@ use Rattle.wire_records.specs.Versions.{IsReadAs}
 use Rattle.journal_records.specs.Pairs.{IsPair, pair_spelling}
 use Rattle.flow_orders.specs.Outcomes.{Outcome}
 use Rattle.flow_orders.specs.Own.{IsOwnOutcome}
-use Rattle.market_core.specs.Market.{Market}
-use Rattle.market_core.specs.Journal.{Step}
+use Rattle.market_rules.specs.Market.{Market}
+use Rattle.market_rules.specs.Journal.{Step}
 
 -- A record is answered by one step of the market under the program's own rule, and the text is its pair, which fits its widths while
 -- the number of the next order has 64 bits.

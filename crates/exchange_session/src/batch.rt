@@ -7,9 +7,9 @@ ghost use Rattle.flow_orders.specs.Orders.{most_orders};
 ghost use Rattle.flow_orders.specs.Own.{IsOwnOutcome};
 ghost use Rattle.batch_certificate.specs.Published.{outcome_of};
 ghost use Rattle.journal_records.specs.Pairs.{pair_spelling};
-ghost use Rattle.market_core.specs.Market.{most_batches, start_prices};
-ghost use Rattle.market_core.specs.Step.{FirstRefusal, after_batch};
-ghost use Rattle.market_core.specs.Settling.{MaySettle};
+ghost use Rattle.market_rules.specs.Market.{most_batches, start_prices};
+ghost use Rattle.market_rules.specs.Step.{FirstRefusal, after_batch};
+ghost use Rattle.market_rules.specs.Settling.{MaySettle};
 ghost use Rattle.exchange_session.specs.Serving.{AnswersOne};
 ghost use Rattle.exchange_session.specs.Private.{IsWritable};
 

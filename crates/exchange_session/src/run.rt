@@ -2,7 +2,7 @@
 ghost use Rattle.std.specs.Prelude.{◌≡◌, ◌+◌, ◌^◌, ◌<◌};
 ghost use Rattle.wire_records.specs.declared.version.Version.TheVariants.{One};
 ghost use Rattle.journal_records.specs.Formats.{journal_magic_of};
-ghost use Rattle.market_core.specs.Market.{empty_market};
+ghost use Rattle.market_rules.specs.Market.{empty_market};
 ghost use Rattle.exchange_session.specs.Running.{run};
 
 use crate::Session;
@@ -51,7 +51,7 @@ impl Run {
 
 impl ServesWord for Run {
     ghost use Rattle.wire_records.specs.Records.{Record};
-    ghost use Rattle.market_core.specs.Market.{Market};
+    ghost use Rattle.market_rules.specs.Market.{Market};
 
     type Stop = Never;
 

@@ -4,8 +4,8 @@ ghost use Rattle.wire_records.specs.Commands.{Plain};
 ghost use Rattle.wire_records.specs.Versions.{IsReadAs};
 ghost use Rattle.journal_records.specs.Pairs.{plain_room};
 ghost use Rattle.flow_orders.specs.Own.{IsOwnOutcome};
-ghost use Rattle.market_core.specs.Journal.{Step};
-ghost use Rattle.market_core.specs.Wanting.{RecordMayWant};
+ghost use Rattle.market_rules.specs.Journal.{Step};
+ghost use Rattle.market_rules.specs.Wanting.{RecordMayWant};
 ghost use Rattle.exchange_session.specs.Private.{IsAsked};
 
 use crate::batch::hold_batch;
@@ -23,7 +23,7 @@ pub struct Session {
 }
 
 impl Model for Session {
-    ghost use Rattle.market_core.specs.Market.{Market as market_value};
+    ghost use Rattle.market_rules.specs.Market.{Market as market_value};
 
     ghost Value = { market_value };
 
@@ -56,7 +56,7 @@ fn reply_to(market: &mut Market, asked: &RecordView<'_>) -> Result<Asked, Memory
 impl Session {
     ghost use Rattle.wire_records.specs.Records.{IsRecord, most_body};
     ghost use Rattle.wire_records.specs.declared.version.Version.TheVariants.{One};
-    ghost use Rattle.market_core.specs.Market.{empty_market, IsSound};
+    ghost use Rattle.market_rules.specs.Market.{empty_market, IsSound};
     ghost use Rattle.exchange_session.specs.Serving.{AnswersOne};
 
     /// A session over the empty market of version One. Takes no memory.

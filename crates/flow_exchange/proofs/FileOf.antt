@@ -4,10 +4,10 @@ use Rattle.wire_records.specs.Records.{Record}
 use Rattle.wire_records.specs.Commands.{Pair}
 use Rattle.wire_records.specs.Reading.{Ending}
 use Rattle.flow_orders.specs.Outcomes.{Outcome}
-use Rattle.market_core.specs.Market.{Market, empty_market}
-use Rattle.market_core.proofs.Soundness.{sound-empty}
-use Rattle.market_core.proofs.LawProofs.{journals_hold_deposits}
-use Rattle.market_core.proofs.Promised.{legal_journal_keeps_promises}
+use Rattle.market_rules.specs.Market.{Market, empty_market}
+use Rattle.market_rules.proofs.Soundness.{sound-empty}
+use Rattle.market_rules.proofs.LawProofs.{journals_hold_deposits}
+use Rattle.market_rules.proofs.Promised.{legal_journal_keeps_promises}
 use Rattle.journal_replay.specs.Audits.{Audits}
 use Rattle.flow_exchange.specs.declared.status.Status.{Status}
 use Rattle.flow_exchange.specs.Auditing.{audit_status, audit_text, AuditsFile}

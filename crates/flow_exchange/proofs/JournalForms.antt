@@ -15,8 +15,8 @@ use Rattle.flow_orders.specs.Outcomes.{Outcome, IsRightOutcome}
 use Rattle.journal_records.specs.Pairs.{IsPair}
 use Rattle.journal_records.specs.Formats.{journals, records_of}
 use Rattle.journal_records.proofs.Spelled.{answer_unique}
-use Rattle.market_core.specs.Market.{Market, empty_market}
-use Rattle.market_core.specs.Journal.{Follows}
+use Rattle.market_rules.specs.Market.{Market, empty_market}
+use Rattle.market_rules.specs.Journal.{Follows}
 use Rattle.batch_audit.specs.Legal.{IsIllegalPair, IsLegalJournal}
 use Rattle.batch_report.specs.Reports.{IsReport}
 use Rattle.journal_replay.specs.Audits.{Audits, cleared_by, skipped_by, cleared_in, skipped_in}

@@ -13,11 +13,11 @@ use Rattle.flow_orders.specs.Outcomes.{Outcome}
 use Rattle.journal_records.specs.Formats.{journals, journal_in, records_of}
 use Rattle.journal_records.proofs.Files.{journals_readable}
 use Rattle.journal_replay.proofs.LawProofs.{one_audit}
-use Rattle.market_core.specs.Market.{Market, empty_market}
-use Rattle.market_core.proofs.LawProofs.{market_is_determined}
+use Rattle.market_rules.specs.Market.{Market, empty_market}
+use Rattle.market_rules.proofs.LawProofs.{market_is_determined}
 use Rattle.batch_report.specs.Reports.{IsReport}
 use Rattle.batch_report.proofs.OneReport.{one_report}
-use Rattle.market_core.proofs.OneJournal.{one_own_journal}
+use Rattle.market_rules.proofs.OneJournal.{one_own_journal}
 use Rattle.exchange_session.specs.Journals.{Journals}
 use Rattle.wire_records.specs.declared.version.Version.TheVariants.{One, Two}
 use Rattle.flow_exchange.specs.declared.form.Form.{Form}

@@ -9,7 +9,7 @@ use Rattle.wire_records.specs.Reading as reading
 use Rattle.wire_records.specs.declared.version.Version.{Version}
 use Rattle.wire_records.specs.Formats.{commands}
 use Rattle.journal_records.specs.Formats.{journal_magic_of}
-use Rattle.market_core.specs.Market.{Market, empty_market}
+use Rattle.market_rules.specs.Market.{Market, empty_market}
 use Rattle.word_driver.specs.declared.fault.Fault.TheVariants as word
 use Rattle.word_driver.specs.declared.fault.Never.{Never}
 use Rattle.word_driver.specs.Ended.{Ended}

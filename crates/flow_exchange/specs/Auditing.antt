@@ -8,10 +8,10 @@ use Rattle.wire_records.specs.Reading as reading
 use Rattle.flow_orders.specs.Outcomes.{Outcome}
 use Rattle.wire_records.specs.declared.version.Version.{Version}
 use Rattle.journal_records.specs.Formats.{journals, records_of}
-use Rattle.market_core.specs.Market.{Market, empty_market}
-use Rattle.market_core.specs.Journal.{HoldsDeposits}
-use Rattle.market_core.specs.Promises.{KeepsPromises}
-use Rattle.market_core.specs.Wanting.{RecordMayWant}
+use Rattle.market_rules.specs.Market.{Market, empty_market}
+use Rattle.market_rules.specs.Journal.{HoldsDeposits}
+use Rattle.market_rules.specs.Promises.{KeepsPromises}
+use Rattle.market_rules.specs.Wanting.{RecordMayWant}
 use Rattle.batch_audit.specs.Legal.{IsLegalJournal}
 use Rattle.journal_replay.specs.Audits.{Audits, cleared_in, skipped_in}
 use Rattle.journal_words.specs.Line.{counted_line}

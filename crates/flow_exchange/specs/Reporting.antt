@@ -9,9 +9,9 @@ use Rattle.wire_records.specs.declared.version.Version.{Version}
 use Rattle.flow_orders.specs.Outcomes.{Outcome, IsRightOutcome}
 use Rattle.journal_records.specs.Pairs.{IsPair}
 use Rattle.journal_records.specs.Formats.{journals, records_of}
-use Rattle.market_core.specs.Market.{Market, empty_market}
-use Rattle.market_core.specs.Journal.{Step}
-use Rattle.market_core.specs.Wanting.{RecordMayWant}
+use Rattle.market_rules.specs.Market.{Market, empty_market}
+use Rattle.market_rules.specs.Journal.{Step}
+use Rattle.market_rules.specs.Wanting.{RecordMayWant}
 use Rattle.batch_audit.specs.Legal.{IsLegalPair}
 use Rattle.journal_replay.specs.Audits.{Audits}
 use Rattle.batch_report.specs.Reports.{IsReport}

@@ -12,7 +12,7 @@ use Rattle.wire_records.specs.Grammars.{spell_all}
 use Rattle.wire_records.specs.declared.version.Version.{Version}
 use Rattle.journal_records.specs.Formats.{journal_magic_of, journal_in, journals, records_of}
 use Rattle.journal_records.proofs.Files.{journal_is_file}
-use Rattle.market_core.specs.Market.{Market}
+use Rattle.market_rules.specs.Market.{Market}
 use Rattle.batch_audit.specs.Legal.{IsLegalJournal}
 use Rattle.journal_replay.specs.Audits.{Audits}
 use Rattle.journal_replay.proofs.Judged.{read_more}

@@ -14,7 +14,7 @@ use Rattle.wire_records.proofs.Fronts.{states_none-from_few}
 use Rattle.wire_records.proofs.Readings.{command_short}
 use Rattle.wire_records.proofs.ReadingLaws.{file_read, reads_one}
 use Rattle.wire_records.proofs.RecordCode.{commands_readable}
-use Rattle.market_core.specs.Market.{Market}
+use Rattle.market_rules.specs.Market.{Market}
 use Rattle.line_records.specs.Lines.{spell_commands}
 use Rattle.line_records.proofs.Fitting.{commands_fit}
 use Rattle.exchange_session.specs.Journals.{Journals}

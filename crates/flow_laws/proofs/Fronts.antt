@@ -20,9 +20,9 @@ use Rattle.flow_orders.specs.Own.{IsOwnOutcome}
 use Rattle.journal_records.specs.Pairs.{IsPair, pair_spelling}
 use Rattle.journal_records.specs.Formats.{journal_magic_of, journals, records_of}
 use Rattle.journal_records.proofs.Files.{journals_readable}
-use Rattle.market_core.specs.Market.{Market, empty_market}
-use Rattle.market_core.specs.Journal.{Step}
-use Rattle.market_core.proofs.OneJournal.{follows-parts, one_own_journal}
+use Rattle.market_rules.specs.Market.{Market, empty_market}
+use Rattle.market_rules.specs.Journal.{Step}
+use Rattle.market_rules.proofs.OneJournal.{follows-parts, one_own_journal}
 use Rattle.batch_audit.specs.Legal.{IsLegalPair, StopsAt}
 use Rattle.batch_audit.proofs.LawProofs.{one_market}
 use Rattle.batch_report.specs.Reports.{IsReport}

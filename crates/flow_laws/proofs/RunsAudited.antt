@@ -12,9 +12,9 @@ use Rattle.flow_orders.specs.Own.{IsOwnOutcome}
 use Rattle.journal_records.specs.Replies.{answer_record}
 use Rattle.journal_records.specs.Pairs.{pair_spelling}
 use Rattle.journal_records.specs.Formats.{journal_magic_of, journal_in}
-use Rattle.market_core.specs.Market.{Market, empty_market}
-use Rattle.market_core.specs.Journal.{Follows}
-use Rattle.market_core.proofs.LawProofs.{own_journals_are_legal, steps_number_one}
+use Rattle.market_rules.specs.Market.{Market, empty_market}
+use Rattle.market_rules.specs.Journal.{Follows}
+use Rattle.market_rules.proofs.LawProofs.{own_journals_are_legal, steps_number_one}
 use Rattle.batch_audit.specs.Legal.{IsLegalJournal}
 use Rattle.journal_replay.proofs.Replayed.{eight}
 use Rattle.exchange_session.specs.Journals.{Journals}

@@ -12,11 +12,11 @@ use Rattle.wire_records.specs.declared.command.BodyFault.{BodyFault}
 use Rattle.wire_records.proofs.Readings.{command_read}
 use Rattle.flow_orders.specs.Outcomes.{Outcome, BatchRule, Cleared, Skipped}
 use Rattle.flow_orders.specs.Own.{IsOwnOutcome}
-use Rattle.market_core.specs.Market.{Market, empty_market}
-use Rattle.market_core.specs.Step.{FirstRefusal, Accepts, Answers, Serves, ServesRead, after_batch}
-use Rattle.market_core.specs.Journal.{Step, Follows}
-use Rattle.market_core.proofs.Versions.{step_version}
-use Rattle.market_core.proofs.Accepted.{past_when, past_unless, not_least}
+use Rattle.market_rules.specs.Market.{Market, empty_market}
+use Rattle.market_rules.specs.Step.{FirstRefusal, Accepts, Answers, Serves, ServesRead, after_batch}
+use Rattle.market_rules.specs.Journal.{Step, Follows}
+use Rattle.market_rules.proofs.Versions.{step_version}
+use Rattle.market_rules.proofs.Accepted.{past_when, past_unless, not_least}
 use Rattle.order_text.specs.Lines.{Leaves, Leave}
 use Rattle.order_text.proofs.OneAnswers.{one_table}
 use Rattle.line_records.proofs.Saying.{lines_leave}

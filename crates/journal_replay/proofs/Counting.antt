@@ -8,7 +8,7 @@ use Rattle.wire_records.proofs.Spelled.{length-spelling}
 use Rattle.flow_orders.specs.Outcomes.{Outcome, Cleared, Skipped}
 use Rattle.journal_records.specs.Replies.{reply_tag, answer_tag}
 use Rattle.journal_records.specs.Formats.{journals}
-use Rattle.market_core.specs.Market.{Market}
+use Rattle.market_rules.specs.Market.{Market}
 use Rattle.batch_audit.specs.Legal.{IsLegalPair}
 use Rattle.batch_audit.proofs.LawProofs.{pairs_number_one}
 use Rattle.journal_replay.specs.Audits.{cleared_by, skipped_by}

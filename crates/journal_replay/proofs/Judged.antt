@@ -17,8 +17,8 @@ use Rattle.flow_orders.specs.Outcomes.{Outcome, IsRightOutcome}
 use Rattle.journal_records.specs.Pairs.{IsPair}
 use Rattle.journal_records.specs.Formats.{journals, records_of}
 use Rattle.journal_records.proofs.Files.{journals_readable}
-use Rattle.market_core.specs.Market.{Market, empty_market}
-use Rattle.market_core.specs.Journal.{Follows}
+use Rattle.market_rules.specs.Market.{Market, empty_market}
+use Rattle.market_rules.specs.Journal.{Follows}
 use Rattle.journal_replay.specs.declared.auditing.PairFault.{PairFault}
 use Rattle.journal_replay.specs.declared.auditing.PairFault.TheVariants.{Illegal, Memory}
 use Rattle.journal_replay.specs.Audits.{AuditsOn, cleared_by, skipped_by, cleared_in, skipped_in}

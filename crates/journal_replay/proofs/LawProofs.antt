@@ -11,7 +11,7 @@ use Rattle.wire_records.proofs.ReadingLaws.{reads_one}
 use Rattle.flow_orders.specs.Outcomes.{Outcome}
 use Rattle.journal_records.specs.Formats.{journal_magic_of, journal_in, journals, records_of}
 use Rattle.journal_records.proofs.Files.{journals_readable, journal_is_file, journal_is_read}
-use Rattle.market_core.specs.Market.{Market}
+use Rattle.market_rules.specs.Market.{Market}
 use Rattle.batch_audit.specs.Legal.{IsLegalJournal, AreJudged}
 use Rattle.batch_audit.proofs.LawProofs.{one_judgement}
 use Rattle.journal_replay.specs.declared.replaying.ReplayFault.{ReplayFault}

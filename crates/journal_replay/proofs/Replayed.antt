@@ -10,7 +10,7 @@ use Rattle.wire_records.specs.declared.version.Version.TheVariants.{One, Two}
 use Rattle.file_units.proofs.Endings.{reads_alike}
 use Rattle.flow_orders.specs.Outcomes.{Outcome}
 use Rattle.journal_records.specs.Formats.{journal_magic_of, journals}
-use Rattle.market_core.specs.Market.{Market}
+use Rattle.market_rules.specs.Market.{Market}
 use Rattle.journal_replay.specs.Audits.{AuditsOn, Audits}
 
 -- each magic has eight bytes

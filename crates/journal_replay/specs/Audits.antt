@@ -7,7 +7,7 @@ use Rattle.wire_records.specs.Reading.{Ending, File, Reads, ReadsOn}
 use Rattle.wire_records.specs.declared.version.Version.{Version}
 use Rattle.flow_orders.specs.Outcomes.{Outcome, Cleared, Skipped}
 use Rattle.journal_records.specs.Formats.{journals}
-use Rattle.market_core.specs.Market.{Market}
+use Rattle.market_rules.specs.Market.{Market}
 use Rattle.batch_audit.specs.Legal.{AreJudged}
 
 -- The bytes from a place on are in a version these legal pairs and those behind them, of which the first is illegal; so the reading

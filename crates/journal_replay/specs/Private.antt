@@ -1,8 +1,8 @@
 -- Words that only private code uses: the state of an audit from pair to pair.
 use Rattle.std.specs.Prelude.{◌≡◌, ◌+◌, ◌<◌, ◌≤◌, ◌^◌, ℕ}
 use Rattle.wire_records.specs.Records.{Record}
-use Rattle.market_core.specs.Market.{Market}
-use Rattle.market_core.specs.Wanting.{RecordMayWant}
+use Rattle.market_rules.specs.Market.{Market}
+use Rattle.market_rules.specs.Wanting.{RecordMayWant}
 use Rattle.batch_audit.specs.Legal.{IsLegalPair, IsIllegalPair}
 use Rattle.journal_replay.specs.declared.auditing.Auditing.{Auditing}
 use Rattle.journal_replay.specs.declared.auditing.PairFault.{PairFault}

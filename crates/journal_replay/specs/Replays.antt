@@ -9,8 +9,8 @@ use Rattle.wire_records.specs.declared.version.Version.{Version}
 use Rattle.file_units.specs.Units.{ending_of}
 use Rattle.flow_orders.specs.Outcomes.{Outcome}
 use Rattle.journal_records.specs.Formats.{journals, records_of}
-use Rattle.market_core.specs.Market.{Market}
-use Rattle.market_core.specs.Wanting.{RecordMayWant}
+use Rattle.market_rules.specs.Market.{Market}
+use Rattle.market_rules.specs.Wanting.{RecordMayWant}
 use Rattle.batch_audit.specs.Legal.{IsLegalJournal}
 use Rattle.journal_replay.specs.declared.auditing.Audited.{Audited}
 use Rattle.journal_replay.specs.declared.auditing.PairFault.{PairFault}

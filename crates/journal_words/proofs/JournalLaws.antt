@@ -14,12 +14,12 @@ use Rattle.journal_records.specs.Pairs.{IsPair}
 use Rattle.journal_records.specs.Formats.{journal_magic_of, journals, records_of}
 use Rattle.journal_records.proofs.Files.{journals_readable, short_at_end}
 use Rattle.journal_records.proofs.Spelled.{answer_unique}
-use Rattle.market_core.specs.Market.{Market, empty_market}
-use Rattle.market_core.specs.Journal.{Follows}
-use Rattle.market_core.proofs.LawProofs.{journals_hold_deposits}
-use Rattle.market_core.proofs.Soundness.{sound-empty}
-use Rattle.market_core.proofs.Versions.{follows_version}
-use Rattle.market_core.proofs.Promised.{legal_journal_keeps_promises}
+use Rattle.market_rules.specs.Market.{Market, empty_market}
+use Rattle.market_rules.specs.Journal.{Follows}
+use Rattle.market_rules.proofs.LawProofs.{journals_hold_deposits}
+use Rattle.market_rules.proofs.Soundness.{sound-empty}
+use Rattle.market_rules.proofs.Versions.{follows_version}
+use Rattle.market_rules.proofs.Promised.{legal_journal_keeps_promises}
 use Rattle.batch_audit.proofs.LawProofs.{one_market, pairs_number_one}
 use Rattle.batch_audit.specs.Legal.{IsLegalPair, IsIllegalPair}
 use Rattle.batch_report.proofs.OneReport.{one_report}

@@ -7,9 +7,9 @@ use Rattle.wire_records.specs.Versions.{IsReadAs}
 use Rattle.wire_records.specs.declared.reply.Reply.TheVariants as reply
 use Rattle.wire_records.specs.declared.command.BodyFault.{BodyFault}
 use Rattle.flow_orders.specs.Outcomes.{Outcome, IsRightOutcome, Cleared, Skipped}
-use Rattle.market_core.specs.Market.{Market}
-use Rattle.market_core.specs.Step.{ServesRead, refusal_of}
-use Rattle.market_core.specs.Journal.{Step}
+use Rattle.market_rules.specs.Market.{Market}
+use Rattle.market_rules.specs.Step.{ServesRead, refusal_of}
+use Rattle.market_rules.specs.Journal.{Step}
 use Rattle.batch_audit.specs.Legal.{IsLegalPair}
 use Rattle.batch_report.specs.Reports.{TellsDone, TellsPlacing, Tells, IsReport}
 use Rattle.batch_report.proofs.Answered.{done_command, placing_command, done_plain, order_plain}

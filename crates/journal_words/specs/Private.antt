@@ -1,6 +1,6 @@
 -- Words of the code: what watching a pair answers.
 use Rattle.std.specs.Prelude.{◌+◌, ◌<◌, ◌^◌, ℕ, List, Result, Ok, Err}
-use Rattle.market_core.specs.Market.{Market}
+use Rattle.market_rules.specs.Market.{Market}
 use Rattle.word_driver.specs.declared.fault.Halt.{Halt}
 use Rattle.word_driver.specs.declared.fault.Halt.TheVariants.{Memory, Stopped}
 use Rattle.journal_words.specs.Watching.{Watch, End}

@@ -5,10 +5,10 @@ use Rattle.wire_records.specs.Commands.{Pair}
 use Rattle.wire_records.specs.Versions.{IsReadAs}
 use Rattle.flow_orders.specs.Outcomes.{Outcome}
 use Rattle.journal_records.specs.Formats.{journals, records_of}
-use Rattle.market_core.specs.Market.{Market, empty_market}
-use Rattle.market_core.specs.Journal.{HoldsDeposits}
-use Rattle.market_core.specs.Promises.{KeepsPromises}
-use Rattle.market_core.specs.Wanting.{RecordMayWant}
+use Rattle.market_rules.specs.Market.{Market, empty_market}
+use Rattle.market_rules.specs.Journal.{HoldsDeposits}
+use Rattle.market_rules.specs.Promises.{KeepsPromises}
+use Rattle.market_rules.specs.Wanting.{RecordMayWant}
 use Rattle.batch_audit.specs.Legal.{IsLegalPair, IsIllegalPair, IsLegalJournal}
 use Rattle.word_driver.specs.Word.{Word}
 

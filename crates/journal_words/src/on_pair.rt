@@ -1,6 +1,6 @@
 //! What is done with the pairs of a journal.
 ghost use Rattle.std.specs.Prelude.{◌≡◌, ◌≤◌, ◌<◌, ◌+◌, ◌^◌, ℕ, [], IfOk, OnOk, OnErr, vec_len, vec_capacity};
-ghost use Rattle.market_core.specs.Market.{Market};
+ghost use Rattle.market_rules.specs.Market.{Market};
 ghost use Rattle.batch_audit.specs.Legal.{IsLegalPair, IsIllegalPair};
 ghost use Rattle.journal_words.specs.Watching.{Watch, Legal, Illegal};
 ghost use Rattle.journal_words.specs.Private.{IsClosedBy};

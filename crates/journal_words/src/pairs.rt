@@ -1,6 +1,6 @@
 //! The audit of a journal as a word, with what is done with its pairs.
 ghost use Rattle.std.specs.Prelude.{◌≡◌, ◌≤◌, ◌<◌, ◌+◌, ◌^◌, ◌↔◌, ℕ, List, [], length, IsTrue, OnOk, IfErr, Some, vec_len, vec_capacity};
-ghost use Rattle.market_core.specs.Market.{empty_market};
+ghost use Rattle.market_rules.specs.Market.{empty_market};
 ghost use Rattle.word_driver.specs.Private.{HaltsWith};
 ghost use Rattle.journal_words.specs.Watching.{SeesOne, over_pairs};
 ghost use Rattle.journal_words.specs.Private.{HasRoom};

@@ -1,7 +1,7 @@
 //! Which batches are allowed.
 ghost use Rattle.std.specs.Prelude.{◌≤◌};
-ghost use Rattle.market_core.specs.Market.{Market as market_value, most_batches};
-ghost use Rattle.market_core.specs.Settling.{MaySettle};
+ghost use Rattle.market_rules.specs.Market.{Market as market_value, most_batches};
+ghost use Rattle.market_rules.specs.Settling.{MaySettle};
 
 use batch_certificate::{Outcome, Skipped, Trace};
 use market_core::Market;

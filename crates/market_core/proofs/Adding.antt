@@ -16,8 +16,8 @@ use Rattle.flow_accounts.specs.declared.fault.AccountFault.{AccountFault}
 use Rattle.flow_accounts.specs.declared.fault.AccountFault.TheVariants as fault
 use Rattle.flow_orders.specs.Outcomes.{BatchRule}
 use Rattle.flow_orders.specs.Own.{IsOwnOutcome}
-use Rattle.market_core.specs.Market.{Market, IsSound}
-use Rattle.market_core.specs.Step.{FirstRefusal, Serves}
+use Rattle.market_rules.specs.Market.{Market, IsSound}
+use Rattle.market_rules.specs.Step.{FirstRefusal, Serves}
 use Rattle.market_core.specs.Private.{IsAnswered, refusal_for, ticker_refusal}
 use Rattle.market_core.proofs.Fitting.{sound-served, of_each}
 

@@ -13,8 +13,8 @@ use Rattle.flow_accounts.specs.Answers.{AcceptsMoneyDeposit, RefusesMoneyDeposit
 use Rattle.std.specs.Prelude.{pos, neg_ℤ}
 use Rattle.flow_orders.specs.Outcomes.{BatchRule}
 use Rattle.flow_orders.specs.Orders.{needed_money, needed_units}
-use Rattle.market_core.specs.Market.{Market}
-use Rattle.market_core.specs.Step.{Serves}
+use Rattle.market_rules.specs.Market.{Market}
+use Rattle.market_rules.specs.Step.{Serves}
 use Rattle.market_core.specs.Private.{refusal_for}
 
 -- the reply that an outcome gives

@@ -10,7 +10,7 @@ use Rattle.flow_accounts.specs.Answers.{AcceptsMoneyDeposit, RefusesMoneyDeposit
 use Rattle.flow_orders.specs.Orders.{needed_money, needed_units}
 use Rattle.flow_orders.specs.Own.{IsOwnOutcome}
 use Rattle.order_book.specs.Book.{HasOrder, without}
-use Rattle.market_core.specs.Market.{Market}
+use Rattle.market_rules.specs.Market.{Market}
 use Rattle.market_core.specs.Expected.{IsExpected}
 use Rattle.market_core.specs.Private.{cancel_reply}
 use Rattle.market_core.proofs.Answering.{Replies, serves-deposit_money, serves-deposit_units, serves-withdraw_money, serves-withdraw_units, serves-set_money_credit, serves-set_unit_credit}

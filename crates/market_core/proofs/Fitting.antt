@@ -16,11 +16,11 @@ use Rattle.wire_records.specs.declared.version.Version.{Version}
 use Rattle.wire_records.specs.declared.version.Version.TheVariants.{One, Two}
 use Rattle.flow_orders.specs.Outcomes.{Outcome}
 use Rattle.flow_orders.specs.Own.{IsOwnOutcome}
-use Rattle.market_core.specs.Market.{Market, IsSound}
-use Rattle.market_core.specs.Step.{Serves}
-use Rattle.market_core.proofs.Lawful.{sound_is_lawful}
-use Rattle.market_core.proofs.Soundness.{sound_served}
-use Rattle.market_core.proofs.OwnIsLegal.{own_served_is_right}
+use Rattle.market_rules.specs.Market.{Market, IsSound}
+use Rattle.market_rules.specs.Step.{Serves}
+use Rattle.market_rules.proofs.Lawful.{sound_is_lawful}
+use Rattle.market_rules.proofs.Soundness.{sound_served}
+use Rattle.market_rules.proofs.OwnIsLegal.{own_served_is_right}
 
 -- of an asset that isn't there nobody holds a unit, and none was deposited
 none_held : (m : Market) → IsSound m → (asset : ℕ) → asset_count m.balances ≤ asset → units_of_all m.balances asset ≤ℤ (total_units_of m.balances asset +ℤ pos (2 ^ 61))

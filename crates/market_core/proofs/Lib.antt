@@ -1,29 +1,8 @@
-pub mod Accepted
-pub mod Adding
-pub mod Answering
-pub mod Decided
-pub mod Exists
-pub mod Expecting
-pub mod Fills
-pub mod Fitting
-pub mod HeldTotals
-pub mod LawProofs
-pub mod Lawful
-pub mod Made
-pub mod MarketSettled
-pub mod OneJournal
-pub mod OneStep
-pub mod OwnIsLegal
-pub mod OwnNeeds
-pub mod Placing
-pub mod Promised
-pub mod Reserving
-pub mod SoundBalances
-pub mod SoundBatch
-pub mod SoundOrders
-pub mod Soundness
-pub mod StartPrices
-pub mod WorkedRows
-pub mod Ending
-pub mod Versions
-pub mod VersionRows
+mod Adding
+mod Answering
+mod Expecting
+mod Fitting
+mod MarketSettled
+mod Placing
+mod Reserving
+mod StartPrices

@@ -14,10 +14,10 @@ use Rattle.flow_orders.proofs.OwnIsRight.{rates_back}
 use Rattle.batch_certificate.specs.declared.outcome.Cleared.{Cleared}
 use Rattle.batch_certificate.specs.Published.{clearing_of}
 use Rattle.fill_caps.specs.Settlement.{settled_balances, settled_exchange}
-use Rattle.market_core.specs.Market.{Market, IsSound, IsLiveOrder, most_batches}
-use Rattle.market_core.specs.Step.{after_batch}
-use Rattle.market_core.specs.Settling.{MaySettleAt}
-use Rattle.market_core.proofs.SoundBatch.{sound_settled}
+use Rattle.market_rules.specs.Market.{Market, IsSound, IsLiveOrder, most_batches}
+use Rattle.market_rules.specs.Step.{after_batch}
+use Rattle.market_rules.specs.Settling.{MaySettleAt}
+use Rattle.market_rules.proofs.SoundBatch.{sound_settled}
 
 -- a market with other balances, exchange, orders and last prices, and one batch more
 abbrev pub changed : Market → Balances → Account → List Order → List ℤ → Market

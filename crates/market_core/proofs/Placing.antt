@@ -17,10 +17,10 @@ use Rattle.demand_curve.specs.Numbers.{or_zero}
 use Rattle.flow_orders.specs.Orders.{Order, most_orders, price_of_ticks, sold}
 use Rattle.flow_orders.specs.Outcomes.{BatchRule}
 use Rattle.order_book.specs.Book.{Book, HasOrder, without}
-use Rattle.market_core.specs.Market.{Market, IsSound, usable_money, usable_units}
-use Rattle.market_core.specs.Step.{◌when◌else◌, FirstRefusal, RefusesRow, Serves, placed, IsAffordable}
+use Rattle.market_rules.specs.Market.{Market, IsSound, usable_money, usable_units}
+use Rattle.market_rules.specs.Step.{◌when◌else◌, FirstRefusal, RefusesRow, Serves, placed, IsAffordable}
 use Rattle.market_core.specs.Private.{cancel_reply, RefusesNumbers, HasRightNumbers, no_other, IsFreeFor}
-use Rattle.market_core.proofs.Accepted.{past_when, past_unless, not_least}
+use Rattle.market_rules.proofs.Accepted.{past_when, past_unless, not_least}
 
 -- ---- entry by entry
 

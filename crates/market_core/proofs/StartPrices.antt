@@ -6,7 +6,7 @@ use Rattle.std.proofs.lemmas.Int.{ints, fits_signed_from_abs, to_z-of_z}
 use Rattle.std.proofs.lemmas.List.{take_more, map-append}
 use Rattle.weight_rows.specs.Rows.{IsPrice}
 use Rattle.demand_curve.specs.Demand.{IsWithin}
-use Rattle.market_core.specs.Market.{cut_price}
+use Rattle.market_rules.specs.Market.{cut_price}
 
 -- a price that is passed on is the same
 same_price : (x : ℤ) → IsPrice x → to_z w64 (of_z w64 x) ≡ x

@@ -2,8 +2,8 @@
 use Rattle.wire_records.specs.Commands.{Command, Plain}
 use Rattle.wire_records.specs.declared.reply.Reply.{Reply}
 use Rattle.flow_orders.specs.Own.{IsOwnOutcome}
-use Rattle.market_core.specs.Market.{Market}
-use Rattle.market_core.specs.Step.{Serves}
+use Rattle.market_rules.specs.Market.{Market}
+use Rattle.market_rules.specs.Step.{Serves}
 
 -- the command's step from this market answers the reply, and makes some market
 abbrev pub IsExpected : Market → Command → Reply → Type 0

@@ -1,6 +1,6 @@
 -- What the fields of a market stand for.
 use Rattle.market_core.specs.declared.market.Market.TheInside.{Inside}
-use Rattle.market_core.specs.Market.{Market}
+use Rattle.market_rules.specs.Market.{Market}
 
 -- the market that the fields stand for
 abbrev pub market_in : Inside → Market

@@ -1,11 +1,4 @@
-pub mod Market
-pub mod Settling
-pub mod Step
-pub mod Journal
-pub mod Promises
-pub mod Wanting
 pub mod Expected
-pub mod Laws
 pub mod Private
 pub mod Prices
 pub mod Kept

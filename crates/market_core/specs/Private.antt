@@ -4,8 +4,8 @@ use Rattle.demand_curve.specs.Demand.{most_rate}
 use Rattle.flow_accounts.specs.Balances.{IsAccount}
 use Rattle.flow_orders.specs.Orders.{most_cap, AreLimits, IsFrom1To}
 use Rattle.wire_records.specs.Commands.{Request}
-use Rattle.market_core.specs.Market.{Market}
-use Rattle.market_core.specs.Step.{◌unless◌else◌, IsAffordable, placed}
+use Rattle.market_rules.specs.Market.{Market}
+use Rattle.market_rules.specs.Step.{◌unless◌else◌, IsAffordable, placed}
 use Rattle.ticker_table.specs.declared.table.TickerFault.{TickerFault}
 use Rattle.ticker_table.specs.declared.table.TickerFault.TheVariants as ticker
 use Rattle.flow_accounts.specs.declared.fault.AccountFault.{AccountFault}

@@ -4,9 +4,9 @@ ghost use Rattle.demand_curve.specs.Demand.{IsWithin};
 ghost use Rattle.wire_records.specs.Commands.{RunBatch};
 ghost use Rattle.batch_certificate.specs.Published.{clearing_of, outcome_of};
 ghost use Rattle.flow_orders.specs.Outcomes.{Cleared as ClearedBatch};
-ghost use Rattle.market_core.specs.Market.{IsSound, most_batches, start_prices, cut_price};
-ghost use Rattle.market_core.specs.Step.{FirstRefusal, after_batch};
-ghost use Rattle.market_core.specs.Settling.{MaySettle, MaySettleAt};
+ghost use Rattle.market_rules.specs.Market.{IsSound, most_batches, start_prices, cut_price};
+ghost use Rattle.market_rules.specs.Step.{FirstRefusal, after_batch};
+ghost use Rattle.market_rules.specs.Settling.{MaySettle, MaySettleAt};
 
 use crate::Market;
 use batch_certificate::{Cleared, Outcome, PriceList};

@@ -5,7 +5,7 @@ ghost use Rattle.wire_records.specs.CommandRecords.{IsCommand};
 ghost use Rattle.wire_records.specs.Versions.{most_tag, IsOfVersion, IsReadAs};
 ghost use Rattle.wire_records.specs.Views.{command_of};
 ghost use Rattle.wire_records.specs.declared.command.BodyFault.{BodyFault as body_fault};
-ghost use Rattle.market_core.specs.Step.{refusal_of};
+ghost use Rattle.market_rules.specs.Step.{refusal_of};
 ghost use Rattle.market_core.specs.Expected.{IsExpected};
 
 use crate::Market;

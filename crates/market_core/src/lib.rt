@@ -1,14 +1,11 @@
-//! The market: what is kept from one command to the next, what each command makes of it, and the journals that come
-//! of it.
+//! The program's market: what it keeps from one command to the next, and what each command makes of it.
 //!
-//! The definitions in `specs` are those that everything above cites: `Market` (what is kept, and when it is sound), `Step`
-//! (the first refusal of a command, or what it is answered and makes of the market), `Journal` (sequences of steps, totals, fills), `Wanting` (where memory may be wanted), `Expected` (the reply that a command gets). [`Market`]
-//! is the program's market, and each of its calls is one step. [`laws`] has what holds of steps and journals.
+//! What a market is and does is said in `market_rules`. Each call of [`Market`] that changes it is one step of these
+//! definitions, and `Expected` in `specs` says which reply a command gets.
 #![tactic(auto)]
 
 mod batches;
 mod expected;
-pub mod laws;
 mod market;
 mod orders;
 mod prices;

@@ -34,7 +34,7 @@ pub struct Market {
 }
 
 impl Model for Market {
-    ghost use Rattle.market_core.specs.Market.{Market as market_value, IsSound};
+    ghost use Rattle.market_rules.specs.Market.{Market as market_value, IsSound};
     ghost use Rattle.market_core.specs.Kept.{market_in};
 
     ghost Value = { market_value };
@@ -90,9 +90,9 @@ pub(crate) fn reply_to<T: Copy>(outcome: Result<T, AccountFault>) -> Reply
 
 impl Market {
     ghost use Rattle.flow_orders.specs.Own.{IsOwnOutcome};
-    ghost use Rattle.market_core.specs.Market.{empty_market, IsSound};
-    ghost use Rattle.market_core.specs.Step.{Serves};
-    ghost use Rattle.market_core.specs.Wanting.{MayWant};
+    ghost use Rattle.market_rules.specs.Market.{empty_market, IsSound};
+    ghost use Rattle.market_rules.specs.Step.{Serves};
+    ghost use Rattle.market_rules.specs.Wanting.{MayWant};
 
     /// A market of version One with no asset and no account. Takes no memory.
     pub fn new(alloc: Global) -> Market

@@ -8,9 +8,9 @@ ghost use Rattle.flow_orders.specs.Own.{IsOwnOutcome};
 ghost use Rattle.wire_records.specs.Commands.{PlaceOrder, PlaceUntil, CancelOrder, Plain};
 ghost use Rattle.wire_records.specs.Versions.{IsOfVersion};
 ghost use Rattle.wire_records.specs.CommandRecords.{IsCommand};
-ghost use Rattle.market_core.specs.Market.{IsSound, usable_money, usable_units};
-ghost use Rattle.market_core.specs.Step.{FirstRefusal, RefusesRow, Serves, placed};
-ghost use Rattle.market_core.specs.Wanting.{MayWant};
+ghost use Rattle.market_rules.specs.Market.{IsSound, usable_money, usable_units};
+ghost use Rattle.market_rules.specs.Step.{FirstRefusal, RefusesRow, Serves, placed};
+ghost use Rattle.market_rules.specs.Wanting.{MayWant};
 ghost use Rattle.market_core.specs.Private.{cancel_reply, RefusesNumbers, HasRightNumbers, no_other, IsFreeFor};
 
 use crate::Market;

@@ -1,7 +1,7 @@
 use Rattle.std.proofs.Common.{rules, ◌≡◌, ◌↔◌, ℕ, ℤ, Bool, IsTrue, List, length}
 use Rattle.flow_orders.specs.Orders.{Order}
 use Rattle.flow_orders.specs.Outcomes.{IsWide, Skipping, IsRightSkip}
-use Rattle.market_core.specs.Market.{start_prices}
+use Rattle.market_rules.specs.Market.{start_prices}
 use Rattle.batch_audit.specs.Private.{IsWalkTold}
 use Rattle.batch_audit.proofs.outcomes.is_skip_right.Goals as goal
 

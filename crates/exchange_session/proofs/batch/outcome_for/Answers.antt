@@ -1,4 +1,4 @@
-use Rattle.market_core.proofs.Accepted.{past_unless}
+use Rattle.market_rules.proofs.Accepted.{past_unless}
 use Rattle.exchange_session.proofs.Writable.{few_start_prices, writable_is}
 use Rattle.exchange_session.proofs.batch.outcome_for.Goals as goal
 

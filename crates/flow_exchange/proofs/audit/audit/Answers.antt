@@ -1,7 +1,7 @@
 use Rattle.std.proofs.Common.{◌∙◌, ap, refl, subst}
 use Rattle.flow_io.specs.Changes.{change}
 use Rattle.wire_records.specs.declared.version.Version.{Version}
-use Rattle.market_core.specs.Market.{empty_market}
+use Rattle.market_rules.specs.Market.{empty_market}
 use Rattle.word_driver.specs.Does.{task}
 use Rattle.word_driver.specs.Does as driver
 use Rattle.journal_words.specs.Watching.{Watched}

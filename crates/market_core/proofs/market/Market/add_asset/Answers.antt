@@ -2,8 +2,8 @@ use Rattle.std.proofs.Common.{[], ◌∷◌, ◌++◌, length, Err, ap, arith}
 use Rattle.wire_records.specs.Commands.{AddAsset, Plain}
 use Rattle.wire_records.specs.declared.reply.Reply.TheVariants.{Asset}
 use Rattle.flow_orders.specs.Own.{IsOwnOutcome}
-use Rattle.market_core.specs.Market.{Market}
-use Rattle.market_core.specs.Step.{Serves}
+use Rattle.market_rules.specs.Market.{Market}
+use Rattle.market_rules.specs.Step.{Serves}
 use Rattle.market_core.specs.Kept.{market_in}
 use Rattle.market_core.proofs.Adding.{serves-add_asset, refuses-ticker_fault}
 use Rattle.market_core.proofs.Fitting.{sound-served, of_each}

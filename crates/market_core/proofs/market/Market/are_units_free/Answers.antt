@@ -2,7 +2,7 @@ use Rattle.std.proofs.Common.{◌*◌, pos, refl, arith}
 use Rattle.std.specs.Prelude.{◌≤ℤ◌}
 use Rattle.flow_orders.specs.Orders.{sold}
 use Rattle.wire_records.proofs.EntryReads.{ended}
-use Rattle.market_core.specs.Market.{usable_units}
+use Rattle.market_rules.specs.Market.{usable_units}
 use Rattle.market_core.proofs.Placing.{read_within, one_more}
 use Rattle.market_core.proofs.market.Market.are_units_free.Goals as goal
 

@@ -2,7 +2,7 @@ use Rattle.std.proofs.Common.{ℕ, ◌*◌, ◌-◌, ◌<◌, ◌≤◌, pos, le
 use Rattle.std.specs.Prelude.{slice_index_or, ◌≤ℤ◌}
 use Rattle.weight_rows.specs.declared.entries.Entry.{Entry}
 use Rattle.flow_orders.specs.Orders.{sold}
-use Rattle.market_core.specs.Market.{usable_units}
+use Rattle.market_rules.specs.Market.{usable_units}
 use Rattle.market_core.proofs.market.Market.are_units_free.Given as goal
 
 abbrev pub invariant-loop-entry : goal.invariant-loop-entry

@@ -2,7 +2,7 @@ use Rattle.std.proofs.Common.{◌∙◌, ap, not, refl, arith}
 use Rattle.wire_records.specs.Commands.{CancelOrder, Plain}
 use Rattle.flow_accounts.specs.Balances.{IsAccount, money_of}
 use Rattle.flow_orders.specs.Own.{IsOwnOutcome}
-use Rattle.market_core.specs.Step.{Serves}
+use Rattle.market_rules.specs.Step.{Serves}
 use Rattle.market_core.specs.Kept.{market_in}
 use Rattle.market_core.proofs.Fitting.{sound-served, of_each}
 use Rattle.market_core.proofs.Reserving.{none_where, some_where}

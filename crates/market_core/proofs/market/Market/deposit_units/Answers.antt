@@ -1,7 +1,7 @@
 use Rattle.std.proofs.Common.{arith}
 use Rattle.wire_records.specs.Commands.{DepositAsset, Plain}
 use Rattle.flow_orders.specs.Own.{IsOwnOutcome}
-use Rattle.market_core.specs.Step.{Serves}
+use Rattle.market_rules.specs.Step.{Serves}
 use Rattle.market_core.specs.Kept.{market_in}
 use Rattle.market_core.proofs.Answering.{serves-deposit_units}
 use Rattle.market_core.proofs.Fitting.{sound_changes_fit, sound-served, of_each}

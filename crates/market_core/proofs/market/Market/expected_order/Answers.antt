@@ -1,6 +1,6 @@
 use Rattle.std.proofs.Common.{◌+◌, [], ◌∷◌, ◌++◌, Some, None, refl}
 use Rattle.wire_records.specs.Commands.{PlaceOrder}
-use Rattle.market_core.specs.Step.{FirstRefusal, placed}
+use Rattle.market_rules.specs.Step.{FirstRefusal, placed}
 use Rattle.market_core.specs.Kept.{market_in}
 use Rattle.market_core.proofs.market.Market.expected_order.Goals as goal
 

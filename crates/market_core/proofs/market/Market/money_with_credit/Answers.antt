@@ -3,7 +3,7 @@ use Rattle.std.specs.Int.{w128}
 use Rattle.std.proofs.lemmas.Int.{to_z-of_z}
 use Rattle.flow_accounts.specs.Balances.{IsAccount, money_of, money_credit_of}
 use Rattle.market_core.specs.Kept.{market_in}
-use Rattle.market_core.proofs.Lawful.{money_of_each, credit_line}
+use Rattle.market_rules.proofs.Lawful.{money_of_each, credit_line}
 use Rattle.market_core.proofs.Reserving.{value_of, same_number, money_fits}
 use Rattle.market_core.proofs.market.Market.money_with_credit.Goals as goal
 

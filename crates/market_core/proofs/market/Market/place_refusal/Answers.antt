@@ -1,5 +1,5 @@
 use Rattle.std.proofs.Common.{Some}
-use Rattle.market_core.specs.Step.{RefusesRow, placed}
+use Rattle.market_rules.specs.Step.{RefusesRow, placed}
 use Rattle.market_core.proofs.Placing.{refuses_numbers, first_of_place}
 use Rattle.market_core.proofs.market.Market.place_refusal.Goals as goal
 

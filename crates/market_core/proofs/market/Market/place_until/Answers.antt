@@ -4,7 +4,7 @@ use Rattle.std.proofs.lemmas.Int.{to_z-of_z}
 use Rattle.wire_records.specs.Commands.{PlaceUntil, Plain}
 use Rattle.wire_records.specs.declared.reply.Reply.TheVariants.{Order as OrderPlaced}
 use Rattle.flow_orders.specs.Own.{IsOwnOutcome}
-use Rattle.market_core.specs.Step.{FirstRefusal, Serves, placed}
+use Rattle.market_rules.specs.Step.{FirstRefusal, Serves, placed}
 use Rattle.market_core.specs.Kept.{market_in}
 use Rattle.market_core.proofs.Fitting.{sound-served}
 use Rattle.market_core.proofs.Placing.{until_is_few, serves-place_until}

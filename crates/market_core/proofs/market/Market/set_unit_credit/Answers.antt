@@ -1,6 +1,6 @@
 use Rattle.wire_records.specs.Commands.{SetUnitCredit, Plain}
 use Rattle.flow_orders.specs.Own.{IsOwnOutcome}
-use Rattle.market_core.specs.Step.{Serves}
+use Rattle.market_rules.specs.Step.{Serves}
 use Rattle.market_core.specs.Kept.{market_in}
 use Rattle.market_core.proofs.Answering.{serves-set_unit_credit}
 use Rattle.market_core.proofs.Fitting.{sound-served}

@@ -1,7 +1,7 @@
 use Rattle.std.proofs.Common.{◌<◌, refl}
-use Rattle.market_core.specs.Market.{most_batches}
+use Rattle.market_rules.specs.Market.{most_batches}
 use Rattle.market_core.specs.Kept.{market_in}
-use Rattle.market_core.proofs.SoundBatch.{sound-skipped}
+use Rattle.market_rules.proofs.SoundBatch.{sound-skipped}
 use Rattle.market_core.proofs.market.Market.settle.Goals as goal
 
 pub invariant_of-self : goal.invariant_of-self

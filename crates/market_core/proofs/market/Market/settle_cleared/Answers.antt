@@ -2,9 +2,9 @@ use Rattle.std.proofs.Common.{◌≡◌, ◌+◌, ap, subst, sym, ◌∙◌}
 use Rattle.batch_certificate.specs.Published.{clearing_of}
 use Rattle.flow_orders.specs.Outcomes as outcomes
 use Rattle.flow_orders.specs.Trades.{going_on}
-use Rattle.market_core.specs.Market.{IsSound}
-use Rattle.market_core.specs.Step.{after_batch}
-use Rattle.market_core.specs.Settling.{MaySettleAt}
+use Rattle.market_rules.specs.Market.{IsSound}
+use Rattle.market_rules.specs.Step.{after_batch}
+use Rattle.market_rules.specs.Settling.{MaySettleAt}
 use Rattle.market_core.specs.Kept.{market_in}
 use Rattle.market_core.proofs.MarketSettled.{changed, roundings, within_rooms, settled_is, settled_is_sound}
 use Rattle.market_core.proofs.market.Market.settle_cleared.Goals as goal

@@ -1,6 +1,6 @@
 use Rattle.std.proofs.Common.{◌≡◌, ◌≤◌, length, map, take}
 use Rattle.std.specs.Prelude.{vec_len, vec_capacity}
-use Rattle.market_core.specs.Market.{cut_price}
+use Rattle.market_rules.specs.Market.{cut_price}
 use Rattle.market_core.proofs.market.Market.start_prices.Given as goal
 
 abbrev pub invariant-loop-price : goal.invariant-loop-price

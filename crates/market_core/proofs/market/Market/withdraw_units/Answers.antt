@@ -2,7 +2,7 @@ use Rattle.std.proofs.Common.{arith}
 use Rattle.wire_records.specs.Commands.{WithdrawAsset, Plain}
 use Rattle.flow_orders.specs.Orders.{needed_units}
 use Rattle.flow_orders.specs.Own.{IsOwnOutcome}
-use Rattle.market_core.specs.Step.{Serves}
+use Rattle.market_rules.specs.Step.{Serves}
 use Rattle.market_core.specs.Kept.{market_in}
 use Rattle.market_core.proofs.Answering.{serves-withdraw_units}
 use Rattle.market_core.proofs.Fitting.{sound_changes_fit, sound-served, of_each}

@@ -1,5 +1,0 @@
-use Rattle.market_core.proofs.LawProofs.{batches_of_version_one}
-use Rattle.market_core.proofs.laws.batches_of_version_one.Goals as goal
-
-pub returns : goal.returns
-returns c = batches_of_version_one

@@ -1,5 +1,0 @@
-use Rattle.market_core.proofs.LawProofs.{cleared_batches_are_optimal}
-use Rattle.market_core.proofs.laws.cleared_batches_are_optimal.Goals as goal
-
-pub returns : goal.returns
-returns c = cleared_batches_are_optimal

@@ -1,5 +1,0 @@
-use Rattle.market_core.proofs.LawProofs.{fills_keep_caps}
-use Rattle.market_core.proofs.laws.fills_keep_caps.Goals as goal
-
-pub returns : goal.returns
-returns c = fills_keep_caps

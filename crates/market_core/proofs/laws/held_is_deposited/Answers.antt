@@ -1,5 +1,0 @@
-use Rattle.market_core.proofs.LawProofs.{held_is_deposited}
-use Rattle.market_core.proofs.laws.held_is_deposited.Goals as goal
-
-pub returns : goal.returns
-returns c = held_is_deposited

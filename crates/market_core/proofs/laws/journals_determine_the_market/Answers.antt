@@ -1,5 +1,0 @@
-use Rattle.market_core.proofs.LawProofs.{journals_determine_the_market}
-use Rattle.market_core.proofs.laws.journals_determine_the_market.Goals as goal
-
-pub returns : goal.returns
-returns c = journals_determine_the_market

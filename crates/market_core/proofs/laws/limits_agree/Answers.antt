@@ -1,5 +1,0 @@
-use Rattle.market_core.proofs.LawProofs.{limits_agree}
-use Rattle.market_core.proofs.laws.limits_agree.Goals as goal
-
-pub returns : goal.returns
-returns c = limits_agree

@@ -1,5 +1,0 @@
-use Rattle.market_core.proofs.LawProofs.{one_refusal}
-use Rattle.market_core.proofs.laws.one_refusal.Goals as goal
-
-pub returns : goal.returns
-returns c = one_refusal

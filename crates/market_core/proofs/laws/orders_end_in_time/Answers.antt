@@ -1,5 +1,0 @@
-use Rattle.market_core.proofs.LawProofs.{orders_end_in_time}
-use Rattle.market_core.proofs.laws.orders_end_in_time.Goals as goal
-
-pub returns : goal.returns
-returns c = orders_end_in_time

@@ -1,5 +1,0 @@
-use Rattle.market_core.proofs.LawProofs.{version_one_is_as_before}
-use Rattle.market_core.proofs.laws.version_one_is_as_before.Goals as goal
-
-pub returns : goal.returns
-returns c = version_one_is_as_before

@@ -1,0 +1,193 @@
+-- What is held over a journal: deposits less withdrawals; a batch changes no held total.
+use Rattle.std.proofs.Common.{◌≡◌, ℕ, cond, eqb, ℤ, pos, ◌+ℤ◌, List, [], ◌∷◌, Option, Some, None, Result, Ok, Err, refl, ap, sym, subst, ◌∙◌, ⊎_elim, arith}
+use Rattle.std.specs.Prelude.{neg_ℤ, ◌-ℤ◌, slice_index_or}
+use Rattle.std.proofs.lemmas.Int.{ints}
+use Rattle.std.proofs.lemmas.Bool.{cases_lt}
+use Rattle.std.proofs.lemmas.Bool.Decides.{eqb_tells}
+use Rattle.std.proofs.lemmas.List.{get_or_past}
+use Rattle.list_sums.proofs.SumLemmas.{int_sum_by-zeros}
+use Rattle.flow_accounts.specs.Balances.{Account, IsAccount, IsAsset, asset_count, units_in, total_units_of, change_units}
+use Rattle.flow_accounts.proofs.Moves.{units_change, assets_start_at_zero}
+use Rattle.flow_orders.specs.Orders.{Order}
+use Rattle.flow_orders.specs.Outcomes.{Outcome, Cleared, Skipped, IsRightOutcome}
+use Rattle.wire_records.specs.Commands.{Command, AddAsset, OpenAccount, DepositMoney, DepositAsset, WithdrawMoney, WithdrawAsset, PlaceOrder, CancelOrder, RunBatch, PlaceUntil, SetMoneyCredit, SetUnitCredit, Answer, Pair}
+use Rattle.wire_records.specs.declared.reply.Refusal.{Refusal}
+use Rattle.market_rules.specs.Market.{Market, IsSound, empty_market, held_money, held_units}
+use Rattle.market_rules.specs.Step.{FirstRefusal, Accepts, Answers, after_batch, ServesRead}
+use Rattle.wire_records.specs.declared.command.BodyFault.{BodyFault}
+use Rattle.wire_records.specs.declared.version.Version.{Version}
+use Rattle.market_rules.specs.Journal.{Follows, money_added, units_added, added_by, added_by_read, AddTogether}
+use Rattle.market_rules.proofs.Accepted.{past_unless}
+use Rattle.market_rules.proofs.Lawful.{sound_is_lawful}
+use Rattle.market_rules.proofs.Soundness.{ReadsOwn, sound_step, sound_follows, sound-empty}
+use Rattle.market_rules.proofs.Versions.{step_version}
+
+-- the total of money of a market
+abbrev money_total : Market → ℤ
+money_total m = m.balances.total_money
+
+-- and of an asset
+abbrev units_total : ℕ → Market → ℤ
+units_total asset m = total_units_of m.balances asset
+
+-- what is held of an asset is its total; of one that isn't there both are nothing
+held_is_total : (m : Market) → IsSound m → (asset : ℕ) → held_units m asset ≡ units_total asset m
+held_is_total m sound asset =
+    ⊎_elim
+    (λ there. sound.totals.units asset there)
+    (λ past.
+    let none = int_sum_by-zeros (λ (a : Account). units_in a asset) m.balances.accounts
+    (λ k d inside. let count = sound.one_each.accounts k d inside in get_or_past (slice_index_or m.balances.accounts k d).units asset (pos 0) (omega (arith, past, count))) in
+    let exchange = get_or_past m.exchange.units asset (pos 0) (omega (arith, past, sound.one_each.exchange)) in
+    let total = get_or_past m.balances.total_units asset (pos 0) past in
+    omega (arith, ints, none, exchange, total))
+    (cases_lt asset (asset_count m.balances))
+
+-- a total that nothing was added to
+same : (x y z : ℤ) → y ≡ x → z ≡ pos 0 → y ≡ x +ℤ z
+same x y z e none = omega (arith, ints, e, none)
+
+batch_money : (m : Market) (o : Outcome) → money_total (after_batch m o) ≡ money_total m
+batch_money m (Cleared c) = refl
+batch_money m (Skipped s) = refl
+
+batch_units : (asset : ℕ) (m : Market) (o : Outcome) → units_total asset (after_batch m o) ≡ units_total asset m
+batch_units asset m (Cleared c) = refl
+batch_units asset m (Skipped s) = refl
+
+module _ (Rule : List Order → List ℤ → ℕ → Outcome → Type 0) where
+  -- an accepted command adds its own amount of money
+  accepted_money : (m : Market) (c : Command) (a : Answer Outcome) (n : Market) → Accepts Rule m c a n → money_total n ≡ money_total m +ℤ added_by money_added c a
+  accepted_money m (AddAsset ticker) a n accepts = rw (accepts.0, accepts.1) (same _ _ _ refl refl)
+  accepted_money m OpenAccount a n accepts = rw (accepts.0, accepts.1) (same _ _ _ refl refl)
+  accepted_money m (DepositMoney account ticks) a n accepts = rw (accepts.0, accepts.1) refl
+  accepted_money m (DepositAsset account asset units) a n accepts = rw (accepts.0, accepts.1) (same _ _ _ refl refl)
+  accepted_money m (WithdrawMoney account ticks) a n accepts = rw (accepts.0, accepts.1) refl
+  accepted_money m (WithdrawAsset account asset units) a n accepts = rw (accepts.0, accepts.1) (same _ _ _ refl refl)
+  accepted_money m (PlaceOrder r) a n accepts = rw (accepts.0, accepts.1) (same _ _ _ refl refl)
+  accepted_money m (CancelOrder account number) a n accepts = rw (accepts.0, accepts.1) (same _ _ _ refl refl)
+  accepted_money m (PlaceUntil last r) a n accepts = rw (accepts.0, accepts.1) (same _ _ _ refl refl)
+  accepted_money m (SetMoneyCredit account ticks) a n accepts = rw (accepts.0, accepts.1) (same _ _ _ refl refl)
+  accepted_money m (SetUnitCredit account asset units) a n accepts = rw (accepts.0, accepts.1) (same _ _ _ refl refl)
+  accepted_money m (RunBatch budget) a n accepts = rw (accepts.2.0, accepts.2.1) (same _ _ _ (batch_money m accepts.0) refl)
+
+  -- a change of units changes one total
+  changed_units : (m : Market) (asset account named : ℕ) (amount : ℤ) → IsSound m → IsAccount m.balances account → IsAsset m.balances named
+      → total_units_of (change_units m.balances account named amount) asset ≡ units_total asset m +ℤ cond (eqb named asset) amount (pos 0)
+  changed_units m asset account named amount sound there is_asset =
+      let totals = (units_change m.balances account named amount (sound_is_lawful m sound) there is_asset).1 in
+      ⊎_elim
+      (λ is. rw (is.0, ← is.1) totals.total)
+      (λ other. rw other.0 (omega (arith, ints, totals.others asset (λ e. other.1 (sym e)))))
+      (eqb_tells named asset)
+
+  accepted_units : (asset : ℕ) (m : Market) (c : Command) (a : Answer Outcome) (n : Market) → IsSound m → FirstRefusal m c None → Accepts Rule m c a n → units_total asset n ≡ units_total asset m +ℤ added_by (units_added asset) c a
+  accepted_units asset m (AddAsset ticker) a n sound none accepts = rw (accepts.0, accepts.1) (same _ _ _ ((assets_start_at_zero m.balances (sound_is_lawful m sound)).totals asset) refl)
+  accepted_units asset m OpenAccount a n sound none accepts = rw (accepts.0, accepts.1) (same _ _ _ refl refl)
+  accepted_units asset m (DepositMoney account ticks) a n sound none accepts = rw (accepts.0, accepts.1) (same _ _ _ refl refl)
+  accepted_units asset m (DepositAsset account named units) a n sound none accepts =
+      let one = past_unless none in
+      let two = past_unless one.1 in
+      rw (accepts.0, accepts.1) (changed_units m asset account named (pos units) sound one.0 two.0)
+  accepted_units asset m (WithdrawMoney account ticks) a n sound none accepts = rw (accepts.0, accepts.1) (same _ _ _ refl refl)
+  accepted_units asset m (WithdrawAsset account named units) a n sound none accepts =
+      let one = past_unless none in
+      let two = past_unless one.1 in
+      rw (accepts.0, accepts.1) (changed_units m asset account named (neg_ℤ (pos units)) sound one.0 two.0)
+  accepted_units asset m (PlaceOrder r) a n sound none accepts = rw (accepts.0, accepts.1) (same _ _ _ refl refl)
+  accepted_units asset m (CancelOrder account number) a n sound none accepts = rw (accepts.0, accepts.1) (same _ _ _ refl refl)
+  accepted_units asset m (PlaceUntil last r) a n sound none accepts = rw (accepts.0, accepts.1) (same _ _ _ refl refl)
+  accepted_units asset m (SetMoneyCredit account ticks) a n sound none accepts = rw (accepts.0, accepts.1) (same _ _ _ refl refl)
+  accepted_units asset m (SetUnitCredit account named units) a n sound none accepts = rw (accepts.0, accepts.1) (same _ _ _ refl refl)
+  accepted_units asset m (RunBatch budget) a n sound none accepts = rw (accepts.2.0, accepts.2.1) (same _ _ _ (batch_units asset m accepts.0) refl)
+
+  served_money : (m : Market) (c : Command) (first : Option Refusal) (a : Answer Outcome) (n : Market) → Answers Rule m c first a n → money_total n ≡ money_total m +ℤ added_by money_added c a
+  served_money m c (Some r) a n answers = rw (answers.0, answers.1) (same _ _ _ refl refl)
+  served_money m c None a n answers = accepted_money m c a n answers
+
+  served_units : (asset : ℕ) (m : Market) (c : Command) (first : Option Refusal) (a : Answer Outcome) (n : Market) → IsSound m → FirstRefusal m c first → Answers Rule m c first a n → units_total asset n ≡ units_total asset m +ℤ added_by (units_added asset) c a
+  served_units asset m c (Some r) a n sound first answers = rw (answers.0, answers.1) (same _ _ _ refl refl)
+  served_units asset m c None a n sound first answers = accepted_units asset m c a n sound first answers
+
+  read_money : (m : Market) (read : Result Command BodyFault) (a : Answer Outcome) (n : Market) → ServesRead Rule m read a n → money_total n ≡ money_total m +ℤ added_by_read money_added read a
+  read_money m (Ok c) a n serves = served_money m c serves.first a n serves.answered
+  read_money m (Err r) a n serves = rw serves.1 (same _ _ _ refl refl)
+
+  read_units : (asset : ℕ) (m : Market) (read : Result Command BodyFault) (a : Answer Outcome) (n : Market) → IsSound m → ServesRead Rule m read a n → units_total asset n ≡ units_total asset m +ℤ added_by_read (units_added asset) read a
+  read_units asset m (Ok c) a n sound serves = served_units asset m c serves.first a n sound serves.refused serves.answered
+  read_units asset m (Err r) a n sound serves = rw serves.1 (same _ _ _ refl refl)
+
+module _ {R : Type 0} (Reads : Version → R → Result Command BodyFault → Type 0) (own : ReadsOwn Reads) where
+  -- the pairs of a journal add up to how a total changed
+  totals_change : (added : Command → ℤ) (total : Market → ℤ)
+      → ((m : Market) (read : Result Command BodyFault) (a : Answer Outcome) (n : Market) → IsSound m → ServesRead IsRightOutcome m read a n → total n ≡ total m +ℤ added_by_read added read a)
+      → (m : Market) (pairs : List (Pair R Outcome)) (n : Market) → IsSound m → Follows Reads IsRightOutcome m pairs n → (change : ℤ) × AddTogether (Reads m.version) added pairs change × (total n ≡ total m +ℤ change)
+  totals_change added total each m [] n sound follows = (pos 0, refl, same (total m) (total n) (pos 0) (ap total follows) refl)
+  totals_change added total each m (pair ∷ pairs) n sound follows =
+      let next = follows.0 in
+      let step = follows.1 in
+      let here = each m step.read pair.answer next sound step.served in
+      let rest = totals_change added total each next pairs n (sound_step Reads own m pair.asked pair.answer next sound step) follows.2 in
+      let kept = step_version IsRightOutcome Reads m pair.asked pair.answer next step in
+      let first = added_by_read added step.read pair.answer in
+      (first +ℤ rest.0, (step.read, rest.0, step.spelled, subst (λ v. AddTogether (Reads v) added pairs rest.0) kept rest.1, refl), omega (arith, ints, here, rest.2))
+
+  change_of : (h k t u c : ℤ) → h ≡ t → k ≡ u → u ≡ t +ℤ c → k ≡ h +ℤ c
+  change_of h k t u c before after change = omega (arith, ints, before, after, change)
+
+  -- (e) from a sound market on the money held changes by the accepted deposits less the accepted withdrawals
+  pub held_money_changes : (old : Market) (pairs : List (Pair R Outcome)) (new : Market) → IsSound old → Follows Reads IsRightOutcome old pairs new
+      → (added : ℤ) × AddTogether (Reads old.version) money_added pairs added × (held_money new ≡ held_money old +ℤ added)
+  held_money_changes old pairs new sound follows =
+      let all = totals_change money_added money_total (λ m read a n sound serves. read_money IsRightOutcome m read a n serves) old pairs new sound follows in
+      let after = sound_follows Reads own old pairs new sound follows in
+      (all.0, all.1, change_of (held_money old) (held_money new) (money_total old) (money_total new) all.0 sound.totals.money after.totals.money all.2)
+
+  -- (e) and so do the units held of each asset
+  pub held_units_change : (old : Market) (pairs : List (Pair R Outcome)) (new : Market) (asset : ℕ) → IsSound old → IsAsset old.balances asset → IsAsset new.balances asset → Follows Reads IsRightOutcome old pairs new
+      → (added : ℤ) × AddTogether (Reads old.version) (units_added asset) pairs added × (held_units new asset ≡ held_units old asset +ℤ added)
+  held_units_change old pairs new asset sound is_asset is_asset_after follows =
+      let all = totals_change (units_added asset) (units_total asset) (λ m read a n sound serves. read_units IsRightOutcome asset m read a n sound serves) old pairs new sound follows in
+      let after = sound_follows Reads own old pairs new sound follows in
+      (all.0, all.1, change_of (held_units old asset) (held_units new asset) (units_total asset old) (units_total asset new) all.0 (sound.totals.units asset is_asset) (after.totals.units asset is_asset_after) all.2)
+
+  more_is : (x y z : ℤ) → x ≡ y +ℤ z → z ≡ x -ℤ y
+  more_is x y z e = omega (arith, ints, e)
+
+  -- (e) what is held more than at the start is what the pairs add
+  pub more_money : (start : Market) (pairs : List (Pair R Outcome)) (m : Market) → IsSound start → Follows Reads IsRightOutcome start pairs m
+      → AddTogether (Reads start.version) money_added pairs (held_money m -ℤ held_money start)
+  more_money start pairs m sound follows =
+      let all = held_money_changes start pairs m sound follows in
+      subst (AddTogether (Reads start.version) money_added pairs) (more_is _ _ _ all.2) all.1
+
+  pub more_units : (start : Market) (pairs : List (Pair R Outcome)) (m : Market) (asset : ℕ) → IsSound start → Follows Reads IsRightOutcome start pairs m
+      → AddTogether (Reads start.version) (units_added asset) pairs (held_units m asset -ℤ held_units start asset)
+  more_units start pairs m asset sound follows =
+      let all = totals_change (units_added asset) (units_total asset) (λ m read a n sound serves. read_units IsRightOutcome asset m read a n sound serves) start pairs m sound follows in
+      let after = sound_follows Reads own start pairs m sound follows in
+      let change = change_of (held_units start asset) (held_units m asset) (units_total asset start) (units_total asset m) all.0 (held_is_total start sound asset) (held_is_total m after asset) all.2 in
+      subst (AddTogether (Reads start.version) (units_added asset) pairs) (more_is _ _ _ change) all.1
+
+  nothing_before : (x y : ℤ) → x ≡ pos 0 +ℤ y → x ≡ y
+  nothing_before x y e = omega (arith, ints, e)
+
+  -- (e) over a legal journal they are the accepted deposits less the accepted withdrawals
+  pub held_money_is : (version : Version) (pairs : List (Pair R Outcome)) (m : Market) → Follows Reads IsRightOutcome (empty_market version) pairs m → AddTogether (Reads version) money_added pairs (held_money m)
+  held_money_is version pairs m follows =
+      let all = held_money_changes (empty_market version) pairs m (sound-empty version) follows in
+      subst (AddTogether (Reads version) money_added pairs) (sym (nothing_before _ _ all.2)) all.1
+
+  pub held_units_are : (version : Version) (pairs : List (Pair R Outcome)) (m : Market) (asset : ℕ) → IsAsset m.balances asset → Follows Reads IsRightOutcome (empty_market version) pairs m → AddTogether (Reads version) (units_added asset) pairs (held_units m asset)
+  held_units_are version pairs m asset is_asset follows =
+      let all = totals_change (units_added asset) (units_total asset) (λ m read a n sound serves. read_units IsRightOutcome asset m read a n sound serves) (empty_market version) pairs m (sound-empty version) follows in
+      let sound = sound_follows Reads own (empty_market version) pairs m (sound-empty version) follows in
+      subst (AddTogether (Reads version) (units_added asset) pairs) (sym (sound.totals.units asset is_asset ∙ nothing_before _ _ all.2)) all.1
+
+  -- (e) a step that is a batch changes no held total
+  pub batch_keeps_held : (m n : Market) (o : Outcome) → IsSound m → IsSound n → n ≡ after_batch m o
+      → (held_money n ≡ held_money m) × ((asset : ℕ) → IsAsset m.balances asset → IsAsset n.balances asset → held_units n asset ≡ held_units m asset)
+  batch_keeps_held m n o sound sound_after made = (
+    sound_after.totals.money ∙ ap money_total made ∙ batch_money m o ∙ sym sound.totals.money,
+    λ asset is_asset is_asset_after. sound_after.totals.units asset is_asset_after ∙ ap (units_total asset) made ∙ batch_units asset m o ∙ sym (sound.totals.units asset is_asset),
+  )

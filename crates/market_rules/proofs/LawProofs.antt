@@ -1,0 +1,398 @@
+-- What an answer of a batch tells of a step.
+use Rattle.std.proofs.Common.{Result, Ok, Err, ◌<◌, ◌≤◌, ◌⊎◌, inl, inr, arith, length, map, List, ◌≡◌, ℕ, pos, ◌+ℤ◌, ◌+◌, ◌-◌, Option, Some, None, refl, ap, sym, subst, ◌∙◌}
+use Rattle.std.proofs.lemmas.Bool.{cases_lt}
+use Rattle.flow_accounts.specs.Balances.{Credit, IsAsset, no_credit, credit_of, money_credit_of, unit_credit_of}
+use Rattle.flow_accounts.proofs.Bounds.{no_balance_is_below_its_credit}
+use Rattle.flow_orders.specs.Orders.{Order, IsOrder}
+use Rattle.flow_orders.specs.Trades.{trades, after_fill, is_live, staying}
+use Rattle.flow_orders.proofs.TradeFacts.{All-trades}
+use Rattle.market_rules.proofs.Ending.{all_go_on, goes_on}
+use Rattle.market_rules.proofs.Versions.{not_both, step_version}
+use Rattle.market_rules.proofs.Lawful.{sound_is_lawful}
+use Rattle.market_rules.proofs.OwnNeeds.{needs-filter}
+use Rattle.flow_orders.specs.Duals.{movement_of}
+use Rattle.flow_orders.specs.Outcomes.{Fill, Skipping, Outcome, BatchRule, Cleared, Skipped, IsRightOutcome}
+use Rattle.wire_records.specs.Commands.{Command, AddAsset, OpenAccount, DepositMoney, DepositAsset, WithdrawMoney, WithdrawAsset, PlaceOrder, CancelOrder, RunBatch, PlaceUntil, SetMoneyCredit, SetUnitCredit, Answer, Plain, Batch}
+use Rattle.wire_records.specs.declared.reply.Refusal.{Refusal}
+use Rattle.wire_records.specs.declared.reply.Reply.{Reply}
+use Rattle.wire_records.specs.declared.reply.Reply.TheVariants.{Done, Asset as AssetAdded, Account as AccountOpened, Order as OrderPlaced, Refused}
+use Rattle.market_rules.specs.Market.{Market, IsSound, IsInTime, IsNoCredit, start_prices}
+use Rattle.wire_records.specs.declared.command.BodyFault.{BodyFault}
+use Rattle.flow_orders.specs.Own.{IsOwnOutcome}
+use Rattle.market_rules.specs.Step.{FirstRefusal, Accepts, Answers, Serves, ServesRead, after_batch}
+use Rattle.market_rules.specs.Laws.{MarketIsDetermined, JournalsDetermineTheMarket, OneRefusal, PlainCommandsHaveOneAnswer, PlainCommandsNeedNoRule, OneOwnJournal, OwnJournalsAreLegal, StepsKeepSoundness, HeldIsDeposited, BatchesKeepTotals, SkipsOnlyEndOrders, OrdersEndInTime, VersionOneIsAsBefore, BatchesOfVersionOne, OrdersMayLeave, SkipsLowerTheDual, LargeBudgetsClear, ClearedBatchesAreOptimal, FillsKeepCaps, SequencesCompose, EveryCommandIsServed, LimitsAgree, JournalsHoldDeposits, StepsNumberOne, LegalStepsNumberOne}
+use Rattle.std.proofs.lemmas.Int.{ints}
+use Rattle.std.proofs.lemmas.List.{length-map, get_or_past}
+use Rattle.std.proofs.lemmas.List.Elements.{All-filter, All-map}
+use Rattle.flow_orders.proofs.WalkLaws.{walks_lower_the_dual, right_skips_lower_the_dual, right_clearings_are_optimal}
+use Rattle.std.specs.Prelude.{All, Contains, slice_index_or, ◌<ℤ◌}
+use Rattle.market_rules.proofs.OneStep.{HasOneOutcome, one_first, one_service}
+use Rattle.market_rules.proofs.OneJournal.{step_market, journal_market, one_own_journal as one_journal, follows-append, follows-parts}
+use Rattle.market_rules.proofs.Soundness.{sound_served, sound_step, sound_follows, sound-empty}
+use Rattle.market_rules.proofs.HeldTotals.{batch_keeps_held, held_money_is, held_units_are, held_money_changes, held_units_change, more_money, more_units}
+use Rattle.market_rules.proofs.Fills.{fills_within_cap, live_fills_within_cap}
+use Rattle.market_rules.proofs.Exists.{own_journal_is_there, served_is_there}
+use Rattle.wire_records.specs.Records.{AreBytes}
+use Rattle.wire_records.specs.Versions.{IsReadAs, IsOfVersion}
+use Rattle.wire_records.specs.declared.version.Version.{Version}
+use Rattle.wire_records.specs.declared.version.Version.TheVariants.{One, Two}
+use Rattle.wire_records.proofs.Readings.{reading_unique as one_reading, reading_some as each_is_read, read_own}
+use Rattle.market_rules.proofs.OwnIsLegal.{own_journal_is_legal}
+
+-- the command was a batch that was held by the rule
+pub record IsBatch (Rule : BatchRule) (old : Market) (command : Command) (number : ℕ) (outcome : Outcome) (new : Market) : Type 0 where
+  pub budget : ℕ
+  pub command_is : command ≡ RunBatch budget
+  pub ruled : Rule old.orders (start_prices old) budget outcome
+  pub number_is : number ≡ old.batches + 1
+  pub made : new ≡ after_batch old outcome
+
+no_plain : (n : ℕ) (o : Outcome) (r : Reply) → Batch n o ≡ Plain r → ⊥
+no_plain n o r e = cc
+
+numbers : (n k : ℕ) (o p : Outcome) → Batch n o ≡ Batch k p → n ≡ k
+numbers n k o p e = cc
+
+outcomes : (n k : ℕ) (o p : Outcome) → Batch n o ≡ Batch k p → o ≡ p
+outcomes n k o p e = cc
+
+module _ (Rule : BatchRule) where
+  accepted_batch : (m : Market) (c : Command) (n : ℕ) (o : Outcome) (new : Market) → Accepts Rule m c (Batch n o) new → IsBatch Rule m c n o new
+  accepted_batch m (AddAsset ticker) n o new accepts = absurd (no_plain n o _ accepts.0)
+  accepted_batch m OpenAccount n o new accepts = absurd (no_plain n o _ accepts.0)
+  accepted_batch m (DepositMoney account ticks) n o new accepts = absurd (no_plain n o _ accepts.0)
+  accepted_batch m (DepositAsset account asset units) n o new accepts = absurd (no_plain n o _ accepts.0)
+  accepted_batch m (WithdrawMoney account ticks) n o new accepts = absurd (no_plain n o _ accepts.0)
+  accepted_batch m (WithdrawAsset account asset units) n o new accepts = absurd (no_plain n o _ accepts.0)
+  accepted_batch m (PlaceOrder r) n o new accepts = absurd (no_plain n o _ accepts.0)
+  accepted_batch m (CancelOrder account number) n o new accepts = absurd (no_plain n o _ accepts.0)
+  accepted_batch m (PlaceUntil last request) n o new accepts = absurd (no_plain n o _ accepts.0)
+  accepted_batch m (SetMoneyCredit account ticks) n o new accepts = absurd (no_plain n o _ accepts.0)
+  accepted_batch m (SetUnitCredit account asset units) n o new accepts = absurd (no_plain n o _ accepts.0)
+  accepted_batch m (RunBatch budget) n o new accepts =
+      let same = outcomes n (m.batches + 1) o accepts.0 accepts.2.0 in
+      record {
+        budget = budget;
+        command_is = refl;
+        ruled = rw same accepts.1;
+        number_is = numbers n (m.batches + 1) o accepts.0 accepts.2.0;
+        made = accepts.2.1 ∙ ap (after_batch m) (sym same);
+      }
+
+  pub batch_of : (m : Market) (c : Command) (n : ℕ) (o : Outcome) (new : Market) → Serves Rule m c (Batch n o) new → IsBatch Rule m c n o new
+  batch_of m c n o new serves = by_first serves.first serves.answered
+    where
+      by_first : (first : Option Refusal) → Answers Rule m c first (Batch n o) new → IsBatch Rule m c n o new
+      by_first (Some r) answers = absurd (no_plain n o (Refused r) answers.0)
+      by_first None answers = accepted_batch m c n o new answers
+
+  no_batch : (m : Market) (c : Command) → ((budget : ℕ) → ¬ (c ≡ RunBatch budget)) → HasOneOutcome Rule m c
+  no_batch m (AddAsset ticker) none = tt
+  no_batch m OpenAccount none = tt
+  no_batch m (DepositMoney account ticks) none = tt
+  no_batch m (DepositAsset account asset units) none = tt
+  no_batch m (WithdrawMoney account ticks) none = tt
+  no_batch m (WithdrawAsset account asset units) none = tt
+  no_batch m (PlaceOrder r) none = tt
+  no_batch m (CancelOrder account number) none = tt
+  no_batch m (PlaceUntil last request) none = tt
+  no_batch m (SetMoneyCredit account ticks) none = tt
+  no_batch m (SetUnitCredit account asset units) none = tt
+  no_batch m (RunBatch budget) none = absurd (none budget refl)
+
+-- an accepted command isn't answered by a refusal
+no_done : (r : Refusal) → ◌≡◌ {A = Answer Outcome} (Plain (Refused r)) (Plain Done) → ⊥
+no_done r e = cc
+
+no_asset : (r : Refusal) (k : ℕ) → ◌≡◌ {A = Answer Outcome} (Plain (Refused r)) (Plain (AssetAdded k)) → ⊥
+no_asset r k e = cc
+
+no_account : (r : Refusal) (k : ℕ) → ◌≡◌ {A = Answer Outcome} (Plain (Refused r)) (Plain (AccountOpened k)) → ⊥
+no_account r k e = cc
+
+no_order : (r : Refusal) (k : ℕ) → ◌≡◌ {A = Answer Outcome} (Plain (Refused r)) (Plain (OrderPlaced k)) → ⊥
+no_order r k e = cc
+
+same_refusal : (r f : Refusal) → ◌≡◌ {A = Answer Outcome} (Plain (Refused r)) (Plain (Refused f)) → r ≡ f
+same_refusal r f e = cc
+
+module _ (Rule : BatchRule) where
+  never_refuses : (m : Market) (c : Command) (r : Refusal) (n : Market) → Accepts Rule m c (Plain (Refused r)) n → ⊥
+  never_refuses m (AddAsset ticker) r n accepts = no_asset r _ accepts.0
+  never_refuses m OpenAccount r n accepts = no_account r _ accepts.0
+  never_refuses m (DepositMoney account ticks) r n accepts = no_done r accepts.0
+  never_refuses m (DepositAsset account asset units) r n accepts = no_done r accepts.0
+  never_refuses m (WithdrawMoney account ticks) r n accepts = no_done r accepts.0
+  never_refuses m (WithdrawAsset account asset units) r n accepts = no_done r accepts.0
+  never_refuses m (PlaceOrder q) r n accepts = no_order r _ accepts.0
+  never_refuses m (CancelOrder account number) r n accepts = no_done r accepts.0
+  never_refuses m (PlaceUntil last request) r n accepts = no_order r _ accepts.0
+  never_refuses m (SetMoneyCredit account ticks) r n accepts = no_done r accepts.0
+  never_refuses m (SetUnitCredit account asset units) r n accepts = no_done r accepts.0
+  never_refuses m (RunBatch budget) r n accepts = no_plain (m.batches + 1) accepts.0 (Refused r) (sym accepts.2.0)
+
+  -- a refusal that is answered is the first that holds, and nothing changed
+  refused_is : (m : Market) (c : Command) (r : Refusal) (n : Market) → Serves Rule m c (Plain (Refused r)) n → FirstRefusal m c (Some r) × (n ≡ m)
+  refused_is m c r n serves = by_first serves.first serves.refused serves.answered
+    where
+      by_first : (first : Option Refusal) → FirstRefusal m c first → Answers Rule m c first (Plain (Refused r)) n → FirstRefusal m c (Some r) × (n ≡ m)
+      by_first (Some f) refused answers = (subst (λ x. FirstRefusal m c (Some x)) (sym (same_refusal r f answers.0)) refused, answers.1)
+      by_first None refused answers = absurd (never_refuses m c r n answers)
+
+  pub refused_once : (m : Market) (c : Command) (r : Refusal) (a : Answer Outcome) (x y : Market) → Serves Rule m c (Plain (Refused r)) x → Serves Rule m c a y → (a ≡ Plain (Refused r)) × (x ≡ m) × (y ≡ m)
+  refused_once m c r a x y first other =
+      let is = refused_is m c r x first in
+      let again = subst (λ f. Answers Rule m c f a y) (one_first m c other.first (Some r) other.refused is.0) other.answered in
+      (again.0, is.1, again.1)
+
+pub one_refusal : OneRefusal
+one_refusal old c r a m n first other = refused_once IsRightOutcome old c r a m n first other
+
+pub plain_commands_have_one_answer : PlainCommandsHaveOneAnswer
+plain_commands_have_one_answer old c a b m n none first other = one_service IsRightOutcome old c a b m n (no_batch IsRightOutcome old c none) first other
+
+-- an accepted command that is no batch is accepted by any rule
+accepted_by_any : (Rule Other : BatchRule) (m : Market) (c : Command) (a : Answer Outcome) (n : Market) → ((budget : ℕ) → ¬ (c ≡ RunBatch budget)) → Accepts Rule m c a n → Accepts Other m c a n
+accepted_by_any Rule Other m (AddAsset ticker) a n none accepts = accepts
+accepted_by_any Rule Other m OpenAccount a n none accepts = accepts
+accepted_by_any Rule Other m (DepositMoney account ticks) a n none accepts = accepts
+accepted_by_any Rule Other m (DepositAsset account asset units) a n none accepts = accepts
+accepted_by_any Rule Other m (WithdrawMoney account ticks) a n none accepts = accepts
+accepted_by_any Rule Other m (WithdrawAsset account asset units) a n none accepts = accepts
+accepted_by_any Rule Other m (PlaceOrder r) a n none accepts = accepts
+accepted_by_any Rule Other m (CancelOrder account number) a n none accepts = accepts
+accepted_by_any Rule Other m (PlaceUntil last request) a n none accepts = accepts
+accepted_by_any Rule Other m (SetMoneyCredit account ticks) a n none accepts = accepts
+accepted_by_any Rule Other m (SetUnitCredit account asset units) a n none accepts = accepts
+accepted_by_any Rule Other m (RunBatch budget) a n none accepts = absurd (none budget refl)
+
+-- and it is served so
+pub served_by_any : (Rule Other : BatchRule) (m : Market) (c : Command) (a : Answer Outcome) (n : Market) → ((budget : ℕ) → ¬ (c ≡ RunBatch budget)) → Serves Rule m c a n → Serves Other m c a n
+served_by_any Rule Other m c a n none serves = record { first = serves.first; refused = serves.refused; answered = by_first serves.first serves.answered }
+  where
+    by_first : (first : Option Refusal) → Answers Rule m c first a n → Answers Other m c first a n
+    by_first (Some r) answered = answered
+    by_first None answered = accepted_by_any Rule Other m c a n none answered
+
+pub plain_commands_need_no_rule : PlainCommandsNeedNoRule
+plain_commands_need_no_rule old c a n none = (served_by_any IsOwnOutcome IsRightOutcome old c a n none, served_by_any IsRightOutcome IsOwnOutcome old c a n none)
+
+same_assets : (m : Market) (o : Outcome) (asset : ℕ) → IsAsset m.balances asset → IsAsset (after_batch m o).balances asset
+same_assets m (Cleared c) asset is = is
+same_assets m (Skipped s) asset is = is
+
+-- a batch is a command of each version
+batch_of_version : (version : Version) (budget : ℕ) → IsOfVersion version (RunBatch budget)
+batch_of_version One budget = (omega arith, omega arith)
+batch_of_version Two budget = (omega arith, omega arith)
+
+pub batches_keep_totals : BatchesKeepTotals
+batches_keep_totals old c n o new sound serves =
+    let batch = batch_of IsRightOutcome old c n o new serves in
+    let both = batch_keeps_held IsReadAs read_own old new o sound (sound_served old c (Batch n o) new (subst (IsOfVersion old.version) (sym batch.command_is) (batch_of_version old.version batch.budget)) sound serves) batch.made in
+    (both.0, λ asset is. both.1 asset is (subst (λ (m : Market). IsAsset m.balances asset) (sym batch.made) (same_assets old o asset is)))
+
+pub batch_count : (m : Market) (o : Outcome) → (after_batch m o).batches ≡ m.batches + 1
+batch_count m (Cleared c) = refl
+batch_count m (Skipped s) = refl
+
+-- an order in time trades in the next batch at the latest, and a live one after a batch in a later one
+may_trade : (m : Market) (o : Order) (n : ℕ) → n ≡ m.batches + 1 → IsInTime m o → (o.last ≡ 0) ⊎ (n ≤ o.last)
+may_trade m o n is time = elim time [ inl none ↦ inl none | inr some ↦ inr (omega (arith, some.1, is)) ]
+
+trades_later : (m : Market) (o : Order) (n : ℕ) → n ≡ m.batches → IsInTime m o → (o.last ≡ 0) ⊎ (n < o.last)
+trades_later m o n is time = elim time [ inl none ↦ inl none | inr some ↦ inr (omega (arith, some.1, is)) ]
+
+pub orders_end_in_time : OrdersEndInTime
+orders_end_in_time = record {
+  before = λ old c n outcome new sound serves k d inside.
+      let batch = batch_of IsRightOutcome old c n outcome new serves in
+      may_trade old (slice_index_or old.orders k d) n batch.number_is (sound.live k d inside).in_time;
+  after = λ old c n outcome new sound serves k d inside.
+      let batch = batch_of IsRightOutcome old c n outcome new serves in
+      let after = sound_served old c (Batch n outcome) new (subst (IsOfVersion old.version) (sym batch.command_is) (batch_of_version old.version batch.budget)) sound serves in
+      trades_later new (slice_index_or new.orders k d) n (batch.number_is ∙ sym (ap (λ (x : Market). x.batches) batch.made ∙ batch_count old outcome)) (after.live k d inside).in_time;
+  stays = λ old c n s new o serves live other.
+      let batch = batch_of IsRightOutcome old c n (Skipped s) new serves in
+      subst (λ (x : Market). Contains x.orders o) (sym batch.made) (goes_on (old.batches + 1) old.orders o live (λ e. other (e ∙ sym batch.number_is)));
+}
+
+-- ---- version One
+
+-- an order without a last batch
+no_last : (m : Market) (o : Order) → m.version ≡ One → IsInTime m o → o.last ≡ 0
+no_last m o one time = elim time [ inl none ↦ none | inr some ↦ absurd (not_both m.version one some.0) ]
+
+-- a list of zeros has 0 at each place, and past its end
+zeros_at : (xs : List ℕ) (k : ℕ) → All (λ (u : ℕ). u ≡ 0) xs → slice_index_or xs k 0 ≡ 0
+zeros_at xs k zeros = elim (cases_lt k (length xs)) [ inl within ↦ zeros k 0 within | inr past ↦ get_or_past xs k 0 past ]
+
+no_credit_at : (credits : List Credit) (k : ℕ) → All IsNoCredit credits → IsNoCredit (slice_index_or credits k (no_credit 0))
+no_credit_at credits k none =
+    elim (cases_lt k (length credits)) [
+      | inl within ↦ none k (no_credit 0) within
+      | inr past ↦ rw (get_or_past credits k (no_credit 0) past) (record { ticks = refl; units = λ i d inside. absurd (omega (arith, inside)) })
+    ]
+
+pub version_one_is_as_before : VersionOneIsAsBefore
+version_one_is_as_before m sound one =
+    let none : (account : ℕ) → IsNoCredit (credit_of m.balances account) = λ account. no_credit_at m.balances.credits (account - 1) (sound.credit.none one) in
+    let money : (account : ℕ) → money_credit_of m.balances account ≡ 0 = λ account. (none account).ticks in
+    let units : (account asset : ℕ) → unit_credit_of m.balances account asset ≡ 0 = λ account asset. zeros_at (credit_of m.balances account).units asset (none account).units in
+    let lawful = sound_is_lawful m sound in
+    let lasts : All (λ (o : Order). o.last ≡ 0) m.orders = λ k d inside. no_last m (slice_index_or m.orders k d) one (sound.live k d inside).in_time in
+    record {
+      lasts = lasts;
+      goes_on = λ batch some. all_go_on batch m.orders (λ k d inside same. let last = lasts k d inside in omega (arith, last, same, some));
+      money_credit = money;
+      unit_credit = units;
+      money = λ account. omega (arith, ints, money account);
+      units = λ account asset. omega (arith, ints, units account asset);
+      no_debt = λ account there. no_balance_is_below_its_credit.no_money_credit m.balances account lawful there (money account);
+      no_short = λ account asset there is_asset. no_balance_is_below_its_credit.no_unit_credit m.balances account asset lawful there is_asset (units account asset);
+    }
+
+-- orders that trade keep their last batches
+staying_lasts : (orders : List Order) (rates : List ℕ) → All (λ (o : Order). o.last ≡ 0) orders → All (λ (o : Order). o.last ≡ 0) (staying (trades orders rates))
+staying_lasts orders rates lasts =
+    All-filter is_live (λ (o : Order). o.last ≡ 0) (map after_fill (trades orders rates))
+    (All-map (λ (o : Order). o.last ≡ 0) after_fill (trades orders rates) (All-trades (λ (o : Order). o.last ≡ 0) orders rates lasts))
+
+pub batches_of_version_one : BatchesOfVersionOne
+batches_of_version_one = record {
+  cleared = λ old c sound one.
+      let before = version_one_is_as_before old sound one in
+      let rates = map (λ (f : Fill). f.rate) c.fills in
+      all_go_on (old.batches + 1) (staying (trades old.orders rates)) (λ k d inside same. let last = staying_lasts old.orders rates before.lasts k d inside in omega (arith, last, same));
+  skipped = λ old s sound one.
+      let before = version_one_is_as_before old sound one in
+      ap (λ (l : List Order). record old { orders = l; batches = old.batches + 1 }) (before.goes_on (old.batches + 1) (omega arith));
+}
+
+pub orders_may_leave : OrdersMayLeave
+orders_may_leave b stays orders covers = needs-filter b stays orders covers
+
+pub skips_only_end_orders : SkipsOnlyEndOrders
+skips_only_end_orders old c n s new serves = (batch_of IsRightOutcome old c n (Skipped s) new serves).made
+
+pub market_is_determined : MarketIsDetermined
+market_is_determined old asked a m n first other = step_market IsReadAs one_reading IsRightOutcome old asked a m n first other
+
+pub journals_determine_the_market : JournalsDetermineTheMarket
+journals_determine_the_market old pairs m n first other = journal_market IsReadAs one_reading IsRightOutcome old pairs m n first other
+
+pub one_own_journal : OneOwnJournal
+one_own_journal version records bytes =
+    let there = own_journal_is_there IsReadAs (λ r. AreBytes r.body) each_is_read version records bytes in
+    (there.0, there.1, there.2, λ other n journal. one_journal IsReadAs one_reading version records there.0 other there.1 n there.2 journal)
+
+pub own_journals_are_legal : OwnJournalsAreLegal
+own_journals_are_legal version records pairs m journal = own_journal_is_legal IsReadAs read_own version records pairs m journal
+
+pub steps_keep_soundness : StepsKeepSoundness
+steps_keep_soundness = (sound-empty, λ old asked a new sound step. (sound_step IsReadAs read_own old asked a new sound step, step_version IsRightOutcome IsReadAs old asked a new step))
+
+pub held_is_deposited : HeldIsDeposited
+held_is_deposited = record {
+  money = λ old pairs new sound follows. held_money_changes IsReadAs read_own old pairs new sound follows;
+  units = λ old pairs new asset sound before after follows. held_units_change IsReadAs read_own old pairs new asset sound before after follows;
+  all_money = λ version pairs m follows. held_money_is IsReadAs read_own version pairs m follows;
+  all_units = λ version pairs m asset is follows. held_units_are IsReadAs read_own version pairs m asset is follows;
+}
+
+pub journals_hold_deposits : JournalsHoldDeposits
+journals_hold_deposits start pairs m sound follows =
+    record {
+      sound = sound_follows IsReadAs read_own start pairs m sound follows;
+      money = more_money IsReadAs read_own start pairs m sound follows;
+      units = λ asset _. more_units IsReadAs read_own start pairs m asset sound follows;
+    }
+
+pub fills_keep_caps : FillsKeepCaps
+fills_keep_caps = record {
+  placed = λ old before after pair m number cap sound follows places. fills_within_cap IsReadAs read_own one_reading old before after pair m number cap sound follows places;
+  live = λ old pairs m o sound live follows. live_fills_within_cap IsReadAs read_own one_reading old pairs m o sound live follows;
+}
+
+pub sequences_compose : SequencesCompose
+sequences_compose = record {
+  joined = λ old mid new pairs more first second. follows-append IsReadAs one_reading IsRightOutcome old mid new pairs more first second;
+  apart = λ old new pairs more all. follows-parts IsReadAs one_reading IsRightOutcome old new pairs more all;
+}
+
+pub cleared_batches_are_optimal : ClearedBatchesAreOptimal
+cleared_batches_are_optimal old command number c new sound serves =
+    let batch = batch_of IsRightOutcome old command number (Cleared c) new serves in
+    let count : length (start_prices old) ≡ length old.last_prices = length-map old.last_prices _ in
+    right_clearings_are_optimal old.orders (start_prices old) c
+    (λ k d inside. (sound.live k d inside).order)
+    (λ k d inside j e within. let there = (sound.live k d inside).assets j e within in omega (arith, there, count, sound.one_each.prices))
+    batch.ruled
+
+-- what a right skip lowers, of a sound market's orders
+skip_lowers : (old : Market) (command : Command) (number : ℕ) (s : Skipping) (new : Market) → IsSound old → Serves IsRightOutcome old command (Batch number (Skipped s)) new
+    → ((s.end_dual +ℤ pos (movement_of old.orders (start_prices old) s.trace)) <ℤ (s.start_dual +ℤ pos (length old.orders))) × (length s.trace ≤ movement_of old.orders (start_prices old) s.trace) × (1 ≤ 1)
+skip_lowers old command number s new sound serves =
+    let right = (batch_of IsRightOutcome old command number (Skipped s) new serves).ruled in
+    let lowers = right_skips_lower_the_dual old.orders (start_prices old) _ s (λ k d inside. (sound.live k d inside).order) right in
+    (lowers.0, omega (arith, lowers.1, right.whole), omega arith)
+
+pub skips_lower_the_dual : SkipsLowerTheDual
+skips_lower_the_dual = record {
+  movement = λ old command number s new sound serves. (skip_lowers old command number s new sound serves).0;
+  moves = λ old command number s new sound serves.
+      let both = skip_lowers old command number s new sound serves in
+      omega (arith, ints, both.0, both.1, (batch_of IsRightOutcome old command number (Skipped s) new serves).ruled.whole, both.2);
+}
+
+same_budget : (a b : ℕ) → RunBatch a ≡ RunBatch b → a ≡ b
+same_budget a b e = cc
+
+pub large_budgets_clear : LargeBudgetsClear
+large_budgets_clear old budget number (Cleared c) new sound large serves = (c, refl)
+large_budgets_clear old budget number (Skipped s) new sound large serves =
+    let batch = batch_of IsRightOutcome old (RunBatch budget) number (Skipped s) new serves in
+    let right = batch.ruled in
+    let each : All IsOrder old.orders = λ k d inside. (sound.live k d inside).order in
+    let lowers = right_skips_lower_the_dual old.orders (start_prices old) batch.budget s each right in
+    let bounded = walks_lower_the_dual.bounded old.orders (start_prices old) s.trace each right.legal in
+    absurd (omega (arith, large, lowers.1, bounded, right.whole, same_budget budget batch.budget batch.command_is))
+
+pub every_command_is_served : EveryCommandIsServed
+every_command_is_served = served_is_there
+
+pub limits_agree : LimitsAgree
+limits_agree = record { assets = refl; ticks = refl }
+
+module _ (Rule : BatchRule) where
+  accepted_numbers_one : (m : Market) (c : Command) (a : Answer Outcome) (n : Market) → Accepts Rule m c a n → n.next_order ≤ m.next_order + 1
+  accepted_numbers_one m (AddAsset ticker) a n accepts = rw accepts.1 (omega arith)
+  accepted_numbers_one m OpenAccount a n accepts = rw accepts.1 (omega arith)
+  accepted_numbers_one m (DepositMoney account ticks) a n accepts = rw accepts.1 (omega arith)
+  accepted_numbers_one m (DepositAsset account asset units) a n accepts = rw accepts.1 (omega arith)
+  accepted_numbers_one m (WithdrawMoney account ticks) a n accepts = rw accepts.1 (omega arith)
+  accepted_numbers_one m (WithdrawAsset account asset units) a n accepts = rw accepts.1 (omega arith)
+  accepted_numbers_one m (PlaceOrder request) a n accepts = rw accepts.1 (omega arith)
+  accepted_numbers_one m (CancelOrder account number) a n accepts = rw accepts.1 (omega arith)
+  accepted_numbers_one m (PlaceUntil last request) a n accepts = rw accepts.1 (omega arith)
+  accepted_numbers_one m (SetMoneyCredit account ticks) a n accepts = rw accepts.1 (omega arith)
+  accepted_numbers_one m (SetUnitCredit account asset units) a n accepts = rw accepts.1 (omega arith)
+  accepted_numbers_one m (RunBatch budget) a n accepts = rw accepts.2.1 (by_outcome accepts.0)
+    where
+      by_outcome : (o : Outcome) → (after_batch m o).next_order ≤ m.next_order + 1
+      by_outcome (Cleared c) = omega arith
+      by_outcome (Skipped s) = omega arith
+
+  answered_numbers_one : (m : Market) (c : Command) (first : Option Refusal) (a : Answer Outcome) (n : Market) → Answers Rule m c first a n → n.next_order ≤ m.next_order + 1
+  answered_numbers_one m c (Some refusal) a n answers = rw answers.1 (omega arith)
+  answered_numbers_one m c None a n answers = accepted_numbers_one m c a n answers
+
+  read_numbers_one : (m : Market) (read : Result Command BodyFault) (a : Answer Outcome) (n : Market) → ServesRead Rule m read a n → n.next_order ≤ m.next_order + 1
+  read_numbers_one m (Ok c) a n served = answered_numbers_one m c served.first a n served.answered
+  read_numbers_one m (Err why) a n served = rw served.1 (omega arith)
+
+pub steps_number_one : StepsNumberOne
+steps_number_one old asked a new step = read_numbers_one IsOwnOutcome old step.read a new step.served
+
+pub legal_steps_number_one : LegalStepsNumberOne
+legal_steps_number_one old asked a new step = read_numbers_one IsRightOutcome old step.read a new step.served

@@ -1,0 +1,154 @@
+-- Every step keeps soundness.
+use Rattle.std.proofs.Common.{ℕ, ◌*◌, ◌^◌, ℤ, pos, ◌+ℤ◌, ◌-ℤ◌, ◌≤ℤ◌, List, [], ◌∷◌, length, inl, inr, Option, Some, None, Result, Ok, Err, refl, sym, subst, arith}
+use Rattle.std.specs.Prelude.{neg_ℤ}
+use Rattle.std.proofs.lemmas.Int.{ints}
+use Rattle.std.proofs.lemmas.List.Elements.{All-nil}
+use Rattle.ticker_table.specs.Tickers.{IsTicker}
+use Rattle.flow_accounts.specs.Balances.{grains, money_of, units_of, money_credit_of, money_with_credit, total_units_of}
+use Rattle.flow_accounts.specs.Lawful.{unit_limit, most_credit}
+use Rattle.flow_orders.specs.Orders.{needed_money, needed_units}
+use Rattle.flow_orders.specs.Outcomes.{IsRightOutcome, Outcome}
+use Rattle.wire_records.specs.Commands.{Command, AddAsset, OpenAccount, DepositMoney, DepositAsset, WithdrawMoney, WithdrawAsset, PlaceOrder, CancelOrder, RunBatch, PlaceUntil, SetMoneyCredit, SetUnitCredit, Answer, Pair}
+use Rattle.wire_records.specs.declared.reply.Refusal.{Refusal}
+use Rattle.market_rules.specs.Market.{Market, IsSound, empty_market}
+use Rattle.market_rules.specs.Step.{FirstRefusal, Accepts, Answers, Serves, placed, ServesRead}
+use Rattle.wire_records.specs.declared.command.BodyFault.{BodyFault}
+use Rattle.wire_records.specs.declared.version.Version.{Version}
+use Rattle.wire_records.specs.Versions.{IsOfVersion}
+use Rattle.market_rules.specs.Journal.{Step, Follows}
+use Rattle.market_rules.proofs.Accepted.{past_when, past_unless, not_below, not_least, not_above}
+use Rattle.market_rules.proofs.SoundBalances.{sound-money, sound-units, sound-money_credit, sound-unit_credit, sound-opened}
+use Rattle.market_rules.proofs.Versions.{two_of}
+use Rattle.market_rules.proofs.SoundOrders.{sound-ticker, sound-order, sound-without, placed_is_order}
+use Rattle.market_rules.proofs.SoundBatch.{sound-batch}
+
+-- an accepted command
+sound-accepted : (m : Market) (c : Command) (a : Answer Outcome) (n : Market) → IsOfVersion m.version c → IsSound m → FirstRefusal m c None → Accepts IsRightOutcome m c a n → IsSound n
+sound-accepted m (AddAsset ticker) a n of sound none accepts =
+    let one = past_unless none in
+    let two = past_when one.1 in
+    let three = past_when two.1 in
+    subst IsSound (sym accepts.1) (sound-ticker m ticker sound one.0 two.0 (not_least 64 (length m.tickers) three.0))
+sound-accepted m OpenAccount a n of sound none accepts =
+    let one = past_when none in
+    subst IsSound (sym accepts.1) (sound-opened m sound (not_least 65536 (length m.balances.accounts) one.0))
+sound-accepted m (DepositMoney account ticks) a n of sound none accepts =
+    let one = past_unless none in
+    let two = past_when one.1 in
+    let three = past_when two.1 in
+    subst IsSound (sym accepts.1) (sound-money m account (grains ticks) sound one.0 (more (needed_money m.orders account) (money_with_credit m.balances account) (2 ^ 32 * ticks) (sound.covered.money account one.0)) (not_below _ _ three.0))
+  where
+    more : (x y : ℤ) (n : ℕ) → x ≤ℤ y → x ≤ℤ (y +ℤ pos n)
+    more x y n below = omega (arith, ints, below)
+sound-accepted m (DepositAsset account asset units) a n of sound none accepts =
+    let one = past_unless none in
+    let two = past_unless one.1 in
+    let three = past_when two.1 in
+    let four = past_when three.1 in
+    subst IsSound (sym accepts.1) (sound-units m account asset (pos units) sound one.0 two.0 (omega (arith, ints, sound.covered.units account asset one.0 two.0)) (not_below _ _ four.0))
+sound-accepted m (WithdrawMoney account ticks) a n of sound none accepts =
+    let one = past_unless none in
+    let two = past_when one.1 in
+    let three = past_when two.1 in
+    subst IsSound (sym accepts.1) (sound-money m account (neg_ℤ (grains ticks)) sound one.0
+    (less (needed_money m.orders account) (money_of m.balances account) (2 ^ 32 * ticks) (money_credit_of m.balances account) (not_below _ _ three.0))
+    (fewer m.balances.total_money (2 ^ 32 * ticks) _ sound.widths.total_money))
+  where
+    less : (x y : ℤ) (n credit : ℕ) → pos n ≤ℤ (y -ℤ x) → x ≤ℤ (y +ℤ grains credit +ℤ neg_ℤ (pos n))
+    less x y n credit free = omega (arith, ints, free)
+
+    fewer : (x : ℤ) (n : ℕ) (most : ℤ) → x ≤ℤ most → (x +ℤ neg_ℤ (pos n)) ≤ℤ most
+    fewer x n most below = omega (arith, ints, below)
+sound-accepted m (WithdrawAsset account asset units) a n of sound none accepts =
+    let one = past_unless none in
+    let two = past_unless one.1 in
+    let three = past_when two.1 in
+    let four = past_when three.1 in
+    let free : pos units ≤ℤ (units_of m.balances account asset -ℤ needed_units m.orders account asset) = not_below _ _ four.0 in
+    let limit : total_units_of m.balances asset ≤ℤ unit_limit = sound.widths.total_units asset (pos 0) two.0 in
+    subst IsSound (sym accepts.1) (sound-units m account asset (neg_ℤ (pos units)) sound one.0 two.0 (omega (arith, ints, free)) (omega (arith, ints, limit)))
+sound-accepted m (PlaceOrder r) a n of sound none accepts =
+    let one = past_unless none in
+    let two = past_unless one.1 in
+    let three = past_unless two.1 in
+    let four = past_unless three.1 in
+    let five = past_unless four.1 in
+    let six = past_unless five.1 in
+    let seven = past_when six.1 in
+    let eight = past_unless seven.1 in
+    subst IsSound (sym accepts.1) (sound-order m (placed m 0 r) sound (placed_is_order m 0 r two.0 three.0 four.0 five.0) refl one.0 six.0 (not_least 16384 (length m.orders) seven.0) eight.0 (inl refl))
+sound-accepted m (CancelOrder account number) a n of sound none accepts = subst IsSound (sym accepts.1) (sound-without m number sound)
+sound-accepted m (RunBatch budget) a n of sound none accepts =
+    let one = past_unless none in
+    let two = past_when one.1 in
+    subst IsSound (sym accepts.2.1) (sound-batch m accepts.0 budget sound (not_least (2 ^ 24) m.batches two.0) accepts.1)
+sound-accepted m (PlaceUntil last r) a n of sound none accepts =
+    let one = past_unless none in
+    let two = past_unless one.1 in
+    let three = past_unless two.1 in
+    let four = past_unless three.1 in
+    let time = past_when four.1 in
+    let five = past_unless time.1 in
+    let six = past_unless five.1 in
+    let seven = past_when six.1 in
+    let eight = past_unless seven.1 in
+    subst IsSound (sym accepts.1) (sound-order m (placed m last r) sound (placed_is_order m last r two.0 three.0 four.0 five.0) refl one.0 six.0 (not_least 16384 (length m.orders) seven.0) eight.0
+    (inr (two_of m.version of.1, not_least last m.batches time.0)))
+sound-accepted m (SetMoneyCredit account ticks) a n of sound none accepts =
+    let one = past_unless none in
+    let two = past_when one.1 in
+    let three = past_when two.1 in
+    let version = two_of m.version (omega (arith, of.1)) in
+    let covers : pos 0 ≤ℤ (money_of m.balances account -ℤ needed_money m.orders account +ℤ grains ticks) = not_below _ _ three.0 in
+    subst IsSound (sym accepts.1) (sound-money_credit m account ticks sound version one.0 (not_above most_credit ticks two.0) (omega (arith, ints, covers)))
+sound-accepted m (SetUnitCredit account asset units) a n of sound none accepts =
+    let one = past_unless none in
+    let two = past_unless one.1 in
+    let three = past_when two.1 in
+    let four = past_when three.1 in
+    let version = two_of m.version (omega (arith, of.1)) in
+    let covers : pos 0 ≤ℤ (units_of m.balances account asset -ℤ needed_units m.orders account asset +ℤ pos units) = not_below _ _ four.0 in
+    subst IsSound (sym accepts.1) (sound-unit_credit m account asset units sound version one.0 two.0 (not_above most_credit units three.0) (omega (arith, ints, covers)))
+
+-- (c) a step by a right outcome keeps soundness, where the command is one of the market's version
+pub sound_served : (m : Market) (c : Command) (a : Answer Outcome) (n : Market) → IsOfVersion m.version c → IsSound m → Serves IsRightOutcome m c a n → IsSound n
+sound_served m c a n of sound serves = by_first serves.first serves.refused serves.answered
+  where
+    by_first : (first : Option Refusal) → FirstRefusal m c first → Answers IsRightOutcome m c first a n → IsSound n
+    by_first (Some r) refused answered = subst IsSound (sym answered.1) sound
+    by_first None refused answered = sound-accepted m c a n of sound refused answered
+
+-- the empty market is sound
+pub sound-empty : (version : Version) → IsSound (empty_market version)
+sound-empty version = record {
+  one_each = record { tickers = refl; prices = refl; accounts = λ k d inside. absurd (omega (arith, inside)); exchange = refl; credits = refl };
+  tickers = record { valid = All-nil IsTicker; distinct = λ i j d below inside. absurd (omega (arith, inside)); few = omega arith };
+  live = λ k d inside. absurd (omega (arith, inside));
+  ascending = λ i j d below inside. absurd (omega (arith, inside));
+  covered = record { money = λ account there. absurd (omega (arith, there.0, there.1)); units = λ account asset there is_asset. absurd (omega (arith, there.0, there.1)) };
+  credit = record { lawful = λ k d inside. absurd (omega (arith, inside)); none = λ one k d inside. absurd (omega (arith, inside)) };
+  totals = record { money = refl; units = λ asset is_asset. absurd (omega (arith, is_asset)) };
+  widths = record { total_money = omega (arith, ints); total_units = λ k d inside. absurd (omega (arith, inside)); exchange_money = omega arith; exchange_units = λ k d inside. absurd (omega (arith, inside)) };
+  prices = λ k d inside. absurd (omega (arith, inside));
+  few_accounts = omega arith;
+  few_orders = omega arith;
+  few_batches = omega arith;
+  next = omega arith;
+}
+
+-- what is read in a version is a command of it
+abbrev pub ReadsOwn : {R : Type 0} → (Version → R → Result Command BodyFault → Type 0) → Type 0
+ReadsOwn {R} Reads = (version : Version) (r : R) (c : Command) → Reads version r (Ok c) → IsOfVersion version c
+
+module _ {R : Type 0} (Reads : Version → R → Result Command BodyFault → Type 0) (own : ReadsOwn Reads) where
+  sound-read : (m : Market) (asked : R) (read : Result Command BodyFault) (a : Answer Outcome) (n : Market) → IsSound m → Reads m.version asked read → ServesRead IsRightOutcome m read a n → IsSound n
+  sound-read m asked (Ok c) a n sound spelled serves = sound_served m c a n (own m.version asked c spelled) sound serves
+  sound-read m asked (Err r) a n sound spelled serves = subst IsSound (sym serves.1) sound
+
+  -- (c) so does every step of records, and every sequence of them
+  pub sound_step : (m : Market) (asked : R) (a : Answer Outcome) (n : Market) → IsSound m → Step Reads IsRightOutcome m asked a n → IsSound n
+  sound_step m asked a n sound step = sound-read m asked step.read a n sound step.spelled step.served
+
+  pub sound_follows : (m : Market) (pairs : List (Pair R Outcome)) (n : Market) → IsSound m → Follows Reads IsRightOutcome m pairs n → IsSound n
+  sound_follows m [] n sound follows = subst IsSound (sym follows) sound
+  sound_follows m (pair ∷ pairs) n sound follows = sound_follows follows.0 pairs n (sound_step m pair.asked pair.answer follows.0 sound follows.1) follows.2

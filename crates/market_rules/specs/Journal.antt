@@ -1,0 +1,122 @@
+-- Sequences of steps, legal journals, totals and fills.
+use Rattle.std.specs.Prelude.{◌≡◌, ◌⊎◌, ℕ, ◌==◌, if◌then◌else◌, ℤ, pos, neg_ℤ, ◌+ℤ◌, ◌-ℤ◌, List, [], ◌∷◌, map, Result, Ok, Err}
+use Rattle.std.specs.List.{sum_by}
+use Rattle.wire_records.specs.Commands.{Request, Command, AddAsset, OpenAccount, DepositMoney, DepositAsset, WithdrawMoney, WithdrawAsset, PlaceOrder, CancelOrder, RunBatch, PlaceUntil, SetMoneyCredit, SetUnitCredit, Answer, Plain, Batch, Pair}
+use Rattle.wire_records.specs.declared.version.Version.{Version}
+use Rattle.wire_records.specs.declared.reply.Reply.TheVariants.{Done, Refused}
+use Rattle.wire_records.specs.declared.reply.Reply.TheVariants as reply
+use Rattle.wire_records.specs.declared.command.BodyFault.{BodyFault}
+use Rattle.flow_accounts.specs.Balances.{IsAsset, grains}
+use Rattle.flow_orders.specs.Outcomes.{Fill, Outcome, BatchRule, Cleared, Skipped}
+use Rattle.market_rules.specs.Market.{Market, empty_market, IsSound, held_money, held_units}
+use Rattle.market_rules.specs.Step.{ServesRead}
+
+-- records of any kind, what each is read as in each version, and how a batch may end
+module _ {R : Type 0} (Reads : Version → R → Result Command BodyFault → Type 0) (Rule : BatchRule) where
+  -- one step: a record, read as the market's version does, gets its answer, and makes the new market of the old one
+  pub record Step (old : Market) (asked : R) (answer : Answer Outcome) (new : Market) : Type 0 where
+    pub read : Result Command BodyFault
+    pub spelled : Reads old.version asked read
+    pub served : ServesRead Rule old read answer new
+
+  -- the pairs are steps, one after the other, from the old market to the new one
+  abbrev pub Follows : Market → List (Pair R Outcome) → Market → Type 0
+  Follows old [] new = new ≡ old
+  Follows old (pair ∷ pairs) new = (next : Market) × Step old pair.asked pair.answer next × Follows next pairs new
+
+  -- The pairs answer these records, each with one answer, and lead from one market to another.
+  pub record IsAnswered (start : Market) (records : List R) (pairs : List (Pair R Outcome)) (market : Market) : Type 0 where
+    pub asked : map (λ (pair : Pair R Outcome). pair.asked) pairs ≡ records
+    pub steps : Follows start pairs market
+
+  -- the pairs are a journal of these records in a version: they answer them from its empty market on
+  abbrev pub IsJournal : Version → List R → List (Pair R Outcome) → Market → Type 0
+  IsJournal version records pairs market = IsAnswered (empty_market version) records pairs market
+
+-- what a command adds to the money that is held, in grains, where it is accepted
+abbrev pub money_added : Command → ℤ
+money_added (DepositMoney account ticks) = grains ticks
+money_added (WithdrawMoney account ticks) = neg_ℤ (grains ticks)
+money_added (AddAsset ticker) = pos 0
+money_added OpenAccount = pos 0
+money_added (DepositAsset account asset units) = pos 0
+money_added (WithdrawAsset account asset units) = pos 0
+money_added (PlaceOrder request) = pos 0
+money_added (CancelOrder account number) = pos 0
+money_added (RunBatch budget) = pos 0
+money_added (PlaceUntil last request) = pos 0
+money_added (SetMoneyCredit account ticks) = pos 0
+money_added (SetUnitCredit account asset units) = pos 0
+
+-- what a command adds to the units of an asset that are held, where it is accepted
+abbrev pub units_added : ℕ → Command → ℤ
+units_added asset (DepositAsset account named units) = if named == asset then pos units else pos 0
+units_added asset (WithdrawAsset account named units) = if named == asset then neg_ℤ (pos units) else pos 0
+units_added asset (AddAsset ticker) = pos 0
+units_added asset OpenAccount = pos 0
+units_added asset (DepositMoney account ticks) = pos 0
+units_added asset (WithdrawMoney account ticks) = pos 0
+units_added asset (PlaceOrder request) = pos 0
+units_added asset (CancelOrder account number) = pos 0
+units_added asset (RunBatch budget) = pos 0
+units_added asset (PlaceUntil last request) = pos 0
+units_added asset (SetMoneyCredit account ticks) = pos 0
+units_added asset (SetUnitCredit account named units) = pos 0
+
+-- what an answered command adds: nothing where it is refused
+abbrev pub added_by : (Command → ℤ) → Command → Answer Outcome → ℤ
+added_by added command (Plain (Refused refusal)) = pos 0
+added_by added command (Plain Done) = added command
+added_by added command (Plain (reply.Asset number)) = added command
+added_by added command (Plain (reply.Account number)) = added command
+added_by added command (Plain (reply.Order number)) = added command
+added_by added command (Batch number outcome) = added command
+
+-- what a record adds by what it is read as
+abbrev pub added_by_read : (Command → ℤ) → Result Command BodyFault → Answer Outcome → ℤ
+added_by_read added (Ok command) answer = added_by added command answer
+added_by_read added (Err why) answer = pos 0
+
+-- what the rates listed under an order's number add up to
+abbrev pub filled_in : ℕ → List Fill → ℕ
+filled_in number fills = sum_by (λ f. if f.order == number then f.rate else 0) fills
+
+-- what an answer fills of the order of a number
+abbrev pub filled_by : ℕ → Answer Outcome → ℕ
+filled_by number (Plain plain) = 0
+filled_by number (Batch batch (Cleared c)) = filled_in number c.fills
+filled_by number (Batch batch (Skipped s)) = 0
+
+-- the fills of an order's number in a journal
+abbrev pub fills_of : {R : Type 0} → ℕ → List (Pair R Outcome) → ℕ
+fills_of number pairs = sum_by (λ pair. filled_by number pair.answer) pairs
+
+-- records of any kind, and what each is read as
+module _ {R : Type 0} (Reads : R → Result Command BodyFault → Type 0) where
+  -- what the pairs add together
+  abbrev pub AddTogether : (Command → ℤ) → List (Pair R Outcome) → ℤ → Type 0
+  AddTogether added [] total = total ≡ pos 0
+  AddTogether added (pair ∷ pairs) total =
+      (read : Result Command BodyFault) × (rest : ℤ) × Reads pair.asked read × AddTogether added pairs rest
+      × (total ≡ added_by_read added read pair.answer +ℤ rest)
+
+  -- a record asks for an order on this request, with a last batch or without one
+  abbrev pub AsksFor : Request → R → Type 0
+  AsksFor request asked = Reads asked (Ok (PlaceOrder request)) ⊎ ((last : ℕ) × Reads asked (Ok (PlaceUntil last request)))
+
+  -- a pair places the order of a number, with this cap
+  pub record Places (number cap : ℕ) (pair : Pair R Outcome) : Type 0 where
+    pub request : Request
+    pub asks : AsksFor request pair.asked
+    pub answered : pair.answer ≡ Plain (reply.Order number)
+    pub cap_is : request.cap ≡ cap
+
+-- records that are read by the version, and the market where the pairs begin: where a file begins, the empty one of its version
+module _ {R : Type 0} (Reads : Version → R → Result Command BodyFault → Type 0) (start : Market) where
+  -- The market is sound, and what it holds more than at the start is the accepted deposits of the pairs less the accepted
+  -- withdrawals, of money and of each asset.
+  pub record HoldsDeposits (pairs : List (Pair R Outcome)) (market : Market) : Type 0 where
+    pub sound : IsSound market
+    pub money : AddTogether (Reads start.version) money_added pairs (held_money market -ℤ held_money start)
+    pub units : (asset : ℕ) → IsAsset market.balances asset
+        → AddTogether (Reads start.version) (units_added asset) pairs (held_units market asset -ℤ held_units start asset)

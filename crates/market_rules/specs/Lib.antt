@@ -1,0 +1,7 @@
+pub mod Market
+pub mod Settling
+pub mod Step
+pub mod Journal
+pub mod Promises
+pub mod Wanting
+pub mod Laws

@@ -1,0 +1,180 @@
+-- One step of the market: the first refusal of a command, or what the accepted command is answered and makes of the market.
+--     How a batch may end is a rule of its own, which is handed in: any right outcome, or the program's own one.
+use Rattle.std.specs.Prelude.{◌≡◌, ℕ, ◌+◌, ◌<◌, ◌≤◌, pos, neg_ℤ, ◌+ℤ◌, ◌≤ℤ◌, ◌<ℤ◌, [], ◌∷◌, ◌++◌, length, ◌⊎◌, Option, Some, None, Result, Ok, Err, All, Contains}
+use Rattle.weight_rows.specs.Rows.{IsLawfulRow}
+use Rattle.wire_records.specs.Commands.{Request, Command, AddAsset, OpenAccount, DepositMoney, DepositAsset, WithdrawMoney, WithdrawAsset, PlaceOrder, CancelOrder, RunBatch, PlaceUntil, SetMoneyCredit, SetUnitCredit, Answer, Plain, Batch}
+use Rattle.wire_records.specs.declared.reply.Reply.TheVariants as reply
+use Rattle.wire_records.specs.declared.reply.Refusal.{Refusal}
+use Rattle.wire_records.specs.declared.reply.Refusal.TheVariants.{AssetLimit, TickerTaken, BadTicker, AccountLimit, NoAccount, NoAsset, ZeroAmount, TotalLimit, NotFree, BadLimits, BadRate, BadCap, BadRow, OrderLimit, NoOrder, BadBudget, BatchLimit, BadLast, CreditInUse, CreditLimit}
+use Rattle.wire_records.specs.declared.reply.Refusal.TheVariants as refusals
+use Rattle.wire_records.specs.declared.command.BodyFault.{BodyFault}
+use Rattle.wire_records.specs.declared.command.BodyFault.TheVariants as fault
+use Rattle.ticker_table.specs.Tickers.{IsTicker, ticker_limit}
+use Rattle.demand_curve.specs.Demand.{most_rate}
+use Rattle.flow_accounts.specs.Balances.{IsAccount, IsAsset, account_count, total_units_of, grains, with_asset, add_asset, open_account, change_money, change_units, set_money_credit, set_unit_credit}
+use Rattle.flow_accounts.specs.Lawful.{most_accounts, most_credit, money_limit, unit_limit}
+use Rattle.flow_orders.specs.Orders.{Order, most_orders, most_cap, AreLimits, IsFrom1To, price_of_ticks, money_need, unit_need}
+use Rattle.flow_orders.specs.Outcomes.{Outcome, BatchRule, Cleared, Skipped, trades_of, most_budget}
+use Rattle.flow_orders.specs.Trades.{staying, going_on}
+use Rattle.order_book.specs.Book.{HasOrder, without}
+use Rattle.market_rules.specs.Market.{Market, most_batches, start_prices, free_money, free_units, usable_money, usable_units}
+use Rattle.fill_caps.specs.Settlement.{settled_balances, settled_exchange}
+
+-- ---- refusals
+
+infixr 1 ◌when◌else◌ ◌unless◌else◌
+-- this refusal is the first where its condition holds, and otherwise the others decide
+abbrev pub ◌when◌else◌ : Refusal → Type 0 → (Option Refusal → Type 0) → Option Refusal → Type 0
+◌when◌else◌ refusal condition others first = (condition × (first ≡ Some refusal)) ⊎ ((¬ condition) × others first)
+
+-- the same where its condition doesn't hold
+abbrev pub ◌unless◌else◌ : Refusal → Type 0 → (Option Refusal → Type 0) → Option Refusal → Type 0
+◌unless◌else◌ refusal condition others first = ((¬ condition) × (first ≡ Some refusal)) ⊎ (condition × others first)
+
+-- no refusal is left
+abbrev pub accept : Option Refusal → Type 0
+accept first = first ≡ None
+
+-- the order that is placed on a request, with its last batch, or 0 where it has none
+abbrev pub placed : Market → ℕ → Request → Order
+placed market last r = record {
+  number = market.next_order;
+  account = r.account;
+  low = price_of_ticks r.low;
+  high = price_of_ticks r.high;
+  rate = r.rate;
+  cap = r.cap;
+  filled = 0;
+  row = r.row;
+  last = last;
+}
+
+-- what an order needs is free in its account, its credit included
+pub record IsAffordable (market : Market) (o : Order) : Type 0 where
+  pub money : pos (money_need o) ≤ℤ usable_money market o.account
+  pub units : (asset : ℕ) → IsAsset market.balances asset → pos (unit_need asset o) ≤ℤ usable_units market o.account asset
+
+-- the refusals that an order meets once its numbers are as they should be: for its row, for a full book, or for what it needs
+abbrev pub RefusesRow : Market → Order → Option Refusal → Type 0
+RefusesRow m o =
+    BadRow unless IsLawfulRow o.row else
+    NoAsset unless All (λ e. IsAsset m.balances e.asset) o.row else
+    OrderLimit when most_orders ≤ length m.orders else
+    NotFree unless IsAffordable m o else accept
+
+-- the first refusal of a command whose condition holds, if any does
+abbrev pub FirstRefusal : Market → Command → Option Refusal → Type 0
+FirstRefusal m (AddAsset ticker) =
+    BadTicker unless IsTicker ticker else
+    TickerTaken when Contains m.tickers ticker else
+    AssetLimit when ticker_limit ≤ length m.tickers else accept
+FirstRefusal m OpenAccount =
+    AccountLimit when most_accounts ≤ account_count m.balances else accept
+FirstRefusal m (DepositMoney account ticks) =
+    NoAccount unless IsAccount m.balances account else
+    ZeroAmount when ticks ≡ 0 else
+    TotalLimit when money_limit <ℤ (m.balances.total_money +ℤ grains ticks) else accept
+FirstRefusal m (DepositAsset account asset units) =
+    NoAccount unless IsAccount m.balances account else
+    NoAsset unless IsAsset m.balances asset else
+    ZeroAmount when units ≡ 0 else
+    TotalLimit when unit_limit <ℤ (total_units_of m.balances asset +ℤ pos units) else accept
+FirstRefusal m (WithdrawMoney account ticks) =
+    NoAccount unless IsAccount m.balances account else
+    ZeroAmount when ticks ≡ 0 else
+    NotFree when free_money m account <ℤ grains ticks else accept
+FirstRefusal m (WithdrawAsset account asset units) =
+    NoAccount unless IsAccount m.balances account else
+    NoAsset unless IsAsset m.balances asset else
+    ZeroAmount when units ≡ 0 else
+    NotFree when free_units m account asset <ℤ pos units else accept
+FirstRefusal m (PlaceOrder r) =
+    NoAccount unless IsAccount m.balances r.account else
+    BadLimits unless AreLimits r.low r.high else
+    BadRate unless IsFrom1To most_rate r.rate else
+    BadCap unless IsFrom1To most_cap r.cap else RefusesRow m (placed m 0 r)
+FirstRefusal m (PlaceUntil last r) =
+    NoAccount unless IsAccount m.balances r.account else
+    BadLimits unless AreLimits r.low r.high else
+    BadRate unless IsFrom1To most_rate r.rate else
+    BadCap unless IsFrom1To most_cap r.cap else
+    BadLast when last ≤ m.batches else RefusesRow m (placed m last r)
+FirstRefusal m (CancelOrder account number) =
+    NoAccount unless IsAccount m.balances account else
+    NoOrder unless HasOrder m.orders account number else accept
+FirstRefusal m (RunBatch budget) =
+    BadBudget unless IsFrom1To most_budget budget else
+    BatchLimit when most_batches ≤ m.batches else accept
+FirstRefusal m (SetMoneyCredit account ticks) =
+    NoAccount unless IsAccount m.balances account else
+    CreditLimit when most_credit < ticks else
+    CreditInUse when (free_money m account +ℤ grains ticks) <ℤ pos 0 else accept
+FirstRefusal m (SetUnitCredit account asset units) =
+    NoAccount unless IsAccount m.balances account else
+    NoAsset unless IsAsset m.balances asset else
+    CreditLimit when most_credit < units else
+    CreditInUse when (free_units m account asset +ℤ pos units) <ℤ pos 0 else accept
+
+-- ---- accepted commands
+
+-- the market after a batch: a cleared one is settled at its prices; and either way the orders leave whose last batch it was, and
+-- the batch is counted
+abbrev pub after_batch : Market → Outcome → Market
+after_batch m (Cleared c) = record m {
+  balances = settled_balances c.prices (trades_of m.orders c.fills) m.balances;
+  exchange = settled_exchange c.prices (trades_of m.orders c.fills) m.balances m.exchange;
+  orders = going_on (m.batches + 1) (staying (trades_of m.orders c.fills));
+  batches = m.batches + 1;
+  last_prices = c.prices;
+}
+after_batch m (Skipped s) = record m { orders = going_on (m.batches + 1) m.orders; batches = m.batches + 1 }
+
+-- this is answered, and this market is made
+abbrev pub gives : Answer Outcome → Market → Answer Outcome → Market → Type 0
+gives given made answer new = (answer ≡ given) × (new ≡ made)
+
+-- a batch is held: it ends by the rule, its outcome is answered, and the market is the one after it
+abbrev pub holds_batch : BatchRule → Market → ℕ → Answer Outcome → Market → Type 0
+holds_batch Rule m budget answer new =
+    (outcome : Outcome) × Rule m.orders (start_prices m) budget outcome × gives (Batch (m.batches + 1) outcome) (after_batch m outcome) answer new
+
+-- what an accepted command is answered, and the market after it
+abbrev pub Accepts : BatchRule → Market → Command → Answer Outcome → Market → Type 0
+Accepts Rule m (AddAsset ticker) = gives (Plain (reply.Asset (length m.tickers))) (record m {
+  tickers = m.tickers ++ ticker ∷ [];
+  balances = add_asset m.balances;
+  exchange = with_asset m.exchange;
+  last_prices = m.last_prices ++ pos 0 ∷ [];
+})
+Accepts Rule m OpenAccount = gives (Plain (reply.Account (account_count m.balances + 1))) (record m { balances = open_account m.balances })
+Accepts Rule m (DepositMoney account ticks) = gives (Plain reply.Done) (record m { balances = change_money m.balances account (grains ticks) })
+Accepts Rule m (DepositAsset account asset units) = gives (Plain reply.Done) (record m { balances = change_units m.balances account asset (pos units) })
+Accepts Rule m (WithdrawMoney account ticks) = gives (Plain reply.Done) (record m { balances = change_money m.balances account (neg_ℤ (grains ticks)) })
+Accepts Rule m (WithdrawAsset account asset units) = gives (Plain reply.Done) (record m { balances = change_units m.balances account asset (neg_ℤ (pos units)) })
+Accepts Rule m (PlaceOrder r) = gives (Plain (reply.Order m.next_order)) (record m { orders = m.orders ++ placed m 0 r ∷ []; next_order = m.next_order + 1 })
+Accepts Rule m (PlaceUntil last r) = gives (Plain (reply.Order m.next_order)) (record m { orders = m.orders ++ placed m last r ∷ []; next_order = m.next_order + 1 })
+Accepts Rule m (CancelOrder account number) = gives (Plain reply.Done) (record m { orders = without m.orders number })
+Accepts Rule m (RunBatch budget) = holds_batch Rule m budget
+Accepts Rule m (SetMoneyCredit account ticks) = gives (Plain reply.Done) (record m { balances = set_money_credit m.balances account ticks })
+Accepts Rule m (SetUnitCredit account asset units) = gives (Plain reply.Done) (record m { balances = set_unit_credit m.balances account asset units })
+
+-- the first refusal is answered and changes nothing; where there is none, the command is accepted
+abbrev pub Answers : BatchRule → Market → Command → Option Refusal → Answer Outcome → Market → Type 0
+Answers Rule m command (Some first) = gives (Plain (reply.Refused first)) m
+Answers Rule m command None = Accepts Rule m command
+
+-- a command gets its answer, and makes the new market of the old one
+pub record Serves (Rule : BatchRule) (old : Market) (command : Command) (answer : Answer Outcome) (new : Market) : Type 0 where
+  pub first : Option Refusal
+  pub refused : FirstRefusal old command first
+  pub answered : Answers Rule old command first answer new
+
+-- the refusal of a record that can't be served
+abbrev pub refusal_of : BodyFault → Refusal
+refusal_of fault.UnknownTag = refusals.UnknownTag
+refusal_of fault.BadBody = refusals.BadBody
+
+-- what a step does with what a record is read as: a command is served, and else the record is refused
+abbrev pub ServesRead : BatchRule → Market → Result Command BodyFault → Answer Outcome → Market → Type 0
+ServesRead Rule old (Ok command) = Serves Rule old command
+ServesRead Rule old (Err why) = gives (Plain (reply.Refused (refusal_of why))) old

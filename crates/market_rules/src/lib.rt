@@ -1,0 +1,9 @@
+//! What the market is and does, apart from the program that keeps one: definitions, and what holds of them.
+//!
+//! The definitions in `specs` are those that everything above cites: `Market` (what is kept, and when it is sound), `Step`
+//! (the first refusal of a command, or what it is answered and makes of the market), `Journal` (sequences of steps, totals,
+//! fills), `Promises` (what a journal promises of batches and fills), `Wanting` (where memory may be wanted), `Settling`
+//! (which outcomes a market settles). Each function of [`laws`] is a law of theirs, and does nothing when it runs.
+#![tactic(auto)]
+
+pub mod laws;
