@@ -1,4 +1,6 @@
 //! The pairs that a session answers.
+ghost use Rattle.wire_records.specs.Records.{IsRecord, most_body};
+
 use crate::MANY;
 use crate::state::put_market;
 use check_lines::{put_records, records};
@@ -7,7 +9,9 @@ use std::alloc::Global;
 use wire_records::{Framed, MOST_BODY, RecordView, next_record};
 
 // Serves a record, and appends its pair.
-fn serve(session: &mut Session, asked: &RecordView<'_>, pairs: &mut Vec<u8>) -> Option<()> {
+fn serve(session: &mut Session, asked: &RecordView<'_>, pairs: &mut Vec<u8>) -> Option<()>
+    requires { IsRecord most_body asked.now }
+{
     if session.market().next_number() >= MANY {
         return None;
     }
