@@ -7,7 +7,7 @@ use Rattle.batch_certificate.specs.declared.outcome.Outcome.{Outcome}
 use Rattle.batch_certificate.specs.declared.outcome.Outcome.TheVariants as parts
 use Rattle.batch_certificate.specs.Published.{skipping_of}
 use Rattle.batch_certificate.specs.GapBound.{gap_bound}
-use Rattle.dual_value.specs.Progress.{LowersTheDual}
+use Rattle.batch_certificate.specs.Progress.{LowersTheDual}
 
 -- no balanced rates beat those of a clearing by more than its gap, and the gap is at most what roundings can lose and residuals within their bounds can cost
 pub record IsCertifiedClearing (orders : List Order) (c : Cleared) : Type 0 where

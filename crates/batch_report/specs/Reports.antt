@@ -46,10 +46,11 @@ numbers_text order r =
     codes "order " then decimal order then codes " account " then decimal r.account then codes " low " then signed_decimal r.low
     then codes " high " then signed_decimal r.high then codes " rate " then decimal r.rate then codes " cap " then decimal r.cap
 
--- an order under its number, and one with a last batch
+-- an order under its number
 abbrev pub order_text : List (List ℕ) → ℕ → Request → List ℕ
 order_text tickers order r = numbers_text order r then flat_map (entry_text tickers) r.row
 
+-- the same of one with a last batch
 abbrev pub until_text : List (List ℕ) → ℕ → ℕ → Request → List ℕ
 until_text tickers order last r = numbers_text order r then codes " last " then decimal last then flat_map (entry_text tickers) r.row
 

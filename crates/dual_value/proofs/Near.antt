@@ -1,6 +1,6 @@
 -- The dual floor is the exact dual, rounded down order by order.
 use Rattle.flow_orders.proofs.DualWalks.{floors_enclose_dual}
-use Rattle.dual_value.specs.Progress.{DualFloorsAreNear}
+use Rattle.dual_value.specs.Near.{DualFloorsAreNear}
 
 pub dual_floors_are_near : DualFloorsAreNear
 dual_floors_are_near N orders prices each common =

@@ -24,6 +24,7 @@ quote_at prices o = record { terms = terms_of o; price = price_for prices o }
 abbrev pub no_quote : Quote
 no_quote = record { terms = record { low = pos 0; high = pos 0; rate = 0; room = 0 }; price = pos 0 }
 
+-- the order at a place
 abbrev pub quote_in : List Quote → ℕ → Quote
 quote_in quotes place = slice_index_or quotes place no_quote
 
@@ -31,6 +32,7 @@ quote_in quotes place = slice_index_or quotes place no_quote
 abbrev pub low_in : List Quote → ℤ → Cell → ℤ
 low_in quotes amount c = let q = quote_in quotes c.place in low_part c.weight q.terms (q.price +ℤ c.weight *ℤ amount)
 
+-- the same, rounded up where the weight buys and down where it sells
 abbrev pub high_in : List Quote → ℤ → Cell → ℤ
 high_in quotes amount c = let q = quote_in quotes c.place in high_part c.weight q.terms (q.price +ℤ c.weight *ℤ amount)
 

@@ -1,0 +1,13 @@
+-- How far the walk of a skipped batch came, and what its dual floors tell of it.
+use Rattle.std.specs.Prelude.{ℕ, ◌+◌, ◌*◌, ◌≤◌, ℤ, pos, ◌+ℤ◌, ◌<ℤ◌, List, length}
+use Rattle.flow_orders.specs.Orders.{Order}
+use Rattle.flow_orders.specs.Outcomes.{Skipping, end_of}
+use Rattle.flow_orders.specs.Duals.{IsCommonPart, exact_dual, movement_of}
+
+-- The walk lowers the exact dual by its movement at least, which is a grain at least for each move; so its two dual floors
+-- differ by more than its movement less the number of orders.
+pub record LowersTheDual (orders : List Order) (start : List ℤ) (s : Skipping) : Type 0 where
+  pub exact : (N : ℕ) → IsCommonPart N orders
+      → exact_dual N orders (end_of orders start s.trace) + N * movement_of orders start s.trace ≤ exact_dual N orders start
+  pub moves : length s.trace ≤ movement_of orders start s.trace
+  pub floors : (s.end_dual +ℤ pos (movement_of orders start s.trace)) <ℤ (s.start_dual +ℤ pos (length orders))
