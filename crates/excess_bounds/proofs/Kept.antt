@@ -8,7 +8,7 @@ use Rattle.std.proofs.lemmas.List.FromFn.{map-range_with_len_more, get_or-map-ra
 use Rattle.std.proofs.lemmas.List.Elements.{All-set}
 use Rattle.list_sums.specs.Sums.{int_sum_by}
 use Rattle.weight_rows.specs.Rows.{weight_in, price_of, IsPrice, portfolio_price}
-use Rattle.weight_rows.proofs.RowLawProofs.{price_follows_one_price}
+use Rattle.weight_rows.proofs.RowLawProofs.{price_follows_one_price, weights_are_small}
 use Rattle.weight_rows.proofs.RowLemmas.{price_is_bounded}
 use Rattle.demand_curve.specs.Demand.{Terms, floor_rate, ceil_rate}
 use Rattle.flow_orders.specs.Orders.{Order, terms_of}
@@ -17,8 +17,8 @@ use Rattle.flow_orders.proofs.BookSums.{own_price}
 use Rattle.excess_bounds.specs.declared.columns.Cell.{Cell}
 use Rattle.excess_bounds.specs.Workspace.{ArePriced}
 use Rattle.excess_bounds.specs.Columns.{column_of}
-use Rattle.excess_bounds.specs.Private.{Quote, quote_at, quote_in, no_quote, low_in, high_in, StaysInRange, requoted, CanRequote, IsKept}
-use Rattle.excess_bounds.proofs.ColumnSums.{cell_at, all_cells, column_sum}
+use Rattle.excess_bounds.specs.Private.{Quote, quote_at, quote_in, no_quote, low_in, high_in, StaysInRange, requoted, CanRequote, IsColumn, IsKept}
+use Rattle.excess_bounds.proofs.ColumnSums.{cell_at, is_light, all_cells, column_length, column_sum}
 use Rattle.excess_bounds.proofs.Requoting.{Follows, column_requoted}
 
 -- the column of each asset is listed at its number
@@ -36,12 +36,6 @@ pub quotes_more : (prices : List ℤ) (orders : List Order) (i : ℕ) (o : Order
 quotes_more prices orders i o q quotes next within here before is more =
     more ∙ rw (before, is) (ap (λ x. map (quote_at prices) (take i orders) ++ quote_at prices x ∷ []) here ∙ sym (map_more (quote_at prices) orders i o within))
 
--- the columns of the first n assets, and of one more
-pub columns_more : (orders : List Order) (n : ℕ) (column : List Cell) (columns next : List (List Cell)) → columns ≡ map (column_of orders) (range_with_len 0 n) → column ≡ column_of orders n
-    → next ≡ columns ++ column ∷ [] → next ≡ map (column_of orders) (range_with_len 0 (n + 1))
-columns_more orders n column columns next before is more =
-    more ∙ rw (before, is) (sym (map-range_with_len_more (column_of orders) 0 n n (omega arith)))
-
 -- what is written over a whole list
 pub written_back : {X : Type 0} (n : ℕ) (new old : List X) → length new ≡ n → length old ≡ n → take n (new ++ drop (length new) old) ≡ new
 written_back n new old is was =
@@ -54,6 +48,13 @@ none n = omega arith
 module _ (orders : List Order) (prices : List ℤ) (quotes : List Quote) (columns : List (List Cell)) (kept : IsKept orders prices quotes columns) (asset : ℕ) (there : asset < length prices) where
   quote_is : (k : ℕ) (o : Order) → k < length orders → quote_in quotes k ≡ quote_at prices (get_or orders k o)
   quote_is k o inside = ap (λ qs. quote_in qs k) kept.quoted ∙ get_or-map (quote_at prices) orders k o no_quote inside
+
+  -- no column is too long, and no weight in it too large
+  pub is_column : IsColumn (column_of orders asset)
+  is_column = record {
+    few = omega (arith, column_length asset 0 orders, kept.priced.few);
+    light = all_cells asset is_light 0 orders (λ k o inside. weights_are_small (get_or orders k o).row asset (kept.priced.each k o inside).row);
+  }
 
   -- the orders of the column are there
   pub are_there : All (λ c. c.place < length quotes) (column_of orders asset)

@@ -1,6 +1,7 @@
 pub mod Sums
 pub mod ColumnSums
 pub mod ColumnLaws
+pub mod Listing
 pub mod Requoting
 pub mod Kept
 pub mod StepFacts

@@ -1,8 +1,9 @@
 -- What private functions keep of each order and of each column.
-use Rattle.std.specs.Prelude.{◌≡◌, ℕ, ◌*◌, ◌^◌, ◌<◌, ◌≤◌, ℤ, pos, ◌+ℤ◌, ◌*ℤ◌, unsigned_abs, List, [], ◌∷◌, length, map, slice_index_or, slice_set, All}
+use Rattle.std.specs.Prelude.{◌≡◌, ℕ, ◌*◌, ◌^◌, ◌<◌, ◌≤◌, ℤ, pos, ◌+ℤ◌, ◌*ℤ◌, unsigned_abs, List, [], ◌∷◌, ◌++◌, length, map, slice_index_or, slice_set, All}
 use Rattle.std.specs.List.{range_with_len, sum_by}
 use Rattle.std.specs.Int.{div_ceil}
 use Rattle.list_sums.specs.Sums.{int_sum_by}
+use Rattle.weight_rows.specs.declared.entries.Entry.{Entry}
 use Rattle.weight_rows.specs.Rows.{most_weight}
 use Rattle.demand_curve.specs.Demand.{Terms, floor_rate, ceil_rate}
 use Rattle.flow_orders.specs.Orders.{Order, most_orders, terms_of}
@@ -60,6 +61,12 @@ pub record IsColumn (cells : List Cell) : Type 0 where
   pub few : length cells ≤ most_orders
   pub light : All (λ c. unsigned_abs c.weight ≤ most_weight) cells
 
+-- the columns with a cell more for each entry of a row, whose order stands at a place
+abbrev pub listed : ℕ → List Entry → List (List Cell) → List (List Cell)
+listed place [] columns = columns
+listed place (e ∷ row) columns =
+    listed place row (slice_set columns e.asset (slice_index_or columns e.asset [] ++ record { place = place; weight = e.weight } ∷ []))
+
 -- the sum of the absolute weights of a column
 abbrev pub spread_in : List Cell → ℕ
 spread_in cells = sum_by (λ c. unsigned_abs c.weight) cells
@@ -67,6 +74,14 @@ spread_in cells = sum_by (λ c. unsigned_abs c.weight) cells
 -- the sum of the squares of its weights, divided by 256 and rounded up
 unfoldable pub steepness_in : List Cell → ℕ
 steepness_in cells = div_ceil (sum_by (λ c. unsigned_abs c.weight * unsigned_abs c.weight) cells) 256
+
+-- the sums that are kept of a column; it isn't too long for them
+pub record IsSummed (cells : List Cell) (spread squares : ℕ) : Type 0 where
+  pub short : length cells ≤ 2 ^ 20
+  pub spread_is : spread ≡ spread_in cells
+  pub squares_is : squares ≡ sum_by (λ c. unsigned_abs c.weight * unsigned_abs c.weight) cells
+  pub spread_most : spread ≤ length cells * 2 ^ 12
+  pub squares_most : squares ≤ length cells * 2 ^ 24
 
 -- each order is kept at the prices, and a column for each asset
 pub record IsKept (orders : List Order) (prices : List ℤ) (quotes : List Quote) (columns : List (List Cell)) : Type 0 where

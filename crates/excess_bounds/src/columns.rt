@@ -1,10 +1,10 @@
 //! For each asset, the orders that name it.
-ghost use Rattle.std.specs.Prelude.{◌≡◌, [], ◌∷◌, ◌*◌, ◌^◌, ◌<◌, ◌≤◌, ◌≤ℤ◌, pos, length, unsigned_abs, IfOk, IfSome, option_to_list};
-ghost use Rattle.std.specs.List.{sum_by};
-ghost use Rattle.weight_rows.specs.Rows.{most_weight};
-ghost use Rattle.flow_orders.specs.Orders.{most_orders};
-ghost use Rattle.excess_bounds.specs.Columns.{column_from, column_of};
-ghost use Rattle.excess_bounds.specs.Private.{IsColumn, spread_in, steepness_in};
+ghost use Rattle.std.specs.Prelude.{◌≡◌, [], ◌∷◌, ◌++◌, ◌*◌, ◌^◌, ◌<◌, ◌≤◌, ◌≤ℤ◌, pos, length, map, unsigned_abs, All, IfOk, OnOk};
+ghost use Rattle.std.specs.List.{range_with_len};
+ghost use Rattle.weight_rows.specs.Rows.{most_weight, IsPricedBy};
+ghost use Rattle.flow_orders.specs.Orders.{IsOrder, most_orders};
+ghost use Rattle.excess_bounds.specs.Columns.{column_of};
+ghost use Rattle.excess_bounds.specs.Private.{listed, spread_in, steepness_in};
 ghost use Rattle.excess_bounds.specs.Steps.{turned};
 
 use flow_orders::Order;
@@ -38,134 +38,119 @@ impl Cell {
     }
 }
 
-// The cells of one asset, with their spread and steepness.
+// The cells of one asset, with the sums of their absolute weights and of the squares of these.
 #[derive(Drop)]
 pub(crate) struct Column {
     cells: Vec<Cell>,
-    spread: i64,
-    steepness: i64,
+    spread: u64,
+    squares: u64,
 }
 
 impl Model for Column {
-    ghost use Rattle.std.specs.Prelude.{◌≡◌, ◌^◌, ◌≤ℤ◌, pos, List};
+    ghost use Rattle.std.specs.Prelude.{List};
     ghost use Rattle.excess_bounds.specs.declared.columns.Cell.{Cell};
 
     ghost Value = { List Cell };
 
-    ghost use Rattle.excess_bounds.specs.Private.{IsColumn, spread_in, steepness_in};
+    ghost use Rattle.excess_bounds.specs.Private.{IsSummed};
 
     ghost view = { λ c. c.cells.items };
 
-    ghost invariant = { λ c. IsColumn c.cells.items
-        × (c.spread ≡ pos (spread_in c.cells.items))
-        × (c.steepness ≡ pos (steepness_in c.cells.items))
-        × (c.spread ≤ℤ pos (2 ^ 26))
-        × (c.steepness ≤ℤ pos (2 ^ 30)) };
+    ghost invariant = { λ c. IsSummed c.cells.items c.spread c.squares };
 }
 
 impl Column {
-    // The column of an asset. It costs one pass over the entries of all orders.
-    pub(crate) fn of(alloc: Global, orders: &[Order], asset: u16) -> Result<Column, AllocError>
-        requires { length orders.now ≤ most_orders }
-        ensures { IfOk result (λ column. column ≡ column_of orders.now asset) }
+    // A column of no order.
+    fn new(alloc: Global) -> Column
+        ensures { result ≡ [] }
     {
-        let cells = cells_of(alloc, orders, asset)?;
-        let spread = spread_of(cells.as_slice());
-        let steepness = steepness_of(cells.as_slice());
-        Ok(Column {
-            cells,
-            spread,
-            steepness,
-        })
+        Column {
+            cells: Vec::new(alloc),
+            spread: 0,
+            squares: 0,
+        }
+    }
+
+    // Adds a cell behind the others.
+    fn add(&mut self, cell: Cell) -> Result<(), AllocError>
+        requires room { length self.old < 2 ^ 20 }
+        requires light { unsigned_abs cell.weight ≤ most_weight }
+        ensures { OnOk result (self.new ≡ self.old ++ cell ∷ []) }
+    {
+        let size = size(cell);
+        self.cells.push(cell)?;
+        self.spread += size;
+        self.squares += size * size;
+        Ok(())
     }
 
     pub(crate) fn cells(&self) -> &[Cell]
         ensures value { result.now ≡ self.now }
-        ensures column { IsColumn self.now }
     {
         self.cells.as_slice()
     }
 
+    // The sum of the absolute weights.
     pub(crate) fn spread(&self) -> i64
         ensures value { result ≡ pos (spread_in self.now) }
-        ensures most { result ≤ℤ pos (2 ^ 26) }
+        ensures most { result ≤ℤ pos (length self.now * 2 ^ 12) }
     {
-        self.spread
+        self.spread as i64
     }
 
+    // The sum of their squares, divided by 256 and rounded up.
+    #[tactic(auto, unfolding(crate::specs::Private::steepness_in))]
     pub(crate) fn steepness(&self) -> i64
         ensures value { result ≡ pos (steepness_in self.now) }
-        ensures most { result ≤ℤ pos (2 ^ 30) }
+        ensures most { result ≤ℤ pos (length self.now * 2 ^ 16) }
     {
-        self.steepness
+        self.squares.div_ceil(256) as i64
     }
 }
 
-// The cells of the orders that name an asset.
-fn cells_of(alloc: Global, orders: &[Order], asset: u16) -> Result<Vec<Cell>, AllocError>
-    requires { length orders.now ≤ most_orders }
-    ensures cells { IfOk result (λ cells. cells.items ≡ column_of orders.now asset) }
-    ensures column { IfOk result (λ cells. IsColumn cells.items) }
+// The column of each asset. It costs one pass over the entries of all orders.
+pub(crate) fn columns_of(
+    alloc: Global,
+    orders: &[Order],
+    prices: &[i64],
+) -> Result<Vec<Column>, AllocError>
+    requires few { length orders.now ≤ most_orders }
+    requires priced { All (λ o. IsPricedBy o.row prices.now) orders.now }
+    ensures { IfOk result (λ columns. columns.items ≡ map (column_of orders.now) (range_with_len 0 (length prices.now))) }
 {
-    let mut cells = Vec::new(alloc);
+    let mut columns = no_cells(alloc, prices.len())?;
     for (place, order) in orders.iter().enumerate() {
-        match cell_of(order, place, asset) {
-            Some(cell) => cells.push(cell)?,
-            None => {}
-        }
+        list(&mut columns, order, place as u32)?;
     }
-    Ok(cells)
+    Ok(columns)
 }
 
-// The cell of an order at a place, where it names the asset.
-fn cell_of(order: &Order, place: usize, asset: u16) -> Option<Cell>
-    requires { place < most_orders }
-    ensures cell { option_to_list result ≡ column_from place (order.now ∷ []) asset }
-    ensures light { IfSome result (λ cell. unsigned_abs cell.weight ≤ most_weight) }
+// So many columns without cells.
+fn no_cells(alloc: Global, count: usize) -> Result<Vec<Column>, AllocError>
+    ensures { IfOk result (λ columns. columns.items ≡ map (column_of []) (range_with_len 0 count)) }
 {
-    let weight = order.row().weight_of(asset);
-    if weight == 0 {
-        return None;
+    let mut columns = Vec::with_capacity(alloc, count)?;
+    for _asset in 0..count {
+        columns.push(Column::new(alloc))?;
     }
-    Some(Cell {
-        place: place as u32,
-        weight: weight as i32,
-    })
+    Ok(columns)
 }
 
-fn spread_of(cells: &[Cell]) -> i64
-    requires { IsColumn cells.now }
-    ensures value { result ≡ pos (spread_in cells.now) }
-    ensures most { result ≤ℤ pos (2 ^ 26) }
+// Adds an order at a place to the column of each asset that it names.
+fn list(columns: &mut [Column], order: &Order, place: u32) -> Result<(), AllocError>
+    requires place { place < most_orders }
+    requires there { All (λ e. e.asset < length columns.old) order.now.row }
+    requires room { All (λ c. length c ≤ place) columns.old }
+    ensures columns { OnOk result (columns.new ≡ listed place order.now.row columns.old) }
+    ensures order { IsOrder order.now }
 {
-    let mut sum = 0;
-    for cell in cells {
-        sum += size(*cell);
+    for entry in order.row().entries() {
+        columns[usize::from(entry.asset)].add(Cell {
+            place,
+            weight: entry.weight,
+        })?;
     }
-    sum as i64
-}
-
-#[tactic(auto, unfolding(crate::specs::Private::steepness_in))]
-fn steepness_of(cells: &[Cell]) -> i64
-    requires { IsColumn cells.now }
-    ensures value { result ≡ pos (steepness_in cells.now) }
-    ensures most { result ≤ℤ pos (2 ^ 30) }
-{
-    squares_of(cells).div_ceil(256) as i64
-}
-
-// The sum of the squares of the weights.
-fn squares_of(cells: &[Cell]) -> u64
-    requires { IsColumn cells.now }
-    ensures value { result ≡ sum_by (λ c. unsigned_abs c.weight * unsigned_abs c.weight) cells.now }
-    ensures most { result ≤ 2 ^ 38 }
-{
-    let mut sum = 0;
-    for cell in cells {
-        let size = size(*cell);
-        sum += size * size;
-    }
-    sum
+    Ok(())
 }
 
 // The absolute weight of a cell.

@@ -10,7 +10,7 @@
 //! For each asset there is a column of the orders that name it, a [`Cell`] each, and for each order its curve, the price
 //! of its portfolio and its demand at the prices. [`Workspace::new`] takes memory for all of them: 8 bytes for each
 //! price, up to 16 for each entry of an order, and 144 for each order, of which 80 are to narrow a move down. It goes once
-//! over the entries of all orders for each asset. No other call takes memory.
+//! over the entries of all orders. No other call takes memory.
 //!
 //! The excess at the prices costs one pass over the asset's column, without a division. The excess at another price of
 //! the asset costs such a pass, and for each order of the column a multiplication and at most one division. To set a price

@@ -10,7 +10,7 @@ ghost use Rattle.excess_bounds.specs.Brackets.{IsBracket};
 ghost use Rattle.excess_bounds.specs.Columns.{column_of};
 ghost use Rattle.excess_bounds.specs.Private.{IsColumn};
 
-use crate::columns::{Cell, Column};
+use crate::columns::{Cell, Column, columns_of};
 use crate::narrowing::{Bracket, narrow};
 use crate::parts::{Excess, excess_after, excess_of};
 use crate::slots::{Slot, requote, slots_of};
@@ -62,7 +62,7 @@ impl<'a> Workspace<'a> {
     ghost use Rattle.excess_bounds.specs.Workspace.{ArePriced};
 
     /// The state at the start of a search: the prices, in grains by the assets' numbers, are copied. It costs one pass over
-    /// the entries of all orders, and one for each asset. `Memory` comes only where there is none for prices, orders or
+    /// the entries of all orders. `Memory` comes only where there is none for prices, orders or
     /// columns.
     pub fn new(alloc: Global, orders: &'a [Order], prices: &[i64]) -> Result<Workspace<'a>, Memory>
         requires few { length orders.now ≤ most_orders }
@@ -73,7 +73,7 @@ impl<'a> Workspace<'a> {
         ensures prices { IfOk result (λ w. w.prices ≡ prices.now) }
     {
         let slots = slots_of(alloc, orders, prices)?;
-        let columns = columns_of(alloc, orders, prices.len() as u16)?;
+        let columns = columns_of(alloc, orders, prices)?;
         let prices = Vec::from_slice(alloc, prices)?;
         let steps = Vec::with_capacity(alloc, orders.len())?;
         Ok(Workspace {
@@ -245,18 +245,6 @@ impl<'a> Workspace<'a> {
         );
         self.prices[usize::from(asset)] = price;
     }
-}
-
-// The column of each asset, of which there are so many.
-fn columns_of(alloc: Global, orders: &[Order], count: u16) -> Result<Vec<Column>, AllocError>
-    requires { length orders.now ≤ most_orders }
-    ensures { IfOk result (λ columns. columns.items ≡ map (column_of orders.now) (range_with_len 0 count)) }
-{
-    let mut columns = Vec::with_capacity(alloc, usize::from(count))?;
-    for asset in 0..count {
-        columns.push(Column::of(alloc, orders, asset)?)?;
-    }
-    Ok(columns)
 }
 
 // Whether the low bound is at most the steepness, and the high one at least minus that.

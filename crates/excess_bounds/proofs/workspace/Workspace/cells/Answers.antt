@@ -1,6 +1,5 @@
 use Rattle.std.proofs.Common.{◌≡◌, length, pos, ap, sym, subst, ◌∙◌, arith}
-use Rattle.excess_bounds.specs.Private.{IsColumn}
-use Rattle.excess_bounds.proofs.Kept.{columns_count, column_at}
+use Rattle.excess_bounds.proofs.Kept.{columns_count, column_at, is_column}
 use Rattle.excess_bounds.proofs.workspace.Workspace.cells.Goals as goal
 
 pub index-requires : goal.index-requires
@@ -16,5 +15,5 @@ returns c =
     let at = rw c.from.ensures at c.index.ensures in
     record {
       value = rw (← c.self.view_is) (c.cells.ensures.value ∙ at ∙ column);
-      column = subst IsColumn (sym c.cells.ensures.value) c.cells.ensures.column;
+      column = rw (c.cells.ensures.value, at, column) (is_column _ _ _ _ c.self.invariant.0 c.args.asset there);
     }

@@ -1,8 +1,8 @@
 use Rattle.std.proofs.Common.{◌≡◌, length, w64, ap, sym, subst, ◌∙◌, arith, pos}
 use Rattle.std.proofs.lemmas.Int.{to_z-of_z}
-use Rattle.excess_bounds.specs.Private.{IsColumn, steepness_in}
+use Rattle.excess_bounds.specs.Private.{steepness_in}
 use Rattle.excess_bounds.proofs.ColumnSums.{column_length, steepness_is}
-use Rattle.excess_bounds.proofs.Kept.{columns_count, column_at, are_there}
+use Rattle.excess_bounds.proofs.Kept.{columns_count, column_at, is_column, are_there}
 use Rattle.excess_bounds.proofs.StepFacts.{same_bracket}
 use Rattle.excess_bounds.proofs.Moves.{can_rise, asked_risen}
 use Rattle.excess_bounds.proofs.workspace.Workspace.narrow_rise.Goals as goal
@@ -20,7 +20,7 @@ narrow-requires c =
     let room = rw (← c.self.view_is) at c.requires.room in
     let cells = c.cells.ensures.value ∙ rw c.from.ensures at c.index-column.ensures ∙ column_at _ _ _ _ c.args.asset c.index-column.result.now kept there in
     record {
-      column = subst IsColumn (sym c.cells.ensures.value) c.cells.ensures.column;
+      column = rw cells (is_column _ _ _ _ kept c.args.asset there);
       there = rw (c.deref.ensures.value, cells) (are_there _ _ _ _ kept c.args.asset there);
       moves = rw (c.deref.ensures.value, cells) (can_rise _ _ _ _ kept c.args.asset there c.args.reach room);
       room = rw cells (omega (arith, column_length c.args.asset 0 c.self.inside.orders.now, c.self.invariant.1));

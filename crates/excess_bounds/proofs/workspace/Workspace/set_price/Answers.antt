@@ -1,7 +1,7 @@
 use Rattle.std.proofs.Common.{◌≡◌, ◌++◌, length, take, drop, w64, ap, sym, ◌∙◌, arith}
 use mir.Syntax.{w128}
 use Rattle.std.proofs.lemmas.Int.{to_z-of_z}
-use Rattle.excess_bounds.proofs.Kept.{columns_count, column_at, can_requote, stays_kept, written_back}
+use Rattle.excess_bounds.proofs.Kept.{columns_count, column_at, is_column, can_requote, stays_kept, written_back}
 use Rattle.excess_bounds.proofs.workspace.Workspace.set_price.Goals as goal
 
 pub index-requires : goal.index-requires
@@ -9,6 +9,13 @@ index-requires c =
     let count : length c.self.inside.columns.items ≡ length c.self.inside.prices.items = columns_count _ _ _ _ c.self.invariant.0 in
     let there = rw (← c.self.view_is) at c.requires.asset in
     omega (arith, count, there, c.from.ensures)
+
+pub requote-requires-clause-light : goal.requote-requires-clause-light
+requote-requires-clause-light c =
+    let there = rw (← c.self.view_is) at c.requires.asset in
+    let column = column_at _ _ _ _ c.args.asset c.index.result.now c.self.invariant.0 there in
+    let at = rw c.from.ensures at c.index.ensures in
+    rw (c.cells.ensures.value ∙ at ∙ column) (is_column _ _ _ _ c.self.invariant.0 c.args.asset there).light
 
 pub requote-requires-clause-can : goal.requote-requires-clause-can
 requote-requires-clause-can c =
