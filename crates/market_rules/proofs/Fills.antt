@@ -302,7 +302,7 @@ module _ {R : Type 0} (Reads : Version → R → Result Command BodyFault → Ty
       let none = here.none (omega (arith, here.later, rest.1, above)) in
       (omega (arith, fills-cons number pair pairs, none, rest.0), omega (arith, here.later, rest.1))
 
-  -- (e) from a sound market on, the fills listed under a placed order's number don't pass its cap
+  -- from a sound market on, the fills listed under a placed order's number don't pass its cap
   pub fills_within_cap : (old : Market) (before after : List (Pair R Outcome)) (pair : Pair R Outcome) (m : Market) (number cap : ℕ) → IsSound old → Follows Reads IsRightOutcome old (before ++ pair ∷ after) m → Places (Reads old.version) number cap pair → fills_of number (before ++ pair ∷ after) ≤ cap
   fills_within_cap old before after pair m number cap start follows places =
       let parts = follows-parts Reads one_reading IsRightOutcome old m before (pair ∷ after) follows in
@@ -324,7 +324,7 @@ module _ {R : Type 0} (Reads : Version → R → Result Command BodyFault → Ty
       let all = sum_by-append (λ (p : Pair R Outcome). filled_by number p.answer) before (pair ∷ after) in
       omega (arith, all, none, fills-cons number pair after, here, rest, places.cap_is)
 
-  -- (e) and a live order's fills with those listed from now on don't pass its cap
+  -- and a live order's fills with those listed from now on don't pass its cap
   pub live_fills_within_cap : (old : Market) (pairs : List (Pair R Outcome)) (m : Market) (o : Order) → IsSound old → Contains old.orders o → Follows Reads IsRightOutcome old pairs m → o.filled + fills_of o.number pairs ≤ o.cap
   live_fills_within_cap old pairs m o sound live follows =
       let k = live.0 in

@@ -6,7 +6,7 @@ use Rattle.std.proofs.lemmas.Bool.{cases_lt}
 use Rattle.std.proofs.lemmas.Bool.Decides.{eqb_tells}
 use Rattle.std.proofs.lemmas.List.{get_or_past}
 use Rattle.list_sums.proofs.SumLemmas.{int_sum_by-zeros}
-use Rattle.flow_accounts.specs.Balances.{Account, IsAccount, IsAsset, asset_count, units_in, total_units_of, change_units}
+use Rattle.flow_accounts.specs.Balances.{Account, IsAccount, IsAsset, asset_count, grains, units_in, total_units_of, change_units}
 use Rattle.flow_accounts.proofs.Moves.{units_change, assets_start_at_zero}
 use Rattle.flow_orders.specs.Orders.{Order}
 use Rattle.flow_orders.specs.Outcomes.{Outcome, Cleared, Skipped, IsRightOutcome}
@@ -47,6 +47,10 @@ held_is_total m sound asset =
 same : (x y z : ℤ) → y ≡ x → z ≡ pos 0 → y ≡ x +ℤ z
 same x y z e none = omega (arith, ints, e, none)
 
+-- a total that one part alone was added to
+one_part : (x z : ℤ) → (x +ℤ z) ≡ x +ℤ (z +ℤ pos 0)
+one_part x z = omega (arith, ints)
+
 batch_money : (m : Market) (o : Outcome) → money_total (after_batch m o) ≡ money_total m
 batch_money m (Cleared c) = refl
 batch_money m (Skipped s) = refl
@@ -60,9 +64,9 @@ module _ (Rule : List Order → List ℤ → ℕ → Outcome → Type 0) where
   accepted_money : (m : Market) (c : Command) (a : Answer Outcome) (n : Market) → Accepts Rule m c a n → money_total n ≡ money_total m +ℤ added_by money_added c a
   accepted_money m (AddAsset ticker) a n accepts = rw (accepts.0, accepts.1) (same _ _ _ refl refl)
   accepted_money m OpenAccount a n accepts = rw (accepts.0, accepts.1) (same _ _ _ refl refl)
-  accepted_money m (DepositMoney account ticks) a n accepts = rw (accepts.0, accepts.1) refl
+  accepted_money m (DepositMoney account ticks) a n accepts = rw (accepts.0, accepts.1) (one_part (money_total m) (grains ticks))
   accepted_money m (DepositAsset account asset units) a n accepts = rw (accepts.0, accepts.1) (same _ _ _ refl refl)
-  accepted_money m (WithdrawMoney account ticks) a n accepts = rw (accepts.0, accepts.1) refl
+  accepted_money m (WithdrawMoney account ticks) a n accepts = rw (accepts.0, accepts.1) (one_part (money_total m) (neg_ℤ (grains ticks)))
   accepted_money m (WithdrawAsset account asset units) a n accepts = rw (accepts.0, accepts.1) (same _ _ _ refl refl)
   accepted_money m (PlaceOrder r) a n accepts = rw (accepts.0, accepts.1) (same _ _ _ refl refl)
   accepted_money m (CancelOrder account number) a n accepts = rw (accepts.0, accepts.1) (same _ _ _ refl refl)
@@ -73,11 +77,11 @@ module _ (Rule : List Order → List ℤ → ℕ → Outcome → Type 0) where
 
   -- a change of units changes one total
   changed_units : (m : Market) (asset account named : ℕ) (amount : ℤ) → IsSound m → IsAccount m.balances account → IsAsset m.balances named
-      → total_units_of (change_units m.balances account named amount) asset ≡ units_total asset m +ℤ cond (eqb named asset) amount (pos 0)
+      → total_units_of (change_units m.balances account named amount) asset ≡ units_total asset m +ℤ (cond (eqb named asset) amount (pos 0) +ℤ pos 0)
   changed_units m asset account named amount sound there is_asset =
       let totals = (units_change m.balances account named amount (sound_is_lawful m sound) there is_asset).1 in
       ⊎_elim
-      (λ is. rw (is.0, ← is.1) totals.total)
+      (λ is. rw (is.0, ← is.1) (totals.total ∙ one_part (units_total named m) amount))
       (λ other. rw other.0 (omega (arith, ints, totals.others asset (λ e. other.1 (sym e)))))
       (eqb_tells named asset)
 
@@ -135,7 +139,7 @@ module _ {R : Type 0} (Reads : Version → R → Result Command BodyFault → Ty
   change_of : (h k t u c : ℤ) → h ≡ t → k ≡ u → u ≡ t +ℤ c → k ≡ h +ℤ c
   change_of h k t u c before after change = omega (arith, ints, before, after, change)
 
-  -- (e) from a sound market on the money held changes by the accepted deposits less the accepted withdrawals
+  -- from a sound market on the money held changes by the accepted deposits less the accepted withdrawals
   pub held_money_changes : (old : Market) (pairs : List (Pair R Outcome)) (new : Market) → IsSound old → Follows Reads IsRightOutcome old pairs new
       → (added : ℤ) × AddTogether (Reads old.version) money_added pairs added × (held_money new ≡ held_money old +ℤ added)
   held_money_changes old pairs new sound follows =
@@ -143,7 +147,7 @@ module _ {R : Type 0} (Reads : Version → R → Result Command BodyFault → Ty
       let after = sound_follows Reads own old pairs new sound follows in
       (all.0, all.1, change_of (held_money old) (held_money new) (money_total old) (money_total new) all.0 sound.totals.money after.totals.money all.2)
 
-  -- (e) and so do the units held of each asset
+  -- and so do the units held of each asset
   pub held_units_change : (old : Market) (pairs : List (Pair R Outcome)) (new : Market) (asset : ℕ) → IsSound old → IsAsset old.balances asset → IsAsset new.balances asset → Follows Reads IsRightOutcome old pairs new
       → (added : ℤ) × AddTogether (Reads old.version) (units_added asset) pairs added × (held_units new asset ≡ held_units old asset +ℤ added)
   held_units_change old pairs new asset sound is_asset is_asset_after follows =
@@ -154,7 +158,7 @@ module _ {R : Type 0} (Reads : Version → R → Result Command BodyFault → Ty
   more_is : (x y z : ℤ) → x ≡ y +ℤ z → z ≡ x -ℤ y
   more_is x y z e = omega (arith, ints, e)
 
-  -- (e) what is held more than at the start is what the pairs add
+  -- what is held more than at the start is what the pairs add
   pub more_money : (start : Market) (pairs : List (Pair R Outcome)) (m : Market) → IsSound start → Follows Reads IsRightOutcome start pairs m
       → AddTogether (Reads start.version) money_added pairs (held_money m -ℤ held_money start)
   more_money start pairs m sound follows =
@@ -172,7 +176,7 @@ module _ {R : Type 0} (Reads : Version → R → Result Command BodyFault → Ty
   nothing_before : (x y : ℤ) → x ≡ pos 0 +ℤ y → x ≡ y
   nothing_before x y e = omega (arith, ints, e)
 
-  -- (e) over a legal journal they are the accepted deposits less the accepted withdrawals
+  -- over a legal journal they are the accepted deposits less the accepted withdrawals
   pub held_money_is : (version : Version) (pairs : List (Pair R Outcome)) (m : Market) → Follows Reads IsRightOutcome (empty_market version) pairs m → AddTogether (Reads version) money_added pairs (held_money m)
   held_money_is version pairs m follows =
       let all = held_money_changes (empty_market version) pairs m (sound-empty version) follows in
@@ -184,7 +188,7 @@ module _ {R : Type 0} (Reads : Version → R → Result Command BodyFault → Ty
       let sound = sound_follows Reads own (empty_market version) pairs m (sound-empty version) follows in
       subst (AddTogether (Reads version) (units_added asset) pairs) (sym (sound.totals.units asset is_asset ∙ nothing_before _ _ all.2)) all.1
 
-  -- (e) a step that is a batch changes no held total
+  -- a step that is a batch changes no held total
   pub batch_keeps_held : (m n : Market) (o : Outcome) → IsSound m → IsSound n → n ≡ after_batch m o
       → (held_money n ≡ held_money m) × ((asset : ℕ) → IsAsset m.balances asset → IsAsset n.balances asset → held_units n asset ≡ held_units m asset)
   batch_keeps_held m n o sound sound_after made = (

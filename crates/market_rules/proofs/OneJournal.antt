@@ -19,24 +19,24 @@ module _ {R : Type 0} (Reads : Version → R → Result Command BodyFault → Ty
     read_market old (Ok c) a x y first other = one_market Rule old c a x y first other
     read_market old (Err r) a x y first other = first.1 ∙ sym other.1
 
-    -- (a) old market, record and answer determine the new market
+    -- old market, record and answer determine the new market
     pub step_market : (old : Market) (asked : R) (a : Answer Outcome) (x y : Market) → Step Reads Rule old asked a x → Step Reads Rule old asked a y → x ≡ y
     step_market old asked a x y first other =
         read_market old first.read a x y first.served (rw (one_reading old.version asked first.read other.read first.spelled other.spelled) other.served)
 
-    -- (a) a legal journal determines the market after it
+    -- a legal journal determines the market after it
     pub journal_market : (old : Market) (pairs : List (Pair R Outcome)) (x y : Market) → Follows Reads Rule old pairs x → Follows Reads Rule old pairs y → x ≡ y
     journal_market old [] x y first other = first ∙ sym other
     journal_market old (pair ∷ pairs) x y first other =
         let next = step_market old pair.asked pair.answer first.0 other.0 first.1 other.1 in
         journal_market first.0 pairs x y first.2 (rw next other.2)
 
-    -- (f) sequences of steps compose
+    -- sequences of steps compose
     pub follows-append : (old mid new : Market) (pairs more : List (Pair R Outcome)) → Follows Reads Rule old pairs mid → Follows Reads Rule mid more new → Follows Reads Rule old (pairs ++ more) new
     follows-append old mid new [] more first second = subst (λ m. Follows Reads Rule m more new) first second
     follows-append old mid new (pair ∷ pairs) more first second = (first.0, first.1, follows-append first.0 mid new pairs more first.2 second)
 
-    -- (f) and come apart
+    -- and come apart
     pub follows-parts : (old new : Market) (pairs more : List (Pair R Outcome)) → Follows Reads Rule old (pairs ++ more) new → (mid : Market) × Follows Reads Rule old pairs mid × Follows Reads Rule mid more new
     follows-parts old new [] more all = (old, refl, all)
     follows-parts old new (pair ∷ pairs) more all =
@@ -47,7 +47,7 @@ module _ {R : Type 0} (Reads : Version → R → Result Command BodyFault → Ty
   read_once old (Ok c) a b x y first other = one_service IsOwnOutcome old c a b x y (own_has_one old c) first other
   read_once old (Err r) a b x y first other = (first.0 ∙ sym other.0, first.1 ∙ sym other.1)
 
-  -- (b) under the own rule a record gets one answer and makes one market
+  -- under the own rule a record gets one answer and makes one market
   pub own_step : (old : Market) (asked : R) (a b : Answer Outcome) (x y : Market) → Step Reads IsOwnOutcome old asked a x → Step Reads IsOwnOutcome old asked b y → (a ≡ b) × (x ≡ y)
   own_step old asked a b x y first other =
       read_once old first.read a b x y first.served (rw (one_reading old.version asked first.read other.read first.spelled other.spelled) other.served)
@@ -70,6 +70,6 @@ module _ {R : Type 0} (Reads : Version → R → Result Command BodyFault → Ty
       let rest = one_from first.0 xs ys m n asked.1 first.2 (rw step.1 other.2) in
       (rw (same_pair x y asked.0 step.0, rest.0) refl, rest.1)
 
-  -- (b) records have one own journal, which leads to one market
+  -- records have one own journal, which leads to one market
   pub one_own_journal : (version : Version) (records : List R) (p q : List (Pair R Outcome)) (m n : Market) → IsJournal Reads IsOwnOutcome version records p m → IsJournal Reads IsOwnOutcome version records q n → (p ≡ q) × (m ≡ n)
   one_own_journal version records p q m n first other = one_from (empty_market version) p q m n (first.asked ∙ sym other.asked) first.steps other.steps

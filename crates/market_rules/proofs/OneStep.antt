@@ -69,7 +69,7 @@ module _ (Rule : List Order → List ℤ → ℕ → Outcome → Type 0) where
   answered_market m c (Some r) a x y first other = first.1 ∙ sym other.1
   answered_market m c None a x y first other = accepted_market m c a x y first other
 
-  -- (a) old market, command and answer determine the new market
+  -- old market, command and answer determine the new market
   pub one_market : (old : Market) (c : Command) (a : Answer Outcome) (x y : Market) → Serves Rule old c a x → Serves Rule old c a y → x ≡ y
   one_market old c a x y first other =
       answered_market old c first.first a x y first.answered (rw (one_first old c first.first other.first first.refused other.refused) other.answered)
@@ -99,7 +99,7 @@ module _ (Rule : List Order → List ℤ → ℕ → Outcome → Type 0) where
   answered_once m c (Some r) a b x y one first other = (first.0 ∙ sym other.0, first.1 ∙ sym other.1)
   answered_once m c None a b x y one first other = accepted_once m c a b x y one first other
 
-  -- (b) a command that is no batch gets one answer and makes one market; so does a batch whose rule allows one outcome
+  -- a command that is no batch gets one answer and makes one market; so does a batch whose rule allows one outcome
   pub one_service : (old : Market) (c : Command) (a b : Answer Outcome) (x y : Market) → HasOneOutcome old c → Serves Rule old c a x → Serves Rule old c b y → (a ≡ b) × (x ≡ y)
   one_service old c a b x y one first other =
       answered_once old c first.first a b x y one first.answered (rw (one_first old c first.first other.first first.refused other.refused) other.answered)

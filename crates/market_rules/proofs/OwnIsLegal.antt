@@ -38,7 +38,7 @@ accepted_right m (SetUnitCredit account asset units) a n sound none accepts = ac
 accepted_right m (RunBatch budget) a n sound none accepts =
     (accepts.0, own_is_right m.orders (start_prices m) budget accepts.0 (λ k d inside. (sound.live k d inside).order) (start_within m) (past_unless none).0.1 accepts.1, accepts.2)
 
--- (b) an own step of a sound market is a step
+-- an own step of a sound market is a step
 pub own_served_is_right : (m : Market) (c : Command) (a : Answer Outcome) (n : Market) → IsSound m → Serves IsOwnOutcome m c a n → Serves IsRightOutcome m c a n
 own_served_is_right m c a n sound serves = record { first = serves.first; refused = serves.refused; answered = by_first serves.first serves.refused serves.answered }
   where
@@ -60,6 +60,6 @@ module _ {R : Type 0} (Reads : Version → R → Result Command BodyFault → Ty
       let step = own_step_is_right m pair.asked pair.answer follows.0 sound follows.1 in
       (follows.0, step, own_follows_are_right follows.0 pairs n (sound_step Reads own m pair.asked pair.answer follows.0 sound step) follows.2)
 
-  -- (b) an own journal is a legal one
+  -- an own journal is a legal one
   pub own_journal_is_legal : (version : Version) (records : List R) (pairs : List (Pair R Outcome)) (n : Market) → IsJournal Reads IsOwnOutcome version records pairs n → IsJournal Reads IsRightOutcome version records pairs n
   own_journal_is_legal version records pairs n journal = record { asked = journal.asked; steps = own_follows_are_right (empty_market version) pairs n (sound-empty version) journal.steps }

@@ -110,7 +110,7 @@ sound-accepted m (SetUnitCredit account asset units) a n of sound none accepts =
     let covers : pos 0 ≤ℤ (units_of m.balances account asset -ℤ needed_units m.orders account asset +ℤ pos units) = not_below _ _ four.0 in
     subst IsSound (sym accepts.1) (sound-unit_credit m account asset units sound version one.0 two.0 (not_above most_credit units three.0) (omega (arith, ints, covers)))
 
--- (c) a step by a right outcome keeps soundness, where the command is one of the market's version
+-- a step by a right outcome keeps soundness, where the command is one of the market's version
 pub sound_served : (m : Market) (c : Command) (a : Answer Outcome) (n : Market) → IsOfVersion m.version c → IsSound m → Serves IsRightOutcome m c a n → IsSound n
 sound_served m c a n of sound serves = by_first serves.first serves.refused serves.answered
   where
@@ -145,7 +145,7 @@ module _ {R : Type 0} (Reads : Version → R → Result Command BodyFault → Ty
   sound-read m asked (Ok c) a n sound spelled serves = sound_served m c a n (own m.version asked c spelled) sound serves
   sound-read m asked (Err r) a n sound spelled serves = subst IsSound (sym serves.1) sound
 
-  -- (c) so does every step of records, and every sequence of them
+  -- so does every step of records, and every sequence of them
   pub sound_step : (m : Market) (asked : R) (a : Answer Outcome) (n : Market) → IsSound m → Step Reads IsRightOutcome m asked a n → IsSound n
   sound_step m asked a n sound step = sound-read m asked step.read a n sound step.spelled step.served
 

@@ -1,6 +1,7 @@
 -- Sequences of steps, legal journals, totals and fills.
-use Rattle.std.specs.Prelude.{◌≡◌, ◌⊎◌, ℕ, ◌==◌, if◌then◌else◌, ℤ, pos, neg_ℤ, ◌+ℤ◌, ◌-ℤ◌, List, [], ◌∷◌, map, Result, Ok, Err}
+use Rattle.std.specs.Prelude.{◌≡◌, ◌⊎◌, ℕ, ◌==◌, if◌then◌else◌, ℤ, pos, neg_ℤ, ◌+ℤ◌, ◌-ℤ◌, List, [], ◌∷◌, map, Option, Some, None, Result, Ok, Err}
 use Rattle.std.specs.List.{sum_by}
+use Rattle.list_sums.specs.Sums.{int_sum_by}
 use Rattle.wire_records.specs.Commands.{Request, Command, AddAsset, OpenAccount, DepositMoney, DepositAsset, WithdrawMoney, WithdrawAsset, PlaceOrder, CancelOrder, RunBatch, PlaceUntil, SetMoneyCredit, SetUnitCredit, Answer, Plain, Batch, Pair}
 use Rattle.wire_records.specs.declared.version.Version.{Version}
 use Rattle.wire_records.specs.declared.reply.Reply.TheVariants.{Done, Refused}
@@ -33,35 +34,38 @@ module _ {R : Type 0} (Reads : Version → R → Result Command BodyFault → Ty
   abbrev pub IsJournal : Version → List R → List (Pair R Outcome) → Market → Type 0
   IsJournal version records pairs market = IsAnswered (empty_market version) records pairs market
 
+-- what an accepted command brings, less what it takes out: of money, in grains (None), or of an asset, in units (Some)
+abbrev pub brings : Command → List (Option ℕ × ℤ)
+brings (DepositMoney account ticks) = (None, grains ticks) ∷ []
+brings (DepositAsset account asset units) = (Some asset, pos units) ∷ []
+brings (WithdrawMoney account ticks) = (None, neg_ℤ (grains ticks)) ∷ []
+brings (WithdrawAsset account asset units) = (Some asset, neg_ℤ (pos units)) ∷ []
+brings (AddAsset ticker) = []
+brings OpenAccount = []
+brings (PlaceOrder request) = []
+brings (CancelOrder account number) = []
+brings (RunBatch budget) = []
+brings (PlaceUntil last request) = []
+brings (SetMoneyCredit account ticks) = []
+brings (SetUnitCredit account asset units) = []
+
+-- the money in one part of what is brought
+abbrev pub money_of_part : Option ℕ × ℤ → ℤ
+money_of_part (None, amount) = amount
+money_of_part (Some named, amount) = pos 0
+
+-- the units of an asset in one part of it
+abbrev pub units_of_part : ℕ → Option ℕ × ℤ → ℤ
+units_of_part asset (None, amount) = pos 0
+units_of_part asset (Some named, amount) = if named == asset then amount else pos 0
+
 -- what a command adds to the money that is held, in grains, where it is accepted
 abbrev pub money_added : Command → ℤ
-money_added (DepositMoney account ticks) = grains ticks
-money_added (WithdrawMoney account ticks) = neg_ℤ (grains ticks)
-money_added (AddAsset ticker) = pos 0
-money_added OpenAccount = pos 0
-money_added (DepositAsset account asset units) = pos 0
-money_added (WithdrawAsset account asset units) = pos 0
-money_added (PlaceOrder request) = pos 0
-money_added (CancelOrder account number) = pos 0
-money_added (RunBatch budget) = pos 0
-money_added (PlaceUntil last request) = pos 0
-money_added (SetMoneyCredit account ticks) = pos 0
-money_added (SetUnitCredit account asset units) = pos 0
+money_added command = int_sum_by money_of_part (brings command)
 
 -- what a command adds to the units of an asset that are held, where it is accepted
 abbrev pub units_added : ℕ → Command → ℤ
-units_added asset (DepositAsset account named units) = if named == asset then pos units else pos 0
-units_added asset (WithdrawAsset account named units) = if named == asset then neg_ℤ (pos units) else pos 0
-units_added asset (AddAsset ticker) = pos 0
-units_added asset OpenAccount = pos 0
-units_added asset (DepositMoney account ticks) = pos 0
-units_added asset (WithdrawMoney account ticks) = pos 0
-units_added asset (PlaceOrder request) = pos 0
-units_added asset (CancelOrder account number) = pos 0
-units_added asset (RunBatch budget) = pos 0
-units_added asset (PlaceUntil last request) = pos 0
-units_added asset (SetMoneyCredit account ticks) = pos 0
-units_added asset (SetUnitCredit account named units) = pos 0
+units_added asset command = int_sum_by (units_of_part asset) (brings command)
 
 -- what an answered command adds: nothing where it is refused
 abbrev pub added_by : (Command → ℤ) → Command → Answer Outcome → ℤ
