@@ -1,6 +1,6 @@
 //! Moves of prices, one asset at a time: single moves, searches, and walks that are made again.
-ghost use Rattle.std.specs.Prelude.{◌≡◌, ◌^◌, ◌≤◌, true, length, IsTrue, All};
-ghost use Rattle.weight_rows.specs.Rows.{IsPricedBy};
+ghost use Rattle.std.specs.Prelude.{◌≡◌, ◌^◌, ◌<◌, ◌≤◌, ◌≤ℤ◌, ◌+ℤ◌, ◌-ℤ◌, ◌↔◌, pos, neg_ℤ, true, length, IsTrue, All};
+ghost use Rattle.weight_rows.specs.Rows.{IsPricedBy, price_of};
 ghost use Rattle.demand_curve.specs.Demand.{IsWithin};
 ghost use Rattle.flow_orders.specs.Own.{are_single};
 
@@ -79,6 +79,47 @@ fn a_book_of_one_asset_orders_settles(rt: HostRuntime) -> Result<(), Fail> {
     Ok(())
 }
 
+// Sees to it that the price of the first asset may be moved by at most `reach`.
+fn may_move(rt: &impl Abort, work: &Workspace<'_>, reach: i64)
+    ensures asset { 0 < length work.now.prices }
+    ensures some { pos 1 ≤ℤ reach }
+    ensures far { reach ≤ℤ pos (2 ^ 61) }
+    ensures room_below { neg_ℤ (pos (2 ^ 62)) ≤ℤ (price_of work.now.prices 0 -ℤ reach) }
+    ensures room_above { (price_of work.now.prices 0 +ℤ reach) ≤ℤ pos (2 ^ 62) }
+{
+    assert!(rt; !work.prices().is_empty());
+    assert!(rt; 1 <= reach && reach <= 1 << 61);
+    assert!(rt; is_near(work.prices()[0]));
+}
+
+// Whether a price is within 2^61 grains of 0.
+fn is_near(price: i64) -> bool
+    ensures { IsTrue result ↔ ((neg_ℤ (pos (2 ^ 61)) ≤ℤ price) × (price ≤ℤ pos (2 ^ 61))) }
+{
+    -(1 << 61) <= price && price <= 1 << 61
+}
+
+// Moves the price of the one asset of these orders by at most `reach`, and sees to it that it ends there.
+fn see_move(
+    rt: &impl Abort,
+    alloc: Global,
+    orders: &[Order],
+    start: i64,
+    reach: i64,
+    end: i64,
+) -> Result<(), Fail> {
+    let start: [i64; 1] = [start];
+    may_settle(rt, orders, &start);
+    let mut work = Workspace::new(alloc, orders, &start)
+        .ok()
+        .ok_or("no memory")?;
+    may_move(rt, &work, reach);
+    assert!(rt; !work.is_settled(0));
+    step(&mut work, 0, reach);
+    assert_eq!(rt; work.prices(), [end].as_slice());
+    Ok(())
+}
+
 #[test]
 fn a_move_ends_at_its_reach_or_before(rt: HostRuntime) -> Result<(), Fail> {
     let orders = orders_of(rt.alloc(), &[BUYER, SELLER])?;
@@ -92,15 +133,7 @@ fn a_move_ends_at_its_reach_or_before(rt: HostRuntime) -> Result<(), Fail> {
         (TOP, 1 << 61, 429_582_628_945),
     ];
     for (start, reach, end) in cases {
-        let start: [i64; 1] = [start];
-        may_settle(&rt, orders.as_slice(), &start);
-        assert!(rt; 1 <= reach && reach <= 1 << 61);
-        let mut work = Workspace::new(rt.alloc(), orders.as_slice(), &start)
-            .ok()
-            .ok_or("no memory")?;
-        assert!(rt; !work.is_settled(0));
-        step(&mut work, 0, reach);
-        assert_eq!(rt; work.prices(), [end].as_slice());
+        see_move(&rt, rt.alloc(), orders.as_slice(), start, reach, end)?;
     }
     Ok(())
 }
