@@ -139,8 +139,9 @@ impl<'a> Workspace<'a> {
     }
 
     /// Two amounts between which a rise of an asset's price by at most `reach` grains ends: where its low excess is no longer
-    /// above the steepness, or after `reach`. They lie side by side but in rare cases. It costs some passes over the asset's
-    /// column at most, each with at most one division for each order, and passes over ever fewer orders of it.
+    /// above the steepness, or after `reach`. They lie side by side in all cases tried; the contract doesn't say so. It costs
+    /// two passes over the asset's column, each with at most one division for each order, and passes over ever fewer orders
+    /// of it.
     pub fn narrow_rise(&mut self, asset: u16, reach: u64) -> Bracket
         requires asset { asset < length self.old.prices }
         requires some { 0 < reach }
