@@ -1,4 +1,6 @@
-pub mod Walked
 pub mod Told
 pub mod Served
 pub mod LawProofs
+mod Found
+mod OneFinding
+mod SomeFinding

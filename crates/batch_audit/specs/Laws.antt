@@ -1,11 +1,14 @@
 -- What holds of legal pairs and journals, whatever code there is.
-use Rattle.std.specs.Prelude.{◌≡◌, ◌≤◌, ◌+◌, List}
+use Rattle.std.specs.Prelude.{◌≡◌, ◌≢◌, ◌↔◌, ◌≤◌, ◌+◌, List}
 use Rattle.wire_records.specs.Records.{Record}
 use Rattle.wire_records.specs.Commands.{Pair}
 use Rattle.wire_records.specs.declared.version.Version.{Version}
 use Rattle.flow_orders.specs.Outcomes.{Outcome}
-use Rattle.market_rules.specs.Market.{Market}
-use Rattle.batch_audit.specs.Legal.{IsLegalPair, AreJudged}
+use Rattle.market_rules.specs.Market.{Market, IsSound}
+use Rattle.batch_audit.specs.Legal.{IsLegalPair, IsIllegalPair, AreJudged}
+use Rattle.batch_audit.specs.Findings.{IsFinding}
+use Rattle.batch_audit.specs.declared.finding.Finding.{Finding}
+use Rattle.batch_audit.specs.declared.finding.Finding.TheVariants.{Legal}
 
 -- a pair of records makes one market
 abbrev pub OneMarket : Type 0
@@ -19,3 +22,16 @@ OneJudgement = (version : Version) (all : List (Record × Record)) (p q : List (
 -- a legal pair gives out at most one number of an order
 abbrev pub PairsNumberOne : Type 0
 PairsNumberOne = (old : Market) (pair : Record × Record) (new : Market) → IsLegalPair old pair new → new.next_order ≤ old.next_order + 1
+
+-- one thing is found of a pair of records at most
+abbrev pub OneFinding : Type 0
+OneFinding = (m : Market) (pair : Record × Record) (f g : Finding) → IsFinding m pair f → IsFinding m pair g → f ≡ g
+
+-- and there is no pair of records of which nothing is found
+abbrev pub EachHasAFinding : Type 0
+EachHasAFinding = (m : Market) (pair : Record × Record) → IsSound m → ¬ ((f : Finding) → ¬ IsFinding m pair f)
+
+-- a pair of records is found to be legal exactly where it is a step of the market, and where anything else is found it is none
+pub record FindingsTellLegality : Type 0 where
+  pub legal : (m : Market) (pair : Record × Record) → IsFinding m pair Legal ↔ ((new : Market) × IsLegalPair m pair new)
+  pub illegal : (m : Market) (pair : Record × Record) (f : Finding) → f ≢ Legal → IsFinding m pair f → IsIllegalPair m pair

@@ -1,4 +1,5 @@
 pub mod Legal
 pub mod Judging
+pub mod Findings
 pub mod Laws
 pub mod Private

@@ -1,19 +1,27 @@
 -- Words that only private functions of the audit use.
-use Rattle.std.specs.Prelude.{◌≡◌, ℤ, ℕ, List, Option, Some, None, Result}
+use Rattle.std.specs.Prelude.{◌≡◌, ◌≢◌, ℤ, ℕ, List, length, Option, Some, None, Result}
 use Rattle.wire_records.specs.Records.{Record}
-use Rattle.wire_records.specs.Commands.{Command, Answer}
+use Rattle.wire_records.specs.Commands.{Command, Answer, Plain}
 use Rattle.wire_records.specs.Versions.{IsReadAs}
 use Rattle.wire_records.specs.declared.command.BodyFault.{BodyFault}
+use Rattle.wire_records.specs.declared.reply.Reply.{Reply}
 use Rattle.flow_orders.specs.Orders.{Order}
-use Rattle.flow_orders.specs.Outcomes.{Skipping, Outcome, IsRightOutcome, IsLegalFrom, EndsSettled, skipping_at}
+use Rattle.flow_orders.specs.Outcomes.{Clearing, Skipping, Outcome, IsRightOutcome, IsRightClearing, IsRightSkip, IsWide, EndsSettled, end_of}
+use Rattle.coordinate_search.specs.Search.{IsFirstIllegal}
 use Rattle.batch_certificate.specs.declared.outcome.Outcome as parts
+use Rattle.batch_certificate.specs.declared.verdict.Verdict.TheVariants.{Right}
 use Rattle.batch_certificate.specs.Published.{outcome_of}
+use Rattle.batch_certificate.specs.Verdicts.{IsVerdict}
+use Rattle.journal_records.specs.Replies.{SpellsAnswer}
 use Rattle.market_rules.specs.Market.{Market}
 use Rattle.market_rules.specs.Step.{ServesRead, holds_batch, after_batch}
 use Rattle.market_rules.specs.Journal.{Step}
 use Rattle.market_rules.specs.Settling.{MaySettle}
 use Rattle.batch_audit.specs.declared.audit.Legality.{Legality}
 use Rattle.batch_audit.specs.declared.audit.Legality.TheVariants.{Legal, Illegal}
+use Rattle.batch_audit.specs.declared.finding.Finding.{Finding}
+use Rattle.batch_audit.specs.declared.finding.Finding.TheVariants as finding
+use Rattle.batch_audit.specs.Findings.{HasWholeTrace, HasLegalTrace, EndsUnsettled, HasStartDual, IsOtherDual, IsFinding}
 
 -- what a record is read as gets this answer, and makes the new market; or it gets another one, and the market is as before
 abbrev pub IsServed : Legality → Market → Result Command BodyFault → Answer Outcome → Market → Type 0
@@ -30,8 +38,48 @@ abbrev pub IsOutcomeFor : Market → ℕ → Answer Outcome → Option parts.Out
 IsOutcomeFor m budget answer (Some o) = MaySettle m o × holds_batch IsRightOutcome m budget answer (after_batch m (outcome_of m.orders o))
 IsOutcomeFor m budget answer None = (new : Market) → ¬ holds_batch IsRightOutcome m budget answer new
 
--- a skip tells a legal walk from these prices that leaves some asset unsettled, and the dual floors where it starts and ends
-pub record IsWalkTold (orders : List Order) (start : List ℤ) (s : Skipping) : Type 0 where
-  pub legal : IsLegalFrom orders start s.trace
-  pub unsettled : ¬ EndsSettled orders start s.trace
-  pub duals : s ≡ skipping_at orders start s.trace
+-- what is found of an answer where this plain reply is got
+abbrev pub IsReplyFound : Answer Outcome → Reply → Finding → Type 0
+IsReplyFound answer reply finding.NoReply = ⊥
+IsReplyFound answer reply (finding.OtherReply right) = (right ≡ reply) × (answer ≢ Plain reply)
+IsReplyFound answer reply (finding.Batch number) = ⊥
+IsReplyFound answer reply (finding.Part verdict) = ⊥
+IsReplyFound answer reply finding.SingleBook = ⊥
+IsReplyFound answer reply finding.TraceLength = ⊥
+IsReplyFound answer reply (finding.TraceStep place) = ⊥
+IsReplyFound answer reply finding.AllSettled = ⊥
+IsReplyFound answer reply (finding.StartDual right) = ⊥
+IsReplyFound answer reply (finding.EndDual right) = ⊥
+IsReplyFound answer reply finding.Legal = answer ≡ Plain reply
+
+-- what is found of a clearing of a batch that is due
+abbrev pub IsClearingFound : List Order → List ℤ → Clearing → Finding → Type 0
+IsClearingFound orders start c finding.NoReply = ⊥
+IsClearingFound orders start c (finding.OtherReply right) = ⊥
+IsClearingFound orders start c (finding.Batch number) = ⊥
+IsClearingFound orders start c (finding.Part verdict) = IsVerdict orders start c verdict × (verdict ≢ Right)
+IsClearingFound orders start c finding.SingleBook = ⊥
+IsClearingFound orders start c finding.TraceLength = ⊥
+IsClearingFound orders start c (finding.TraceStep place) = ⊥
+IsClearingFound orders start c finding.AllSettled = ⊥
+IsClearingFound orders start c (finding.StartDual right) = ⊥
+IsClearingFound orders start c (finding.EndDual right) = ⊥
+IsClearingFound orders start c finding.Legal = IsRightClearing orders start c
+
+-- what is found of a skip of a batch that is due
+abbrev pub IsSkipFound : List Order → List ℤ → ℕ → Skipping → Finding → Type 0
+IsSkipFound orders start budget s finding.NoReply = ⊥
+IsSkipFound orders start budget s (finding.OtherReply right) = ⊥
+IsSkipFound orders start budget s (finding.Batch number) = ⊥
+IsSkipFound orders start budget s (finding.Part verdict) = ⊥
+IsSkipFound orders start budget s finding.SingleBook = ¬ IsWide orders
+IsSkipFound orders start budget s finding.TraceLength = IsWide orders × (length s.trace ≢ budget)
+IsSkipFound orders start budget s (finding.TraceStep place) = HasWholeTrace orders budget s × IsFirstIllegal orders start s.trace place
+IsSkipFound orders start budget s finding.AllSettled = HasLegalTrace orders start budget s × EndsSettled orders start s.trace
+IsSkipFound orders start budget s (finding.StartDual right) = EndsUnsettled orders start budget s × IsOtherDual orders start s.start_dual right
+IsSkipFound orders start budget s (finding.EndDual right) = HasStartDual orders start budget s × IsOtherDual orders (end_of orders start s.trace) s.end_dual right
+IsSkipFound orders start budget s finding.Legal = IsRightSkip orders start budget s
+
+-- what is found of every pair whose first record is of some kind, and whose second spells this answer
+abbrev pub IsFoundWhere : Market → (Record → Type 0) → Answer Outcome → Finding → Type 0
+IsFoundWhere m IsAsked answer found = (pair : Record × Record) → IsAsked pair.0 → SpellsAnswer pair.1 answer → IsFinding m pair found

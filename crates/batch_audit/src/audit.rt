@@ -9,6 +9,8 @@ ghost use Rattle.market_rules.specs.Wanting.{MayWant, RecordMayWant};
 ghost use Rattle.batch_audit.specs.declared.audit.Legality.TheVariants.{Legal, Illegal};
 ghost use Rattle.batch_audit.specs.Private.{IsServed, IsAnswerJudged};
 
+use crate::explaining::{finding_of, is_plain};
+use crate::finding::Finding;
 use crate::outcomes::outcome_for;
 use journal_records::{PairView, ReplyView, reply};
 use market_core::Market;
@@ -38,17 +40,6 @@ impl Model for Audit {
     ghost Value = { market_value };
 
     ghost view = { λ audit. audit.market };
-}
-
-// Whether a reply is this plain one.
-fn is_plain(seen: &ReplyView<'_>, plain: Reply) -> bool
-    ensures { IsTrue result ↔ (answer_of seen.now ≡ Plain plain) }
-{
-    match *seen {
-        ReplyView::Plain(told) => told == plain,
-        ReplyView::Cleared(_) => false,
-        ReplyView::Skipped(_) => false,
-    }
 }
 
 // The judgement by a test.
@@ -135,6 +126,7 @@ impl Audit {
     ghost use Rattle.wire_records.specs.declared.version.Version.TheVariants.{One};
     ghost use Rattle.market_rules.specs.Market.{empty_market, IsSound};
     ghost use Rattle.batch_audit.specs.Judging.{IsJudged};
+    ghost use Rattle.batch_audit.specs.Findings.{IsFinding};
 
     /// An audit of a journal of version One from its first pair on. Takes no memory.
     pub fn new(alloc: Global) -> Audit
@@ -191,6 +183,26 @@ impl Audit {
             Some(seen) => {
                 let asked = pair.asked();
                 Ok(serve(self.alloc, &mut self.market, &asked, &seen)?)
+            }
+        }
+    }
+
+    /// Why the pair is no step of the market: the first of the findings that holds, and `Legal` exactly where it is one, so
+    /// where [`Audit::pair`] answers that. Nothing is changed. The number that the next order gets is below 2^64 - 1.
+    ///
+    /// It costs what the audit of the pair costs without the step, and takes memory for the start prices of a batch and for
+    /// the prices of a walk alone.
+    pub fn explain(&self, pair: &PairView<'_>) -> Result<Finding, Memory>
+        requires next { self.now.next_order + 1 < 2 ^ 64 }
+        ensures found { IfOk result (IsFinding self.now pair.now) }
+        // Memory is wanted only by a record that the audit of the pair may want it for.
+        ensures wanted { OnErr result (RecordMayWant self.now pair.now.0) }
+    {
+        match reply(&pair.answered()) {
+            None => Ok(Finding::NoReply),
+            Some(seen) => {
+                let asked = pair.asked();
+                Ok(finding_of(self.alloc, &self.market, &asked, &seen)?)
             }
         }
     }

@@ -13,7 +13,10 @@
 #![tactic(auto)]
 
 mod audit;
+mod explaining;
+mod finding;
 pub mod laws;
 mod outcomes;
 
 pub use audit::{Audit, Legality};
+pub use finding::Finding;

@@ -1,5 +1,6 @@
 //! Which replies to a batch tell a right outcome.
-ghost use Rattle.std.specs.Prelude.{◌≡◌, pos, ◌^◌, ◌<◌, ◌≤◌, ◌↔◌, ℕ, None, length, All, IsTrue, IfOk};
+ghost use Rattle.std.specs.Prelude.{◌≡◌, pos, ◌^◌, ◌<◌, ◌≤◌, ◌↔◌, ℕ, None, length, All, IsTrue, IfOk, IfSome, IfNone, FitsSigned};
+ghost use Rattle.std.specs.Int.{w128};
 ghost use Rattle.weight_rows.specs.Rows.{IsPrice, IsPricedBy};
 ghost use Rattle.demand_curve.specs.Demand.{IsWithin};
 ghost use Rattle.wire_records.specs.Commands.{RunBatch, Batch};
@@ -8,11 +9,16 @@ ghost use Rattle.flow_orders.specs.Excess.{is_unsettled};
 ghost use Rattle.flow_orders.specs.Outcomes.{IsWide, IsRightClearing, IsRightSkip, most_budget, dual_of};
 ghost use Rattle.flow_orders.specs.Outcomes as outcomes;
 ghost use Rattle.flow_orders.specs.Walks.{AreSettled};
+ghost use Rattle.batch_certificate.specs.Verdicts.{IsVerdict};
+ghost use Rattle.batch_certificate.specs.declared.verdict.Verdict.TheVariants.{Right};
 ghost use Rattle.journal_records.specs.Views.{answer_of};
 ghost use Rattle.market_rules.specs.Market.{most_batches, start_prices};
 ghost use Rattle.market_rules.specs.Step.{FirstRefusal};
-ghost use Rattle.batch_audit.specs.Private.{IsOutcomeFor, IsWalkTold};
+ghost use Rattle.batch_audit.specs.declared.finding.Finding.TheVariants.{Legal};
+ghost use Rattle.batch_audit.specs.Findings.{HasWholeTrace, IsOtherDual};
+ghost use Rattle.batch_audit.specs.Private.{IsOutcomeFor, IsClearingFound, IsSkipFound};
 
+use crate::finding::Finding;
 use batch_certificate::{Outcome, Skipped, Trace, Verdict, check_cleared};
 use coordinate_search::{Retraced, retrace};
 use dual_value::dual_floor;
@@ -62,8 +68,33 @@ fn is_clearing_right(alloc: Global, market: &Market, view: &ClearedView<'_>) -> 
     ensures { IfOk result (λ right. IsTrue right
         ↔ IsRightClearing market.now.orders (start_prices market.now) view.now.clearing) }
 {
+    Ok(verdict_on(alloc, market, view)? == Verdict::Right)
+}
+
+// The verdict on a clearing of the live orders, from the start prices.
+fn verdict_on(alloc: Global, market: &Market, view: &ClearedView<'_>) -> Result<Verdict, Memory>
+    ensures verdict { IfOk result (IsVerdict market.now.orders (start_prices market.now) view.now.clearing) }
+    ensures right { IfOk result (λ verdict. (verdict ≡ Right)
+        ↔ IsRightClearing market.now.orders (start_prices market.now) view.now.clearing) }
+{
     let start = market.start_prices(alloc)?;
-    Ok(check_cleared(market.orders(), start.as_slice(), view) == Verdict::Right)
+    Ok(check_cleared(market.orders(), start.as_slice(), view))
+}
+
+// What is found of a clearing of a batch that is due.
+pub(crate) fn clearing_finding(
+    alloc: Global,
+    market: &Market,
+    view: &ClearedView<'_>,
+) -> Result<Finding, Memory>
+    ensures { IfOk result (IsClearingFound market.now.orders (start_prices market.now) view.now.clearing) }
+{
+    let verdict = verdict_on(alloc, market, view)?;
+    if verdict == Verdict::Right {
+        Ok(Finding::Legal)
+    } else {
+        Ok(Finding::Part(verdict))
+    }
 }
 
 // A skip that is right, under the next number. The market looks at none of its walk, so that isn't copied.
@@ -99,13 +130,36 @@ fn is_skip_right(
     ensures { IfOk result (λ right. IsTrue right
         ↔ IsRightSkip market.now.orders (start_prices market.now) budget view.now.skipping) }
 {
+    Ok(is_legal(skip_finding(alloc, market, budget, view)?))
+}
+
+// Whether nothing was found.
+fn is_legal(found: Finding) -> bool
+    ensures { IsTrue result ↔ (found ≡ Legal) }
+{
+    found == Finding::Legal
+}
+
+// What is found of a skip of a batch that is due.
+pub(crate) fn skip_finding(
+    alloc: Global,
+    market: &Market,
+    budget: u32,
+    view: &SkippedView<'_>,
+) -> Result<Finding, Memory>
+    requires { budget ≤ most_budget }
+    ensures { IfOk result (IsSkipFound market.now.orders (start_prices market.now) budget view.now.skipping) }
+{
     let orders = market.orders();
-    if !is_wide(orders) || view.trace().len() != budget as usize {
-        return Ok(false);
+    if !is_wide(orders) {
+        return Ok(Finding::SingleBook);
+    }
+    if view.trace().len() != budget as usize {
+        return Ok(Finding::TraceLength);
     }
     let start = market.start_prices(alloc)?;
     match Workspace::new(alloc, orders, start.as_slice()) {
-        Ok(mut work) => Ok(is_walk_told(orders, &mut work, view)),
+        Ok(mut work) => Ok(walk_finding(orders, &mut work, view)),
         Err(_) => Err(Memory),
     }
 }
@@ -122,30 +176,44 @@ fn is_wide(orders: &[Order]) -> bool
     false
 }
 
-// Whether a skip tells a legal walk that leaves some asset unsettled, and the dual floors where it starts and ends.
-fn is_walk_told(orders: &[Order], work: &mut Workspace<'_>, view: &SkippedView<'_>) -> bool
+// What is found of a skip of a wide book whose trace is as long as the budget.
+fn walk_finding(orders: &[Order], work: &mut Workspace<'_>, view: &SkippedView<'_>) -> Finding
     requires orders { work.old.orders ≡ orders.now }
     requires start { All (IsWithin (2 ^ 60)) work.old.prices }
     requires most { length view.now.skipping.trace ≤ most_budget }
-    ensures { IsTrue result ↔ IsWalkTold orders.now work.old.prices view.now.skipping }
+    ensures { (budget : ℕ) → HasWholeTrace orders.now budget view.now.skipping
+        → IsSkipFound orders.now work.old.prices budget view.now.skipping result }
 {
-    if !is_floor(orders, work.prices(), view.start_dual()) {
-        return false;
+    let start_dual = other_dual(orders, work.prices(), view.start_dual());
+    if let Retraced::Illegal(place) = retrace(work, view.trace()) {
+        return Finding::TraceStep(place);
     }
-    if let Retraced::Illegal(_) = retrace(work, view.trace()) {
-        return false;
+    if are_settled(work) {
+        return Finding::AllSettled;
     }
-    !are_settled(work) && is_floor(orders, work.prices(), view.end_dual())
+    if let Some(right) = start_dual {
+        return Finding::StartDual(right);
+    }
+    match other_dual(orders, work.prices(), view.end_dual()) {
+        Some(right) => Finding::EndDual(right),
+        None => Finding::Legal,
+    }
 }
 
-// Whether the dual floor of a book at these prices is this one.
-fn is_floor(orders: &[Order], prices: &[i64], told: i128) -> bool
+// The dual floor of a book at these prices, where another one is told.
+fn other_dual(orders: &[Order], prices: &[i64], told: i128) -> Option<i128>
     requires few { length orders.now ≤ most_orders }
     requires range { All IsPrice prices.now }
     requires priced { All (λ o. IsPricedBy o.row prices.now) orders.now }
-    ensures { IsTrue result ↔ (told ≡ pos (dual_of orders.now prices.now)) }
+    ensures other { IfSome result (IsOtherDual orders.now prices.now told) }
+    ensures same { IfNone result (told ≡ pos (dual_of orders.now prices.now)) }
+    ensures fits { IfSome result (FitsSigned w128) }
 {
-    dual_floor(orders, prices) == told
+    let right = dual_floor(orders, prices);
+    if right == told {
+        return None;
+    }
+    Some(right)
 }
 
 // Whether all assets are settled.

@@ -12,7 +12,7 @@ use market_core::Market;
 use std::alloc::Global;
 use wire_records::{CommandView, Framed, MOST_BODY, RecordView, Refusal, Reply, next_record};
 
-fn put_reply(reply: Reply, rows: &mut String) -> Option<()> {
+pub(crate) fn put_reply(reply: Reply, rows: &mut String) -> Option<()> {
     match reply {
         Reply::Done => rows.push_str("done").ok(),
         Reply::Asset(number) => write!(rows, "asset {number}").ok(),

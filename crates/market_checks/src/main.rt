@@ -10,6 +10,7 @@
 //! | `batches N N ..:` | batches are skipped until so many were held, and each time budgets of 0, 1, 65,536 and 65,537 are asked for: the code of the refusal, or `allowed` |
 //! | `serve: RECORDS` | a session serves each record: its pair. Then the market |
 //! | `audit: PAIRS` | each pair is judged: `legal` or `illegal`. Then the market |
+//! | `explain: PAIRS` | each pair that isn't legal: its number, and why |
 //! | `report: PAIRS` | each pair is judged and, where it is legal, reported: the text |
 //! | `count: JOURNAL` | the pairs behind the magic are audited: how the reading ends, and the counts. Then the market. With `count more:` there are more bytes behind these |
 //! | `replay: JOURNAL` | the market, or the text of the fault |
@@ -40,6 +41,7 @@
 
 mod batches;
 mod commands;
+mod explaining;
 mod journals;
 mod judging;
 mod serving;
@@ -60,6 +62,7 @@ fn put_case(alloc: Global, words: &str, bytes: &[u8], rows: &mut String) -> Opti
         "batches" => batches::put_allowed(alloc, with, rows),
         "serve" => serving::put_pairs(alloc, bytes, rows),
         "audit" => judging::put_judged(alloc, bytes, rows),
+        "explain" => explaining::put_explained(alloc, bytes, rows),
         "report" => judging::put_report(alloc, bytes, rows),
         "count" => journals::put_counted(alloc, bytes, with == "more", rows),
         "replay" => journals::put_replayed(alloc, bytes, rows),
