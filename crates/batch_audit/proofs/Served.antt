@@ -22,8 +22,8 @@ use Rattle.market_rules.proofs.LawProofs.{plain_commands_have_one_answer, plain_
 use Rattle.market_rules.proofs.OneStep.{one_first}
 use Rattle.batch_audit.specs.Judging.{IsJudged}
 use Rattle.batch_audit.specs.Private.{IsServed, IsAnswerJudged, IsOutcomeFor}
-use Rattle.batch_certificate.specs.declared.outcome.Outcome as parts
-use Rattle.batch_certificate.specs.Published.{outcome_of}
+use Rattle.batch_outcome.specs.declared.outcome.Outcome as parts
+use Rattle.batch_outcome.specs.Published.{outcome_of}
 use Rattle.batch_audit.specs.declared.audit.Legality.{Legality}
 use Rattle.batch_audit.specs.declared.audit.Legality.TheVariants.{Legal, Illegal}
 

@@ -5,10 +5,10 @@ use Rattle.wire_records.specs.Commands.{Batch}
 use Rattle.flow_orders.specs.Orders.{Order}
 use Rattle.flow_orders.specs.Trades.{trades}
 use Rattle.flow_orders.specs.Outcomes.{Fill, Clearing, Cleared, fill_of, trades_of, IsRightClearing}
-use Rattle.batch_certificate.specs.declared.outcome.Cleared as copied
-use Rattle.batch_certificate.specs.declared.outcome.Outcome.TheVariants as parts
-use Rattle.batch_certificate.specs.Published.{clearing_of}
-use Rattle.batch_certificate.specs.Verdicts.{rates_in}
+use Rattle.batch_outcome.specs.declared.outcome.Cleared as copied
+use Rattle.batch_outcome.specs.declared.outcome.Outcome.TheVariants as parts
+use Rattle.batch_outcome.specs.Published.{clearing_of}
+use Rattle.batch_outcome.specs.Parts.{rates_in}
 use Rattle.market_rules.specs.Market.{Market, start_prices}
 use Rattle.market_rules.specs.Step.{after_batch}
 use Rattle.batch_audit.specs.Private.{IsOutcomeFor}

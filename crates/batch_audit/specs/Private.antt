@@ -8,9 +8,9 @@ use Rattle.wire_records.specs.declared.reply.Reply.{Reply}
 use Rattle.flow_orders.specs.Orders.{Order}
 use Rattle.flow_orders.specs.Outcomes.{Clearing, Skipping, Outcome, IsRightOutcome, IsRightClearing, IsRightSkip, IsWide, EndsSettled, end_of}
 use Rattle.coordinate_search.specs.Search.{IsFirstIllegal}
-use Rattle.batch_certificate.specs.declared.outcome.Outcome as parts
+use Rattle.batch_outcome.specs.declared.outcome.Outcome as parts
 use Rattle.batch_certificate.specs.declared.verdict.Verdict.TheVariants.{Right}
-use Rattle.batch_certificate.specs.Published.{outcome_of}
+use Rattle.batch_outcome.specs.Published.{outcome_of}
 use Rattle.batch_certificate.specs.Verdicts.{IsVerdict}
 use Rattle.journal_records.specs.Replies.{SpellsAnswer}
 use Rattle.market_rules.specs.Market.{Market}

@@ -19,7 +19,8 @@ ghost use Rattle.batch_audit.specs.Findings.{HasWholeTrace, IsOtherDual};
 ghost use Rattle.batch_audit.specs.Private.{IsOutcomeFor, IsClearingFound, IsSkipFound};
 
 use crate::finding::Finding;
-use batch_certificate::{Outcome, Skipped, Trace, Verdict, check_cleared};
+use batch_certificate::{Verdict, check_cleared};
+use batch_outcome::{Outcome, Skipped, Trace};
 use coordinate_search::{Retraced, retrace};
 use dual_value::dual_floor;
 use excess_bounds::Workspace;

@@ -16,7 +16,7 @@ use Rattle.flow_orders.proofs.GapBound.{gaps_are_bounded}
 use Rattle.flow_orders.proofs.Optimal.{roundings_are_optimal}
 use Rattle.flow_orders.proofs.Residuals.{residual_within_bound}
 use Rattle.flow_orders.proofs.TradeFacts.{before_fills, before-trades, All-trades}
-use Rattle.batch_certificate.specs.GapBound.{gap_bound}
+use Rattle.batch_outcome.specs.GapBound.{gap_bound}
 use Rattle.batch_certificate.specs.Laws.{AreRoundings, AreBounded, AreBoundedWhereSettled, SettledResidualsAreBounded}
 
 pub settled_residuals_are_bounded : SettledResidualsAreBounded

@@ -12,7 +12,8 @@ use Rattle.flow_orders.specs.Outcomes.{Clearing, IsUnnamed, trades_of, gap_of}
 use Rattle.flow_orders.specs.Residuals.{residual_in}
 use Rattle.batch_certificate.specs.declared.verdict.Verdict.{Verdict}
 use Rattle.batch_certificate.specs.declared.verdict.Verdict.TheVariants.{Right, Count, Price, Rate, Residual, Gap}
-use Rattle.batch_certificate.specs.Verdicts.{HoldsBelow, IsFirstWrong, AreCounted, IsPriceRight, IsRateRight, IsResidualRight, HasRightPrices, HasRightRates, HasRightResiduals, IsVerdict, numbers_in}
+use Rattle.batch_certificate.specs.Verdicts.{HoldsBelow, IsFirstWrong, AreCounted, IsPriceRight, IsRateRight, IsResidualRight, HasRightPrices, HasRightRates, HasRightResiduals, IsVerdict}
+use Rattle.batch_outcome.specs.Parts.{numbers_in}
 use Rattle.batch_certificate.specs.Weighing.{weighed}
 use Rattle.batch_certificate.specs.Laws.{EachHasAVerdict}
 use Rattle.batch_certificate.proofs.Places.{none_yet, one_more}

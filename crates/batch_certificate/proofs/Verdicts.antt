@@ -20,7 +20,8 @@ use Rattle.flow_orders.specs.Trades.{Trade, trades, residual, residual_cost}
 use Rattle.flow_orders.specs.Outcomes.{Fill, Clearing, IsUnnamed, IsRightClearing, trades_of, residuals_of, gap_of}
 use Rattle.flow_orders.specs.Residuals.{residual_in}
 use Rattle.batch_certificate.specs.Residuals.{cost_at}
-use Rattle.batch_certificate.specs.Verdicts.{HoldsBelow, IsFirstWrong, IsPriceRight, IsRateRight, IsResidualRight, IsGapRight, HasRightPrices, HasRightRates, HasRightResiduals, numbers_in, rates_in}
+use Rattle.batch_certificate.specs.Verdicts.{HoldsBelow, IsFirstWrong, IsPriceRight, IsRateRight, IsResidualRight, IsGapRight, HasRightPrices, HasRightRates, HasRightResiduals}
+use Rattle.batch_outcome.specs.Parts.{numbers_in, rates_in}
 use Rattle.batch_certificate.specs.Weighing.{count_in, HasCounts, square, weighed, IsPriceKept, IsResidualWithin}
 use Rattle.batch_certificate.proofs.Places.{first_wrong_as}
 use Rattle.batch_certificate.proofs.Sums.{IsTurn, trade_at, length-trades, each_is, fits, cost_is}

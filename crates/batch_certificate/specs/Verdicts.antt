@@ -5,8 +5,9 @@ use Rattle.demand_curve.specs.Demand.{IsRounding}
 use Rattle.flow_orders.specs.Orders.{Order, terms_of}
 use Rattle.flow_orders.specs.Excess.{price_for, residual_bound}
 use Rattle.flow_orders.specs.Trades.{residual}
-use Rattle.flow_orders.specs.Outcomes.{Fill, Clearing, IsUnnamed, trades_of, gap_of}
+use Rattle.flow_orders.specs.Outcomes.{Clearing, IsUnnamed, trades_of, gap_of}
 use Rattle.flow_orders.specs.Residuals.{residual_in}
+use Rattle.batch_outcome.specs.Parts.{numbers_in}
 use Rattle.batch_certificate.specs.declared.verdict.Verdict.{Verdict}
 use Rattle.batch_certificate.specs.declared.verdict.Verdict.TheVariants.{Right, Count, Price, Rate, Residual, Gap}
 
@@ -19,14 +20,6 @@ pub record IsFirstWrong (Holds : ℕ → Type 0) (n k : ℕ) : Type 0 where
   pub inside : k < n
   pub before : HoldsBelow Holds k
   pub wrong : ¬ Holds k
-
--- the numbers of the orders that got a rate
-abbrev pub numbers_in : Clearing → List ℕ
-numbers_in c = map (λ (f : Fill). f.order) c.fills
-
--- the rates
-abbrev pub rates_in : Clearing → List ℕ
-rates_in c = map (λ (f : Fill). f.rate) c.fills
 
 -- there is one price and one residual for each start price, and one rate for each order, under its number
 pub record AreCounted (orders : List Order) (start : List ℤ) (c : Clearing) : Type 0 where

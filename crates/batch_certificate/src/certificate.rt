@@ -10,15 +10,14 @@ ghost use Rattle.flow_orders.specs.Trades.{trades};
 ghost use Rattle.flow_orders.specs.Outcomes.{residuals_of, gap_of};
 ghost use Rattle.flow_orders.specs.Own.{clearing_at};
 ghost use Rattle.flow_orders.specs.Welfare.{IsOptimalWithin};
-ghost use Rattle.batch_certificate.specs.GapBound.{gap_bound};
+ghost use Rattle.batch_outcome.specs.GapBound.{gap_bound};
 ghost use Rattle.batch_certificate.specs.Laws.{AreBounded, AreBoundedWhereSettled};
-ghost use Rattle.batch_certificate.specs.Published.{clearing_of};
+ghost use Rattle.batch_outcome.specs.Published.{clearing_of};
 ghost use Rattle.flow_orders.specs.Residuals.{most_prices, AreZeros, AreNear};
 ghost use Rattle.batch_certificate.specs.Residuals.{cost_at};
 
-use crate::lists::{PriceList, RateList, ResidualList};
-use crate::outcome::Cleared;
 use crate::trade::add_trade;
+use batch_outcome::{Cleared, PriceList, RateList, ResidualList};
 use flow_orders::Order;
 use std::alloc::{AllocError, Global};
 

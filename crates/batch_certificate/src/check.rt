@@ -10,16 +10,18 @@ ghost use Rattle.flow_orders.specs.Trades.{trades};
 ghost use Rattle.flow_orders.specs.Outcomes.{Clearing, residuals_of, gap_of, trades_of, IsRightClearing};
 ghost use Rattle.flow_orders.specs.Welfare.{IsOptimalWithin};
 ghost use Rattle.flow_orders.specs.Residuals.{most_prices, residual_in, AreNear, AreZeros, IsTradeAdded};
-ghost use Rattle.batch_certificate.specs.GapBound.{gap_bound};
-ghost use Rattle.batch_certificate.specs.Verdicts.{HoldsBelow, IsFirstWrong, AreCounted, IsPriceRight, IsRateRight, IsResidualRight, IsGapRight, HasRightPrices, HasRightRates, HasRightResiduals, IsVerdict, numbers_in, rates_in};
+ghost use Rattle.batch_outcome.specs.GapBound.{gap_bound};
+ghost use Rattle.batch_certificate.specs.Verdicts.{HoldsBelow, IsFirstWrong, AreCounted, IsPriceRight, IsRateRight, IsResidualRight, IsGapRight, HasRightPrices, HasRightRates, HasRightResiduals, IsVerdict};
+ghost use Rattle.batch_outcome.specs.Parts.{numbers_in, rates_in};
 ghost use Rattle.batch_certificate.specs.Weighing.{count_in, AreSmall, HasCounts, IsKept, IsPriceKept, IsWithinBound, IsResidualWithin, square, weighed};
 ghost use Rattle.batch_certificate.specs.declared.verdict.Verdict.TheVariants.{Right};
 
 use crate::certificate::cost;
-use crate::parts::{ClearedParts, number_at, price_at, rate_at, residual_at};
+use crate::numbers::{number_at, price_at, rate_at, residual_at};
 use crate::trade::try_trade;
 use crate::verdict::Verdict;
 use crate::weights::add_weights;
+use batch_outcome::ClearedParts;
 use flow_orders::Order;
 
 // No more assets have a price.

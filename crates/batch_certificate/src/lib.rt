@@ -18,16 +18,11 @@
 mod certificate;
 mod check;
 pub mod laws;
-mod lists;
-mod outcome;
-mod parts;
+mod numbers;
 mod trade;
 mod verdict;
 mod weights;
 
 pub use certificate::{Memory, certify};
 pub use check::check_cleared;
-pub use lists::{PriceList, RateList, ResidualList, Trace};
-pub use outcome::{Cleared, Outcome, Skipped};
-pub use parts::ClearedParts;
 pub use verdict::Verdict;

@@ -18,10 +18,10 @@ use Rattle.flow_orders.proofs.OwnIsRight.{own_prices_count, own_is_right, single
 use Rattle.flow_orders.proofs.OwnLaws.{one_asset_books_clear}
 use Rattle.flow_orders.proofs.WalkLaws.{walks_lower_the_dual, right_skips_lower_the_dual}
 use Rattle.coordinate_search.proofs.Settling.{single_all}
-use Rattle.batch_certificate.specs.declared.outcome.Cleared.{Cleared}
-use Rattle.batch_certificate.specs.declared.outcome.Outcome.{Outcome}
-use Rattle.batch_certificate.specs.declared.outcome.Outcome.TheVariants as parts
-use Rattle.batch_certificate.specs.Published.{clearing_of, skipping_of, outcome_of, HasOneRateEach}
+use Rattle.batch_outcome.specs.declared.outcome.Cleared.{Cleared}
+use Rattle.batch_outcome.specs.declared.outcome.Outcome.{Outcome}
+use Rattle.batch_outcome.specs.declared.outcome.Outcome.TheVariants as parts
+use Rattle.batch_outcome.specs.Published.{clearing_of, skipping_of, outcome_of, HasOneRateEach}
 use Rattle.batch_engine.specs.Certified.{IsCertified}
 use Rattle.batch_engine.specs.Private.{IsClearedAt, IsClearedFrom, IsSkippedFrom, IsOutcomeFrom}
 use Rattle.batch_certificate.specs.Laws.{AreBounded}

@@ -2,12 +2,12 @@
 use Rattle.std.specs.Prelude.{ℤ, pos, ◌≤ℤ◌, List}
 use Rattle.flow_orders.specs.Orders.{Order}
 use Rattle.flow_orders.specs.Welfare.{IsOptimalWithin}
-use Rattle.batch_certificate.specs.declared.outcome.Cleared.{Cleared}
-use Rattle.batch_certificate.specs.declared.outcome.Outcome.{Outcome}
-use Rattle.batch_certificate.specs.declared.outcome.Outcome.TheVariants as parts
-use Rattle.batch_certificate.specs.Published.{skipping_of}
-use Rattle.batch_certificate.specs.GapBound.{gap_bound}
-use Rattle.batch_certificate.specs.Progress.{LowersTheDual}
+use Rattle.batch_outcome.specs.declared.outcome.Cleared.{Cleared}
+use Rattle.batch_outcome.specs.declared.outcome.Outcome.{Outcome}
+use Rattle.batch_outcome.specs.declared.outcome.Outcome.TheVariants as parts
+use Rattle.batch_outcome.specs.Published.{skipping_of}
+use Rattle.batch_outcome.specs.GapBound.{gap_bound}
+use Rattle.batch_outcome.specs.Progress.{LowersTheDual}
 
 -- no balanced rates beat those of a clearing by more than its gap, and the gap is at most what roundings can lose and residuals within their bounds can cost
 pub record IsCertifiedClearing (orders : List Order) (c : Cleared) : Type 0 where

@@ -5,11 +5,11 @@ use Rattle.flow_orders.specs.Trades.{trades}
 use Rattle.flow_orders.specs.Welfare.{IsOptimalWithin}
 use Rattle.flow_orders.specs.Outcomes as outcomes
 use Rattle.flow_orders.specs.Own.{rates_by_choice, clearing_at, IsOwnOutcome}
-use Rattle.batch_certificate.specs.declared.outcome.Cleared.{Cleared}
-use Rattle.batch_certificate.specs.declared.outcome.Outcome.{Outcome}
-use Rattle.batch_certificate.specs.declared.outcome.Outcome.TheVariants as parts
-use Rattle.batch_certificate.specs.Published.{clearing_of, skipping_of}
-use Rattle.batch_certificate.specs.GapBound.{gap_bound}
+use Rattle.batch_outcome.specs.declared.outcome.Cleared.{Cleared}
+use Rattle.batch_outcome.specs.declared.outcome.Outcome.{Outcome}
+use Rattle.batch_outcome.specs.declared.outcome.Outcome.TheVariants as parts
+use Rattle.batch_outcome.specs.Published.{clearing_of, skipping_of}
+use Rattle.batch_outcome.specs.GapBound.{gap_bound}
 use Rattle.batch_certificate.specs.Laws.{AreBounded}
 
 -- what is certified of the chosen rates at these prices

@@ -6,11 +6,12 @@ ghost use Rattle.flow_orders.specs.Orders.{IsOrder, IsFrom1To, most_orders};
 ghost use Rattle.flow_orders.specs.Outcomes.{most_budget, IsRightOutcome};
 ghost use Rattle.flow_orders.specs.Own.{are_single, IsOwnOutcome, ClearsNear};
 ghost use Rattle.excess_bounds.specs.Workspace.{most_prices};
-ghost use Rattle.batch_certificate.specs.Published.{outcome_of, HasOneRateEach};
+ghost use Rattle.batch_outcome.specs.Published.{outcome_of, HasOneRateEach};
 ghost use Rattle.batch_engine.specs.Certified.{IsCertified};
 ghost use Rattle.batch_engine.specs.Private.{IsClearedAt, IsClearedFrom, IsOutcomeFrom};
 
-use batch_certificate::{Cleared, Outcome, PriceList, RateList, Skipped, Trace, certify};
+use batch_certificate::certify;
+use batch_outcome::{Cleared, Outcome, PriceList, RateList, Skipped, Trace};
 use coordinate_search::{Found, search, settle_single};
 use dual_value::dual_floor;
 use excess_bounds::Workspace;

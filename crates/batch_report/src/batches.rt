@@ -7,7 +7,7 @@ ghost use Rattle.batch_report.specs.Reports.{price_line, rate_line, cleared_line
 ghost use Rattle.batch_report.specs.Private.{fill_at};
 
 use crate::words::{put, put_name, put_number};
-use batch_certificate::ClearedParts;
+use batch_outcome::ClearedParts;
 use journal_records::{ClearedView, SkippedView};
 use ticker_table::TickerTable;
 use wire_records::Memory;

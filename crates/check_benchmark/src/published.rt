@@ -1,7 +1,7 @@
 //! A published clearing in memory.
 ghost use Rattle.std.specs.Prelude.{◌≤◌, length};
 
-use batch_certificate::ClearedParts;
+use batch_outcome::ClearedParts;
 
 /// Price and residual of each asset, number and rate of each order, and the gap.
 #[derive(Drop)]

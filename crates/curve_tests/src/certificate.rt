@@ -7,7 +7,8 @@ ghost use Rattle.flow_orders.specs.Excess.{price_for};
 ghost use Rattle.flow_orders.specs.Trades.{trades};
 
 use crate::orders::{BASKET, BUYER, FILLED, SELLER, STEEP, are_priced, are_prices, orders_of};
-use batch_certificate::{Cleared, PriceList, RateList, certify};
+use batch_certificate::certify;
+use batch_outcome::{Cleared, PriceList, RateList};
 use flow_orders::Order;
 use std::alloc::Global;
 use std::test::Fail;

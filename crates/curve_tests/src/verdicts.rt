@@ -2,7 +2,8 @@
 ghost use Rattle.std.specs.Prelude.{◌≤◌, length};
 
 use crate::orders::{BASKET, BUYER, SELLER, are_priced, orders_of};
-use batch_certificate::{ClearedParts, Verdict, check_cleared};
+use batch_certificate::{Verdict, check_cleared};
+use batch_outcome::ClearedParts;
 use flow_orders::Order;
 use std::test::Fail;
 

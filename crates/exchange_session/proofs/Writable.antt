@@ -5,9 +5,9 @@ use Rattle.std.proofs.lemmas.List.{length-map}
 use Rattle.std.proofs.lemmas.List.FromFn.{length-range_with_len}
 use Rattle.flow_orders.specs.Orders.{Order}
 use Rattle.flow_orders.specs.Outcomes.{most_budget, IsRightOutcome}
-use Rattle.batch_certificate.specs.declared.outcome.Outcome.{Outcome}
-use Rattle.batch_certificate.specs.declared.outcome.Outcome.TheVariants as parts
-use Rattle.batch_certificate.specs.Published.{outcome_of, HasOneRateEach}
+use Rattle.batch_outcome.specs.declared.outcome.Outcome.{Outcome}
+use Rattle.batch_outcome.specs.declared.outcome.Outcome.TheVariants as parts
+use Rattle.batch_outcome.specs.Published.{outcome_of, HasOneRateEach}
 use Rattle.market_rules.specs.Market.{Market, IsSound, start_prices, cut_price}
 use Rattle.exchange_session.specs.Private.{IsWritable}
 

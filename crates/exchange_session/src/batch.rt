@@ -5,7 +5,7 @@ ghost use Rattle.wire_records.specs.Commands.{RunBatch, Batch};
 ghost use Rattle.wire_records.specs.Versions.{IsReadAs};
 ghost use Rattle.flow_orders.specs.Orders.{most_orders};
 ghost use Rattle.flow_orders.specs.Own.{IsOwnOutcome};
-ghost use Rattle.batch_certificate.specs.Published.{outcome_of};
+ghost use Rattle.batch_outcome.specs.Published.{outcome_of};
 ghost use Rattle.journal_records.specs.Pairs.{pair_spelling};
 ghost use Rattle.market_rules.specs.Market.{most_batches, start_prices};
 ghost use Rattle.market_rules.specs.Step.{FirstRefusal, after_batch};
@@ -13,7 +13,7 @@ ghost use Rattle.market_rules.specs.Settling.{MaySettle};
 ghost use Rattle.exchange_session.specs.Serving.{AnswersOne};
 ghost use Rattle.exchange_session.specs.Private.{IsWritable};
 
-use batch_certificate::Outcome;
+use batch_outcome::Outcome;
 use batch_engine::clear;
 use flow_orders::Order;
 use journal_records::{write_cleared, write_skipped};

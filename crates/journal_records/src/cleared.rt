@@ -7,11 +7,11 @@ ghost use Rattle.wire_records.specs.Commands.{Batch};
 ghost use Rattle.flow_orders.specs.Orders.{most_orders};
 ghost use Rattle.flow_orders.specs.Trades.{trades};
 ghost use Rattle.flow_orders.specs.Outcomes.{fill_of, Cleared as cleared_outcome};
-ghost use Rattle.batch_certificate.specs.Published.{clearing_of};
+ghost use Rattle.batch_outcome.specs.Published.{clearing_of};
 ghost use Rattle.journal_records.specs.Replies.{fill_spelling, answer_record, IsFill, IsAnswer};
 ghost use Rattle.journal_records.specs.Pairs.{pair_spelling, cleared_room};
 
-use batch_certificate::Cleared;
+use batch_outcome::Cleared;
 use flow_orders::Order;
 use wire_fields::{put_bytes, put_i64, put_i128, put_u16, put_u32, put_u64};
 use wire_records::{Memory, RecordView, put_head};

@@ -4,7 +4,7 @@ ghost use Rattle.journal_records.specs.Private.{SpellsCleared, SpellsNoCleared};
 
 use crate::fills_view::{FillsView, take_fills};
 use crate::numbers_view::{NumbersView, take_numbers};
-use batch_certificate::{Cleared, ClearedParts, PriceList, RateList, ResidualList};
+use batch_outcome::{Cleared, ClearedParts, PriceList, RateList, ResidualList};
 use std::alloc::Global;
 use std::marker::Model;
 use wire_fields::Cursor;
@@ -38,7 +38,7 @@ impl<'a> Model for ClearedView<'a> {
 }
 
 impl<'a> ClearedView<'a> {
-    ghost use Rattle.batch_certificate.specs.Verdicts.{rates_in};
+    ghost use Rattle.batch_outcome.specs.Parts.{rates_in};
 
     /// The number of the batch.
     pub fn batch(&self) -> u32

@@ -3,11 +3,11 @@ ghost use Rattle.std.specs.Prelude.{◌≡◌, ◌+◌, ◌<◌, ◌≤◌, ◌+
 ghost use Rattle.wire_records.specs.Records.{spelling};
 ghost use Rattle.wire_records.specs.Commands.{Batch};
 ghost use Rattle.flow_orders.specs.Outcomes.{most_budget, Skipped as skipped_outcome};
-ghost use Rattle.batch_certificate.specs.Published.{skipping_of};
+ghost use Rattle.batch_outcome.specs.Published.{skipping_of};
 ghost use Rattle.journal_records.specs.Replies.{answer_record, IsAnswer};
 ghost use Rattle.journal_records.specs.Pairs.{pair_spelling, skipped_room};
 
-use batch_certificate::Skipped;
+use batch_outcome::Skipped;
 use wire_fields::{put_bytes, put_i128, put_u32};
 use wire_records::{Memory, RecordView, put_head};
 

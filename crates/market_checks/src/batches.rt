@@ -3,7 +3,7 @@ ghost use Rattle.std.specs.Prelude.{◌≤◌};
 ghost use Rattle.market_rules.specs.Market.{Market as market_value, most_batches};
 ghost use Rattle.market_rules.specs.Settling.{MaySettle};
 
-use batch_certificate::{Outcome, Skipped, Trace};
+use batch_outcome::{Outcome, Skipped, Trace};
 use market_core::Market;
 use std::alloc::Global;
 

@@ -11,8 +11,8 @@ use Rattle.flow_orders.specs.Outcomes.{trades_of}
 use Rattle.flow_orders.specs.Outcomes as outcomes
 use Rattle.flow_orders.proofs.TradeFacts.{All-trades}
 use Rattle.flow_orders.proofs.OwnIsRight.{rates_back}
-use Rattle.batch_certificate.specs.declared.outcome.Cleared.{Cleared}
-use Rattle.batch_certificate.specs.Published.{clearing_of}
+use Rattle.batch_outcome.specs.declared.outcome.Cleared.{Cleared}
+use Rattle.batch_outcome.specs.Published.{clearing_of}
 use Rattle.fill_caps.specs.Settlement.{settled_balances, settled_exchange}
 use Rattle.market_rules.specs.Market.{Market, IsSound, IsLiveOrder, most_batches}
 use Rattle.market_rules.specs.Step.{after_batch}

@@ -2,14 +2,14 @@
 ghost use Rattle.std.specs.Prelude.{◌≡◌, ◌<◌, ◌≤◌, ◌^◌, length, All, IfOk, OnOk, MatchResult, Some, None};
 ghost use Rattle.demand_curve.specs.Demand.{IsWithin};
 ghost use Rattle.wire_records.specs.Commands.{RunBatch};
-ghost use Rattle.batch_certificate.specs.Published.{clearing_of, outcome_of};
+ghost use Rattle.batch_outcome.specs.Published.{clearing_of, outcome_of};
 ghost use Rattle.flow_orders.specs.Outcomes.{Cleared as ClearedBatch};
 ghost use Rattle.market_rules.specs.Market.{IsSound, most_batches, start_prices, cut_price};
 ghost use Rattle.market_rules.specs.Step.{FirstRefusal, after_batch};
 ghost use Rattle.market_rules.specs.Settling.{MaySettle, MaySettleAt};
 
 use crate::Market;
-use batch_certificate::{Cleared, Outcome, PriceList};
+use batch_outcome::{Cleared, Outcome, PriceList};
 use fill_caps::settle;
 use residual_account::ResidualAccount;
 use std::alloc::Global;

@@ -9,8 +9,8 @@ use Rattle.flow_orders.specs.Trades.{going_on}
 use Rattle.flow_orders.specs.Outcomes.{Fill, Clearing, Skipping, Outcome, Cleared, Skipped, IsRightOutcome, IsRightClearing, IsRightSkip}
 use Rattle.flow_orders.specs.Own.{are_single, ClearsNear}
 use Rattle.flow_orders.specs.Welfare.{IsOptimalWithin}
-use Rattle.batch_certificate.specs.GapBound.{gap_bound}
-use Rattle.batch_certificate.specs.Progress.{LowersTheDual}
+use Rattle.batch_outcome.specs.GapBound.{gap_bound}
+use Rattle.batch_outcome.specs.Progress.{LowersTheDual}
 use Rattle.market_rules.specs.Market.{Market, start_prices, held_money, held_units}
 use Rattle.market_rules.specs.Journal.{Step, Follows, Places, fills_of}
 

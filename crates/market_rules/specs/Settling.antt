@@ -1,10 +1,10 @@
 -- Which outcomes of a batch a market settles.
 use Rattle.std.specs.Prelude.{◌≡◌, length}
 use Rattle.flow_orders.specs.Outcomes.{IsRightClearing}
-use Rattle.batch_certificate.specs.declared.outcome.Cleared.{Cleared}
-use Rattle.batch_certificate.specs.declared.outcome.Outcome.{Outcome}
-use Rattle.batch_certificate.specs.declared.outcome.Outcome.TheVariants as parts
-use Rattle.batch_certificate.specs.Published.{clearing_of}
+use Rattle.batch_outcome.specs.declared.outcome.Cleared.{Cleared}
+use Rattle.batch_outcome.specs.declared.outcome.Outcome.{Outcome}
+use Rattle.batch_outcome.specs.declared.outcome.Outcome.TheVariants as parts
+use Rattle.batch_outcome.specs.Published.{clearing_of}
 use Rattle.market_rules.specs.Market.{Market, start_prices}
 
 -- a clearing with one rate for each live order, which is right for these and the start prices

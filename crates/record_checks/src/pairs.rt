@@ -1,5 +1,5 @@
 //! Pairs that are written.
-use batch_certificate::{Cleared, PriceList, RateList, ResidualList, Skipped, Trace};
+use batch_outcome::{Cleared, PriceList, RateList, ResidualList, Skipped, Trace};
 use flow_orders::{Order, order_fault};
 use journal_records::{reserve_plain, write_cleared, write_plain, write_skipped};
 use std::alloc::Global;

@@ -1,6 +1,6 @@
 //! Replies that are read, and pairs.
 use crate::telling::{put, put_bytes, put_item};
-use batch_certificate::{Cleared, ClearedParts};
+use batch_outcome::{Cleared, ClearedParts};
 use journal_records::{ClearedView, PairFramed, ReplyView, is_overlong, next_pair, reply};
 use std::alloc::Global;
 use wire_records::{RecordView, Reply};

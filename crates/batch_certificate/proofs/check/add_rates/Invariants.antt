@@ -1,6 +1,7 @@
 use Rattle.std.proofs.Common.{length}
 use Rattle.flow_orders.specs.Trades.{trades}
-use Rattle.batch_certificate.specs.Verdicts.{HoldsBelow, IsRateRight, rates_in}
+use Rattle.batch_certificate.specs.Verdicts.{HoldsBelow, IsRateRight}
+use Rattle.batch_outcome.specs.Parts.{rates_in}
 use Rattle.batch_certificate.proofs.Sums.{AreSummed}
 use Rattle.batch_certificate.proofs.check.add_rates.Given as goal
 

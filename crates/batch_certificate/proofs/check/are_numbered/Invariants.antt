@@ -1,6 +1,7 @@
 use Rattle.std.proofs.Common.{◌≡◌, map, get_or}
 use Rattle.flow_orders.specs.Orders.{Order}
-use Rattle.batch_certificate.specs.Verdicts.{HoldsBelow, numbers_in}
+use Rattle.batch_certificate.specs.Verdicts.{HoldsBelow}
+use Rattle.batch_outcome.specs.Parts.{numbers_in}
 use Rattle.batch_certificate.proofs.check.are_numbered.Given as goal
 
 abbrev pub invariant-loop-place : goal.invariant-loop-place

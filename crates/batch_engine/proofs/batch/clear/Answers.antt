@@ -1,4 +1,4 @@
-use Rattle.batch_certificate.specs.declared.outcome.Outcome.TheVariants as parts
+use Rattle.batch_outcome.specs.declared.outcome.Outcome.TheVariants as parts
 use Rattle.batch_engine.proofs.OwnClearing.{on_ok, single_where, wide_where, outcome_is_own, outcome_is_right, outcome_is_near, outcome_has_rates, outcome_is_certified}
 use Rattle.batch_engine.proofs.batch.clear.Goals as goal
 

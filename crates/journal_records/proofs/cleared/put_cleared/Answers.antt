@@ -6,7 +6,7 @@ use Rattle.wire_fields.specs.Numbers.{IsSigned}
 use Rattle.wire_fields.proofs.Spelling.{IsSigned-from_fits}
 use Rattle.flow_orders.specs.Outcomes.{Clearing, fill_of}
 use Rattle.flow_orders.specs.Trades.{trades}
-use Rattle.batch_certificate.specs.Published.{clearing_of}
+use Rattle.batch_outcome.specs.Published.{clearing_of}
 use Rattle.journal_records.specs.Replies.{IsFill}
 use Rattle.journal_records.proofs.Spelled.{put_together}
 use Rattle.journal_records.proofs.Fills.{length-fills}

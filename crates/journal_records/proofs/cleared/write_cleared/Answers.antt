@@ -2,7 +2,7 @@ use Rattle.std.proofs.Common.{◌≡◌, ◌++◌, ap, ◌∙◌, append_assoc}
 use Rattle.wire_records.specs.Records.{spelling}
 use Rattle.wire_records.specs.Commands.{Batch}
 use Rattle.flow_orders.specs.Outcomes.{Cleared}
-use Rattle.batch_certificate.specs.Published.{clearing_of}
+use Rattle.batch_outcome.specs.Published.{clearing_of}
 use Rattle.journal_records.specs.Replies.{answer_record}
 use Rattle.journal_records.specs.Pairs.{pair_spelling}
 use Rattle.journal_records.proofs.cleared.write_cleared.Goals as goal

@@ -5,7 +5,7 @@ use Rattle.std.proofs.lemmas.List.Elements.{All-drop}
 use Rattle.std.proofs.Math.Seq.{drop-append_seam}
 use Rattle.wire_records.specs.Records.{AreBytes}
 use Rattle.wire_fields.proofs.Spelling.{IsSigned-from_fits}
-use Rattle.batch_certificate.specs.Published.{skipping_of}
+use Rattle.batch_outcome.specs.Published.{skipping_of}
 use Rattle.journal_records.proofs.Spelled.{put_skip_together}
 use Rattle.journal_records.proofs.skipped.put_skipped.Goals as goal
 

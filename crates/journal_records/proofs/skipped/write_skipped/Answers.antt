@@ -2,7 +2,7 @@ use Rattle.std.proofs.Common.{◌≡◌, ◌++◌, ap, ◌∙◌, append_assoc}
 use Rattle.wire_records.specs.Records.{spelling}
 use Rattle.wire_records.specs.Commands.{Batch}
 use Rattle.flow_orders.specs.Outcomes.{Skipped}
-use Rattle.batch_certificate.specs.Published.{skipping_of}
+use Rattle.batch_outcome.specs.Published.{skipping_of}
 use Rattle.journal_records.specs.Replies.{answer_record}
 use Rattle.journal_records.specs.Pairs.{pair_spelling}
 use Rattle.journal_records.proofs.skipped.write_skipped.Goals as goal

@@ -1,5 +1,5 @@
 use Rattle.std.proofs.Common.{◌≡◌, ◌+◌, ap, subst, sym, ◌∙◌}
-use Rattle.batch_certificate.specs.Published.{clearing_of}
+use Rattle.batch_outcome.specs.Published.{clearing_of}
 use Rattle.flow_orders.specs.Outcomes as outcomes
 use Rattle.flow_orders.specs.Trades.{going_on}
 use Rattle.market_rules.specs.Market.{IsSound}

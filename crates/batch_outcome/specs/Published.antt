@@ -4,10 +4,10 @@ use Rattle.flow_orders.specs.Orders.{Order}
 use Rattle.flow_orders.specs.Trades.{trades}
 use Rattle.flow_orders.specs.Outcomes.{Clearing, Skipping, fill_of}
 use Rattle.flow_orders.specs.Outcomes as outcomes
-use Rattle.batch_certificate.specs.declared.outcome.Cleared.{Cleared}
-use Rattle.batch_certificate.specs.declared.outcome.Skipped.{Skipped}
-use Rattle.batch_certificate.specs.declared.outcome.Outcome.{Outcome}
-use Rattle.batch_certificate.specs.declared.outcome.Outcome.TheVariants as parts
+use Rattle.batch_outcome.specs.declared.outcome.Cleared.{Cleared}
+use Rattle.batch_outcome.specs.declared.outcome.Skipped.{Skipped}
+use Rattle.batch_outcome.specs.declared.outcome.Outcome.{Outcome}
+use Rattle.batch_outcome.specs.declared.outcome.Outcome.TheVariants as parts
 
 -- a clearing of these orders: each rate is that of the order at its place
 abbrev pub clearing_of : List Order → Cleared → Clearing

@@ -1,0 +1,4 @@
+pub mod Parts
+pub mod Published
+pub mod GapBound
+pub mod Progress

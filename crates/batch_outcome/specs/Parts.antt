@@ -1,0 +1,11 @@
+-- The numbers and the rates of a published clearing.
+use Rattle.std.specs.Prelude.{ℕ, List, map}
+use Rattle.flow_orders.specs.Outcomes.{Fill, Clearing}
+
+-- the numbers of the orders that are listed
+abbrev pub numbers_in : Clearing → List ℕ
+numbers_in c = map (λ (f : Fill). f.order) c.fills
+
+-- the rates
+abbrev pub rates_in : Clearing → List ℕ
+rates_in c = map (λ (f : Fill). f.rate) c.fills
