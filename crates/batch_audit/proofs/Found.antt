@@ -1,5 +1,5 @@
 -- What is found of a pair, by what its records spell.
-use Rattle.std.proofs.Common.{◌≡◌, ◌↔◌, ℕ, ◌+◌, ◌<◌, ℤ, pos, false, List, length, Option, Some, None, Result, Ok, Err, refl, sym, ap, subst, ◌∙◌}
+use Rattle.std.proofs.Common.{◌≡◌, ◌↔◌, ℕ, ◌+◌, ◌<◌, ℤ, pos, false, List, length, Some, None, Ok, Err, refl, sym, ap, subst, ◌∙◌}
 use Rattle.std.specs.Prelude.{◌≢◌}
 use Rattle.wire_records.specs.Records.{Record}
 use Rattle.wire_records.specs.Commands.{Command, RunBatch, Answer, Plain, Batch}
@@ -11,13 +11,9 @@ use Rattle.wire_records.specs.declared.reply.Refusal.{Refusal}
 use Rattle.flow_orders.specs.Orders.{Order}
 use Rattle.flow_orders.specs.Excess.{is_unsettled}
 use Rattle.flow_orders.specs.Walks.{AreSettled}
-use Rattle.flow_orders.specs.Outcomes.{Clearing, Skipping, Outcome, Cleared, Skipped, IsRightOutcome, IsRightClearing, IsRightSkip, dual_of, end_of, IsLegalFrom, EndsSettled}
+use Rattle.flow_orders.specs.Outcomes.{Clearing, Skipping, Outcome, Cleared, Skipped, IsRightOutcome, IsRightSkip, dual_of, end_of, IsLegalFrom, EndsSettled}
 use Rattle.flow_orders.proofs.Moving.{has_walked}
-use Rattle.coordinate_search.specs.Search.{IsFirstIllegal}
 use Rattle.coordinate_search.proofs.MadeAgain.{illegal_whole}
-use Rattle.batch_certificate.specs.declared.verdict.Verdict.{Verdict}
-use Rattle.batch_certificate.specs.declared.verdict.Verdict.TheVariants.{Right}
-use Rattle.batch_certificate.specs.Verdicts.{IsVerdict}
 use Rattle.journal_records.specs.Replies.{SpellsAnswer}
 use Rattle.market_rules.specs.Market.{Market, start_prices}
 use Rattle.market_rules.specs.Step.{FirstRefusal, refusal_of, after_batch}
@@ -25,7 +21,7 @@ use Rattle.market_rules.proofs.LawProofs.{plain_commands_need_no_rule}
 use Rattle.market_core.specs.Expected.{IsExpected}
 use Rattle.batch_audit.specs.declared.finding.Finding.{Finding}
 use Rattle.batch_audit.specs.declared.finding.Finding.TheVariants as finding
-use Rattle.batch_audit.specs.Findings.{GetsReply, IsDue, TellsClearing, TellsSkip, HasOtherReply, HasOtherBatch, HasWholeTrace, HasLegalTrace, EndsUnsettled, HasStartDual, IsOtherDual, IsFinding}
+use Rattle.batch_audit.specs.Findings.{GetsReply, IsDue, TellsSkip, HasWholeTrace, HasLegalTrace, EndsUnsettled, IsOtherDual, IsFinding}
 use Rattle.batch_audit.specs.Private.{IsReplyFound, IsClearingFound, IsSkipFound, IsFoundWhere}
 
 -- ---- the reply that a record gets

@@ -28,10 +28,10 @@ use Rattle.market_rules.specs.Step.{FirstRefusal, Accepts, Answers, Serves, Serv
 use Rattle.market_rules.specs.Journal.{Step}
 use Rattle.market_rules.proofs.LawProofs.{plain_commands_have_one_answer, batch_of}
 use Rattle.market_rules.proofs.OneStep.{one_first}
-use Rattle.batch_audit.specs.Legal.{IsLegalPair}
+use Rattle.batch_audit.proofs.Served.{same_plain}
 use Rattle.batch_audit.specs.declared.finding.Finding.{Finding}
 use Rattle.batch_audit.specs.declared.finding.Finding.TheVariants as finding
-use Rattle.batch_audit.specs.Findings.{GetsReply, IsDue, TellsClearing, TellsSkip, HasWholeTrace, HasLegalTrace, EndsUnsettled, HasStartDual, IsOtherDual, IsFinding}
+use Rattle.batch_audit.specs.Findings.{GetsReply, IsDue, TellsClearing, TellsSkip, HasWholeTrace, HasLegalTrace, EndsUnsettled, IsOtherDual, IsFinding}
 use Rattle.batch_audit.specs.Private.{IsReplyFound, IsClearingFound, IsSkipFound}
 use Rattle.batch_audit.proofs.Found.{plain_is_none}
 use Rattle.batch_audit.specs.Laws.{OneFinding, FindingsTellLegality}
@@ -222,9 +222,6 @@ batch_or_not (RunBatch budget) = inl (budget, refl)
 batch_or_not (PlaceUntil last request) = inr (λ budget e. cc)
 batch_or_not (SetMoneyCredit account ticks) = inr (λ budget e. cc)
 batch_or_not (SetUnitCredit account asset units) = inr (λ budget e. cc)
-
-same_plain : (r q : Reply) → ◌≡◌ {A = Answer Outcome} (Plain r) (Plain q) → r ≡ q
-same_plain r q e = cc
 
 same_budget : (b c : ℕ) → ◌≡◌ {A = Result Command BodyFault} (Ok (RunBatch b)) (Ok (RunBatch c)) → b ≡ c
 same_budget b c e = cc

@@ -1,5 +1,5 @@
 -- What a pair is judged to be, by its reply and by what its record is read as.
-use Rattle.std.proofs.Common.{◌≡◌, ◌↔◌, ℕ, Bool, true, false, IsTrue, if◌then◌else◌, Result, Ok, Err, Some, None, refl, sym, ap, subst, ◌∙◌}
+use Rattle.std.proofs.Common.{◌≡◌, ◌↔◌, ℕ, Bool, true, false, IsTrue, if◌then◌else◌, Result, Ok, Err, Option, Some, None, refl, sym, ap, subst, ◌∙◌}
 use Rattle.std.specs.Prelude.{IfOk}
 use Rattle.std.proofs.lemmas.Bool.{false≢true}
 use Rattle.wire_records.specs.Records.{Record}
@@ -29,6 +29,16 @@ use Rattle.batch_audit.specs.declared.audit.Legality.TheVariants.{Legal, Illegal
 
 -- ---- commands that hold no batch
 
+-- equal answers have equal replies
+pub same_plain : (r q : Reply) → ◌≡◌ {A = Answer Outcome} (Plain r) (Plain q) → r ≡ q
+same_plain r q e = cc
+
+-- a reply that is no refusal is that of an accepted command
+no_first : (m n : Market) (c : Command) (reply : Reply) (first : Option Refusal) → FirstRefusal m c first → Answers IsOwnOutcome m c first (Plain reply) n
+    → ((refusal : Refusal) → ¬ (reply ≡ Refused refusal)) → FirstRefusal m c None
+no_first m n c reply None refused answered accepts = refused
+no_first m n c reply (Some refusal) refused answered accepts = absurd (accepts refusal (same_plain reply (Refused refusal) answered.0))
+
 module _ (m : Market) (c : Command) (none : (budget : ℕ) → ¬ (c ≡ RunBatch budget)) (reply : Reply) (expected : IsExpected m c reply) where
   -- the expected reply is the one answer
   answer_is : (a : Answer Outcome) (n : Market) → Serves IsRightOutcome m c a n → a ≡ Plain reply
@@ -37,6 +47,10 @@ module _ (m : Market) (c : Command) (none : (budget : ℕ) → ¬ (c ≡ RunBatc
   -- any other is none
   pub other_answer : (a : Answer Outcome) → ¬ (a ≡ Plain reply) → IsServed Illegal m (Ok c) a m
   other_answer a other = (λ n serves. other (answer_is a n serves), refl)
+
+  -- where it is no refusal, none stops the command
+  pub accepted : ((refusal : Refusal) → ¬ (reply ≡ Refused refusal)) → FirstRefusal m c None
+  accepted = no_first m expected.0 c reply expected.1.first expected.1.refused expected.1.answered
 
   -- a refusal changes nothing
   pub refused_answer : (a : Answer Outcome) (refusal : Refusal) → a ≡ Plain reply → reply ≡ Refused refusal → IsServed Legal m (Ok c) a m

@@ -1,9 +1,9 @@
 -- No pair of records of a sound market is without a finding.
-use Rattle.std.proofs.Common.{◌≡◌, ◌↔◌, ℕ, zero, suc, ◌+◌, ◌<◌, ◌≤◌, ℤ, pos, List, length, take, Result, Ok, Err, Option, Some, None, refl, sym, ap, subst, ◌∙◌, arith}
+use Rattle.std.proofs.Common.{◌≡◌, ℕ, zero, suc, ◌+◌, ◌≤◌, ℤ, pos, length, take, Result, Ok, Err, Option, Some, None, refl, sym, ap, subst, ◌∙◌, arith}
 use Rattle.std.proofs.lemmas.List.{take_all}
 use Rattle.std.specs.Prelude.{All}
 use Rattle.wire_records.specs.Records.{Record}
-use Rattle.wire_records.specs.Commands.{Command, RunBatch, Answer, Plain, Batch}
+use Rattle.wire_records.specs.Commands.{Command, Answer, Plain, Batch}
 use Rattle.wire_records.specs.Versions.{IsReadAs}
 use Rattle.wire_records.specs.declared.version.Version.{Version}
 use Rattle.wire_records.specs.declared.command.BodyFault.{BodyFault}
@@ -13,8 +13,6 @@ use Rattle.wire_records.specs.declared.reply.Reply.TheVariants.{Refused}
 use Rattle.wire_records.specs.declared.reply.Refusal.{Refusal}
 use Rattle.flow_orders.specs.Orders.{IsOrder}
 use Rattle.flow_orders.specs.Outcomes.{Clearing, Skipping, Outcome, Cleared, Skipped, IsRightOutcome, IsLegalFrom, dual_of, end_of}
-use Rattle.flow_orders.specs.Own.{IsOwnOutcome}
-use Rattle.batch_certificate.specs.declared.verdict.Verdict.TheVariants.{Right}
 use Rattle.batch_certificate.specs.Verdicts.{IsVerdict}
 use Rattle.batch_certificate.proofs.OneVerdict.{right_is_for_right_clearings}
 use Rattle.batch_certificate.proofs.Judging.{each_has_a_verdict}

@@ -8,7 +8,6 @@ use Rattle.wire_records.specs.declared.reply.Reply.{Reply}
 use Rattle.flow_orders.specs.Orders.{Order}
 use Rattle.flow_orders.specs.Outcomes.{Clearing, Skipping, Outcome, Cleared, Skipped, IsRightOutcome, IsWide, IsLegalFrom, EndsSettled, end_of, dual_of}
 use Rattle.coordinate_search.specs.Search.{IsFirstIllegal}
-use Rattle.batch_certificate.specs.declared.verdict.Verdict.{Verdict}
 use Rattle.batch_certificate.specs.declared.verdict.Verdict.TheVariants.{Right}
 use Rattle.batch_certificate.specs.Verdicts.{IsVerdict}
 use Rattle.journal_records.specs.Replies.{SpellsAnswer}

@@ -1,9 +1,10 @@
 //! One pair, and whether it is legal.
-ghost use Rattle.std.specs.Prelude.{◌≡◌, ◌+◌, ◌^◌, ◌<◌, ◌↔◌, ℕ, IsTrue, if◌then◌else◌, Ok, IfOk, OnErr};
+ghost use Rattle.std.specs.Prelude.{◌≡◌, ◌+◌, ◌^◌, ◌<◌, ◌↔◌, ℕ, IsTrue, if◌then◌else◌, Ok, IfOk, IfSome, IfNone, OnErr};
 ghost use Rattle.wire_records.specs.Commands.{RunBatch, Plain};
 ghost use Rattle.wire_records.specs.CommandRecords.{IsCommand};
 ghost use Rattle.wire_records.specs.Versions.{IsOfVersion};
 ghost use Rattle.wire_records.specs.Views.{command_of};
+ghost use Rattle.wire_records.specs.declared.reply.Refusal.{Refusal as refusal_type};
 ghost use Rattle.journal_records.specs.Views.{answer_of};
 ghost use Rattle.market_rules.specs.Wanting.{MayWant, RecordMayWant};
 ghost use Rattle.batch_audit.specs.declared.audit.Legality.TheVariants.{Legal, Illegal};
@@ -16,7 +17,7 @@ use journal_records::{PairView, ReplyView, reply};
 use market_core::Market;
 use std::alloc::Global;
 use std::marker::Model;
-use wire_records::{CommandView, Memory, RecordView, Reply};
+use wire_records::{CommandView, Memory, RecordView, Refusal, Reply};
 
 /// Whether a pair is legal.
 #[derive(Clone, Copy, PartialEq, Eq)]
@@ -53,6 +54,20 @@ fn legal_where(test: bool) -> Legality
     }
 }
 
+// The refusal that a reply is, if it is one.
+fn refusal_in(reply: Reply) -> Option<Refusal>
+    ensures some { IfSome result (λ refusal. reply ≡ Reply.Refused refusal) }
+    ensures none { IfNone result ((refusal : refusal_type) → ¬ (reply ≡ Reply.Refused refusal)) }
+{
+    match reply {
+        Reply::Refused(refusal) => Some(refusal),
+        Reply::Done => None,
+        Reply::Asset(_) => None,
+        Reply::Account(_) => None,
+        Reply::Order(_) => None,
+    }
+}
+
 // Serves a command that holds no batch, where this is the reply to it.
 fn serve_plain(
     market: &mut Market,
@@ -72,10 +87,10 @@ fn serve_plain(
     if !is_plain(seen, expected) {
         return Ok(Legality::Illegal);
     }
-    if let Reply::Refused(_) = expected {
+    if let Some(_refusal) = refusal_in(expected) {
         return Ok(Legality::Legal);
     }
-    market.apply(command)?;
+    market.make(command)?;
     Ok(Legality::Legal)
 }
 
@@ -170,7 +185,7 @@ impl Audit {
     ///
     /// The pair is checked where it lies. Of a reply nothing is copied but prices, rates and residuals of a clearing that is
     /// right, and of a command what the market keeps of it. Memory is taken for these, for the start prices of a batch and
-    /// for the prices of a walk.
+    /// for a walk what a search takes but for its trace.
     pub fn pair(&mut self, pair: &PairView<'_>) -> Result<Legality, Memory>
         requires next { self.old.next_order + 1 < 2 ^ 64 }
         ensures judged { IfOk result (λ legality. IsJudged legality self.old pair.now self.new) }
@@ -190,8 +205,8 @@ impl Audit {
     /// Why the pair is no step of the market: the first of the findings that holds, and `Legal` exactly where it is one, so
     /// where [`Audit::pair`] answers that. Nothing is changed. The number that the next order gets is below 2^64 - 1.
     ///
-    /// It costs what the audit of the pair costs without the step, and takes memory for the start prices of a batch and for
-    /// the prices of a walk alone.
+    /// It costs what the audit of the pair costs without the step, and takes memory for the start prices of a batch and, for a
+    /// walk, what a search takes but for its trace.
     pub fn explain(&self, pair: &PairView<'_>) -> Result<Finding, Memory>
         requires next { self.now.next_order + 1 < 2 ^ 64 }
         ensures found { IfOk result (IsFinding self.now pair.now) }

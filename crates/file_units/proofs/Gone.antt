@@ -13,7 +13,7 @@ use Rattle.flow_io.proofs.Reading.{Takes-more}
 use Rattle.wire_records.specs.Records.{AreBytes}
 use Rattle.wire_records.specs.Grammars.{BeginsWithNone, spell_all}
 use Rattle.wire_records.specs.Reading.{Format}
-use Rattle.file_units.specs.declared.walk.Ending.TheVariants.{End, Torn, TooLong}
+use Rattle.file_units.specs.declared.units.Ending.TheVariants.{End, Torn, TooLong}
 use Rattle.file_units.specs.declared.input.TakeFault.TheVariants.{Read, Broken}
 use Rattle.file_units.specs.Units.{TakesOne, Leads, BreaksOff}
 use Rattle.file_units.specs.Inputs.{HasLongest, known, GoesFrom}

@@ -6,8 +6,8 @@ use Rattle.wire_records.specs.Records.{AreBytes}
 use Rattle.wire_records.specs.Grammars.{BeginsWithNone, spell_all}
 use Rattle.wire_records.specs.Reading.{Format}
 use Rattle.wire_records.specs.Reading as reading
-use Rattle.file_units.specs.declared.walk.Ending.{Ending}
-use Rattle.file_units.specs.declared.walk.Ending.TheVariants.{End}
+use Rattle.file_units.specs.declared.units.Ending.{Ending}
+use Rattle.file_units.specs.declared.units.Ending.TheVariants.{End}
 use Rattle.file_units.specs.declared.input.TakeFault.{TakeFault}
 use Rattle.file_units.specs.declared.input.TakeFault.TheVariants.{Read, Broken}
 use Rattle.file_units.specs.Units.{ending_of, GoesToEnd, GoesToBreak}

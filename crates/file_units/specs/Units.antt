@@ -3,10 +3,10 @@ use Rattle.std.specs.Prelude.{◌≡◌, ◌≢◌, ◌-◌, ◌<◌, ℕ, List,
 use Rattle.wire_records.specs.Grammars.{BeginsWithNone, spell_all}
 use Rattle.wire_records.specs.Reading.{Format, ReadsOn}
 use Rattle.wire_records.specs.Reading as reading
-use Rattle.file_units.specs.declared.walk.Front.{Front}
-use Rattle.file_units.specs.declared.walk.Front.TheVariants.{Taken, NoBytes, Overlong, Short}
-use Rattle.file_units.specs.declared.walk.Ending.{Ending}
-use Rattle.file_units.specs.declared.walk.Ending.TheVariants.{End, Torn, TooLong}
+use Rattle.file_units.specs.declared.units.Front.{Front}
+use Rattle.file_units.specs.declared.units.Front.TheVariants.{Taken, NoBytes, Overlong, Short}
+use Rattle.file_units.specs.declared.units.Ending.{Ending}
+use Rattle.file_units.specs.declared.units.Ending.TheVariants.{End, Torn, TooLong}
 
 -- the ending of a reading that an answer stands for
 abbrev pub ending_of : Ending → reading.Ending

@@ -6,7 +6,7 @@ ghost use Rattle.flow_io.specs.declared.window.InputEnd.TheVariants.{Source as s
 ghost use Rattle.wire_records.specs.Records.{AreBytes};
 ghost use Rattle.file_units.specs.Inputs.{HasLongest, GoesFrom};
 
-use crate::walk::{Ending, Front, TakesUnits};
+use crate::units::{Ending, Front, TakesUnits};
 use flow_io::{Filled, ReadFailed, Source, Window};
 
 /// Why the units of an input weren't taken to its end.

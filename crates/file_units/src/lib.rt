@@ -6,7 +6,7 @@
 #![tactic(auto)]
 
 mod input;
-mod walk;
+mod units;
 
 pub use input::{TakeFault, take_from};
-pub use walk::{Ending, Front, TakesUnits, take_units};
+pub use units::{Ending, Front, TakesUnits, take_units};

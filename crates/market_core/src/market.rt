@@ -1,5 +1,5 @@
 //! The market of a run, and what a command makes of it.
-ghost use Rattle.std.specs.Prelude.{◌≡◌, ◌≢◌, ℕ, ◌+◌, ◌<◌, ◌^◌, IfOk, OnErr, MatchResult, length};
+ghost use Rattle.std.specs.Prelude.{◌≡◌, ◌≢◌, ℕ, ◌+◌, ◌<◌, ◌^◌, IfOk, OnErr, MatchResult, None, length};
 ghost use Rattle.std.specs.Result.{ForErr};
 ghost use Rattle.wire_records.specs.Commands.{AddAsset, OpenAccount, DepositMoney, DepositAsset, WithdrawMoney, WithdrawAsset, PlaceOrder, CancelOrder, RunBatch, SetMoneyCredit, SetUnitCredit, Plain};
 ghost use Rattle.wire_records.specs.CommandRecords.{IsCommand};
@@ -91,7 +91,7 @@ pub(crate) fn reply_to<T: Copy>(outcome: Result<T, AccountFault>) -> Reply
 impl Market {
     ghost use Rattle.flow_orders.specs.Own.{IsOwnOutcome};
     ghost use Rattle.market_rules.specs.Market.{empty_market, IsSound};
-    ghost use Rattle.market_rules.specs.Step.{Serves};
+    ghost use Rattle.market_rules.specs.Step.{FirstRefusal, Serves};
     ghost use Rattle.market_rules.specs.Wanting.{MayWant};
 
     /// A market of version One with no asset and no account. Takes no memory.
@@ -162,6 +162,25 @@ impl Market {
                 asset,
                 units,
             } => Ok(self.set_unit_credit(account, asset, units)),
+        }
+    }
+
+    /// Makes the step of a command that no refusal stops, as [`Market::apply`] does, and answers its reply. An order isn't
+    /// tested again, so it costs what its record and its own entries cost.
+    pub fn make(&mut self, command: &CommandView<'_>) -> Result<Reply, Memory>
+        requires command { IsCommand (command_of command.now) }
+        requires version { IsOfVersion self.old.version (command_of command.now) }
+        requires no_batch { (budget : ℕ) → ¬ (command_of command.now ≡ RunBatch budget) }
+        requires next { self.old.next_order + 1 < 2 ^ 64 }
+        requires accepted { FirstRefusal self.old (command_of command.now) None }
+        ensures served { IfOk result (λ reply. Serves IsOwnOutcome self.old (command_of command.now) (Plain reply) self.new) }
+        ensures stays { OnErr result (self.new ≡ self.old) }
+        ensures wanted { OnErr result (MayWant self.old (command_of command.now)) }
+    {
+        match *command {
+            CommandView::PlaceOrder(ref place) => self.add_order(place),
+            CommandView::PlaceUntil { last, ref place } => self.add_until(last, place),
+            _ => self.apply(command),
         }
     }
 

@@ -1,5 +1,5 @@
 //! Orders: placed where they can be paid and delivered, and cancelled.
-ghost use Rattle.std.specs.Prelude.{◌≡◌, ◌+◌, ◌*◌, ◌<◌, ◌≤◌, ◌^◌, ◌↔◌, ◌≤ℤ◌, pos, IsTrue, IfOk, IfSome, IfNone, Some, OnErr, All};
+ghost use Rattle.std.specs.Prelude.{◌≡◌, ◌+◌, ◌*◌, ◌<◌, ◌≤◌, ◌^◌, ◌↔◌, ◌≤ℤ◌, pos, IsTrue, IfOk, IfSome, IfNone, Some, None, OnErr, All};
 ghost use Rattle.demand_curve.specs.Numbers.{or_zero};
 ghost use Rattle.weight_rows.specs.Rows.{IsLawfulRow, IsLawfulWeight};
 ghost use Rattle.flow_accounts.specs.Balances.{IsAccount, IsAsset, grains, money_with_credit, units_with_credit};
@@ -53,6 +53,18 @@ impl Market {
         if let Some(refusal) = self.place_refusal(place) {
             return Ok(Reply::Refused(refusal));
         }
+        self.add_order(place)
+    }
+
+    // Adds an order that no refusal stops.
+    pub(crate) fn add_order(&mut self, place: &PlaceView<'_>) -> Result<Reply, Memory>
+        requires command { IsCommand (PlaceOrder place.now) }
+        requires next { self.old.next_order + 1 < 2 ^ 64 }
+        requires accepted { FirstRefusal self.old (PlaceOrder place.now) None }
+        ensures served { IfOk result (λ reply. Serves IsOwnOutcome self.old (PlaceOrder place.now) (Plain reply) self.new) }
+        ensures stays { OnErr result (self.new ≡ self.old) }
+        ensures wanted { OnErr result (MayWant self.old (PlaceOrder place.now)) }
+    {
         match self.book.reserve_one() {
             Ok(()) => {}
             Err(_) => return Err(Memory),
@@ -83,6 +95,19 @@ impl Market {
         if let Some(first) = self.until_refusal(last, place) {
             return Ok(Reply::Refused(first));
         }
+        self.add_until(last, place)
+    }
+
+    // Adds an order with a last batch that no refusal stops.
+    pub(crate) fn add_until(&mut self, last: u32, place: &PlaceView<'_>) -> Result<Reply, Memory>
+        requires command { IsCommand (PlaceUntil last place.now) }
+        requires version { IsOfVersion self.old.version (PlaceUntil last place.now) }
+        requires next { self.old.next_order + 1 < 2 ^ 64 }
+        requires accepted { FirstRefusal self.old (PlaceUntil last place.now) None }
+        ensures served { IfOk result (λ reply. Serves IsOwnOutcome self.old (PlaceUntil last place.now) (Plain reply) self.new) }
+        ensures stays { OnErr result (self.new ≡ self.old) }
+        ensures wanted { OnErr result (MayWant self.old (PlaceUntil last place.now)) }
+    {
         match self.book.reserve_one() {
             Ok(()) => {}
             Err(_) => return Err(Memory),

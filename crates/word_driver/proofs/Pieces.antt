@@ -3,8 +3,8 @@ use Rattle.std.proofs.Common.{◌≡◌, ◌≢◌, ℕ, List, [], Option, drop,
 use Rattle.flow_io.specs.Faults.{Blames}
 use Rattle.flow_io.specs.Streams.{Grows, GrowsByFront}
 use Rattle.flow_io.specs.Changes.{change}
-use Rattle.file_units.specs.declared.walk.Front.{Front}
-use Rattle.file_units.specs.declared.walk.Front.TheVariants.{Taken, NoBytes, Overlong, Short}
+use Rattle.file_units.specs.declared.units.Front.{Front}
+use Rattle.file_units.specs.declared.units.Front.TheVariants.{Taken, NoBytes, Overlong, Short}
 use Rattle.file_units.specs.Units.{IsTaken, BreaksOff}
 use Rattle.word_driver.specs.declared.fault.Fault.{Fault}
 use Rattle.word_driver.specs.declared.fault.Fault.TheVariants.{Write}

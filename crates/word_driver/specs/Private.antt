@@ -6,7 +6,7 @@ use Rattle.flow_io.specs.Windows.{WindowState}
 use Rattle.flow_io.specs.Changes.{Change}
 use Rattle.wire_records.specs.Grammars.{BeginsWith, BeginsWithNone, spell_all}
 use Rattle.wire_records.specs.declared.version.Version.{Version}
-use Rattle.file_units.specs.declared.walk.Front.{Front}
+use Rattle.file_units.specs.declared.units.Front.{Front}
 use Rattle.file_units.specs.Units.{IsTaken}
 use Rattle.file_units.specs.Inputs.{known}
 use Rattle.word_driver.specs.declared.fault.Fault.{Fault}

@@ -1,6 +1,6 @@
 use Rattle.std.proofs.Common.{◌-◌, length}
 use Rattle.file_units.proofs.Taking.{HasTaken}
-use Rattle.file_units.proofs.walk.take_units.Given as goal
+use Rattle.file_units.proofs.units.take_units.Given as goal
 
 abbrev pub invariant-units : goal.invariant-units
 invariant-units g l =

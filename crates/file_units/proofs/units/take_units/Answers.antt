@@ -1,7 +1,7 @@
 use Rattle.std.proofs.Common.{◌-◌, length, ap, arith}
 use Rattle.std.proofs.lemmas.List.{take_rest, length-drop}
 use Rattle.file_units.proofs.Taking.{one_more_taken}
-use Rattle.file_units.proofs.walk.take_units.Goals as goal
+use Rattle.file_units.proofs.units.take_units.Goals as goal
 
 pub units-preserved : goal.units-preserved
 units-preserved g c =
