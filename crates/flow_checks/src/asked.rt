@@ -11,6 +11,9 @@ pub(crate) struct Asked {
     pub(crate) read: u64,
     pub(crate) out: u64,
     pub(crate) notes: u64,
+    // Of these first calls each fails in turn, and 0 where none does.
+    pub(crate) reads: u64,
+    pub(crate) outs: u64,
     pub(crate) rows: u64,
     // Whether it is told how many bytes are left in the source.
     pub(crate) left: bool,
@@ -26,6 +29,8 @@ impl Asked {
             read: 0,
             out: 0,
             notes: 0,
+            reads: 0,
+            outs: 0,
             rows: 64,
             left: false,
         }
@@ -52,6 +57,8 @@ impl Asked {
             "read" => self.read = number,
             "out" => self.out = number,
             "notes" => self.notes = number,
+            "reads" => self.reads = number,
+            "outs" => self.outs = number,
             "rows" => self.rows = number,
             "left" => self.left = number > 0,
             _ => return None,

@@ -1,6 +1,6 @@
 //! A call, over a source and sinks in memory.
 use crate::asked::Asked;
-use crate::telling::{put_end, put_out};
+use crate::telling::{put_end, put_front, put_out};
 use flow_exchange::{Status, flow, flow_limited};
 use flow_io::{MemorySink, MemorySource, read_all};
 use std::alloc::Global;
@@ -71,6 +71,62 @@ fn put_call_of(alloc: Global, asked: &Asked, input: Vec<u8>, rows: &mut String) 
     put_call_with(alloc, asked, &mut source, &mut out, &mut notes, rows)
 }
 
+// How a call ended, and what stands in its sinks.
+#[derive(Drop)]
+struct Ended {
+    status: Status,
+    out: MemorySink,
+    notes: MemorySink,
+}
+
+// Makes the call with this read and this write to out failing, which are 0 where none does.
+fn end_of(alloc: Global, asked: &Asked, input: &[u8], read: u64, write: u64) -> Option<Ended> {
+    let piece = asked.piece.max(1) as usize;
+    let mut bytes = Vec::new(alloc);
+    bytes.extend_from_slice(input).ok()?;
+    let mut source = MemorySource::new(bytes, piece, failing(alloc, read)?);
+    let mut out = MemorySink::new(alloc, MOST_OUT, failing(alloc, write)?).ok()?;
+    let mut notes = MemorySink::new(alloc, MOST_NOTES, Vec::new(alloc)).ok()?;
+    let status = call(alloc, asked, &mut source, &mut out, &mut notes);
+    Some(Ended { status, out, notes })
+}
+
+// Appends how a call ended, and how much stands in out, a front of the whole or other bytes.
+fn put_ended(ended: &Ended, whole: &[u8], rows: &mut String) -> Option<()> {
+    let out = ended.out.bytes();
+    let is_front = whole.starts_with(out);
+    put_front(
+        ended.status.exit(),
+        out.len(),
+        is_front,
+        ended.notes.bytes(),
+        rows,
+    )
+}
+
+// Appends what the call comes to where none fails, and then for each of the reads and of the writes that fail in turn.
+fn put_calls_of(alloc: Global, asked: &Asked, input: &[u8], rows: &mut String) -> Option<()> {
+    let all = end_of(alloc, asked, input, 0, 0)?;
+    put_ended(&all, all.out.bytes(), rows)?;
+    for read in 1..=asked.reads {
+        write!(rows, "  read {read}:").ok()?;
+        put_ended(
+            &end_of(alloc, asked, input, read, 0)?,
+            all.out.bytes(),
+            rows,
+        )?;
+    }
+    for write in 1..=asked.outs {
+        write!(rows, "  write {write}:").ok()?;
+        put_ended(
+            &end_of(alloc, asked, input, 0, write)?,
+            all.out.bytes(),
+            rows,
+        )?;
+    }
+    Some(())
+}
+
 // Appends what the call of a case comes to.
 pub(crate) fn put_call(
     alloc: Global,
@@ -81,6 +137,9 @@ pub(crate) fn put_call(
     let mut asked = Asked::new(alloc);
     for word in words.split_whitespace() {
         asked.add(alloc, word)?;
+    }
+    if asked.reads > 0 || asked.outs > 0 {
+        return put_calls_of(alloc, &asked, &input, rows);
     }
     put_call_of(alloc, &asked, input, rows)
 }

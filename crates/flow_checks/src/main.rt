@@ -10,6 +10,7 @@
 //! | `limit=N` | the most bytes of input that are considered; without it `flow` is called, and with it `flow_limited` |
 //! | `piece=N` | a read gives at most so many bytes; else 65,536 |
 //! | `read=N`, `out=N`, `notes=N` | the read, the write to out or the write to notes that fails, counted from 1 |
+//! | `reads=N`, `outs=N` | the call is made once, and then once more for each of the first N reads, and of the first N writes to out, which fails in it. Of each call is printed how it ends and how much stands in out, where that isn't a front of what the first call wrote as `other bytes`, and not what it is |
 //! | `rows=N` | of the records in out only the last N are told; else 64 |
 //! | `left=1` | it is told how many bytes are left in the source |
 //!

@@ -30,6 +30,21 @@ pub(crate) fn put_end(
     rows.push('\n').ok()
 }
 
+// Appends the number of the status, how much stands in out, whether that is a front of the whole, and the line on notes.
+pub(crate) fn put_front(
+    exit: u8,
+    written: usize,
+    is_front: bool,
+    notes: &[u8],
+    rows: &mut String,
+) -> Option<()> {
+    write!(rows, " {exit}, {written}").ok()?;
+    rows.push_str(if is_front { " bytes" } else { " other bytes" })
+        .ok()?;
+    put_line(notes, rows)?;
+    rows.push('\n').ok()
+}
+
 // Appends the rows of what stands in out, a file or a text.
 pub(crate) fn put_out(alloc: Global, out: &[u8], most: usize, rows: &mut String) -> Option<()> {
     if out.starts_with(b"FLOW") {

@@ -34,7 +34,7 @@ unfolding pair_spelling
 pair_long pair = omega (arith, length-append (spelling pair.asked) (spelling (answer_record pair.answer)), length-spelling pair.asked, length-spelling (answer_record pair.answer))
 
 -- so pairs are fewer than their bytes, and orders no more than pairs
-pairs_short : (pairs : List (Pair Record Outcome)) → length pairs ≤ length (flat_map pair_spelling pairs)
+pub pairs_short : (pairs : List (Pair Record Outcome)) → length pairs ≤ length (flat_map pair_spelling pairs)
 pairs_short [] = omega arith
 pairs_short (pair ∷ pairs) = omega (arith, pair_long pair, pairs_short pairs, length-append (pair_spelling pair) (flat_map pair_spelling pairs))
 
@@ -49,7 +49,7 @@ numbers_fit most version records market text writes wide within =
     let long = length-append (journal_magic_of version) (flat_map pair_spelling writes.pairs) in
     omega (arith, few, pairs_short writes.pairs, ap length writes.spelled, long, eight version, wide, within)
 
-journal : (most : ℕ) (version : Version) (records : List Record) (market : Market) (text : List ℕ) (writes : Journals version records market text)
+pub journal : (most : ℕ) (version : Version) (records : List Record) (market : Market) (text : List ℕ) (writes : Journals version records market text)
     → most < 2 ^ 64 → length text ≤ most → IsLegalJournal version writes.pairs market × ComesTo Audit most text answer.Done (legal_line writes.pairs)
 journal most version records market text writes wide within =
     let legal : IsLegalJournal version writes.pairs market = record {

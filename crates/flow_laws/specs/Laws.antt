@@ -1,5 +1,6 @@
 -- What holds between the program's words, and of their outcomes, whatever code there is.
 use Rattle.std.specs.Prelude.{◌≡◌, ◌≢◌, ◌⊎◌, ◌<◌, ◌≤◌, ◌+◌, ◌^◌, ◌↔◌, ℕ, List, [], ◌++◌, length, take, map, All, Ok}
+use Rattle.std.specs.List.{flat_map}
 use Rattle.wire_records.specs.Records.{Record}
 use Rattle.wire_records.specs.Commands.{Pair}
 use Rattle.wire_records.specs.CommandRecords.{record_of}
@@ -8,12 +9,16 @@ use Rattle.wire_records.specs.Reading.{Reads, File, End}
 use Rattle.wire_records.specs.declared.version.Version.{Version}
 use Rattle.wire_records.specs.Formats.{commands}
 use Rattle.flow_orders.specs.Outcomes.{Outcome}
+use Rattle.journal_records.specs.Pairs.{pair_spelling}
 use Rattle.journal_records.specs.Formats.{journals, journal_in}
 use Rattle.market_rules.specs.Market.{Market}
 use Rattle.batch_audit.specs.Legal.{IsLegalJournal, IsIllegalPair}
+use Rattle.journal_replay.specs.Replays.{IsReplayed}
 use Rattle.word_driver.specs.Ended.{Ended}
+use Rattle.word_driver.specs.Word.{Goes}
 use Rattle.line_records.specs.Encoding.{EncodesTo}
 use Rattle.exchange_session.specs.Journals.{Journals}
+use Rattle.exchange_session.specs.Running.{run}
 use Rattle.flow_exchange.specs.declared.form.Form.{Form}
 use Rattle.flow_exchange.specs.declared.form.Form.TheVariants.{Run, Audit}
 use Rattle.flow_exchange.specs.declared.status.Status.{Status}
@@ -80,3 +85,30 @@ BegunIsAFront = (form : Form) (limit : ℕ) (bytes : List ℕ) (status : Status)
 abbrev pub TickersAgree : Type 0
 TickersAgree = (version : Version) (limit : ℕ) (bytes text journal : List ℕ) (ended : Ended ℕ) (encoded : EncodesTo version limit bytes ended text) (market : Market)
     → Journals version (map record_of encoded.commands) market journal → market.tickers ≡ encoded.reads.tickers
+
+-- The bytes are the journal of some pairs, and the text is that of pairs behind them, which answer these records. Together they are one
+-- legal journal, which leads to this market: a replay of it answers the market, and an audit of it is done.
+pub record IsOneJournal (most : ℕ) (bytes : List ℕ) (records : List Record) (market : Market) (text : List ℕ) : Type 0 where
+  pub version : Version
+  pub pairs : List (Pair Record Outcome)
+  pub more : List (Pair Record Outcome)
+  pub before : bytes ≡ journal_in version pairs
+  pub asked : map (λ (pair : Pair Record Outcome). pair.asked) more ≡ records
+  pub behind : text ≡ flat_map pair_spelling more
+  pub whole : bytes ++ text ≡ journal_in version (pairs ++ more)
+  pub legal : IsLegalJournal version (pairs ++ more) market
+  pub replayed : IsReplayed (bytes ++ text) (Ok market)
+  pub audited : ComesTo Audit most (bytes ++ text) Done (legal_line (pairs ++ more))
+
+-- Where a replay answered a market and records are answered one after the other from it on, as a session over it does, what is replayed
+-- and the pairs behind it are one legal journal, whoever wrote the first of them. Where these are a run's journal of the records before, all
+-- are that of a run of all records, as if there had been no stop.
+pub record SessionsGoOn : Type 0 where
+  pub legal : (most : ℕ) (bytes text : List ℕ) (old new : Market) (records : List Record) → IsReplayed bytes (Ok old) → Goes run old records new text
+      → most < 2 ^ 64 → length (bytes ++ text) ≤ most → IsOneJournal most bytes records new text
+  pub own : (most : ℕ) (version : Version) (bytes text : List ℕ) (at old new : Market) (first records : List Record)
+      → Journals version first at bytes → IsReplayed bytes (Ok old) → Goes run old records new text
+      → most < 2 ^ 64 → length (bytes ++ text) ≤ most → Journals version (first ++ records) new (bytes ++ text)
+  pub same : (most : ℕ) (version : Version) (bytes text whole : List ℕ) (at old new last : Market) (first records : List Record)
+      → Journals version first at bytes → IsReplayed bytes (Ok old) → Goes run old records new text
+      → most < 2 ^ 64 → length (bytes ++ text) ≤ most → Journals version (first ++ records) last whole → (whole ≡ bytes ++ text) × (last ≡ new)

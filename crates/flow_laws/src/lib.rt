@@ -4,7 +4,7 @@
 //! is built without them.
 #![tactic(auto)]
 
-ghost use Rattle.flow_laws.specs.Laws.{DoneIsForLegalJournals, RejectedIsFirstIllegal, EncodedIsRead, EncodedIsServed, RunsAreAudited, NoneIsWithoutOutcome, BegunIsAFront, TickersAgree};
+ghost use Rattle.flow_laws.specs.Laws.{DoneIsForLegalJournals, RejectedIsFirstIllegal, EncodedIsRead, EncodedIsServed, RunsAreAudited, NoneIsWithoutOutcome, BegunIsAFront, TickersAgree, SessionsGoOn};
 
 /// `audit` is done exactly for the spelling of a legal journal with nothing past the limit, whoever wrote it, and the line that
 /// it writes counts the journal's pairs, and the batches that cleared and that were skipped.
@@ -33,6 +33,13 @@ pub fn encoded_is_served()
 /// below 2^64. So it is of what stands in out after a fault of the source, or where memory ran out.
 pub fn runs_are_audited()
     ensures { RunsAreAudited }
+{}
+
+/// A session over the market that a replay answered goes on from its journal: the pairs replayed and those served after them are one
+/// legal journal, which is replayed to the session's market and audited to its end. Where the first of them are what `run` wrote of some
+/// records, all of them are what `run` writes of these records and those served after them, byte for byte.
+pub fn sessions_go_on()
+    ensures { SessionsGoOn }
 {}
 
 /// The tickers by which lines name assets are those of the market that `run` of their command file leads to.

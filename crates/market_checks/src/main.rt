@@ -14,6 +14,7 @@
 //! | `report: PAIRS` | each pair is judged and, where it is legal, reported: the text |
 //! | `count: JOURNAL` | the pairs behind the magic are audited: how the reading ends, and the counts. Then the market. With `count more:` there are more bytes behind these |
 //! | `replay: JOURNAL` | the market, or the text of the fault |
+//! | `resume: JOURNAL` | the journal ends behind each of its pairs in turn, the magic alone first, is replayed, and a session over its market serves the commands of the pairs behind: how many bytes the new pairs have, and whether they are as they were |
 //! | `faults N:` | the texts of all faults of a replay, with this number |
 //!
 //! So
@@ -44,6 +45,7 @@ mod commands;
 mod explaining;
 mod journals;
 mod judging;
+mod resuming;
 mod serving;
 mod state;
 
@@ -66,6 +68,7 @@ fn put_case(alloc: Global, words: &str, bytes: &[u8], rows: &mut String) -> Opti
         "report" => judging::put_report(alloc, bytes, rows),
         "count" => journals::put_counted(alloc, bytes, with == "more", rows),
         "replay" => journals::put_replayed(alloc, bytes, rows),
+        "resume" => resuming::put_resumed(alloc, bytes, rows),
         "faults" => journals::put_faults(with.parse().ok()?, rows),
         _ => None,
     }

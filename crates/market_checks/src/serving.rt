@@ -18,8 +18,8 @@ fn serve(session: &mut Session, asked: &RecordView<'_>, pairs: &mut Vec<u8>) -> 
     session.serve(asked, pairs).ok()
 }
 
-// Serves the record that these bytes are.
-fn serve_one(session: &mut Session, record: &[u8], pairs: &mut Vec<u8>) -> Option<()> {
+// Serves the record that these bytes are, or begin with.
+pub(crate) fn serve_one(session: &mut Session, record: &[u8], pairs: &mut Vec<u8>) -> Option<()> {
     match next_record(record, MOST_BODY) {
         Framed::Whole(asked, _) => serve(session, &asked, pairs),
         _ => None,

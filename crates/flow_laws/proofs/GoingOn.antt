@@ -1,0 +1,171 @@
+-- What a session answers from the market of a replay on is, behind the journal that was replayed, one legal journal.
+use Rattle.std.proofs.Common.{◌≡◌, ◌+◌, ◌^◌, ◌<◌, ◌≤◌, ℕ, List, [], ◌∷◌, ◌++◌, map, length, Result, Ok, refl, sym, ap, subst, ◌∙◌, append_assoc, length-append, arith}
+use Rattle.std.specs.Prelude.{All}
+use Rattle.std.specs.List.{flat_map}
+use Rattle.std.proofs.lemmas.Grind.{flat_map-append}
+use Rattle.std.proofs.lemmas.List.{map-append}
+use Rattle.std.proofs.lemmas.List.Elements.{All-nil, All-cons, All-append}
+use Rattle.wire_records.specs.Records.{Record}
+use Rattle.wire_records.specs.Commands.{Pair}
+use Rattle.wire_records.specs.Versions.{IsReadAs}
+use Rattle.wire_records.specs.declared.version.Version.{Version}
+use Rattle.wire_records.proofs.Readings.{reading_unique, read_own}
+use Rattle.flow_orders.specs.Outcomes.{Outcome, IsRightOutcome}
+use Rattle.flow_orders.specs.Own.{IsOwnOutcome}
+use Rattle.journal_records.specs.Pairs.{IsPair, pair_spelling}
+use Rattle.journal_records.specs.Formats.{journal_magic_of, journal_in}
+use Rattle.market_rules.specs.Market.{Market, IsSound, empty_market}
+use Rattle.market_rules.specs.Journal.{Follows, IsAnswered, IsJournal}
+use Rattle.market_rules.proofs.OneJournal.{follows-append, one_own_journal}
+use Rattle.market_rules.proofs.OwnIsLegal.{own_follows_are_right}
+use Rattle.market_rules.proofs.LawProofs.{journals_hold_deposits, steps_keep_soundness, sequences_compose, steps_number_one, legal_steps_number_one}
+use Rattle.market_rules.proofs.Promised.{legal_journal_keeps_promises, own_journal_clears_near}
+use Rattle.batch_audit.specs.Legal.{IsLegalJournal}
+use Rattle.journal_replay.specs.declared.replaying.ReplayFault.{ReplayFault}
+use Rattle.journal_replay.specs.Replays.{IsReplayed}
+use Rattle.journal_replay.proofs.Replayed.{eight}
+use Rattle.journal_replay.proofs.LawProofs.{markets_are, one_replay}
+use Rattle.word_driver.specs.Word.{Goes}
+use Rattle.exchange_session.specs.Journals.{Journals}
+use Rattle.exchange_session.specs.Running.{run}
+use Rattle.flow_exchange.specs.Auditing.{legal_line}
+use Rattle.flow_laws.specs.Laws.{IsOneJournal, SessionsGoOn}
+use Rattle.flow_laws.proofs.AuditLaws.{done_is_for_legal}
+use Rattle.flow_laws.proofs.RunsAudited.{pairs_short, journal}
+
+-- The pairs that answer records from a market on, which fit their widths while each may have given a number to an order, and this is
+-- their text.
+record Answers (old : Market) (records : List Record) (new : Market) (text : List ℕ) : Type 0 where
+  pairs : List (Pair Record Outcome)
+  answered : IsAnswered IsReadAs IsOwnOutcome old records pairs new
+  fits : old.next_order + length pairs < 2 ^ 64 → All IsPair pairs
+  spelled : text ≡ flat_map pair_spelling pairs
+
+answers : (old new : Market) (records : List Record) (text : List ℕ) → Goes run old records new text → Answers old records new text
+answers old new [] text goes = record { pairs = []; answered = record { asked = refl; steps = goes.0 }; fits = λ few. All-nil IsPair; spelled = goes.1 }
+answers old new (r ∷ records) text goes =
+    let next = goes.0 in
+    let one = goes.3 in
+    let rest = answers next new records goes.2 goes.4 in
+    let pair : Pair Record Outcome = record { asked = r; answer = one.answer } in
+    let rise = steps_number_one old r one.answer next one.step in
+    record {
+      pairs = pair ∷ rest.pairs;
+      answered = record { asked = ap (λ xs. r ∷ xs) rest.answered.asked; steps = (next, one.step, rest.answered.steps) };
+      fits = λ few. All-cons IsPair pair rest.pairs (one.fits (omega (arith, rise, few))) (rest.fits (omega (arith, rise, few)));
+      spelled = goes.5 ∙ ap (λ xs. xs ++ goes.2) one.spelled ∙ ap (λ xs. pair_spelling pair ++ xs) rest.spelled;
+    }
+
+-- legal pairs give no more numbers to orders than they are
+orders_few : (old new : Market) (pairs : List (Pair Record Outcome)) → Follows IsReadAs IsRightOutcome old pairs new → new.next_order ≤ old.next_order + length pairs
+orders_few old new [] follows = omega (arith, ap (λ (m : Market). m.next_order) follows)
+orders_few old new (pair ∷ pairs) (between, step, follows) =
+    omega (arith, legal_steps_number_one old pair.asked pair.answer between step, orders_few between new pairs follows)
+
+-- two lists of pairs, one behind the other, are spelled so
+joined : (version : Version) (pairs more : List (Pair Record Outcome)) (bytes text : List ℕ) → bytes ≡ journal_in version pairs → text ≡ flat_map pair_spelling more → bytes ++ text ≡ journal_in version (pairs ++ more)
+joined version pairs more bytes text before behind =
+    let magic = journal_magic_of version in
+    ap (λ xs. xs ++ text) before ∙ append_assoc magic (flat_map pair_spelling pairs) text
+    ∙ ap (λ xs. magic ++ xs) (ap (λ xs. flat_map pair_spelling pairs ++ xs) behind ∙ sym (flat_map-append pair_spelling pairs more))
+
+-- the market of a legal journal is sound
+legal_is_sound : (version : Version) (pairs : List (Pair Record Outcome)) (market : Market) → IsLegalJournal version pairs market → IsSound market
+legal_is_sound version pairs market legal = (journals_hold_deposits (empty_market version) pairs market (steps_keep_soundness.0 version) legal.steps).sound
+
+-- pairs that answer records from the market of a legal journal on make with it a legal journal
+module _ (most : ℕ) (version : Version) (pairs : List (Pair Record Outcome)) (bytes text : List ℕ) (old new : Market) (records : List Record)
+    (legal : IsLegalJournal version pairs old) (before : bytes ≡ journal_in version pairs) (so : Answers old records new text)
+    (wide : most < 2 ^ 64) (within : length (bytes ++ text) ≤ most) where
+  more_fit : All IsPair so.pairs
+  more_fit =
+      let few = orders_few (empty_market version) old pairs legal.steps in
+      let first = length-append (journal_magic_of version) (flat_map pair_spelling pairs) in
+      so.fits (omega (arith, few, pairs_short pairs, pairs_short so.pairs, ap length before, first, eight version, ap length so.spelled, length-append bytes text, wide, within))
+
+  all_legal : IsLegalJournal version (pairs ++ so.pairs) new
+  all_legal = record {
+    each = All-append IsPair pairs so.pairs legal.each more_fit;
+    steps = sequences_compose.joined (empty_market version) old new pairs so.pairs legal.steps
+        (own_follows_are_right IsReadAs read_own old so.pairs new (legal_is_sound version pairs old legal) so.answered.steps);
+  }
+
+  one_journal : IsOneJournal most bytes records new text
+  one_journal =
+      let whole = joined version pairs so.pairs bytes text before so.spelled in
+      record {
+        version = version;
+        pairs = pairs;
+        more = so.pairs;
+        before = before;
+        asked = so.answered.asked;
+        behind = so.spelled;
+        whole = whole;
+        legal = all_legal;
+        replayed = (markets_are (bytes ++ text) new).1 (version, pairs ++ so.pairs, all_legal, whole);
+        audited = (done_is_for_legal most (bytes ++ text) (legal_line (pairs ++ so.pairs))).1 (version, pairs ++ so.pairs, new, all_legal, whole, within, refl);
+      }
+
+legal : (most : ℕ) (bytes text : List ℕ) (old new : Market) (records : List Record) → IsReplayed bytes (Ok old) → Goes run old records new text
+    → most < 2 ^ 64 → length (bytes ++ text) ≤ most → IsOneJournal most bytes records new text
+legal most bytes text old new records replayed goes wide within =
+    let of = (markets_are bytes old).0 replayed in
+    one_journal most of.0 of.1 bytes text old new records of.2 of.3 (answers old new records text goes) wide within
+
+-- a replay of a run's journal answers the run's market
+same_market : (m n : Market) → Ok {E = ReplayFault} m ≡ Ok n → m ≡ n
+same_market m n same = cc
+
+module _ (most : ℕ) (version : Version) (bytes text : List ℕ) (at old new : Market) (first records : List Record) (writes : Journals version first at bytes)
+    (replayed : IsReplayed bytes (Ok old)) (goes : Goes run old records new text) (wide : most < 2 ^ 64) (within : length (bytes ++ text) ≤ most) where
+  so : Answers old records new text
+  so = answers old new records text goes
+
+  short : length bytes ≤ most
+  short = omega (arith, length-append bytes text, within)
+
+  was : at ≡ old
+  was =
+      let legal = (journal most version first at bytes writes wide short).0 in
+      same_market at old (one_replay bytes (Ok at) (Ok old) (λ e. absurd cc) (λ e. absurd cc) ((markets_are bytes at).1 (version, writes.pairs, legal, writes.spelled)) replayed)
+
+  all_pairs : List (Pair Record Outcome)
+  all_pairs = writes.pairs ++ so.pairs
+
+  -- all records are answered from the empty market on
+  all_answered : IsJournal IsReadAs IsOwnOutcome version (first ++ records) all_pairs new
+  all_answered = record {
+    asked = map-append (λ (pair : Pair Record Outcome). pair.asked) writes.pairs so.pairs
+        ∙ ap (λ (xs : List Record). xs ++ map (λ (pair : Pair Record Outcome). pair.asked) so.pairs) writes.journal_of.asked ∙ ap (λ (xs : List Record). first ++ xs) so.answered.asked;
+    steps = follows-append IsReadAs reading_unique IsOwnOutcome (empty_market version) old new writes.pairs so.pairs
+        (subst (λ (m : Market). Follows IsReadAs IsOwnOutcome (empty_market version) writes.pairs m) was writes.journal_of.steps) so.answered.steps;
+  }
+
+  own : Journals version (first ++ records) new (bytes ++ text)
+  own =
+      let start = empty_market version in
+      let sound = steps_keep_soundness.0 version in
+      let before = subst (λ (m : Market). IsLegalJournal version writes.pairs m) was ((journal most version first at bytes writes wide short).0) in
+      let legal = all_legal most version writes.pairs bytes text old new records before writes.spelled so wide within in
+      record {
+        pairs = all_pairs;
+        journal_of = all_answered;
+        deposits = journals_hold_deposits start all_pairs new sound legal.steps;
+        keeps = legal_journal_keeps_promises start all_pairs new sound legal.steps;
+        near = own_journal_clears_near start all_pairs new sound all_answered.steps;
+        fits = λ _. legal.each;
+        spelled = joined version writes.pairs so.pairs bytes text writes.spelled so.spelled;
+      }
+
+  same : (whole : List ℕ) (last : Market) → Journals version (first ++ records) last whole → (whole ≡ bytes ++ text) × (last ≡ new)
+  same whole last other =
+      let one = one_own_journal IsReadAs reading_unique version (first ++ records) other.pairs all_pairs last new other.journal_of all_answered in
+      (other.spelled ∙ ap (journal_in version) one.0 ∙ sym (joined version writes.pairs so.pairs bytes text writes.spelled so.spelled), one.1)
+
+pub sessions_go_on : SessionsGoOn
+sessions_go_on = record {
+  legal = legal;
+  own = own;
+  same = λ most version bytes text whole at old new last first records writes replayed goes wide within other.
+      same most version bytes text at old new first records writes replayed goes wide within whole last other;
+}
