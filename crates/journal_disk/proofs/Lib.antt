@@ -6,6 +6,7 @@ mod Beginning
 mod PairBytes
 mod Framing
 mod Stepping
+pub mod GoingOn
 pub mod Excluding
 pub mod Undamaged
 pub mod OpenedEntries

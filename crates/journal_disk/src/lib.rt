@@ -10,7 +10,7 @@
 //! that isn't open, and [`DiskJournal::begin`] cuts off what is behind that. [`Appender::append`] then adds a pair: it writes the
 //! entry behind the closed gate, with a closed gate behind it, and syncs; then it opens the gate, and syncs. So a crash at any
 //! moment leaves the pairs that were kept, with this one or without, and once the call has answered Ok, with it. What a pair's
-//! two records hold isn't looked at, only that they are within a journal's limits.
+//! two records hold isn't looked at, only that they are within a journal's limits; [`is_whole_pair`] tells whether bytes are such a pair.
 //!
 //! After any fault the disk is to be opened again.
 //!
@@ -32,3 +32,4 @@ mod reading;
 pub use appender::Appender;
 pub use fault::{DiskFault, Step};
 pub use journal::DiskJournal;
+pub use pairs::is_whole_pair;

@@ -7,7 +7,7 @@ ghost use Rattle.journal_disk.specs.Frames.{IsFramed};
 
 use crate::calls::read_from;
 use crate::fault::DiskFault;
-use crate::pairs::{LONGEST_PAIR, is_pair};
+use crate::pairs::{LONGEST_PAIR, is_whole_pair};
 use disk_edge::{Disk, DiskFailed};
 use wire_fields::Cursor;
 
@@ -103,7 +103,7 @@ pub(crate) fn read_pair<D: Disk>(
         return Ok(false);
     }
     load(disk, place + 4, count as usize, pair)?;
-    if is_pair(pair) {
+    if is_whole_pair(pair) {
         return Ok(true);
     }
     pair.clear();
