@@ -1,0 +1,29 @@
+//! Where bytes are kept, with contracts that say what a crash may leave of them.
+//!
+//! A [`Disk`] is a file that is read and written at places, cut, and synced. Contracts see its content, where it is told,
+//! a count of faults, a clock, and two sets of images: what a crash now may leave, and what a crash at some moment since
+//! a time may have left. So a contract can speak of each moment inside a call. Between two syncs each written range may
+//! hold any bytes after a crash, what a write added may be missing from some place on, and what a cut took away may still
+//! be there up to some place; a sync that succeeds leaves what a read gives, and nothing else.
+//!
+//! A call fails only where the count rose. After a fault of the device the file is to be opened again: of a write or a cut
+//! that failed, any part may have been made.
+//!
+//! [`FileDisk`] is a real file, the trusted edge. [`MemoryDisk`] is in memory: it fails at stated calls, keeps a record of
+//! its calls, and gives the image of a stop in any of them.
+//!
+//! A call costs as much as the bytes that it moves. Only [`MemoryDisk::new`], which takes all its memory at once, and
+//! [`MemoryDisk::crashed`] take memory. The latter makes all calls up to the stop again.
+#![tactic(auto)]
+
+mod bytes;
+mod call_log;
+mod calls;
+mod disk;
+mod file;
+mod memory;
+mod replay;
+
+pub use disk::{Disk, DiskFailed};
+pub use file::FileDisk;
+pub use memory::{Memory, MemoryDisk};

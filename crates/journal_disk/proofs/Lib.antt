@@ -1,0 +1,12 @@
+pub mod Entries
+pub mod OneList
+mod Appending
+pub mod Opening
+mod Beginning
+mod PairBytes
+mod Framing
+mod Stepping
+pub mod GoingOn
+pub mod Excluding
+pub mod Undamaged
+pub mod OpenedEntries

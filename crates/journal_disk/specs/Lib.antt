@@ -1,0 +1,6 @@
+pub mod Pairs
+pub mod Entries
+pub mod Looking
+pub mod Recovering
+pub mod Stepping
+pub mod Frames

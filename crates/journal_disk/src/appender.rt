@@ -1,0 +1,82 @@
+ghost use Rattle.std.specs.Prelude.{◌≡◌, ◌≢◌, ◌≤◌, ◌+◌, ◌^◌, ◌++◌, [], ◌∷◌, List, length, IfSome, IsSome, ◌↔◌, IfOk, OnOk, OnErr, Err, IsErrOf, vec_capacity};
+ghost use Rattle.journal_disk.specs.Pairs.{RecordPair, IsRecordPair, pair_bytes, IsWholePair, longest_pair};
+ghost use Rattle.disk_edge.specs.Disks.{AtEachMoment};
+ghost use Rattle.journal_disk.specs.Entries.{framed, WithOrWithout, Keeps};
+ghost use Rattle.flow_io.specs.Faults.{Blames};
+
+use crate::DiskFault;
+use crate::calls::{open_gate, write_synced};
+use crate::pairs::LONGEST_PAIR;
+use disk_edge::Disk;
+use std::alloc::{AllocError, Global};
+use std::marker::Model;
+use wire_fields::{put_bytes, put_u8, put_u32};
+
+/// Adds pairs behind those that a disk keeps. Contracts see it as the place of the closed gate behind them.
+#[derive(Drop)]
+pub struct Appender {
+    place: u64,
+    entry: Vec<u8>,
+}
+
+impl Model for Appender {
+    ghost use Rattle.std.specs.Prelude.{◌≤◌, ◌+◌, ℕ, vec_capacity};
+    ghost use Rattle.journal_disk.specs.Pairs.{longest_pair};
+
+    ghost Value = { ℕ };
+
+    ghost view = { λ appender. appender.place };
+
+    ghost invariant = { λ appender. longest_pair + 5 ≤ vec_capacity appender.entry };
+}
+
+// The length of a pair, the pair and a closed gate.
+fn fill(entry: &mut Vec<u8>, pair: &[u8])
+    requires room { longest_pair + 5 ≤ vec_capacity entry.old }
+    requires short { length pair.now ≤ longest_pair }
+    ensures filled { entry.new.items ≡ framed pair.now ++ 0 ∷ [] }
+    ensures room { vec_capacity entry.new ≡ vec_capacity entry.old }
+{
+    entry.clear();
+    put_u32(entry, pair.len() as u32);
+    put_bytes(entry, pair);
+    put_u8(entry, 0);
+}
+
+impl Appender {
+    // An appender at this place. It takes the memory of an entry.
+    pub(crate) fn at(alloc: Global, place: u64) -> Result<Appender, AllocError>
+        ensures { IfOk result (λ appender. appender ≡ place) }
+    {
+        Ok(Appender {
+            place,
+            entry: Vec::with_capacity(alloc, 5 + LONGEST_PAIR as usize)?,
+        })
+    }
+
+    /// Adds the bytes of one whole pair. At Ok it is acknowledged: from then on a crash leaves it. A crash at any moment before
+    /// leaves the pairs that were kept, with this one or without. `Failed`, only where the disk's count rose, is the one error;
+    /// the disk is then to be opened again. Takes no memory. The place is at most 2^61.
+    pub fn append<D: Disk>(&mut self, disk: &mut D, pair: &[u8]) -> Result<(), DiskFault>
+        requires pair { IsWholePair pair.now }
+        requires room { self.old ≤ 2 ^ 61 }
+        requires kept { IfSome (D.state disk.old).content
+            (λ _. (pairs : List RecordPair) × Keeps pairs self.old (D.state disk.old)) }
+        ensures kept { OnOk result ((pairs : List RecordPair) (last : RecordPair) →
+            Keeps pairs self.old (D.state disk.old) → IsRecordPair last → pair.now ≡ pair_bytes last →
+            Keeps (pairs ++ last ∷ []) self.new (D.state disk.new)) }
+        ensures moments { (pairs : List RecordPair) (last : RecordPair) →
+            Keeps pairs self.old (D.state disk.old) → IsRecordPair last → pair.now ≡ pair_bytes last →
+            AtEachMoment (D.state disk.old) (D.state disk.new) (WithOrWithout pairs last) }
+        ensures told { OnOk result (IsSome (D.state disk.new).content ↔ IsSome (D.state disk.old).content) }
+        ensures place { OnOk result (self.new ≡ self.old + (5 + length pair.now)) }
+        ensures failed { OnErr result (result ≡ Err DiskFault.Failed) }
+        ensures cause { Blames (IsErrOf result DiskFault.Failed) (D.state disk.old).faults (D.state disk.new).faults }
+    {
+        fill(&mut self.entry, pair);
+        write_synced(disk, self.place + 1, &self.entry)?;
+        open_gate(disk, self.place)?;
+        self.place += 5 + pair.len() as u64;
+        Ok(())
+    }
+}

@@ -1,0 +1,124 @@
+//! Calls of a disk that go together, and those that change nothing.
+ghost use Rattle.std.specs.Prelude.{◌≡◌, ◌≤◌, ◌<◌, ◌+◌, ◌^◌, ◌↔◌, ◌++◌, [], ◌∷◌, IsTrue, length, take, drop, slice_index, option_map, IfSome, IfOk, OnOk, IsErr};
+ghost use Rattle.disk_edge.specs.Disks.{AtEachMoment};
+ghost use Rattle.flow_io.specs.Faults.{Blames};
+ghost use Rattle.disk_edge.specs.Images.{written, TornWrite, TornCut, After, LeavesOnly};
+ghost use Rattle.wire_fields.specs.Numbers.{unsigned};
+ghost use Rattle.journal_disk.specs.Entries.{disk_magic};
+ghost use Rattle.journal_disk.specs.Looking.{OnlyLooks};
+
+use disk_edge::{Disk, DiskFailed};
+
+// The magic of a disk.
+const MAGIC: [u8; 8] = *b"FLOWDSK2";
+
+// An open gate. Any other byte is a closed one.
+pub(crate) const OPEN: u8 = 1;
+
+// Writes the bytes at a place. At Ok they outlast a crash.
+pub(crate) fn write_synced<D: Disk>(
+    disk: &mut D,
+    place: u64,
+    bytes: &[u8],
+) -> Result<(), DiskFailed>
+    requires { IfSome (D.state disk.old).content
+        (λ held. (place ≤ length held) × (place + length bytes.now ≤ 2 ^ 62)) }
+    ensures written { OnOk result
+        ((D.state disk.new).content ≡ option_map (written place bytes.now) (D.state disk.old).content) }
+    ensures kept { OnOk result (IfSome (D.state disk.new).content (LeavesOnly (D.state disk.new).images)) }
+    ensures moments { AtEachMoment (D.state disk.old) (D.state disk.new)
+        (After (TornWrite place (length bytes.now)) (D.state disk.old).images) }
+    ensures cause { Blames (IsErr result) (D.state disk.old).faults (D.state disk.new).faults }
+{
+    disk.write_at(place, bytes)?;
+    disk.sync()
+}
+
+// Opens the gate at a place. At Ok that outlasts a crash.
+pub(crate) fn open_gate<D: Disk>(disk: &mut D, place: u64) -> Result<(), DiskFailed>
+    requires { IfSome (D.state disk.old).content
+        (λ held. (place ≤ length held) × (place + 1 ≤ 2 ^ 62)) }
+    ensures written { OnOk result
+        ((D.state disk.new).content ≡ option_map (written place (1 ∷ [])) (D.state disk.old).content) }
+    ensures kept { OnOk result (IfSome (D.state disk.new).content (LeavesOnly (D.state disk.new).images)) }
+    ensures moments { AtEachMoment (D.state disk.old) (D.state disk.new)
+        (After (TornWrite place 1) (D.state disk.old).images) }
+    ensures cause { Blames (IsErr result) (D.state disk.old).faults (D.state disk.new).faults }
+{
+    write_synced(disk, place, &[OPEN])
+}
+
+// Cuts to a length. At Ok that outlasts a crash.
+pub(crate) fn cut_synced<D: Disk>(disk: &mut D, to: u64) -> Result<(), DiskFailed>
+    requires { IfSome (D.state disk.old).content (λ held. to ≤ length held) }
+    ensures cut { OnOk result
+        ((D.state disk.new).content ≡ option_map (take to) (D.state disk.old).content) }
+    ensures kept { OnOk result (IfSome (D.state disk.new).content (LeavesOnly (D.state disk.new).images)) }
+    ensures moments { AtEachMoment (D.state disk.old) (D.state disk.new)
+        (After (TornCut to) (D.state disk.old).images) }
+    ensures cause { Blames (IsErr result) (D.state disk.old).faults (D.state disk.new).faults }
+{
+    disk.cut(to)?;
+    disk.sync()
+}
+
+// Syncs, and asks for the length. At Ok what is there outlasts a crash.
+pub(crate) fn synced_length<D: Disk>(disk: &mut D) -> Result<u64, DiskFailed>
+    ensures length { IfOk result (λ count. IfSome (D.state disk.old).content (λ bytes. count ≡ length bytes)) }
+    ensures kept { OnOk result (IfSome (D.state disk.old).content (LeavesOnly (D.state disk.new).images)) }
+    ensures looks { OnlyLooks (D.state disk.old) (D.state disk.new) }
+    ensures cause { Blames (IsErr result) (D.state disk.old).faults (D.state disk.new).faults }
+{
+    disk.sync()?;
+    disk.length()
+}
+
+// How many bytes there are.
+pub(crate) fn length_of<D: Disk>(disk: &mut D) -> Result<u64, DiskFailed>
+    ensures length { IfOk result (λ count. IfSome (D.state disk.old).content (λ bytes. count ≡ length bytes)) }
+    ensures looks { OnlyLooks (D.state disk.old) (D.state disk.new) }
+    ensures cause { Blames (IsErr result) (D.state disk.old).faults (D.state disk.new).faults }
+{
+    disk.length()
+}
+
+// Reads the bytes at a place.
+pub(crate) fn read_from<D: Disk>(
+    disk: &mut D,
+    place: u64,
+    into: &mut [u8],
+) -> Result<(), DiskFailed>
+    requires { IfSome (D.state disk.old).content (λ bytes. place + length into.old ≤ length bytes) }
+    ensures read { OnOk result (IfSome (D.state disk.old).content
+        (λ bytes. into.new ≡ take (length into.old) (drop place bytes))) }
+    ensures looks { OnlyLooks (D.state disk.old) (D.state disk.new) }
+    ensures cause { Blames (IsErr result) (D.state disk.old).faults (D.state disk.new).faults }
+{
+    disk.read_at(place, into)
+}
+
+// Whether the disk begins with the magic. It has 8 bytes.
+pub(crate) fn has_magic<D: Disk>(disk: &mut D) -> Result<bool, DiskFailed>
+    requires { IfSome (D.state disk.old).content (λ bytes. 8 ≤ length bytes) }
+    ensures magic { IfOk result (λ has. IfSome (D.state disk.old).content
+        (λ bytes. IsTrue has ↔ (take 8 bytes ≡ disk_magic))) }
+    ensures looks { OnlyLooks (D.state disk.old) (D.state disk.new) }
+    ensures cause { Blames (IsErr result) (D.state disk.old).faults (D.state disk.new).faults }
+{
+    let mut front = [0; 8];
+    read_from(disk, 0, &mut front)?;
+    Ok(front.starts_with(&MAGIC))
+}
+
+// Makes the disk new: the magic, and a closed gate.
+pub(crate) fn make_new<D: Disk>(disk: &mut D) -> Result<(), DiskFailed>
+    requires { IfSome (D.state disk.old).content (λ bytes. length bytes ≤ 9) }
+    ensures written { OnOk result
+        ((D.state disk.new).content ≡ option_map (λ _. disk_magic ++ 0 ∷ []) (D.state disk.old).content) }
+    ensures kept { OnOk result (IfSome (D.state disk.new).content (LeavesOnly (D.state disk.new).images)) }
+    ensures moments { AtEachMoment (D.state disk.old) (D.state disk.new)
+        (After (TornWrite 0 9) (D.state disk.old).images) }
+    ensures cause { Blames (IsErr result) (D.state disk.old).faults (D.state disk.new).faults }
+{
+    write_synced(disk, 0, b"FLOWDSK2\0")
+}
