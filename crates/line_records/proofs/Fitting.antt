@@ -7,7 +7,7 @@ use Rattle.wire_records.specs.Versions.{IsOfVersion}
 use Rattle.wire_records.specs.declared.version.Version.{Version}
 use Rattle.ticker_table.specs.Tickers.{IsTicker, AreTickers}
 use Rattle.ticker_table.proofs.Places.{AreTickers-push}
-use Rattle.order_text.specs.Lines.{Leaves, Leave}
+use Rattle.order_text.specs.Lines.{commands_of, Leaves, Leave}
 use Rattle.order_text.proofs.ShortRows.{rows_are_short}
 use Rattle.order_text.proofs.Fitting.{commands_fit as line_fits}
 use Rattle.line_records.specs.Lines.{Say}
@@ -28,12 +28,12 @@ module _ (version : Version) where
   all_fit tickers [] commands after are say = rw say.0 (All-nil IsCommand, All-nil HasShortRow, All-nil (IsOfVersion version))
   all_fit tickers (line ∷ lines) commands after are (inl blank) = all_fit tickers lines commands after are blank.1
   all_fit tickers (line ∷ lines) commands after are (inr said) =
-      let more = all_fit said.2 lines said.1 after (all_still_tickers tickers said.0 said.2 are said.3.leaves) said.4 in
+      let more = all_fit said.2 lines said.1 after (all_still_tickers tickers (commands_of said.0) said.2 are said.3.leaves) said.4 in
       let here = line_fits version tickers line said.0 are said.3.asks in
       rw said.5 (
-        All-append IsCommand said.0 said.1 here.0 more.0,
-        All-append HasShortRow said.0 said.1 (rows_are_short version tickers line said.0 are said.3.asks) more.1,
-        All-append (IsOfVersion version) said.0 said.1 here.1 more.2,
+        All-append IsCommand (commands_of said.0) said.1 here.0 more.0,
+        All-append HasShortRow (commands_of said.0) said.1 (rows_are_short version tickers line said.0 are said.3.asks) more.1,
+        All-append (IsOfVersion version) (commands_of said.0) said.1 here.1 more.2,
       )
 
   -- no tickers are tickers

@@ -12,12 +12,12 @@ use Rattle.line_records.specs.declared.encode.EncodeFault.{EncodeFault}
 use Rattle.line_records.specs.declared.encode.EncodeFault.TheVariants.{NoCommand, Write, Memory}
 use Rattle.line_records.specs.Lines.{IsPiece, ended_by_feeds, AreLines, Say, spell_commands}
 use Rattle.line_records.specs.Encoded.{HasEncoded, IsEncoded}
-use Rattle.line_records.specs.Private.{EncodesLine, IsLineEncoded, IsRecordWritten}
+use Rattle.line_records.specs.Private.{EncodesLine, IsLineEncoded, IsRecordWritten, AreWritten}
 use Rattle.flow_io.proofs.Growth.{Grows-more, GrowsByFront-more}
 use Rattle.line_records.proofs.Pieces.{ended_lines, line_found, no_line_found, lines_behind, told}
 use Rattle.line_records.proofs.Saying.{say_more, no_more}
 use Rattle.wire_records.specs.declared.version.Version.{Version}
-use Rattle.order_text.specs.Lines.{Says}
+use Rattle.order_text.specs.Lines.{Asked, Alone, commands_of, Says}
 
 -- the size of a slice from a place on
 pub slice_size : (place size : ℕ) → place + size - place ≡ size
@@ -49,20 +49,28 @@ module _ (version : Version) where
     pub within : place ≤ length text
 
   -- a line alone
-  one_line : (tickers : List (List ℕ)) (line : List ℕ) (asked : List Command) (next : List (List ℕ)) → Says version tickers line asked next → Say version tickers (line ∷ []) asked next
-  one_line tickers line asked next says = inr (asked, [], next, says, (refl, refl), sym (append-nil asked))
+  one_line : (tickers : List (List ℕ)) (line : List ℕ) (asked : Asked) (next : List (List ℕ)) → Says version tickers line asked next → Say version tickers (line ∷ []) (commands_of asked) next
+  one_line tickers line asked next says = inr (asked, [], next, says, (refl, refl), sym (append-nil (commands_of asked)))
 
-  -- a line whose command was written
-  pub command_encoded : (tickers : List (List ℕ)) (line : List ℕ) (number : ℕ) (command : Command) (next : List (List ℕ)) (result : Result (Unit {0}) EncodeFault) (before after : Option (List ℕ)) → Says version tickers line (command ∷ []) next
+  -- a line whose commands were written
+  pub commands_encoded : (tickers : List (List ℕ)) (line : List ℕ) (number : ℕ) (asked : Asked) (next : List (List ℕ)) (result : Result (Unit {0}) EncodeFault) (before after : Option (List ℕ)) → Says version tickers line asked next
+      → AreWritten (commands_of asked) result before after → IsLineEncoded version tickers line number next result before after
+  commands_encoded tickers line number asked next (Ok done) before after says is = record { commands = commands_of asked; say = one_line tickers line asked next says; written = is }
+  commands_encoded tickers line number asked next (Err (NoCommand bad)) before after says is = absurd is
+  commands_encoded tickers line number asked next (Err Write) before after says is = (asked, says, is)
+  commands_encoded tickers line number asked next (Err Memory) before after says is = (says.asks.written, is)
+
+  -- one record is that of one command
+  alone_written : (command : Command) (result : Result (Unit {0}) EncodeFault) (before after : Option (List ℕ)) → IsRecordWritten command result before after → AreWritten (command ∷ []) result before after
+  alone_written command (Ok done) before after is = rw (append-nil (spelling (record_of command))) is
+  alone_written command (Err (NoCommand bad)) before after is = is
+  alone_written command (Err Write) before after is = rw (append-nil (spelling (record_of command))) is
+  alone_written command (Err Memory) before after is = is
+
+  pub command_encoded : (tickers : List (List ℕ)) (line : List ℕ) (number : ℕ) (command : Command) (next : List (List ℕ)) (result : Result (Unit {0}) EncodeFault) (before after : Option (List ℕ)) → Says version tickers line (Alone command) next
       → IsRecordWritten command result before after → IsLineEncoded version tickers line number next result before after
-  command_encoded tickers line number command next (Ok done) before after says is = record {
-    commands = command ∷ [];
-    say = one_line tickers line (command ∷ []) next says;
-    written = rw (append-nil (spelling (record_of command))) is;
-  }
-  command_encoded tickers line number command next (Err (NoCommand bad)) before after says is = absurd is
-  command_encoded tickers line number command next (Err Write) before after says is = (command ∷ [], says, rw (append-nil (spelling (record_of command))) is)
-  command_encoded tickers line number command next (Err Memory) before after says is = (says.asks.written, is)
+  command_encoded tickers line number command next result before after says is =
+      commands_encoded tickers line number (Alone command) next result before after says (alone_written command result before after is)
 
   -- records of more commands
   records_more : (commands more : List Command) → spell_commands (commands ++ more) ≡ spell_commands commands ++ spell_commands more
@@ -114,7 +122,7 @@ module _ (version : Version) where
       written = rw at.2 so.written;
     }
     stopped Write at = (
-      so.commands ++ at.0,
+      so.commands ++ commands_of at.0,
       record {
         lines = so.ended ++ line ∷ rest;
         read = so.ended ++ line ∷ [];
@@ -122,9 +130,9 @@ module _ (version : Version) where
         tickers = next;
         split = split;
         front = sym (append_assoc so.ended (line ∷ []) rest);
-        say = say_more version [] tickers next so.ended (line ∷ []) so.commands at.0 so.say (one_line tickers line at.0 next at.1);
+        say = say_more version [] tickers next so.ended (line ∷ []) so.commands (commands_of at.0) so.say (one_line tickers line at.0 next at.1);
       },
-      rw (records_more so.commands at.0) (GrowsByFront-more before between after (spell_commands so.commands) (spell_commands at.0) so.written at.2),
+      rw (records_more so.commands (commands_of at.0)) (GrowsByFront-more before between after (spell_commands so.commands) (spell_commands (commands_of at.0)) so.written at.2),
     )
     stopped Memory at = (
       so.commands,

@@ -1,13 +1,13 @@
 -- What lines say, one after the other.
-use Rattle.std.proofs.Common.{◌≡◌, ◌≢◌, ℕ, List, [], ◌∷◌, ◌++◌, inl, inr, Result, Ok, Err, length, length-append, append_assoc, append-nil, get_or, drop, refl, sym, ap, subst, ◌∙◌, arith}
+use Rattle.std.proofs.Common.{◌≡◌, ◌≢◌, ℕ, List, [], ◌∷◌, ◌++◌, inl, inr, Result, Ok, Err, length, length-append, append_assoc, append-nil, get_or, drop, map, refl, sym, ap, subst, ◌∙◌, arith}
 use Rattle.wire_records.specs.Commands.{Command}
 use Rattle.wire_records.specs.Views.{command_in}
 use Rattle.wire_records.specs.declared.version.Version.{Version}
 use Rattle.order_text.specs.declared.line.LineRead.{LineRead}
-use Rattle.order_text.specs.declared.line.LineRead.TheVariants.{Blank, Asks}
+use Rattle.order_text.specs.declared.line.LineRead.TheVariants.{Blank, Asks, Many}
 use Rattle.order_text.specs.declared.line.LineFault.{LineFault}
 use Rattle.order_text.specs.declared.line.LineFault.TheVariants.{NoCommand, Memory}
-use Rattle.order_text.specs.Lines.{IsBlank, Leave, Says, SaysNothing}
+use Rattle.order_text.specs.Lines.{IsBlank, Alone, OfLadder, Asked, commands_of, Leave, Says, SaysNothing}
 use Rattle.order_text.specs.Answers.{IsRead, wants_memory}
 use Rattle.order_text.proofs.OneAnswers.{one_saying, none_is_unanswered}
 use Rattle.line_records.specs.Lines.{Say}
@@ -28,7 +28,7 @@ module _ (version : Version) where
   lines_leave [] commands tickers after say = rw say.0 say.1
   lines_leave (line ∷ lines) commands tickers after (inl blank) = lines_leave lines commands tickers after blank.1
   lines_leave (line ∷ lines) commands tickers after (inr said) =
-      rw said.5 (leaves_more tickers said.2 after said.0 said.1 said.3.leaves (lines_leave lines said.1 said.2 after said.4))
+      rw said.5 (leaves_more tickers said.2 after (commands_of said.0) said.1 said.3.leaves (lines_leave lines said.1 said.2 after said.4))
 
   -- what lines say, and then more lines
   pub say_more : (first second third : List (List ℕ)) (lines more : List (List ℕ)) (commands others : List Command) → Say version first lines commands second → Say version second more others third
@@ -36,7 +36,7 @@ module _ (version : Version) where
   say_more first second third [] more commands others a b = rw (a.0, ← a.1) b
   say_more first second third (line ∷ lines) more commands others (inl a) b = inl (a.0, say_more first second third lines more commands others a.1 b)
   say_more first second third (line ∷ lines) more commands others (inr a) b =
-      inr (a.0, a.1 ++ others, a.2, a.3, say_more a.2 second third lines more a.1 others a.4 b, ap (λ xs. xs ++ others) a.5 ∙ append_assoc a.0 a.1 others)
+      inr (a.0, a.1 ++ others, a.2, a.3, say_more a.2 second third lines more a.1 others a.4 b, ap (λ xs. xs ++ others) a.5 ∙ append_assoc (commands_of a.0) a.1 others)
 
   -- there is no further line, or the next one is no command
   abbrev pub Stops : List (List ℕ) → List (List ℕ) → Type 0
@@ -82,7 +82,7 @@ module _ (version : Version) where
         rest = on.rest;
         asked = on.asked;
         lines_are = ap (λ l. l ∷ other) (sym first_is) ∙ ap (λ xs. line ∷ xs) on.lines_are;
-        commands_are = b.5 ∙ ap (λ cs. cs ++ b.1) (sym one.0) ∙ ap (λ xs. a.0 ++ xs) on.commands_are ∙ sym (append_assoc a.0 a.1 on.asked) ∙ ap (λ xs. xs ++ on.asked) (sym a.5);
+        commands_are = b.5 ∙ ap (λ asked. commands_of asked ++ b.1) (sym one.0) ∙ ap (λ xs. commands_of a.0 ++ xs) on.commands_are ∙ sym (append_assoc (commands_of a.0) a.1 on.asked) ∙ ap (λ xs. xs ++ on.asked) (sym a.5);
       }
 
   -- two that both stop are the same
@@ -123,7 +123,16 @@ module _ (version : Version) where
     commands = command_in command ∷ so.commands;
     after = so.after;
     all = ap (λ xs. line ∷ xs) so.all;
-    say = inr (command_in command ∷ [], so.commands, after, is, so.say, refl);
+    say = inr (Alone (command_in command), so.commands, after, is, so.say, refl);
+    stops = so.stops;
+  }
+  stopped_more tickers line lines after (Ok (Many commands)) told is so = record {
+    read = line ∷ so.read;
+    more = so.more;
+    commands = map command_in commands ++ so.commands;
+    after = so.after;
+    all = ap (λ xs. line ∷ xs) so.all;
+    say = inr (OfLadder (map command_in commands), so.commands, after, is, so.say, refl);
     stops = so.stops;
   }
   stopped_more tickers line lines after (Err NoCommand) told is so = record {

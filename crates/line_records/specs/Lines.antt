@@ -5,7 +5,7 @@ use Rattle.wire_records.specs.Records.{spelling}
 use Rattle.wire_records.specs.Commands.{Command}
 use Rattle.wire_records.specs.CommandRecords.{record_of}
 use Rattle.wire_records.specs.declared.version.Version.{Version}
-use Rattle.order_text.specs.Lines.{IsBlank, Says, SaysNothing}
+use Rattle.order_text.specs.Lines.{IsBlank, Asked, commands_of, Says, SaysNothing}
 
 -- a piece with no line feed (10) in it
 abbrev pub IsPiece : List ℕ → Type 0
@@ -37,7 +37,7 @@ module _ (version : Version) where
   Say tickers [] commands after = (commands ≡ []) × (after ≡ tickers)
   Say tickers (line ∷ lines) commands after =
       (IsBlank line × Say tickers lines commands after)
-      ⊎ ((asked rest : List Command) × (next : List (List ℕ)) × Says version tickers line asked next × Say next lines rest after × (commands ≡ asked ++ rest))
+      ⊎ ((asked : Asked) × (rest : List Command) × (next : List (List ℕ)) × Says version tickers line asked next × Say next lines rest after × (commands ≡ commands_of asked ++ rest))
 
   -- these are all the lines, or the next one is no command and this is its number, counted from 1
   abbrev pub StopsAt : List (List ℕ) → List (List ℕ) → List (List ℕ) → Option ℕ → Type 0

@@ -5,7 +5,7 @@ use Rattle.wire_records.specs.Records.{spelling}
 use Rattle.wire_records.specs.Commands.{Command}
 use Rattle.wire_records.specs.CommandRecords.{record_of}
 use Rattle.wire_records.specs.declared.version.Version.{Version}
-use Rattle.order_text.specs.Lines.{IsBlank, Says, SaysNothing}
+use Rattle.order_text.specs.Lines.{IsBlank, Asked, commands_of, Says, SaysNothing}
 use Rattle.line_records.specs.declared.encode.EncodeFault.{EncodeFault}
 use Rattle.line_records.specs.declared.encode.EncodeFault.TheVariants.{NoCommand, Write, Memory}
 use Rattle.word_driver.specs.declared.fault.Fault.TheVariants as fault
@@ -20,6 +20,13 @@ IsRecordWritten command (Err (NoCommand number)) before after = ⊥
 IsRecordWritten command (Err Write) before after = GrowsByFront before after (spelling (record_of command))
 IsRecordWritten command (Err Memory) before after = after ≡ before
 
+-- the records of commands are written, or a front of them where the write fails, or nothing where memory is wanted
+abbrev pub AreWritten : List Command → Result (Unit {0}) EncodeFault → Option (List ℕ) → Option (List ℕ) → Type 0
+AreWritten commands (Ok _) before after = Grows before after (spell_commands commands)
+AreWritten commands (Err (NoCommand number)) before after = ⊥
+AreWritten commands (Err Write) before after = GrowsByFront before after (spell_commands commands)
+AreWritten commands (Err Memory) before after = after ≡ before
+
 -- In a version.
 module _ (version : Version) where
   -- A line that is blank or asks for commands was read, and the records of these were written.
@@ -33,7 +40,7 @@ module _ (version : Version) where
   IsLineEncoded tickers line number next (Ok _) before after = EncodesLine tickers line next before after
   IsLineEncoded tickers line number next (Err (NoCommand bad)) before after = SaysNothing version tickers line × (bad ≡ number) × (after ≡ before)
   IsLineEncoded tickers line number next (Err Write) before after =
-      (asked : List Command) × Says version tickers line asked next × GrowsByFront before after (spell_commands asked)
+      (asked : Asked) × Says version tickers line asked next × GrowsByFront before after (spell_commands (commands_of asked))
   IsLineEncoded tickers line number next (Err Memory) before after = (¬ IsBlank line) × (after ≡ before)
 
   -- the lines of the input were encoded, behind the magic: how that ends, and what was written

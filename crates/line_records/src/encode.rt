@@ -1,17 +1,18 @@
 //! The lines of a text, one after the other.
-ghost use Rattle.std.specs.Prelude.{◌≡◌, Err, IsTrue};
+ghost use Rattle.std.specs.Prelude.{◌≡◌, ◌++◌, map, Err, IsTrue, OnOk, All};
 ghost use Rattle.flow_io.specs.Faults.{Blames};
 ghost use Rattle.wire_records.specs.CommandRecords.{HasShortRow};
 ghost use Rattle.wire_records.specs.Views.{command_in};
 ghost use Rattle.line_records.specs.Encoded.{IsEncoded};
-ghost use Rattle.line_records.specs.Private.{IsRecordWritten};
+ghost use Rattle.line_records.specs.Lines.{spell_commands};
+ghost use Rattle.line_records.specs.Private.{IsRecordWritten, AreWritten};
 
 use flow_io::Sink;
 use memchr::memchr;
 use order_text::{LineFault, LineRead, read_line};
 use std::alloc::Global;
 use ticker_table::TickerTable;
-use wire_records::{Command, Version, write_command};
+use wire_records::{Command, Memory, Version, write_command};
 
 /// Why the lines of a text weren't encoded to their end.
 #[derive(Clone, Copy, PartialEq, Eq)]
@@ -26,7 +27,7 @@ pub enum EncodeFault {
 
 // Writes the record of a command by one call. The buffer holds it meanwhile.
 fn write_record<K: Sink>(
-    record: &mut Vec<u8>,
+    records: &mut Vec<u8>,
     command: &Command,
     out: &mut K,
 ) -> Result<(), EncodeFault>
@@ -34,23 +35,49 @@ fn write_record<K: Sink>(
     ensures written { IsRecordWritten (command_in command.now) result (K.held out.old) (K.held out.new) }
     ensures cause { Blames (result ≡ Err EncodeFault.Write) (K.faults out.old) (K.faults out.new) }
 {
-    record.clear();
-    write_command(command, record).map_err(|_| EncodeFault::Memory)?;
-    out.write(record).map_err(|_| EncodeFault::Write)
+    records.clear();
+    write_command(command, records).map_err(|_| EncodeFault::Memory)?;
+    out.write(records).map_err(|_| EncodeFault::Write)
 }
 
-// What is kept from line to line: the tickers of those before, and the buffer of a record.
+// Appends the records of commands.
+fn put_records(records: &mut Vec<u8>, commands: &[Command]) -> Result<(), Memory>
+    requires short { All (λ command. HasShortRow (command_in command)) commands.now }
+    ensures { OnOk result (records.new.items ≡ records.old.items ++ spell_commands (map command_in commands.now)) }
+{
+    for command in commands {
+        write_command(command, records)?;
+    }
+    Ok(())
+}
+
+// Writes the records of commands by one call, so all are there before the first of them is written.
+fn write_records<K: Sink>(
+    records: &mut Vec<u8>,
+    commands: &[Command],
+    out: &mut K,
+) -> Result<(), EncodeFault>
+    requires short { All (λ command. HasShortRow (command_in command)) commands.now }
+    ensures written { AreWritten (map command_in commands.now) result (K.held out.old) (K.held out.new) }
+    ensures cause { Blames (result ≡ Err EncodeFault.Write) (K.faults out.old) (K.faults out.new) }
+{
+    records.clear();
+    put_records(records, commands).map_err(|_| EncodeFault::Memory)?;
+    out.write(records).map_err(|_| EncodeFault::Write)
+}
+
+// What is kept from line to line: the tickers of those before, and the buffer of a line's records.
 #[derive(Drop)]
 struct Encoding {
     alloc: Global,
     tickers: TickerTable,
-    record: Vec<u8>,
+    records: Vec<u8>,
 }
 
 impl Encoding {
     ghost use Rattle.line_records.specs.Private.{IsLineEncoded};
 
-    // Writes the record of the command that a line asks for.
+    // Writes the records of the commands that a line asks for, by one call.
     fn encode_line<K: Sink>(
         &mut self,
         version: Version,
@@ -64,20 +91,25 @@ impl Encoding {
     {
         match read_line(self.alloc, line, version, &mut self.tickers) {
             Ok(LineRead::Blank) => Ok(()),
-            Ok(LineRead::Asks(command)) => write_record(&mut self.record, &command, out),
+            Ok(LineRead::Asks(command)) => write_record(&mut self.records, &command, out),
+            Ok(LineRead::Many(commands)) => write_records(
+                &mut self.records,
+                commands.as_slice(),
+                out,
+            ),
             Err(LineFault::NoCommand) => Err(EncodeFault::NoCommand(number)),
             Err(LineFault::Memory) => Err(EncodeFault::Memory),
         }
     }
 }
 
-/// Writes the record of each command of a version that the lines of a text ask for, by one call each. The lines are the pieces before
+/// Writes the records of the commands of a version that the lines of a text ask for, those of a line by one call. The lines are the pieces before
 /// line feeds, and the piece behind the last line feed, where it isn't empty and there is no `more` of the text.
 ///
 /// `NoCommand` with its number comes exactly at the first line that is neither blank nor a command; the records of the
 /// lines before it are written. `Write` comes only where the sink's count of faults rose, and `Memory` only at a line that
-/// isn't blank; the records of the first lines are written then, the last of them perhaps in part after `Write`. The cost is
-/// that of reading the lines. Memory: what one line takes, and one record.
+/// isn't blank; the records of the first lines are written then, those of the last line perhaps in part after `Write`. The cost is
+/// that of reading the lines. Memory: what one line takes, and its records: one, or up to 32 of a ladder.
 pub fn encode_lines<K: Sink>(
     alloc: Global,
     version: Version,
@@ -91,7 +123,7 @@ pub fn encode_lines<K: Sink>(
     let mut encoding = Encoding {
         alloc,
         tickers: TickerTable::new(alloc),
-        record: Vec::new(alloc),
+        records: Vec::new(alloc),
     };
     let mut place = 0;
     let mut number = 1;

@@ -17,7 +17,7 @@ use Rattle.order_text.specs.Lines.{HasKeys, Value, Text, Ticker, Small, Number, 
 use Rattle.order_text.specs.Private.{text_at, word_of, Has, HasOrder, Fits, IsFound, IsPlain, IsOrder, IsUntil, IsPlaced, IsAnswered, HasMoney, HasUnits, HasLimits}
 
 -- a command of the first version is one of each
-of_each : (version : Version) (command : Command) → IsOfVersion One command → IsOfVersion version command
+pub of_each : (version : Version) (command : Command) → IsOfVersion One command → IsOfVersion version command
 of_each One command of = of
 of_each Two command of = (of.0, omega (arith, of.1))
 
@@ -59,10 +59,10 @@ place_is : (command : Command) → word_of command ≡ codes "place" → ((reque
 place_is = search (rules, refl, inl, inr)
 
 -- the text at a key, both ways
-text_of : (tickers : List (List ℕ)) (d : Data) (key text : List ℕ) → HasAt tickers d key (Text text) → text_at key d ≡ Some text
+pub text_of : (tickers : List (List ℕ)) (d : Data) (key text : List ℕ) → HasAt tickers d key (Text text) → text_at key d ≡ Some text
 text_of tickers d key text has = rw has.1 has.2
 
-text_where : (tickers : List (List ℕ)) (d : Data) (key text : List ℕ) → text_at key d ≡ Some text → HasAt tickers d key (Text text)
+pub text_where : (tickers : List (List ℕ)) (d : Data) (key text : List ℕ) → text_at key d ≡ Some text → HasAt tickers d key (Text text)
 text_where tickers d key text is = by (get key d) refl is
   where
     by : (o : Option Data) → get key d ≡ o → option_and_then as_str o ≡ Some text → HasAt tickers d key (Text text)

@@ -1,10 +1,11 @@
 -- A command that a line asks for fits its record: each of its fields is within its width.
-use Rattle.std.proofs.Common.{◌≡◌, ℕ, ℤ, pos, ◌-◌, ◌<◌, ◌≤◌, ◌^◌, Bool, true, false, List, [], ◌++◌, length, Option, Some, None, refl, ap, subst, arith, ltb-true, leb-true, Ordering, Less, Equal, Greater, inl, inr}
+use Rattle.std.proofs.Common.{◌≡◌, ℕ, ℤ, pos, ◌-◌, ◌<◌, ◌≤◌, ◌^◌, Bool, true, false, List, [], ◌∷◌, ◌++◌, length, map, Option, Some, None, refl, ap, subst, arith, ltb-true, leb-true, Ordering, Less, Equal, Greater, inl, inr}
 use Rattle.std.specs.Prelude.{option_and_then, unwrap_or, nat_lt, nat_le, if◌then◌else◌, codes, replicate, All}
+use Rattle.std.specs.List.{AllByRecursion}
 use Rattle.std.specs.Ordering.{nat_cmp, match_ordering}
 use Rattle.std.specs.Cmp.Lexicographic.{slice_cmp}
 use Rattle.std.proofs.lemmas.Int.{ints}
-use Rattle.std.proofs.lemmas.List.Elements.{All-nil, All-cons, All-replicate, All-append, All-weaker}
+use Rattle.std.proofs.lemmas.List.Elements.{All-nil, All-cons, All-replicate, All-append, All-weaker, recursion_from_All}
 use Rattle.std.proofs.lemmas.List.{length-replicate, length-append}
 use Rattle.weight_rows.specs.declared.entries.Entry.{Entry}
 use Rattle.serde_json.specs.Data.{Num, unsigned, negative, float, Data, null, boolean, number, string, array, object, Members, no_members, member}
@@ -16,10 +17,15 @@ use Rattle.wire_records.specs.CommandRecords.{IsCommand, IsRequest, IsEntry}
 use Rattle.ticker_table.specs.Tickers.{AreTickers}
 use Rattle.wire_records.specs.Versions.{IsOfVersion}
 use Rattle.wire_records.specs.declared.version.Version.{Version}
-use Rattle.order_text.specs.Lines.{whole_of, signed_of, asset_named, IsTickerText, IsEntryOf, AreWeights, Asset, Small, Number, Signed, HasAt, order_members, Asks, LineAsks}
+use Rattle.order_text.specs.Lines.{whole_of, signed_of, asset_named, IsTickerText, IsEntryOf, AreWeights, Asset, Small, Number, Signed, HasAt, order_members, Asks, AsksLadder, Asked, Alone, OfLadder, commands_of, LineAsks}
 use Rattle.order_text.specs.Private.{HasOrder}
-use Rattle.order_text.proofs.AskedFor.{fits_asked, rest_of, weights_of}
-use Rattle.order_text.proofs.ShortRows.{named_below, row_is_short}
+use Rattle.curve_ladder.specs.declared.segment.Segment.{Segment}
+use Rattle.curve_ladder.specs.Segments.{segments_of, request_of}
+use Rattle.curve_ladder.specs.Laws.{HasOrderNumbers}
+use Rattle.curve_ladder.proofs.Told.{segments_are_orders}
+use Rattle.order_text.proofs.AskedFor.{of_each, fits_asked, rest_of, weights_of}
+use Rattle.order_text.proofs.Ladders.{has_ladder}
+use Rattle.order_text.proofs.ShortRows.{named_below, row_is_short, ladder_row, ladder_row_is_short}
 use Rattle.order_text.proofs.ReadNumbers.{IsNum, Fits, MembersFit, read_fits}
 
 -- what two answers hold
@@ -171,12 +177,43 @@ module _ (tickers : List (List ℕ)) (d : Data) (are : AreTickers tickers) (all 
   command_fits version (SetMoneyCredit account ticks) asks = money_fits account ticks _ (fits_asked version tickers d (SetMoneyCredit account ticks) asks).0
   command_fits version (SetUnitCredit account asset units) asks = units_fit account asset units _ (fits_asked version tickers d (SetUnitCredit account asset units) asks).0
 
+  -- the request of a segment
+  segment_fits : (account : ℕ) (row : List Entry) (s : Segment) → IsUnsigned 4 account → length row ≤ 165 → All IsEntry row → HasOrderNumbers s → IsRequest (request_of account row s)
+  segment_fits account row s named few entries numbers = record {
+    account = named;
+    low = (omega (arith, ints, numbers.0.0), omega (arith, ints, numbers.0.0));
+    high = (omega (arith, ints, numbers.0.1), omega (arith, ints, numbers.0.1));
+    rate = omega (arith, numbers.1);
+    cap = omega (arith, numbers.2);
+    count = omega (arith, few);
+    row = entries;
+  }
+
+  segments_fit : (version : Version) (account : ℕ) (row : List Entry) (segments : List Segment) → IsUnsigned 4 account → length row ≤ 165 → All IsEntry row → AllByRecursion HasOrderNumbers segments
+      → All IsCommand (map PlaceOrder (map (request_of account row) segments)) × All (IsOfVersion version) (map PlaceOrder (map (request_of account row) segments))
+  segments_fit version account row [] named few entries numbers = (All-nil IsCommand, All-nil (IsOfVersion version))
+  segments_fit version account row (s ∷ segments) named few entries numbers =
+      let place = PlaceOrder (request_of account row s) in
+      let behind = map PlaceOrder (map (request_of account row) segments) in
+      let rest = segments_fit version account row segments named few entries numbers.1 in (
+        All-cons IsCommand place behind (segment_fits account row s named few entries numbers.0) rest.0,
+        All-cons (IsOfVersion version) place behind (of_each version place (omega arith, omega arith)) rest.1,
+      )
+
+  -- all commands of a ladder
+  pub ladder_fits : (version : Version) (commands : List Command) → AsksLadder tickers d commands → All IsCommand commands × All (IsOfVersion version) commands
+  ladder_fits version commands asks =
+      let weights = (ladder_row tickers d commands asks).2 in
+      let account = (has_ladder tickers d commands asks).0.2.1 in
+      let numbers = recursion_from_All HasOrderNumbers (segments_of asks.ladder) (segments_are_orders asks.ladder asks.lawful) in
+      rw asks.commands_are (segments_fit version asks.account asks.row (segments_of asks.ladder) account (ladder_row_is_short tickers d commands are asks) (row_fits tickers weights.0 asks.row are weights.2) numbers)
+
 -- all that a line asks for
-pub commands_fit : (version : Version) (tickers : List (List ℕ)) (line : List ℕ) (commands : List Command) → AreTickers tickers → LineAsks version tickers line commands → All IsCommand commands × All (IsOfVersion version) commands
-commands_fit version tickers line commands are asks =
-    let one = asks.asks in
-    let all = read_fits line asks.value asks.reads in
-    rw one.2 (
-      All-cons IsCommand one.0 [] (command_fits tickers asks.value are all version one.0 one.1) (All-nil IsCommand),
-      All-cons (IsOfVersion version) one.0 [] one.1.of_version (All-nil (IsOfVersion version)),
+pub commands_fit : (version : Version) (tickers : List (List ℕ)) (line : List ℕ) (asked : Asked) → AreTickers tickers → LineAsks version tickers line asked
+    → All IsCommand (commands_of asked) × All (IsOfVersion version) (commands_of asked)
+commands_fit version tickers line (Alone command) are asks =
+    let all = read_fits line asks.value asks.reads in (
+      All-cons IsCommand command [] (command_fits tickers asks.value are all version command asks.asks) (All-nil IsCommand),
+      All-cons (IsOfVersion version) command [] asks.asks.of_version (All-nil (IsOfVersion version)),
     )
+commands_fit version tickers line (OfLadder commands) are asks = ladder_fits tickers asks.value are (read_fits line asks.value asks.reads) version commands asks.asks

@@ -2,6 +2,7 @@ pub mod Named
 pub mod Weights
 pub mod Rows
 pub mod AskedFor
+pub mod Ladders
 pub mod ShortRows
 pub mod ReadNumbers
 pub mod Fitting

@@ -1,5 +1,5 @@
 -- A line has an answer, and one alone.
-use Rattle.std.proofs.Common.{◌≡◌, ◌≢◌, ℕ, List, [], ◌∷◌, ◌++◌, length, drop, Some, Result, Ok, Err, refl, sym, ap, subst, ◌∙◌, inl, inr, rules, Bool, true, false, true≢false}
+use Rattle.std.proofs.Common.{◌≡◌, ◌≢◌, ℕ, List, [], ◌∷◌, ◌++◌, length, drop, map, Some, Result, Ok, Err, refl, sym, ap, subst, ◌∙◌, inl, inr, rules, Bool, true, false, true≢false}
 use Rattle.wire_records.specs.Commands.{Command, AddAsset, OpenAccount, DepositMoney, DepositAsset, WithdrawMoney, WithdrawAsset, PlaceOrder, CancelOrder, RunBatch, PlaceUntil, SetMoneyCredit, SetUnitCredit}
 use Rattle.serde_json.specs.Data.{Data}
 use Rattle.wire_records.specs.Views.{command_in}
@@ -11,11 +11,16 @@ use Rattle.order_text.specs.declared.line.LineRead.TheVariants as line_is
 use Rattle.order_text.specs.declared.line.LineFault.{LineFault}
 use Rattle.order_text.specs.declared.line.LineFault.TheVariants.{NoCommand, Memory}
 use Rattle.wire_records.specs.declared.version.Version.{Version}
-use Rattle.order_text.specs.Lines.{HasKeys, padded, asset_named, Value, Text, Ticker, Asset, Small, Number, Signed, Weights, HasAt, members_of, Asks, AsksFor, LineAsks, Leaves, Leave}
-use Rattle.order_text.specs.Private.{text_at, number_at, signed_at, members_at, word_of, Has, put_members}
+use Rattle.order_text.specs.Lines.{HasKeys, padded, asset_named, Value, Text, Ticker, Asset, Small, Number, Signed, Weights, Points, HasAt, members_of, ladder_members, Asks, AsksLadder, Asked, Alone, OfLadder, AsksFor, commands_of, LineAsks, Leaves, Leave, Says}
+use Rattle.order_text.specs.Private.{text_at, number_at, signed_at, members_at, items_at, word_of, Has, put_members, put_points}
 use Rattle.order_text.proofs.AskedFor.{word_asked, fits_asked}
 use Rattle.order_text.proofs.Weights.{made_where}
-use Rattle.std.specs.Prelude.{option_and_then, codes}
+use Rattle.order_text.proofs.Ladders.{made_where as points_made_where, has_ladder, ladder_asked, not_alone, ladders_are}
+use Rattle.curve_ladder.specs.declared.points.Point.{Point}
+use Rattle.curve_ladder.specs.Ladders.{Ladder}
+use Rattle.curve_ladder.specs.Segments.{requests_of}
+use Rattle.weight_rows.specs.declared.entries.Entry.{Entry}
+use Rattle.std.specs.Prelude.{option_and_then, unwrap_or, codes}
 use Rattle.std.specs.List.{AllByRecursion}
 use Rattle.order_text.specs.Answers.{IsRead, wants_memory}
 use Rattle.order_text.specs.Laws.{OneSaying, OneTable}
@@ -66,19 +71,35 @@ plain_is (SetUnitCredit account asset units) = refl
 same_own : (a b : owned.Command) → command_in a ≡ command_in b → a ≡ b
 same_own a b same = sym (own_is a) ∙ ap own_of same ∙ own_is b
 
--- a command alone
-abbrev alone : Command → List Command
-alone command = command ∷ []
+-- and so for lists
+same_owns : (a b : List owned.Command) → map command_in a ≡ map command_in b → a ≡ b
+same_owns [] [] same = refl
+same_owns [] (y ∷ b) same = absurd (cc)
+same_owns (x ∷ a) [] same = absurd (cc)
+same_owns (x ∷ a) (y ∷ b) same =
+    let first : command_in x ≡ command_in y = cc in
+    let rest : map command_in a ≡ map command_in b = cc in
+    rw (same_own x y first, same_owns a b rest) refl
 
--- lists of one are one
-heads : (a b : Command) → alone a ≡ alone b → a ≡ b
-heads a b same = cc
+plains_are : (cs : List Command) → map command_in (map own_of cs) ≡ cs
+plains_are [] = refl
+plains_are (c ∷ cs) = rw (plain_is c, plains_are cs) refl
+
+-- what is asked for is the same
+alone_is : (a b : Command) → Alone a ≡ Alone b → a ≡ b
+alone_is a b same = cc
+
+ladder_is : (a b : List Command) → OfLadder a ≡ OfLadder b → a ≡ b
+ladder_is a b same = cc
 
 abbrev Answer : Type 0
 Answer = Result LineRead LineFault
 
 abbrev asks_own : owned.Command → Answer
 asks_own c = Ok (line_is.Asks c)
+
+abbrev asks_owns : List owned.Command → Answer
+asks_owns cs = Ok (line_is.Many cs)
 
 -- the same ticker
 ticker_is : (a b : List ℕ) → AddAsset a ≡ AddAsset b → a ≡ b
@@ -108,6 +129,7 @@ Gives tickers d key (Small number) = number_at key d ≡ Some number
 Gives tickers d key (Number number) = number_at key d ≡ Some number
 Gives tickers d key (Signed number) = signed_at key d ≡ Some number
 Gives tickers d key (Weights row) = option_and_then (λ members. put_members tickers members []) (members_at key d) ≡ Some row
+Gives tickers d key (Points points) = option_and_then (λ items. put_points items []) (items_at key d) ≡ Some points
 
 gives : (tickers : List (List ℕ)) (d : Data) (key : List ℕ) (value : Value) → HasAt tickers d key value → Gives tickers d key value
 gives tickers d key (Text text) has = rw has.1 has.2
@@ -117,6 +139,7 @@ gives tickers d key (Small number) has = rw has.1 has.2.0
 gives tickers d key (Number number) has = rw has.1 has.2
 gives tickers d key (Signed number) has = rw has.1 has.2
 gives tickers d key (Weights row) has = rw (has.1, has.2.1) (made_where tickers has.2.0 row has.2.2)
+gives tickers d key (Points points) has = rw (has.1, has.2.1) (points_made_where has.2.0 points has.2.2)
 
 all_give : (tickers : List (List ℕ)) (d : Data) (members : List (List ℕ × Value)) → Has tickers d members → AllByRecursion (λ m. Gives tickers d m.0 m.1) members
 all_give tickers d [] has = tt
@@ -141,31 +164,69 @@ one_told = search (rules, refl)
 one_asked : (version : Version) (tickers : List (List ℕ)) (d : Data) (a b : Command) → Asks version tickers d a → Asks version tickers d b → a ≡ b
 one_asked version tickers d a b x y = one_told tickers d a b (tells version tickers d a x) (tells version tickers d b y)
 
--- and so for one list
-one_list : (version : Version) (tickers : List (List ℕ)) (c d : Data) (a b : List Command) → Some c ≡ Some d → AsksFor version tickers c a → AsksFor version tickers d b → a ≡ b
-one_list version tickers c d a b same x y =
+-- and for the orders of one ladder
+nat_is : (a b : ℕ) → Some a ≡ Some b → a ≡ b
+nat_is a b is = ap (λ o. unwrap_or o 0) is
+
+row_is : (a b : List Entry) → Some a ≡ Some b → a ≡ b
+row_is a b is = ap (λ o. unwrap_or o []) is
+
+points_are : (a b : List Point) → Some a ≡ Some b → a ≡ b
+points_are a b is = ap (λ o. unwrap_or o []) is
+
+one_ladder : (tickers : List (List ℕ)) (d : Data) (a b : List Command) → AsksLadder tickers d a → AsksLadder tickers d b → a ≡ b
+one_ladder tickers d a b x y =
+    let one = all_give tickers d (drop 1 (ladder_members x.ladder x.account x.row)) (has_ladder tickers d a x) in
+    let other = all_give tickers d (drop 1 (ladder_members y.ladder y.account y.row)) (has_ladder tickers d b y) in
+    let account : x.account ≡ y.account = nat_is x.account y.account (sym one.0 ∙ other.0) in
+    let points : x.ladder.points ≡ y.ladder.points = points_are x.ladder.points y.ladder.points (sym one.1.0 ∙ other.1.0) in
+    let turns : x.ladder.turns ≡ y.ladder.turns = nat_is x.ladder.turns y.ladder.turns (sym one.1.1.0 ∙ other.1.1.0) in
+    let row : x.row ≡ y.row = row_is x.row y.row (sym one.1.1.1.0 ∙ other.1.1.1.0) in
+    x.commands_are ∙ rw (ladders_are x.ladder y.ladder points turns, account, row) refl ∙ sym y.commands_are
+
+-- an object asks for one thing
+one_for : (version : Version) (tickers : List (List ℕ)) (d : Data) (a b : Asked) → AsksFor version tickers d a → AsksFor version tickers d b → a ≡ b
+one_for version tickers d (Alone a) (Alone b) x y = ap Alone (one_asked version tickers d a b x y)
+one_for version tickers d (Alone a) (OfLadder b) x y = absurd (not_alone tickers d version a (ladder_asked tickers d b y) x)
+one_for version tickers d (OfLadder a) (Alone b) x y = absurd (not_alone tickers d version b (ladder_asked tickers d a x) y)
+one_for version tickers d (OfLadder a) (OfLadder b) x y = ap OfLadder (one_ladder tickers d a b x y)
+
+one_value : (version : Version) (tickers : List (List ℕ)) (c d : Data) (a b : Asked) → Some c ≡ Some d → AsksFor version tickers c a → AsksFor version tickers d b → a ≡ b
+one_value version tickers c d a b same x y =
     let value : c ≡ d = cc in
-    x.2 ∙ ap alone (one_asked version tickers d x.0 y.0 (subst (λ v. Asks version tickers v x.0) value x.1) y.1) ∙ sym y.2
+    one_for version tickers d a b (subst (λ v. AsksFor version tickers v a) value x) y
 
 pub one_saying : OneSaying
 one_saying version tickers line a b after other x y =
-    let same = one_list version tickers x.asks.value y.asks.value a b (sym x.asks.reads ∙ y.asks.reads) x.asks.asks y.asks.asks in
-    (same, one_table tickers b after other (subst (λ cs. Leave tickers cs after) same x.leaves) y.leaves)
+    let same = one_value version tickers x.asks.value y.asks.value a b (sym x.asks.reads ∙ y.asks.reads) x.asks.asks y.asks.asks in
+    (same, one_table tickers (commands_of b) after other (subst (λ asked. Leave tickers (commands_of asked) after) same x.leaves) y.leaves)
 
 pub one_answer : OneSaying → (version : Version) (tickers : List (List ℕ)) (line : List ℕ) (a b : Answer) (after other : List (List ℕ)) → a ≢ wants_memory → b ≢ wants_memory
     → IsRead version tickers line after a → IsRead version tickers line other b → (a ≡ b) × (after ≡ other)
 one_answer one version tickers line (Ok Blank) (Ok Blank) after other x y p q = (refl, p.1 ∙ sym q.1)
 one_answer one version tickers line (Ok Blank) (Ok (line_is.Asks d)) after other x y p q = absurd (q.asks.written p.0)
+one_answer one version tickers line (Ok Blank) (Ok (line_is.Many ds)) after other x y p q = absurd (q.asks.written p.0)
 one_answer one version tickers line (Ok Blank) (Err NoCommand) after other x y p q = absurd (q.0.written p.0)
 one_answer one version tickers line (Ok Blank) (Err Memory) after other x y p q = absurd (y refl)
 one_answer one version tickers line (Ok (line_is.Asks c)) (Ok Blank) after other x y p q = absurd (p.asks.written q.0)
 one_answer one version tickers line (Ok (line_is.Asks c)) (Ok (line_is.Asks d)) after other x y p q =
-    let same = one version tickers line (alone (command_in c)) (alone (command_in d)) after other p q in
-    (ap asks_own (same_own c d (heads (command_in c) (command_in d) same.0)), same.1)
-one_answer one version tickers line (Ok (line_is.Asks c)) (Err NoCommand) after other x y p q = absurd (q.0.no_command (alone (command_in c)) p.asks)
+    let same = one version tickers line (Alone (command_in c)) (Alone (command_in d)) after other p q in
+    (ap asks_own (same_own c d (alone_is (command_in c) (command_in d) same.0)), same.1)
+one_answer one version tickers line (Ok (line_is.Asks c)) (Ok (line_is.Many ds)) after other x y p q =
+    absurd (let same = (one version tickers line (Alone (command_in c)) (OfLadder (map command_in ds)) after other p q).0 in cc)
+one_answer one version tickers line (Ok (line_is.Asks c)) (Err NoCommand) after other x y p q = absurd (q.0.no_command (Alone (command_in c)) p.asks)
 one_answer one version tickers line (Ok (line_is.Asks c)) (Err Memory) after other x y p q = absurd (y refl)
+one_answer one version tickers line (Ok (line_is.Many cs)) (Ok Blank) after other x y p q = absurd (p.asks.written q.0)
+one_answer one version tickers line (Ok (line_is.Many cs)) (Ok (line_is.Asks d)) after other x y p q =
+    absurd (let same = (one version tickers line (OfLadder (map command_in cs)) (Alone (command_in d)) after other p q).0 in cc)
+one_answer one version tickers line (Ok (line_is.Many cs)) (Ok (line_is.Many ds)) after other x y p q =
+    let same = one version tickers line (OfLadder (map command_in cs)) (OfLadder (map command_in ds)) after other p q in
+    (ap asks_owns (same_owns cs ds (ladder_is (map command_in cs) (map command_in ds) same.0)), same.1)
+one_answer one version tickers line (Ok (line_is.Many cs)) (Err NoCommand) after other x y p q = absurd (q.0.no_command (OfLadder (map command_in cs)) p.asks)
+one_answer one version tickers line (Ok (line_is.Many cs)) (Err Memory) after other x y p q = absurd (y refl)
 one_answer one version tickers line (Err NoCommand) (Ok Blank) after other x y p q = absurd (p.0.written q.0)
-one_answer one version tickers line (Err NoCommand) (Ok (line_is.Asks d)) after other x y p q = absurd (p.0.no_command (alone (command_in d)) q.asks)
+one_answer one version tickers line (Err NoCommand) (Ok (line_is.Asks d)) after other x y p q = absurd (p.0.no_command (Alone (command_in d)) q.asks)
+one_answer one version tickers line (Err NoCommand) (Ok (line_is.Many ds)) after other x y p q = absurd (p.0.no_command (OfLadder (map command_in ds)) q.asks)
 one_answer one version tickers line (Err NoCommand) (Err NoCommand) after other x y p q = (refl, p.1 ∙ sym q.1)
 one_answer one version tickers line (Err NoCommand) (Err Memory) after other x y p q = absurd (y refl)
 one_answer one version tickers line (Err Memory) b after other x y p q = absurd (x refl)
@@ -173,6 +234,12 @@ one_answer one version tickers line (Err Memory) b after other x y p q = absurd 
 -- a command isn't without tickers that it leaves
 some_after : (tickers : List (List ℕ)) (command : Command) → ((after : List (List ℕ)) → Leaves tickers command after → ⊥) → ⊥
 some_after tickers command none = none tickers (inr (λ ticker adds. none (tickers ++ ticker ∷ []) (inl (ticker, adds, refl)), refl))
+
+-- nor are several
+some_after_all : (tickers : List (List ℕ)) (commands : List Command) → ((after : List (List ℕ)) → Leave tickers commands after → ⊥) → ⊥
+some_after_all tickers [] none = none tickers refl
+some_after_all tickers (command ∷ commands) none =
+    some_after tickers command (λ next leaves. some_after_all next commands (λ after rest. none after (next, leaves, rest)))
 
 abbrev is_wanting : Answer → Bool
 is_wanting (Ok read) = false
@@ -187,11 +254,11 @@ none_is_unanswered version tickers line none =
     none tickers (Err NoCommand) (told (Err NoCommand) refl) (
       record {
         written = λ blank. none tickers (Ok Blank) (told (Ok Blank) refl) (blank, refl);
-        no_command = λ commands asks.
-            let command = asks.asks.0 in
-            let one = subst (λ cs. LineAsks version tickers line cs) asks.asks.2 asks in
-            some_after tickers command (λ after leaves.
-            none after (Ok (line_is.Asks (own_of command))) (told (Ok (line_is.Asks (own_of command))) refl) (rw (plain_is command) (record { asks = one; leaves = (after, leaves, refl) })));
+        no_command = λ asked asks. some_after_all tickers (commands_of asked) (λ after leaves. answered asked after (record { asks = asks; leaves = leaves }));
       },
       refl,
     )
+  where
+    answered : (asked : Asked) (after : List (List ℕ)) → Says version tickers line asked after → ⊥
+    answered (Alone command) after says = none after (Ok (line_is.Asks (own_of command))) (told (Ok (line_is.Asks (own_of command))) refl) (rw (plain_is command) says)
+    answered (OfLadder commands) after says = none after (Ok (line_is.Many (map own_of commands))) (told (Ok (line_is.Many (map own_of commands))) refl) (rw (plains_are commands) says)

@@ -1,5 +1,5 @@
 -- A row has at most one entry for each ticker.
-use Rattle.std.proofs.Common.{◌≡◌, ℕ, suc, ◌+◌, ◌<◌, ◌≤◌, List, [], ◌∷◌, length, Option, Some, None, position, bytes_eq, is_some, inl, inr, true≢false, refl, sym, ap, arith}
+use Rattle.std.proofs.Common.{◌≡◌, ℕ, suc, ◌+◌, ◌<◌, ◌≤◌, List, [], ◌∷◌, length, map, Option, Some, None, position, bytes_eq, is_some, inl, inr, true≢false, refl, sym, ap, arith}
 use Rattle.std.specs.Prelude.{option_and_then, codes, All}
 use Rattle.std.proofs.lemmas.List.Elements.{All-nil, All-cons, recursion_from_All}
 use Rattle.std.proofs.lemmas.List.Quantifiers.{position-Some}
@@ -9,8 +9,11 @@ use Rattle.ticker_table.specs.Tickers.{AreTickers}
 use Rattle.wire_records.specs.Commands.{Command, AddAsset, OpenAccount, DepositMoney, DepositAsset, WithdrawMoney, WithdrawAsset, PlaceOrder, CancelOrder, RunBatch, PlaceUntil, SetMoneyCredit, SetUnitCredit}
 use Rattle.wire_records.specs.CommandRecords.{HasShortRow}
 use Rattle.wire_records.specs.declared.version.Version.{Version}
-use Rattle.order_text.specs.Lines.{LineAsks, Asks, Small, order_members, padded, asset_named, IsEntryOf, AreWeights}
+use Rattle.curve_ladder.specs.declared.segment.Segment.{Segment}
+use Rattle.curve_ladder.specs.Segments.{segments_of, request_of}
+use Rattle.order_text.specs.Lines.{LineAsks, Asks, AsksLadder, Asked, Alone, OfLadder, commands_of, Small, Weights, HasAt, order_members, padded, asset_named, IsEntryOf, AreWeights}
 use Rattle.order_text.proofs.AskedFor.{fits_asked, rest_of, weights_of}
+use Rattle.order_text.proofs.Ladders.{has_ladder}
 use Rattle.order_text.proofs.Weights.{Among, among_all, Rises, rises_of}
 
 -- an asset that is named has a number below that of the tickers
@@ -57,8 +60,23 @@ row_is_short version tickers d (PlaceUntil last request) are asks =
 row_is_short version tickers d (SetMoneyCredit account ticks) are asks = tt
 row_is_short version tickers d (SetUnitCredit account asset units) are asks = tt
 
+-- all that a ladder's line asks for
+requests_short : (account : ℕ) (row : List Entry) (segments : List Segment) → length row ≤ 165 → All HasShortRow (map PlaceOrder (map (request_of account row) segments))
+requests_short account row [] short = All-nil HasShortRow
+requests_short account row (s ∷ segments) short = All-cons HasShortRow (PlaceOrder (request_of account row s)) (map PlaceOrder (map (request_of account row) segments)) short (requests_short account row segments short)
+
+-- its row
+pub ladder_row : (tickers : List (List ℕ)) (d : Data) (commands : List Command) → (asks : AsksLadder tickers d commands) → HasAt tickers d (codes "weights") (Weights asks.row)
+ladder_row tickers d commands asks = (has_ladder tickers d commands asks).1.1.1.0
+
+pub ladder_row_is_short : (tickers : List (List ℕ)) (d : Data) (commands : List Command) → AreTickers tickers → (asks : AsksLadder tickers d commands) → length asks.row ≤ 165
+ladder_row_is_short tickers d commands are asks =
+    let weights = (ladder_row tickers d commands asks).2 in
+    omega (arith, are.few, few_entries tickers weights.0 asks.row weights.2)
+
 -- all that a line asks for
-pub rows_are_short : (version : Version) (tickers : List (List ℕ)) (line : List ℕ) (commands : List Command) → AreTickers tickers → LineAsks version tickers line commands → All HasShortRow commands
-rows_are_short version tickers line commands are asks =
-    let one = asks.asks in
-    rw one.2 (All-cons HasShortRow one.0 [] (row_is_short version tickers asks.value one.0 are one.1) (All-nil HasShortRow))
+pub rows_are_short : (version : Version) (tickers : List (List ℕ)) (line : List ℕ) (asked : Asked) → AreTickers tickers → LineAsks version tickers line asked → All HasShortRow (commands_of asked)
+rows_are_short version tickers line (Alone command) are asks =
+    All-cons HasShortRow command [] (row_is_short version tickers asks.value command are asks.asks) (All-nil HasShortRow)
+rows_are_short version tickers line (OfLadder commands) are asks =
+    rw asks.asks.commands_are (requests_short asks.asks.account asks.asks.row (segments_of asks.asks.ladder) (ladder_row_is_short tickers asks.value commands are asks.asks))

@@ -7,25 +7,25 @@ use Rattle.wire_records.specs.CommandRecords.{IsCommand, HasShortRow}
 use Rattle.wire_records.specs.Versions.{IsOfVersion}
 use Rattle.order_text.specs.declared.line.LineRead.{LineRead}
 use Rattle.order_text.specs.declared.line.LineFault.{LineFault}
-use Rattle.order_text.specs.Lines.{LineAsks, Leave, Says}
+use Rattle.order_text.specs.Lines.{Asked, commands_of, LineAsks, Leave, Says}
 use Rattle.order_text.specs.Answers.{IsRead, wants_memory}
 
--- a line says at most one list of commands, and there is one table after it
+-- a line asks for one thing at most, and there is one table after it
 abbrev pub OneSaying : Type 0
 OneSaying =
-    (version : Version) (tickers : List (List ℕ)) (line : List ℕ) (a b : List Command) (after other : List (List ℕ)) → Says version tickers line a after → Says version tickers line b other
+    (version : Version) (tickers : List (List ℕ)) (line : List ℕ) (a b : Asked) (after other : List (List ℕ)) → Says version tickers line a after → Says version tickers line b other
     → (a ≡ b) × (after ≡ other)
 
 -- the commands that a line asks for have rows, where they have one, that fit their records
 abbrev pub RowsAreShort : Type 0
 RowsAreShort =
-    (version : Version) (tickers : List (List ℕ)) (line : List ℕ) (commands : List Command) → AreTickers tickers → LineAsks version tickers line commands → All HasShortRow commands
+    (version : Version) (tickers : List (List ℕ)) (line : List ℕ) (asked : Asked) → AreTickers tickers → LineAsks version tickers line asked → All HasShortRow (commands_of asked)
 
 -- the commands that a line asks for have fields within their widths, and are of the version
 abbrev pub CommandsFit : Type 0
 CommandsFit =
-    (version : Version) (tickers : List (List ℕ)) (line : List ℕ) (commands : List Command) → AreTickers tickers → LineAsks version tickers line commands
-    → All IsCommand commands × All (IsOfVersion version) commands
+    (version : Version) (tickers : List (List ℕ)) (line : List ℕ) (asked : Asked) → AreTickers tickers → LineAsks version tickers line asked
+    → All IsCommand (commands_of asked) × All (IsOfVersion version) (commands_of asked)
 
 -- commands leave one table of tickers
 abbrev pub OneTable : Type 0

@@ -1,17 +1,20 @@
--- Which commands a line of JSON asks for.
-use Rattle.std.specs.Prelude.{◌≡◌, ℕ, ◌-◌, ◌<◌, ◌^◌, ℤ, nat_le, if◌then◌else◌, ◌⊎◌, List, [], ◌∷◌, ◌++◌, length, replicate, codes, position, bytes_eq, All, IsUtf8, Option, Some, None, option_map, option_and_then}
+-- Which commands a line of JSON asks for: one, or those of a ladder.
+use Rattle.std.specs.Prelude.{◌≡◌, ℕ, ◌-◌, ◌<◌, ◌^◌, ℤ, nat_le, if◌then◌else◌, ◌⊎◌, List, [], ◌∷◌, ◌++◌, length, replicate, map, codes, position, bytes_eq, All, IsUtf8, Option, Some, None, option_map, option_and_then}
 use Rattle.std.specs.List.Sorted.{IsStrictlyIncreasing}
 use Rattle.wire_fields.specs.Numbers.{IsSigned}
 use Rattle.weight_rows.specs.declared.entries.Entry.{Entry}
 use Rattle.weight_rows.specs.Rows.{assets_of}
-use Rattle.serde_json.specs.Data.{Data, Members, no_members, member}
+use Rattle.serde_json.specs.Data.{Data, Items, no_items, item, Members, no_members, member}
 use Rattle.serde_json.specs.Read.{read}
 use Rattle.serde_json.specs.Events.{members_len}
-use Rattle.serde_json.specs.Find.{get, as_str, as_number, as_u64, as_i64, as_object}
+use Rattle.serde_json.specs.Find.{get, as_str, as_number, as_u64, as_i64, as_array, as_object}
 use Rattle.wire_records.specs.Commands.{Request, Command, AddAsset, OpenAccount, DepositMoney, DepositAsset, WithdrawMoney, WithdrawAsset, PlaceOrder, CancelOrder, RunBatch, PlaceUntil, SetMoneyCredit, SetUnitCredit}
 use Rattle.wire_records.specs.Versions.{IsOfVersion}
 use Rattle.wire_records.specs.declared.version.Version.{Version}
 use Rattle.ticker_table.specs.Adding.{IsAddable}
+use Rattle.curve_ladder.specs.declared.points.Point.{Point}
+use Rattle.curve_ladder.specs.Ladders.{Ladder, IsLadder}
+use Rattle.curve_ladder.specs.Segments.{requests_of}
 
 -- a space, a tab or a carriage return
 abbrev pub IsBlankByte : ℕ → Type 0
@@ -54,8 +57,24 @@ pub record AreWeights (tickers : List (List ℕ)) (members : Members) (row : Lis
   pub count : length row ≡ members_len members
   pub each : All (IsEntryOf tickers members) row
 
+-- a value is a point of a ladder: an array of its price, a whole number of 64 bits with a sign, and its rate, one of 32
+pub record IsPoint (d : Data) (p : Point) : Type 0 where
+  pub price : Data
+  pub rate : Data
+  pub two : as_array d ≡ Some (item price (item rate no_items))
+  pub price_is : signed_of price ≡ Some p.price
+  pub rate_is : whole_of rate ≡ Some p.rate
+  pub small : p.rate < 2 ^ 32
+
+-- values are these points, one by one
+abbrev pub ArePoints : Items → List Point → Type 0
+ArePoints no_items [] = Unit {0}
+ArePoints no_items (p ∷ points) = ⊥
+ArePoints (item d items) [] = ⊥
+ArePoints (item d items) (p ∷ points) = IsPoint d p × ArePoints items points
+
 -- What may stand at a key: a text as it is, the text of a ticker, one that names an asset, a whole number of 32 bits or of 64,
--- one of 64 with a sign, and the weights of a row.
+-- one of 64 with a sign, the weights of a row, and points.
 pub data Value : Type 0 where
   Text : (text : List ℕ) → Value
   Ticker : (ticker : List ℕ) → Value
@@ -64,6 +83,7 @@ pub data Value : Type 0 where
   Number : (number : ℕ) → Value
   Signed : (number : ℤ) → Value
   Weights : (row : List Entry) → Value
+  Points : (points : List Point) → Value
 
 -- a value is one of these, given the tickers of the lines before
 abbrev pub IsValue : List (List ℕ) → Data → Value → Type 0
@@ -74,6 +94,7 @@ IsValue tickers d (Small number) = (whole_of d ≡ Some number) × (number < 2 ^
 IsValue tickers d (Number number) = whole_of d ≡ Some number
 IsValue tickers d (Signed number) = signed_of d ≡ Some number
 IsValue tickers d (Weights row) = (members : Members) × (as_object d ≡ Some members) × AreWeights tickers members row
+IsValue tickers d (Points points) = (items : Items) × (as_array d ≡ Some items) × ArePoints items points
 
 -- it stands at a key of an object
 abbrev pub HasAt : List (List ℕ) → Data → List ℕ → Value → Type 0
@@ -112,17 +133,44 @@ pub record Asks (version : Version) (tickers : List (List ℕ)) (d : Data) (comm
   pub keys : HasKeys (length (members_of command)) d
   pub of_version : IsOfVersion version command
 
--- an object asks for these commands of a version, in their order: for one
-abbrev pub AsksFor : Version → List (List ℕ) → Data → List Command → Type 0
-AsksFor version tickers d commands = (command : Command) × Asks version tickers d command × (commands ≡ command ∷ [])
+-- the members of the object that asks for a ladder's orders
+abbrev pub ladder_members : Ladder → ℕ → List Entry → List (List ℕ × Value)
+ladder_members l account row =
+    (codes "do", Text (codes "ladder")) ∷ (codes "account", Small account) ∷ (codes "points", Points l.points) ∷ (codes "turns", Small l.turns) ∷ (codes "weights", Weights row) ∷ []
 
--- a line asks for these commands: it isn't blank, and it is the UTF-8 of an object that does
-pub record LineAsks (version : Version) (tickers : List (List ℕ)) (line : List ℕ) (commands : List Command) : Type 0 where
+-- An object asks for the orders of a ladder: it has the ladder's members, and no further keys, and the ladder has no fault. The
+-- commands place its orders, one for each drop of its rate, in ascending prices; each version has them.
+pub record AsksLadder (tickers : List (List ℕ)) (d : Data) (commands : List Command) : Type 0 where
+  pub ladder : Ladder
+  pub account : ℕ
+  pub row : List Entry
+  pub members : All (λ m. HasAt tickers d m.0 m.1) (ladder_members ladder account row)
+  pub keys : HasKeys (length (ladder_members ladder account row)) d
+  pub lawful : IsLadder ladder
+  pub commands_are : commands ≡ map PlaceOrder (requests_of ladder account row)
+
+-- what may be asked for: one command, or those of a ladder, which may be one too
+pub data Asked : Type 0 where
+  Alone : (command : Command) → Asked
+  OfLadder : (commands : List Command) → Asked
+
+-- the commands, in their order
+abbrev pub commands_of : Asked → List Command
+commands_of (Alone command) = command ∷ []
+commands_of (OfLadder commands) = commands
+
+-- an object of a version asks for it
+abbrev pub AsksFor : Version → List (List ℕ) → Data → Asked → Type 0
+AsksFor version tickers d (Alone command) = Asks version tickers d command
+AsksFor version tickers d (OfLadder commands) = AsksLadder tickers d commands
+
+-- a line asks for it: it isn't blank, and it is the UTF-8 of an object that does
+pub record LineAsks (version : Version) (tickers : List (List ℕ)) (line : List ℕ) (asked : Asked) : Type 0 where
   pub written : ¬ IsBlank line
   pub utf8 : IsUtf8 line
   pub value : Data
   pub reads : read line ≡ Some value
-  pub asks : AsksFor version tickers value commands
+  pub asks : AsksFor version tickers value asked
 
 -- a command adds this ticker: it is that of an asset, and can be added
 abbrev pub Adds : List (List ℕ) → Command → List ℕ → Type 0
@@ -139,11 +187,11 @@ Leave tickers [] after = after ≡ tickers
 Leave tickers (command ∷ commands) after = (next : List (List ℕ)) × Leaves tickers command next × Leave next commands after
 
 -- what a line says in a version, after the tickers of the lines before, and the tickers after it
-pub record Says (version : Version) (tickers : List (List ℕ)) (line : List ℕ) (commands : List Command) (after : List (List ℕ)) : Type 0 where
-  pub asks : LineAsks version tickers line commands
-  pub leaves : Leave tickers commands after
+pub record Says (version : Version) (tickers : List (List ℕ)) (line : List ℕ) (asked : Asked) (after : List (List ℕ)) : Type 0 where
+  pub asks : LineAsks version tickers line asked
+  pub leaves : Leave tickers (commands_of asked) after
 
 -- a line that is neither blank nor asks for commands
 pub record SaysNothing (version : Version) (tickers : List (List ℕ)) (line : List ℕ) : Type 0 where
   pub written : ¬ IsBlank line
-  pub no_command : (commands : List Command) → ¬ LineAsks version tickers line commands
+  pub no_command : (asked : Asked) → ¬ LineAsks version tickers line asked

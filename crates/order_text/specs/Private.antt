@@ -1,9 +1,9 @@
 -- Words that only private code uses.
-use Rattle.std.specs.Prelude.{◌≡◌, ◌≢◌, ℕ, ◌^◌, ◌==◌, ◌&&◌, ℤ, pos, neg_ℤ, int_lt, int_le, nat_lt, if◌then◌else◌, ◌⊎◌, List, [], ◌∷◌, ◌++◌, length, drop, codes, Option, Some, None, option_map, option_and_then, Result, Ok, Err}
+use Rattle.std.specs.Prelude.{◌≡◌, ◌≢◌, ℕ, ◌^◌, ◌==◌, ◌&&◌, ℤ, pos, neg_ℤ, int_lt, int_le, nat_lt, if◌then◌else◌, ◌⊎◌, List, [], ◌∷◌, ◌++◌, length, drop, map, All, codes, Option, Some, None, option_map, option_and_then, Result, Ok, Err}
 use Rattle.std.specs.List.{AllByRecursion}
 use Rattle.weight_rows.specs.declared.entries.Entry.{Entry}
-use Rattle.serde_json.specs.Data.{Data, Members, no_members, member}
-use Rattle.serde_json.specs.Find.{get, as_str, as_object}
+use Rattle.serde_json.specs.Data.{Data, Items, no_items, item, Members, no_members, member}
+use Rattle.serde_json.specs.Find.{get, as_str, as_array, as_object}
 use Rattle.ticker_table.specs.Adding.{IsAddable}
 use Rattle.wire_records.specs.Commands.{Request, Command, AddAsset, OpenAccount, DepositMoney, DepositAsset, WithdrawMoney, WithdrawAsset, PlaceOrder, CancelOrder, RunBatch, PlaceUntil, SetMoneyCredit, SetUnitCredit}
 use Rattle.wire_records.specs.CommandRecords.{HasShortRow}
@@ -12,9 +12,14 @@ use Rattle.wire_records.specs.Views.{command_in}
 use Rattle.wire_records.specs.declared.command.Command as owned
 use Rattle.wire_records.specs.declared.version.Version.{Version}
 use Rattle.wire_records.specs.declared.version.Version.TheVariants.{One, Two}
+use Rattle.curve_ladder.specs.declared.points.Point.{Point}
+use Rattle.curve_ladder.specs.Ladders.{Ladder, IsLadder}
+use Rattle.curve_ladder.specs.Segments.{requests_of}
+use Rattle.order_text.specs.declared.line.LineRead.{LineRead}
+use Rattle.order_text.specs.declared.line.LineRead.TheVariants as line_is
 use Rattle.order_text.specs.declared.line.LineFault.{LineFault}
 use Rattle.order_text.specs.declared.line.LineFault.TheVariants.{NoCommand, Memory}
-use Rattle.order_text.specs.Lines.{HasKeys, whole_of, signed_of, asset_named, Value, Asset, Small, Number, Signed, HasAt, order_members, members_of, Asks}
+use Rattle.order_text.specs.Lines.{HasKeys, whole_of, signed_of, asset_named, Value, Asset, Small, Number, Signed, HasAt, order_members, members_of, ladder_members, Asks, AsksLadder, Asked, AsksFor, Leaves}
 
 -- the text at a key
 abbrev pub text_at : List ℕ → Data → Option (List ℕ)
@@ -31,6 +36,10 @@ signed_at key d = option_and_then signed_of (get key d)
 -- the members of the object at a key
 abbrev pub members_at : List ℕ → Data → Option Members
 members_at key d = option_and_then as_object (get key d)
+
+-- the values of the array at a key
+abbrev pub items_at : List ℕ → Data → Option Items
+items_at key d = option_and_then as_array (get key d)
 
 -- the tickers after a ticker: with it, where it can be added
 abbrev pub AreWith : List (List ℕ) → List ℕ → List (List ℕ) → Type 0
@@ -102,6 +111,32 @@ IsAnswered version tickers d (Ok command) = Asks version tickers d (command_in c
 IsAnswered version tickers d (Err NoCommand) = (command : Command) → ¬ Asks version tickers d command
 IsAnswered version tickers d (Err Memory) = Unit {0}
 
+-- an object has the members of a ladder, besides `do`
+abbrev pub HasLadder : List (List ℕ) → Data → Ladder → ℕ → List Entry → Type 0
+HasLadder tickers d l account row = Has tickers d (drop 1 (ladder_members l account row))
+
+-- the commands of the ladder that an object with the word of one asks for
+abbrev pub IsLaddered : List (List ℕ) → Data → Result (List owned.Command) LineFault → Type 0
+IsLaddered tickers d (Ok commands) =
+    ((l : Ladder) × (account : ℕ) × (row : List Entry) × HasLadder tickers d l account row × HasKeys 5 d × IsLadder l × (map command_in commands ≡ map PlaceOrder (requests_of l account row)))
+    × All (λ command. HasShortRow (command_in command)) commands
+IsLaddered tickers d (Err NoCommand) = (l : Ladder) (account : ℕ) (row : List Entry) → HasLadder tickers d l account row → HasKeys 5 d → ¬ IsLadder l
+IsLaddered tickers d (Err Memory) = Unit {0}
+
+-- what an object asks for
+abbrev pub IsAsked : Version → List (List ℕ) → Data → Result LineRead LineFault → Type 0
+IsAsked version tickers d (Ok line_is.Blank) = ⊥
+IsAsked version tickers d (Ok (line_is.Asks command)) = Asks version tickers d (command_in command) × HasShortRow (command_in command)
+IsAsked version tickers d (Ok (line_is.Many commands)) = AsksLadder tickers d (map command_in commands) × All (λ command. HasShortRow (command_in command)) commands
+IsAsked version tickers d (Err NoCommand) = (asked : Asked) → ¬ AsksFor version tickers d asked
+IsAsked version tickers d (Err Memory) = Unit {0}
+
+-- the tickers after what was read
+abbrev pub AreAfter : List (List ℕ) → LineRead → List (List ℕ) → Type 0
+AreAfter tickers line_is.Blank after = after ≡ tickers
+AreAfter tickers (line_is.Asks command) after = Leaves tickers (command_in command) after
+AreAfter tickers (line_is.Many commands) after = after ≡ tickers
+
 -- an object with an account and ticks besides `do`, and no further keys
 abbrev pub HasMoney : Data → ℕ → ℕ → Type 0
 HasMoney d account ticks = HasAt [] d (codes "account") (Small account) × HasAt [] d (codes "ticks") (Number ticks) × HasKeys 3 d
@@ -115,6 +150,32 @@ HasUnits tickers d account asset units =
 abbrev pub HasLimits : Data → ℕ → ℤ → ℤ → ℕ → ℕ → Type 0
 HasLimits d account low high rate cap =
     HasAt [] d (codes "account") (Small account) × HasAt [] d (codes "low") (Signed low) × HasAt [] d (codes "high") (Signed high) × HasAt [] d (codes "rate") (Small rate) × HasAt [] d (codes "cap") (Number cap)
+
+-- ---- the points of an array, one after the other
+
+-- a number of 32 bits, if it is one
+abbrev pub in_32_bits : ℕ → Option ℕ
+in_32_bits n = if nat_lt n (2 ^ 32) then Some n else None
+
+-- the rate that a value is
+abbrev pub rate_of : Data → Option ℕ
+rate_of d = option_and_then in_32_bits (whole_of d)
+
+-- the point that two values are
+abbrev pub point_in : Items → Option Point
+point_in no_items = None
+point_in (item price no_items) = None
+point_in (item price (item rate no_items)) = option_and_then (λ p. option_map (λ r. record { price = p; rate = r }) (rate_of rate)) (signed_of price)
+point_in (item price (item rate (item more items))) = None
+
+-- the point that a value is
+abbrev pub point_of : Data → Option Point
+point_of d = option_and_then point_in (as_array d)
+
+-- points with one more for each value
+abbrev pub put_points : Items → List Point → Option (List Point)
+put_points no_items points = Some points
+put_points (item d items) points = option_and_then (λ p. put_points items (points ++ p ∷ [])) (point_of d)
 
 -- ---- the row of an object of weights, one member after the other
 

@@ -4,10 +4,11 @@ ghost use Rattle.serde_json.specs.View.{view};
 ghost use Rattle.ticker_table.specs.Tickers.{ticker_limit};
 ghost use Rattle.weight_rows.specs.declared.entries.Entry.{Entry};
 ghost use Rattle.order_text.specs.Lines.{Weights, HasAt};
-ghost use Rattle.order_text.specs.Private.{IsFound, IsPlain, IsOrder, IsUntil, IsPlaced, IsAnswered, HasMoney, HasUnits, HasLimits};
+ghost use Rattle.order_text.specs.Private.{IsFound, IsPlain, IsOrder, IsUntil, IsPlaced, IsAnswered, IsAsked, HasMoney, HasUnits, HasLimits};
 
-use crate::LineFault;
 use crate::fields::{asset_at, has_keys, is_asked, number_at, signed_at, small_at, ticker_at};
+use crate::ladder::ladder;
+use crate::line::{LineFault, LineRead};
 use crate::row::row_of;
 use serde_json::Value;
 use std::alloc::Global;
@@ -139,7 +140,11 @@ fn limits_of(value: &Value) -> Option<Limits>
     })
 }
 
-fn row_at(alloc: Global, tickers: &TickerTable, value: &Value) -> Result<EntryList, LineFault>
+pub(crate) fn row_at(
+    alloc: Global,
+    tickers: &TickerTable,
+    value: &Value,
+) -> Result<EntryList, LineFault>
     ensures row { IfOk result (λ row. HasAt tickers.now (view value.now) (codes "weights") (Weights row)) }
     ensures short { IfOk result (λ row. length row ≤ ticker_limit) }
     ensures none { IsErrOf result LineFault.NoCommand
@@ -270,8 +275,8 @@ fn plain_in(version: Version, tickers: &TickerTable, value: &Value) -> Option<Co
     }
 }
 
-/// The command of a version that a value asks for.
-pub(crate) fn command_of(
+// The command of a version that a value asks for.
+fn command_of(
     alloc: Global,
     version: Version,
     tickers: &TickerTable,
@@ -286,4 +291,19 @@ pub(crate) fn command_of(
         Some(command) => Ok(command),
         None => Err(LineFault::NoCommand),
     }
+}
+
+/// What a value asks for in a version.
+pub(crate) fn asked_by(
+    alloc: Global,
+    version: Version,
+    tickers: &TickerTable,
+    value: &Value,
+) -> Result<LineRead, LineFault>
+    ensures { IsAsked version tickers.now (view value.now) result }
+{
+    if is_asked(value, "ladder") {
+        return Ok(LineRead::Many(ladder(alloc, tickers, value)?));
+    }
+    Ok(LineRead::Asks(command_of(alloc, version, tickers, value)?))
 }

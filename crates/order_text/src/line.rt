@@ -3,12 +3,12 @@ ghost use Rattle.std.specs.Prelude.{◌≡◌, ◌↔◌, Some, None, IsTrue, Is
 ghost use Rattle.serde_json.specs.View.{view};
 ghost use Rattle.serde_json.specs.Read.{read};
 ghost use Rattle.ticker_table.specs.Tickers.{AreTickers};
-ghost use Rattle.wire_records.specs.Views.{command_in};
-ghost use Rattle.order_text.specs.Lines.{IsBlank, Leaves};
-ghost use Rattle.order_text.specs.Private.{AreWith};
+ghost use Rattle.order_text.specs.Lines.{IsBlank};
+ghost use Rattle.order_text.specs.Private.{AreWith, AreAfter};
 ghost use Rattle.order_text.specs.Answers.{IsRead, IsShort};
 
-use crate::asking::command_of;
+use crate::asking::asked_by;
+use curve_ladder::CommandList;
 use serde_json::{Category, Value};
 use std::alloc::Global;
 use thiserror::Error;
@@ -22,6 +22,9 @@ pub enum LineRead {
     Blank,
     /// It asks for this command. A row has at most one entry for each ticker of the lines before.
     Asks(Command),
+    /// It asks for the orders of a ladder: one [`PlaceOrder`](Command::PlaceOrder) for each drop of its rate, in ascending
+    /// prices, all of one row.
+    Many(CommandList),
 }
 
 /// Why nothing was read of a line.
@@ -73,21 +76,21 @@ fn add(tickers: &mut TickerTable, ticker: [u8; 8]) -> Result<(), LineFault>
     }
 }
 
-// The tickers after a line that asks for this command.
-fn add_ticker(tickers: &mut TickerTable, command: &Command) -> Result<(), LineFault>
-    ensures after { OnOk result (Leaves tickers.old (command_in command.now) tickers.new) }
+// The tickers after a line that was read so.
+fn add_ticker(tickers: &mut TickerTable, read: &LineRead) -> Result<(), LineFault>
+    ensures after { OnOk result (AreAfter tickers.old read.now tickers.new) }
     ensures stays { OnErr result (tickers.new ≡ tickers.old) }
     ensures fault { ¬ IsErrOf result LineFault.NoCommand }
 {
-    match command {
-        Command::AddAsset { ticker } => add(tickers, *ticker),
+    match read {
+        LineRead::Asks(Command::AddAsset { ticker }) => add(tickers, *ticker),
         _ => Ok(()),
     }
 }
 
 /// What a line of JSON is, given the tickers of the lines before it. The line has no line feed at its end.
 ///
-/// A command is one of the version: an object with exactly the keys of one row, of which the last three are of version Two alone:
+/// A command is one of the version: an object with exactly the keys of one row, of which `credit`, and `place` with `last`, are of version Two alone:
 ///
 /// | `do` | further keys | command |
 /// |---|---|---|
@@ -103,16 +106,19 @@ fn add_ticker(tickers: &mut TickerTable, command: &Command) -> Result<(), LineFa
 /// | `place` | the same, and `last` | [`PlaceUntil`](Command::PlaceUntil) |
 /// | `credit` | `account`, `ticks` | [`SetMoneyCredit`](Command::SetMoneyCredit) |
 /// | `credit` | `account`, `asset`, `units` | [`SetUnitCredit`](Command::SetUnitCredit) |
+/// | `ladder` | `account`, `points`, `turns`, `weights` | a [`PlaceOrder`](Command::PlaceOrder) for each segment of the [`Ladder`](curve_ladder::Ladder) |
 ///
 /// A ticker is an ASCII text of at most 8 bytes, valid or not. An asset is such a text too, and has to be in the
 /// table. Numbers are whole and fit the command's fields, without fraction or exponent. `weights` is an object of a
 /// weight for each asset by its ticker; its entries come out in ascending asset number, at most one for each ticker of
-/// the table. Of a doubled key the last value stays, as the reader of JSON has it.
+/// the table. `points` is an array of arrays of two numbers, a price in ticks and a rate; where the points and `turns` have a fault as a
+/// ladder, the line is no command. Of a doubled key the last value stays, as the reader of JSON has it.
 ///
 /// The ticker of an `asset` line is added to the table where it can be added, and the line is a command either way.
 /// `NoCommand` is exactly for what is neither blank nor a command; `Memory` may be for any line that isn't blank. After either
 /// the table is as before.
-/// The cost is that of the line's bytes, and for each weight that of the entries before it.
+/// The cost is that of the line's bytes, and for each weight that of the entries before it. A ladder takes memory for its commands,
+/// 32 at most, each with its row; for points that are too many none is taken.
 pub fn read_line(
     alloc: Global,
     line: &[u8],
@@ -126,7 +132,7 @@ pub fn read_line(
         return Ok(LineRead::Blank);
     }
     let value = value_of(alloc, line)?;
-    let command = command_of(alloc, version, tickers, &value)?;
-    add_ticker(tickers, &command)?;
-    Ok(LineRead::Asks(command))
+    let read = asked_by(alloc, version, tickers, &value)?;
+    add_ticker(tickers, &read)?;
+    Ok(read)
 }

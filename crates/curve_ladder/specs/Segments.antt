@@ -1,0 +1,67 @@
+-- The orders of a ladder: one for each drop of its rate.
+use Rattle.std.specs.Prelude.{ℕ, ◌*◌, min, nat_lt, List, map, Bool}
+use Rattle.std.specs.List.{filter}
+use Rattle.weight_rows.specs.declared.entries.Entry.{Entry}
+use Rattle.demand_curve.specs.Demand.{Terms}
+use Rattle.flow_orders.specs.Orders.{Order, price_of_ticks}
+use Rattle.wire_records.specs.Commands.{Request}
+use Rattle.curve_ladder.specs.declared.points.Point.{Point}
+use Rattle.curve_ladder.specs.declared.segment.Segment.{Segment}
+use Rattle.curve_ladder.specs.Ladders.{Ladder}
+use Rattle.curve_ladder.specs.Values.{neighbours, drop_between}
+
+-- the rate falls from a point to the next one
+abbrev pub is_drop : Point × Point → Bool
+is_drop pair = nat_lt pair.1.rate pair.0.rate
+
+-- the order of a drop: limits at both points, the drop as its rate, and a cap for so many turns
+abbrev pub segment_between : ℕ → Point × Point → Segment
+segment_between turns pair = record {
+  low = pair.0.price;
+  high = pair.1.price;
+  rate = drop_between pair.0 pair.1;
+  cap = drop_between pair.0 pair.1 * turns;
+}
+
+-- the segments of points, in ascending prices
+abbrev pub segments_in : ℕ → List Point → List Segment
+segments_in turns points = map (segment_between turns) (filter is_drop (neighbours points))
+
+-- the segments of a ladder
+abbrev pub segments_of : Ladder → List Segment
+segments_of l = segments_in l.turns l.points
+
+-- the curve of a segment's order of which nothing is filled
+abbrev pub curve_of : Segment → Terms
+curve_of s = record { low = price_of_ticks s.low; high = price_of_ticks s.high; rate = s.rate; room = min s.rate s.cap }
+
+-- the curves of a ladder's orders
+abbrev pub curves_of : Ladder → List Terms
+curves_of l = map curve_of (segments_of l)
+
+-- the order that a segment asks for, with nothing filled and no last batch
+abbrev pub order_of : ℕ → ℕ → List Entry → Segment → Order
+order_of number account row s = record {
+  number = number;
+  account = account;
+  low = price_of_ticks s.low;
+  high = price_of_ticks s.high;
+  rate = s.rate;
+  cap = s.cap;
+  filled = 0;
+  row = row;
+  last = 0;
+}
+
+-- the request of that order
+abbrev pub request_of : ℕ → List Entry → Segment → Request
+request_of account row s =
+    record { account = account; low = s.low; high = s.high; rate = s.rate; cap = s.cap; row = row }
+
+-- the requests of a ladder's orders, all for portfolios of one row
+abbrev pub requests_of : Ladder → ℕ → List Entry → List Request
+requests_of l account row = map (request_of account row) (segments_of l)
+
+-- the curve of the order that is asked for, with nothing filled
+abbrev pub curve_asked : Request → Terms
+curve_asked r = record { low = price_of_ticks r.low; high = price_of_ticks r.high; rate = r.rate; room = min r.rate r.cap }
