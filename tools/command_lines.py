@@ -28,6 +28,9 @@ COMMANDS = {
 MOST_TAG = {1: 9, 2: 12}
 TAGS = {(word, frozenset(keys)): tag for tag, (word, keys, _) in COMMANDS.items()}
 
+# The further keys of a ladder.
+LADDER = {"account", "points", "turns", "weights"}
+
 
 class Object(tuple):
     """The members of an object, each a key and a value, with those of doubled keys."""
@@ -113,6 +116,31 @@ def field(form, value, tickers):
     return row(value, tickers) if form == "row" else number(form, value)
 
 
+def orders_of(points, turns):
+    """The limits, the rate and the cap of each order of a ladder: one for each drop of the rate."""
+    if not isinstance(points, list) or not 2 <= len(points) <= 33:
+        raise ValueError(f"{points} aren't 2 to 33 points")
+    if any(not isinstance(point, list) or len(point) != 2 for point in points):
+        raise ValueError("a point isn't a price and a rate")
+    prices, rates = [point[0] for point in points], [point[1] for point in points]
+    whole_numbers = all(type(value) is int for value in [*prices, *rates, turns])
+    if not whole_numbers or any(abs(price) > 1 << 28 for price in prices) or prices != sorted(set(prices)):
+        raise ValueError("the prices don't ascend within their range")
+    if not 1 <= rates[0] <= 1 << 24 or rates != sorted(rates, reverse=True) or rates[-1] != 0:
+        raise ValueError("the rates don't fall to 0 within their range")
+    if not 1 <= turns <= 65536:
+        raise ValueError(f"{turns} aren't 1 to 65,536 turns")
+    drops = zip(prices, prices[1:], rates, rates[1:])
+    return [(low, high, rate - next_rate, (rate - next_rate) * turns) for low, high, rate, next_rate in drops if rate != next_rate]
+
+
+def ladder(asked, tickers):
+    """The records of a ladder's orders."""
+    account, spelled = number("I", asked["account"]), row(asked["weights"], tickers)
+    orders = orders_of(asked["points"], asked["turns"])
+    return b"".join(record(7, account + struct.pack(">qqIQ", *order) + spelled) for order in orders)
+
+
 def add(ticker, tickers):
     """The market's rule: a ticker is added where it is valid, isn't taken and there is room for it."""
     name = ticker.rstrip(b" ")
@@ -125,13 +153,15 @@ def record(tag, body):
 
 
 def record_of(line, tickers, version):
-    """The record that a line asks for in a version, after lines that left these tickers, to which its own is added. It is empty where
-    the line is blank, and None where it is no command."""
+    """The record that a line asks for in a version, or the records where it asks for a ladder's orders, after lines that left these
+    tickers, to which its own is added. It is empty where the line is blank, and None where it is no command."""
     if not line.strip(b" \t\r"):
         return b""
     try:
         asked = members(line)
         word = asked.pop("do", None)
+        if word == "ladder" and set(asked) == LADDER:
+            return ladder(asked, tickers)
         tag = TAGS.get((word, frozenset(asked))) if isinstance(word, str) else None
         if tag is None or tag > MOST_TAG[version]:
             return None

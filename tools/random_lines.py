@@ -46,9 +46,17 @@ def limits():
     return {"account": small(), "low": signed(), "high": signed(), "rate": small(), "cap": large()}
 
 
+def points():
+    """Those of a ladder, with a flat stretch here and there."""
+    count = random.choice([2, 3, 5, 33])
+    prices = sorted(random.sample(range(-(1 << 28), (1 << 28) + 1), count))
+    rates = [random.choice([1, 2, 1 << 24, random.randint(1, 1 << 24)]) for _ in range(count - 1)]
+    return [list(point) for point in zip(prices, sorted(rates, reverse=True) + [0])]
+
+
 def command():
     """The keys and values of a line."""
-    word = random.choice(["asset", "account", "deposit", "withdraw", "place", "place", "cancel", "batch"])
+    word = random.choice(["asset", "account", "deposit", "withdraw", "place", "place", "cancel", "batch", "ladder"])
     if word in ("deposit", "withdraw"):
         told = random.choice([{"ticks": large()}, {"asset": asset(), "units": large()}])
         return {"do": word, "account": small(), **told}
@@ -58,6 +66,7 @@ def command():
         "place": lambda: {**limits(), "weights": weights()},
         "cancel": lambda: {"account": small(), "order": large()},
         "batch": lambda: {"budget": small()},
+        "ladder": lambda: {"account": small(), "points": points(), "turns": random.choice([1, 9, 65536]), "weights": weights()},
     }
     return {"do": word, **makers[word]()}
 
@@ -79,6 +88,8 @@ def spelled(value):
         if members and random.random() < 0.2:
             members.insert(0, f"{text(random.choice(list(value)))}:{random.choice(FIRST_VALUES)}")
         return "{" + ",".join(members) + "}"
+    if isinstance(value, list):
+        return "[" + ",".join(f"{space()}{spelled(each)}{space()}" for each in value) + "]"
     return text(value) if isinstance(value, str) else str(value)
 
 

@@ -13,7 +13,7 @@
 //! | `head TAG LENGTH:` | `put_head` | the bytes |
 //! | `pair: BYTES` | `next_pair`, `reply`, `is_overlong` | `whole TAKEN RECORD` and the reply, `end` or `broken`; then `overlong` |
 //! | `reply: RECORD` | `reply`, `to_cleared` | the reply, or `none` |
-//! | `line TICKERS: TEXT` | `read_line`, with the tickers of the lines before | the command, `blank` or `no_command`; then `of` how many tickers |
+//! | `line TICKERS: TEXT` | `read_line`, with the tickers of the lines before | the command, `many` and how many commands with these, `blank` or `no_command`; then `of` how many tickers |
 //! | `lines: TEXT` | `encode_lines` | `done`, or `no_command` and the line's number. Then the records. With `lines more:` there is more of the text |
 //! | `line_2`, `lines_2` | the same of version Two | |
 //! | `write: RECORD` | `write_command` of the command that this spells, copied | |

@@ -1,6 +1,7 @@
 //! Lines of JSON.
 use crate::telling::{put, put_command};
 use check_lines::put_records;
+use curve_ladder::CommandList;
 use flow_io::SteadySink;
 use line_records::{EncodeFault, encode_lines};
 use order_text::{LineFault, LineRead, read_line};
@@ -22,6 +23,15 @@ fn padded(name: &str) -> Option<[u8; 8]> {
     Some(ticker)
 }
 
+// How many commands there are, and each of them.
+fn put_many(commands: CommandList, text: &mut String) -> Option<()> {
+    put("many", &[commands.as_slice().len() as i128], text)?;
+    for command in commands.into_vec() {
+        put_command(command, text)?;
+    }
+    Some(())
+}
+
 pub(crate) fn put_line(
     alloc: Global,
     version: Version,
@@ -36,6 +46,7 @@ pub(crate) fn put_line(
     match read_line(alloc, line, version, &mut tickers) {
         Ok(LineRead::Blank) => put("blank", &[], text)?,
         Ok(LineRead::Asks(command)) => put_command(command, text)?,
+        Ok(LineRead::Many(commands)) => put_many(commands, text)?,
         Err(LineFault::NoCommand) => put("no_command", &[], text)?,
         Err(LineFault::Memory) => put("memory", &[], text)?,
     }
