@@ -112,8 +112,11 @@ legal most bytes text old new records replayed goes wide within =
     let of = (markets_are bytes old).0 replayed in
     one_journal most of.0 of.1 bytes text old new records of.2 of.3 (answers old new records text goes) wide within
 
--- a replay of a run's journal answers the run's market
-same_market : (m n : Market) → Ok {E = ReplayFault} m ≡ Ok n → m ≡ n
+-- the answer of a replay that made a market
+abbrev made : Market → Result Market ReplayFault
+made market = Ok market
+
+same_market : (m n : Market) → made m ≡ made n → m ≡ n
 same_market m n same = cc
 
 module _ (most : ℕ) (version : Version) (bytes text : List ℕ) (at old new : Market) (first records : List Record) (writes : Journals version first at bytes)
@@ -127,9 +130,9 @@ module _ (most : ℕ) (version : Version) (bytes text : List ℕ) (at old new : 
   was : at ≡ old
   was =
       let legal = (journal most version first at bytes writes wide short).0 in
-      same_market at old (one_replay bytes (Ok at) (Ok old) (λ e. absurd cc) (λ e. absurd cc) ((markets_are bytes at).1 (version, writes.pairs, legal, writes.spelled)) replayed)
+      same_market at old (one_replay bytes (made at) (made old) (λ e. absurd cc) (λ e. absurd cc) ((markets_are bytes at).1 (version, writes.pairs, legal, writes.spelled)) replayed)
 
-  all_pairs : List (Pair Record Outcome)
+  abbrev all_pairs : List (Pair Record Outcome)
   all_pairs = writes.pairs ++ so.pairs
 
   -- all records are answered from the empty market on
