@@ -8,6 +8,16 @@ use Rattle.flow_orders.specs.Outcomes.{Fill, Outcome, IsRightOutcome}
 use Rattle.market_rules.specs.Market.{Market}
 use Rattle.market_rules.specs.Journal.{Step}
 
+-- a list as it was before a text: what stood there, and for how much there was room
+pub record Before : Type 0 where
+  pub items : List ℕ
+  pub room : ℕ
+
+-- what is appended to a list, behind what stood there before
+pub record Appended : Type 0 where
+  pub before : Before
+  pub text : List ℕ
+
 -- the fill at a place that has one
 abbrev pub fill_at : List Fill → ℕ → Fill
 fill_at fills place = slice_index_or fills place (record { order = 0; rate = 0 })
