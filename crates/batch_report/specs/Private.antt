@@ -26,9 +26,9 @@ fill_at fills place = slice_index_or fills place (record { order = 0; rate = 0 }
 abbrev pub no_entry : Entry
 no_entry = record { asset = 0; weight = pos 0 }
 
--- some market answers a record so
-abbrev pub IsAnswered : Record → Answer Outcome → Type 0
-IsAnswered asked answer = (old : Market) × (new : Market) × Step IsReadAs IsRightOutcome old asked answer new
+-- some market answers a record so, and is this one then
+abbrev pub IsAnswered : Market → Record → Answer Outcome → Type 0
+IsAnswered new asked answer = (old : Market) × Step IsReadAs IsRightOutcome old asked answer new
 
 -- a command that is answered by Done where it is accepted
 abbrev pub IsDone : Command → Type 0

@@ -63,11 +63,7 @@ fn put_price(
 }
 
 // The lines of all assets.
-fn put_prices(
-    tickers: &TickerTable,
-    view: &ClearedView<'_>,
-    out: &mut Text,
-) -> Result<(), Memory>
+fn put_prices(tickers: &TickerTable, view: &ClearedView<'_>, out: &mut Text) -> Result<(), Memory>
     ensures before { out.new.before ≡ out.old.before }
     ensures put { OnOk result (out.new.text ≡ out.old.text
         ++ flat_map (price_line tickers.now view.now.clearing) (range_with_len 0 (length view.now.clearing.prices))) }

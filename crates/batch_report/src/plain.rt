@@ -5,12 +5,13 @@ ghost use Rattle.weight_rows.specs.declared.entries.Entry.{Entry};
 ghost use Rattle.wire_records.specs.Commands.{Plain};
 ghost use Rattle.wire_records.specs.Refusals.{code_of};
 ghost use Rattle.wire_records.specs.declared.reply.Reply.TheVariants as reply;
-ghost use Rattle.wire_records.specs.CommandRecords.{IsRead};
+ghost use Rattle.wire_records.specs.Versions.{IsReadAs};
 ghost use Rattle.wire_records.specs.Views.{command_of};
 ghost use Rattle.batch_report.specs.Reports.{◌then◌, money_text, units_text, entry_text, numbers_text, order_text, until_text, asset_name, TellsDone, TellsPlacing, Tells};
 ghost use Rattle.batch_report.specs.Private.{IsAnswered, IsDone, IsPlacing, no_entry};
 
 use crate::text::Text;
+use market_core::Market;
 use ticker_table::TickerTable;
 use weight_rows::Entry;
 use wire_records::{CommandView, Memory, PlaceView, RecordView, Refusal, Reply, RowView};
@@ -85,37 +86,37 @@ fn put_command(
 }
 
 // The command of a record that was answered by `Done`.
-fn done_command<'a>(asked: &RecordView<'a>) -> CommandView<'a>
-    requires { IsAnswered asked.now (Plain reply.Done) }
-    ensures read { IsRead asked.now (Ok (command_of result)) }
+fn done_command<'a>(market: &Market, asked: &RecordView<'a>) -> CommandView<'a>
+    requires { IsAnswered market.now asked.now (Plain reply.Done) }
+    ensures read { IsReadAs market.now.version asked.now (Ok (command_of result)) }
     ensures done { IsDone (command_of result) }
 {
-    match asked.command() {
+    match market.read(asked) {
         Ok(command) => command,
         Err(_) => unreachable!(),
     }
 }
 
 // The command of a record that was answered by an order's number.
-fn placing_command<'a>(asked: &RecordView<'a>) -> CommandView<'a>
-    requires { (number : ℕ) × IsAnswered asked.now (Plain (reply.Order number)) }
-    ensures read { IsRead asked.now (Ok (command_of result)) }
+fn placing_command<'a>(market: &Market, asked: &RecordView<'a>) -> CommandView<'a>
+    requires { (number : ℕ) × IsAnswered market.now asked.now (Plain (reply.Order number)) }
+    ensures read { IsReadAs market.now.version asked.now (Ok (command_of result)) }
     ensures placing { IsPlacing (command_of result) }
 {
-    match asked.command() {
+    match market.read(asked) {
         Ok(command) => command,
         Err(_) => unreachable!(),
     }
 }
 
 // The line of a command that was done.
-fn put_done(tickers: &TickerTable, asked: &RecordView<'_>, out: &mut Text) -> Result<(), Memory>
-    requires { IsAnswered asked.now (Plain reply.Done) }
+fn put_done(market: &Market, asked: &RecordView<'_>, out: &mut Text) -> Result<(), Memory>
+    requires { IsAnswered market.now asked.now (Plain reply.Done) }
     ensures before { out.new.before ≡ out.old.before }
-    ensures put { OnOk result ((text : List ℕ) × Tells tickers.now asked.now (Plain reply.Done) text
+    ensures put { OnOk result ((text : List ℕ) × Tells market.now asked.now (Plain reply.Done) text
         × (out.new.text ≡ out.old.text ++ text)) }
 {
-    put_command(tickers, &done_command(asked), out)?;
+    put_command(market.tickers(), &done_command(market, asked), out)?;
     out.put(b"\n")
 }
 
@@ -222,17 +223,22 @@ fn put_placing(
 
 // The line of an order.
 fn put_placed(
-    tickers: &TickerTable,
+    market: &Market,
     asked: &RecordView<'_>,
     order: u64,
     out: &mut Text,
 ) -> Result<(), Memory>
-    requires { IsAnswered asked.now (Plain (reply.Order order)) }
+    requires { IsAnswered market.now asked.now (Plain (reply.Order order)) }
     ensures before { out.new.before ≡ out.old.before }
-    ensures put { OnOk result ((text : List ℕ) × Tells tickers.now asked.now (Plain (reply.Order order)) text
+    ensures put { OnOk result ((text : List ℕ) × Tells market.now asked.now (Plain (reply.Order order)) text
         × (out.new.text ≡ out.old.text ++ text)) }
 {
-    put_placing(tickers, &placing_command(asked), order, out)?;
+    put_placing(
+        market.tickers(),
+        &placing_command(market, asked),
+        order,
+        out,
+    )?;
     out.put(b"\n")
 }
 
@@ -267,21 +273,21 @@ fn put_refused(refusal: Refusal, out: &mut Text) -> Result<(), Memory>
 
 // The line of a plain reply.
 pub(crate) fn put_plain(
-    tickers: &TickerTable,
+    market: &Market,
     asked: &RecordView<'_>,
     told: Reply,
     out: &mut Text,
 ) -> Result<(), Memory>
-    requires { IsAnswered asked.now (Plain told) }
+    requires { IsAnswered market.now asked.now (Plain told) }
     ensures before { out.new.before ≡ out.old.before }
-    ensures put { OnOk result ((text : List ℕ) × Tells tickers.now asked.now (Plain told) text
+    ensures put { OnOk result ((text : List ℕ) × Tells market.now asked.now (Plain told) text
         × (out.new.text ≡ out.old.text ++ text)) }
 {
     match told {
-        Reply::Done => put_done(tickers, asked, out),
-        Reply::Asset(asset) => put_asset(tickers, asset, out),
+        Reply::Done => put_done(market, asked, out),
+        Reply::Asset(asset) => put_asset(market.tickers(), asset, out),
         Reply::Account(account) => put_account(account, out),
-        Reply::Order(order) => put_placed(tickers, asked, order, out),
+        Reply::Order(order) => put_placed(market, asked, order, out),
         Reply::Refused(refusal) => put_refused(refusal, out),
     }
 }

@@ -11,44 +11,39 @@ use crate::plain::put_plain;
 use crate::text::Text;
 use batch_audit::Audit;
 use journal_records::{PairView, ReplyView, reply};
-use ticker_table::TickerTable;
+use market_core::Market;
 use wire_records::{Memory, RecordView};
 
 // What is told of a record and its answer.
 fn put_told(
-    tickers: &TickerTable,
+    market: &Market,
     asked: &RecordView<'_>,
     seen: &ReplyView<'_>,
     out: &mut Text,
 ) -> Result<(), Memory>
-    requires { IsAnswered asked.now (answer_of seen.now) }
+    requires { IsAnswered market.now asked.now (answer_of seen.now) }
     ensures before { out.new.before ≡ out.old.before }
-    ensures put { OnOk result ((told : List ℕ) × Tells tickers.now asked.now (answer_of seen.now) told
+    ensures put { OnOk result ((told : List ℕ) × Tells market.now asked.now (answer_of seen.now) told
         × (out.new.text ≡ out.old.text ++ told)) }
 {
     match seen {
-        ReplyView::Plain(told) => put_plain(tickers, asked, *told, out),
-        ReplyView::Cleared(view) => put_cleared(tickers, view, out),
+        ReplyView::Plain(told) => put_plain(market, asked, *told, out),
+        ReplyView::Cleared(view) => put_cleared(market.tickers(), view, out),
         ReplyView::Skipped(view) => put_skipped(view, out),
     }
 }
 
 // The lines of a pair.
-fn put_pair(
-    tickers: &TickerTable,
-    pair: &PairView<'_>,
-    number: u64,
-    out: &mut Text,
-) -> Result<(), Memory>
-    requires { (old new : Market) × IsLegalPair old pair.now new }
+fn put_pair(market: &Market, pair: &PairView<'_>, number: u64, out: &mut Text) -> Result<(), Memory>
+    requires { (old : Market) × IsLegalPair old pair.now market.now }
     ensures before { out.new.before ≡ out.old.before }
-    ensures put { OnOk result ((text : List ℕ) × IsReport tickers.now number pair.now text
+    ensures put { OnOk result ((text : List ℕ) × IsReport market.now number pair.now text
         × (out.new.text ≡ out.old.text ++ text)) }
 {
     out.put_number(b"", number)?;
     out.put(b" ")?;
     match reply(&pair.answered()) {
-        Some(seen) => put_told(tickers, &pair.asked(), &seen, out),
+        Some(seen) => put_told(market, &pair.asked(), &seen, out),
         None => unreachable!(),
     }
 }
@@ -69,13 +64,13 @@ pub fn report_pair(
     out: &mut Vec<u8>,
 ) -> Result<(), Memory>
     requires legal { (old : Market) × IsLegalPair old pair.now audit.now }
-    ensures reported { OnOk result ((text : List ℕ) × IsReport audit.now.tickers number pair.now text
+    ensures reported { OnOk result ((text : List ℕ) × IsReport audit.now number pair.now text
         × (out.new.items ≡ out.old.items ++ text)) }
     ensures stays { OnErr result (out.new.items ≡ out.old.items) }
     ensures room { vec_capacity out.old ≤ vec_capacity out.new }
 {
     let mut text = Text::behind(out);
-    match put_pair(audit.market().tickers(), pair, number, &mut text) {
+    match put_pair(audit.market(), pair, number, &mut text) {
         Ok(()) => {
             *out = text.whole();
             Ok(())

@@ -36,8 +36,8 @@ impl Model for Text {
     ghost Value = { Appended };
 
     ghost view = { λ t. record {
-        before = record { items = take t.start t.bytes.items; room = t.room };
-        text = drop t.start t.bytes.items;
+      before = record { items = take t.start t.bytes.items; room = t.room };
+      text = drop t.start t.bytes.items;
     } };
 
     ghost invariant = { λ t. (t.start ≤ vec_len t.bytes) × (t.room ≤ vec_capacity t.bytes) };
