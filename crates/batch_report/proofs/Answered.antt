@@ -2,19 +2,18 @@
 use Rattle.std.proofs.Common.{◌≡◌, ◌++◌, ℕ, List, codes, decimal, refl, Result, Ok, Err, Option, Some, None, sym, subst, ◌∙◌}
 use Rattle.wire_records.specs.Records.{Record}
 use Rattle.wire_records.specs.Commands.{Command, AddAsset, OpenAccount, DepositMoney, DepositAsset, WithdrawMoney, WithdrawAsset, PlaceOrder, CancelOrder, RunBatch, PlaceUntil, SetMoneyCredit, SetUnitCredit, Answer, Plain, Batch}
-use Rattle.wire_records.specs.CommandRecords.{IsRead}
 use Rattle.wire_records.specs.Versions.{IsReadAs}
-use Rattle.wire_records.specs.declared.version.Version.{Version}
 use Rattle.wire_records.specs.declared.command.BodyFault.{BodyFault}
 use Rattle.wire_records.specs.declared.reply.Reply.TheVariants.{Done, Asset, Account, Order, Refused}
 use Rattle.wire_records.specs.declared.reply.Refusal.{Refusal}
-use Rattle.wire_records.proofs.Readings.{command_seen}
+use Rattle.wire_records.proofs.Readings.{reading_unique}
 use Rattle.flow_orders.specs.Outcomes.{Outcome, IsRightOutcome}
 use Rattle.market_rules.specs.Market.{Market}
 use Rattle.market_rules.specs.Step.{Answers, Serves, ServesRead, refusal_of}
 use Rattle.journal_records.specs.Replies.{SpellsAnswer}
 use Rattle.journal_records.proofs.Spelled.{answer_unique}
 use Rattle.market_rules.specs.Journal.{Step}
+use Rattle.market_rules.proofs.Versions.{step_version}
 use Rattle.batch_audit.specs.Legal.{IsLegalPair}
 use Rattle.batch_report.specs.Reports.{◌then◌, Tells, IsReport}
 use Rattle.batch_report.proofs.Joining.{joined}
@@ -68,32 +67,29 @@ order_answers m (PlaceUntil last request) None a n says answers = tt
 order_answers m (SetMoneyCredit account ticks) None a n says answers = absurd (subst says_order answers.0 says)
 order_answers m (SetUnitCredit account asset units) None a n says answers = absurd (subst says_order answers.0 says)
 
--- What a market reads a record as, and serves, where it doesn't refuse it for that.
-pub record IsServedAs (asked : Record) (a : Answer Outcome) (c : Command) : Type 0 where
-  pub old : Market
-  pub new : Market
-  pub serves : Serves IsRightOutcome old c a new
+-- the command that a record is read as is the one that is served
+served_by : (old new : Market) (asked : Record) (read : Result Command BodyFault) (a : Answer Outcome) (c : Command) → ((refusal : Refusal) → a ≡ Plain (Refused refusal) → ⊥)
+    → IsReadAs old.version asked read → ServesRead IsRightOutcome old read a new → IsReadAs old.version asked (Ok c) → Serves IsRightOutcome old c a new
+served_by old new asked (Ok d) a c plain spelled serves seen =
+    let same : d ≡ c = (let both = reading_unique old.version asked (Ok d) (Ok c) spelled seen in cc) in
+    subst (λ (x : Command). Serves IsRightOutcome old x a new) same serves
+served_by old new asked (Err why) a c plain spelled serves seen = absurd (plain (refusal_of why) serves.0)
 
--- the command that a record spells is the one that is served
-served_by : (version : Version) (old new : Market) (asked : Record) (read : Result Command BodyFault) (a : Answer Outcome) (c : Command) → ((refusal : Refusal) → a ≡ Plain (Refused refusal) → ⊥)
-    → IsReadAs version asked read → ServesRead IsRightOutcome old read a new → IsRead asked (Ok c) → IsServedAs asked a c
-served_by version old new asked (Ok d) a c plain spelled serves seen =
-    let same : d ≡ c = (let both = command_seen d asked (Ok c) spelled.1 seen in cc) in
-    record {
-      old = old;
-      new = new;
-      serves = subst (λ (x : Command). Serves IsRightOutcome old x a new) same serves;
-    }
-served_by version old new asked (Err why) a c plain spelled serves seen = absurd (plain (refusal_of why) serves.0)
+-- and what a record is read as in the version of the market after it, it is read as in that of the one before
+read_before : (old new : Market) (asked : Record) (a : Answer Outcome) (read : Result Command BodyFault) → Step IsReadAs IsRightOutcome old asked a new → IsReadAs new.version asked read → IsReadAs old.version asked read
+read_before old new asked a read step seen = subst (λ version. IsReadAs version asked read) (step_version IsRightOutcome IsReadAs old asked a new step) seen
 
-served : (asked : Record) (c : Command) (a : Answer Outcome) → ((refusal : Refusal) → a ≡ Plain (Refused refusal) → ⊥) → IsRead asked (Ok c) → IsAnswered asked a → IsServedAs asked a c
-served asked c a plain seen answered = served_by answered.0.version answered.0 answered.1 asked answered.2.read a c plain answered.2.spelled answered.2.served seen
+served : (new : Market) (asked : Record) (c : Command) (a : Answer Outcome) → ((refusal : Refusal) → a ≡ Plain (Refused refusal) → ⊥) → IsReadAs new.version asked (Ok c)
+    → (answered : IsAnswered new asked a) → Serves IsRightOutcome answered.0 c a new
+served new asked c a plain seen answered =
+    let step = answered.1 in
+    served_by answered.0 new asked step.read a c plain step.spelled step.served (read_before answered.0 new asked a (Ok c) step seen)
 
--- a record that spells no command isn't answered but by a refusal
-unserved_by : (version : Version) (old new : Market) (asked : Record) (read : Result Command BodyFault) (a : Answer Outcome) (why : BodyFault) → ((refusal : Refusal) → a ≡ Plain (Refused refusal) → ⊥)
-    → IsReadAs version asked read → ServesRead IsRightOutcome old read a new → IsRead asked (Err why) → ⊥
-unserved_by version old new asked (Ok d) a why plain spelled serves seen = absurd (let both = command_seen d asked (Err why) spelled.1 seen in cc)
-unserved_by version old new asked (Err other) a why plain spelled serves seen = plain (refusal_of other) serves.0
+-- a record that is read as no command isn't answered but by a refusal
+unserved_by : (old new : Market) (asked : Record) (read : Result Command BodyFault) (a : Answer Outcome) (why : BodyFault) → ((refusal : Refusal) → a ≡ Plain (Refused refusal) → ⊥)
+    → IsReadAs old.version asked read → ServesRead IsRightOutcome old read a new → IsReadAs old.version asked (Err why) → ⊥
+unserved_by old new asked (Ok d) a why plain spelled serves seen = absurd (let both = reading_unique old.version asked (Ok d) (Err why) spelled seen in cc)
+unserved_by old new asked (Err other) a why plain spelled serves seen = plain (refusal_of other) serves.0
 
 -- Done and the number of an order are no refusals
 pub done_plain : (refusal : Refusal) → ◌≡◌ {A = Answer Outcome} (Plain Done) (Plain (Refused refusal)) → ⊥
@@ -102,44 +98,48 @@ done_plain refusal same = subst says_done same tt
 pub order_plain : (number : ℕ) (refusal : Refusal) → ◌≡◌ {A = Answer Outcome} (Plain (Order number)) (Plain (Refused refusal)) → ⊥
 order_plain number refusal same = subst says_order same tt
 
-pub done_command : (asked : Record) (c : Command) → IsRead asked (Ok c) → IsAnswered asked (Plain Done) → IsDone c
-done_command asked c seen answered =
-    let by = served asked c (Plain Done) done_plain seen answered in
-    done_answers by.old c by.serves.first (Plain Done) by.new tt by.serves.answered
+pub done_command : (new : Market) (asked : Record) (c : Command) → IsReadAs new.version asked (Ok c) → IsAnswered new asked (Plain Done) → IsDone c
+done_command new asked c seen answered =
+    let serves = served new asked c (Plain Done) done_plain seen answered in
+    done_answers answered.0 c serves.first (Plain Done) new tt serves.answered
 
-pub placing_command : (asked : Record) (c : Command) (number : ℕ) → IsRead asked (Ok c) → IsAnswered asked (Plain (Order number)) → IsPlacing c
-placing_command asked c number seen answered =
-    let by = served asked c (Plain (Order number)) (order_plain number) seen answered in
-    order_answers by.old c by.serves.first (Plain (Order number)) by.new tt by.serves.answered
+pub placing_command : (new : Market) (asked : Record) (c : Command) (number : ℕ) → IsReadAs new.version asked (Ok c) → IsAnswered new asked (Plain (Order number)) → IsPlacing c
+placing_command new asked c number seen answered =
+    let serves = served new asked c (Plain (Order number)) (order_plain number) seen answered in
+    order_answers answered.0 c serves.first (Plain (Order number)) new tt serves.answered
 
--- a record that spells no command is refused
-pub done_is_read : (asked : Record) (why : BodyFault) → IsRead asked (Err why) → IsAnswered asked (Plain Done) → ⊥
-done_is_read asked why seen answered = unserved_by answered.0.version answered.0 answered.1 asked answered.2.read (Plain Done) why done_plain answered.2.spelled answered.2.served seen
+-- a record that is read as no command is refused
+pub done_is_read : (new : Market) (asked : Record) (why : BodyFault) → IsReadAs new.version asked (Err why) → IsAnswered new asked (Plain Done) → ⊥
+done_is_read new asked why seen answered =
+    let step = answered.1 in
+    unserved_by answered.0 new asked step.read (Plain Done) why done_plain step.spelled step.served (read_before answered.0 new asked (Plain Done) (Err why) step seen)
 
-pub order_is_read : (asked : Record) (why : BodyFault) (number : ℕ) → IsRead asked (Err why) → IsAnswered asked (Plain (Order number)) → ⊥
-order_is_read asked why number seen answered = unserved_by answered.0.version answered.0 answered.1 asked answered.2.read (Plain (Order number)) why (order_plain number) answered.2.spelled answered.2.served seen
+pub order_is_read : (new : Market) (asked : Record) (why : BodyFault) (number : ℕ) → IsReadAs new.version asked (Err why) → IsAnswered new asked (Plain (Order number)) → ⊥
+order_is_read new asked why number seen answered =
+    let step = answered.1 in
+    unserved_by answered.0 new asked step.read (Plain (Order number)) why (order_plain number) step.spelled step.served (read_before answered.0 new asked (Plain (Order number)) (Err why) step seen)
 
 -- the answer that a legal pair's second record spells is that of its first
-pub answered : (pair : Record × Record) (asked told : Record) (a : Answer Outcome) → asked ≡ pair.0 → told ≡ pair.1 → SpellsAnswer told a
-    → (old : Market) × (new : Market) × IsLegalPair old pair new → IsAnswered asked a
-answered pair asked told a asked_is told_is spelled made =
-    let legal = made.2 in
+pub answered : (pair : Record × Record) (asked told : Record) (a : Answer Outcome) (new : Market) → asked ≡ pair.0 → told ≡ pair.1 → SpellsAnswer told a
+    → (old : Market) × IsLegalPair old pair new → IsAnswered new asked a
+answered pair asked told a new asked_is told_is spelled made =
+    let legal = made.1 in
     let same = answer_unique legal.answer a legal.spelled.fits spelled.fits (sym legal.spelled.spelled ∙ sym told_is ∙ spelled.spelled) in
-    (made.0, made.1, subst (λ r. Step IsReadAs IsRightOutcome made.0 r a made.1) (sym asked_is) (subst (λ x. Step IsReadAs IsRightOutcome made.0 pair.0 x made.1) same legal.step))
+    (made.0, subst (λ r. Step IsReadAs IsRightOutcome made.0 r a new) (sym asked_is) (subst (λ x. Step IsReadAs IsRightOutcome made.0 pair.0 x new) same legal.step))
 
 -- what is told of it, behind the pair's number
-pub reported : (tickers : List (List ℕ)) (number : ℕ) (pair : Record × Record) (asked answered : Record) (a : Answer Outcome) (old one two three : List ℕ)
+pub reported : (market : Market) (number : ℕ) (pair : Record × Record) (asked answered : Record) (a : Answer Outcome) (old one two three : List ℕ)
     → asked ≡ pair.0 → answered ≡ pair.1 → SpellsAnswer answered a → one ≡ old ++ decimal number → two ≡ one ++ codes " "
-    → (told : List ℕ) × Tells tickers asked a told × (three ≡ two ++ told)
-    → (text : List ℕ) × IsReport tickers number pair text × (three ≡ old ++ text)
-reported tickers number pair asked answered a old one two three asked_is answered_is spelled first second third =
+    → (told : List ℕ) × Tells market asked a told × (three ≡ two ++ told)
+    → (text : List ℕ) × IsReport market number pair text × (three ≡ old ++ text)
+reported market number pair asked answered a old one two three asked_is answered_is spelled first second third =
     let told = third.0 in (
       decimal number then codes " " then told,
       record {
         answer = a;
         told = told;
         spelled = subst (λ r. SpellsAnswer r a) answered_is spelled;
-        tells = subst (λ r. Tells tickers r a told) asked_is third.1;
+        tells = subst (λ r. Tells market r a told) asked_is third.1;
         numbered = refl;
       },
       joined old (decimal number) (codes " " ++ told) one three first (joined one (codes " ") told two three second third.2),

@@ -2,10 +2,12 @@
 use Rattle.std.proofs.Common.{◌≡◌, ℕ, List, ◌++◌, codes, decimal, Ok, sym, ap, subst, ◌∙◌}
 use Rattle.wire_records.specs.Records.{Record}
 use Rattle.wire_records.specs.Commands.{Command, AddAsset, OpenAccount, DepositMoney, DepositAsset, WithdrawMoney, WithdrawAsset, PlaceOrder, CancelOrder, RunBatch, PlaceUntil, SetMoneyCredit, SetUnitCredit, Answer, Plain, Batch}
-use Rattle.wire_records.specs.CommandRecords.{IsRead}
+use Rattle.wire_records.specs.Versions.{IsReadAs}
+use Rattle.wire_records.specs.declared.version.Version.{Version}
 use Rattle.wire_records.specs.declared.reply.Reply.TheVariants.{Done, Asset, Account, Order, Refused}
-use Rattle.wire_records.proofs.Readings.{seen_unique}
+use Rattle.wire_records.proofs.Readings.{reading_unique}
 use Rattle.flow_orders.specs.Outcomes.{Outcome, Cleared, Skipped}
+use Rattle.market_rules.specs.Market.{Market}
 use Rattle.journal_records.proofs.Spelled.{answer_unique}
 use Rattle.batch_report.specs.Reports.{TellsDone, TellsPlacing, Tells}
 use Rattle.batch_report.specs.Laws.{OneReport}
@@ -41,23 +43,23 @@ one_placing tickers order (SetMoneyCredit account ticks) x y a b = absurd a
 one_placing tickers order (SetUnitCredit account asset units) x y a b = absurd a
 
 -- a record asks for one command
-one_command : (asked : Record) (c d : Command) → IsRead asked (Ok c) → IsRead asked (Ok d) → c ≡ d
-one_command asked c d a b = let same = seen_unique asked (Ok c) (Ok d) a b in cc
+one_command : (version : Version) (asked : Record) (c d : Command) → IsReadAs version asked (Ok c) → IsReadAs version asked (Ok d) → c ≡ d
+one_command version asked c d a b = let same = reading_unique version asked (Ok c) (Ok d) a b in cc
 
-one_told : (tickers : List (List ℕ)) (asked : Record) (answer : Answer Outcome) (x y : List ℕ) → Tells tickers asked answer x → Tells tickers asked answer y → x ≡ y
-one_told tickers asked (Plain Done) x y a b =
-    let same = one_command asked a.0 b.0 a.2 b.2 in
-    a.4 ∙ ap (λ xs. xs ++ codes "\n") (one_done tickers b.0 a.1 b.1 (subst (λ (c : Command). TellsDone tickers c a.1) same a.3) b.3) ∙ sym b.4
-one_told tickers asked (Plain (Asset asset)) x y a b = a ∙ sym b
-one_told tickers asked (Plain (Account account)) x y a b = a ∙ sym b
-one_told tickers asked (Plain (Order order)) x y a b =
-    let same = one_command asked a.0 b.0 a.2 b.2 in
-    a.4 ∙ ap (λ xs. xs ++ codes "\n") (one_placing tickers order b.0 a.1 b.1 (subst (λ (c : Command). TellsPlacing tickers order c a.1) same a.3) b.3) ∙ sym b.4
-one_told tickers asked (Plain (Refused refusal)) x y a b = a ∙ sym b
-one_told tickers asked (Batch batch (Cleared c)) x y a b = a ∙ sym b
-one_told tickers asked (Batch batch (Skipped s)) x y a b = a ∙ sym b
+one_told : (market : Market) (asked : Record) (answer : Answer Outcome) (x y : List ℕ) → Tells market asked answer x → Tells market asked answer y → x ≡ y
+one_told market asked (Plain Done) x y a b =
+    let same = one_command market.version asked a.0 b.0 a.2 b.2 in
+    a.4 ∙ ap (λ xs. xs ++ codes "\n") (one_done market.tickers b.0 a.1 b.1 (subst (λ (c : Command). TellsDone market.tickers c a.1) same a.3) b.3) ∙ sym b.4
+one_told market asked (Plain (Asset asset)) x y a b = a ∙ sym b
+one_told market asked (Plain (Account account)) x y a b = a ∙ sym b
+one_told market asked (Plain (Order order)) x y a b =
+    let same = one_command market.version asked a.0 b.0 a.2 b.2 in
+    a.4 ∙ ap (λ xs. xs ++ codes "\n") (one_placing market.tickers order b.0 a.1 b.1 (subst (λ (c : Command). TellsPlacing market.tickers order c a.1) same a.3) b.3) ∙ sym b.4
+one_told market asked (Plain (Refused refusal)) x y a b = a ∙ sym b
+one_told market asked (Batch batch (Cleared c)) x y a b = a ∙ sym b
+one_told market asked (Batch batch (Skipped s)) x y a b = a ∙ sym b
 
 pub one_report : OneReport
-one_report tickers number pair x y a b =
+one_report market number pair x y a b =
     let same = answer_unique a.answer b.answer a.spelled.fits b.spelled.fits (sym a.spelled.spelled ∙ b.spelled.spelled) in
-    a.numbered ∙ ap (λ xs. decimal number ++ (codes " " ++ xs)) (one_told tickers pair.0 b.answer a.told b.told (subst (λ (answer : Answer Outcome). Tells tickers pair.0 answer a.told) same a.tells) b.tells) ∙ sym b.numbered
+    a.numbered ∙ ap (λ xs. decimal number ++ (codes " " ++ xs)) (one_told market pair.0 b.answer a.told b.told (subst (λ (answer : Answer Outcome). Tells market pair.0 answer a.told) same a.tells) b.tells) ∙ sym b.numbered

@@ -1,8 +1,9 @@
 -- What holds of the text of pairs, whatever code there is.
 use Rattle.std.specs.Prelude.{◌≡◌, ℕ, List}
 use Rattle.wire_records.specs.Records.{Record}
+use Rattle.market_rules.specs.Market.{Market}
 use Rattle.batch_report.specs.Reports.{IsReport}
 
--- a pair has one text, under given tickers and number
+-- a pair has one text, with a given market and number
 abbrev pub OneReport : Type 0
-OneReport = (tickers : List (List ℕ)) (number : ℕ) (pair : Record × Record) (x y : List ℕ) → IsReport tickers number pair x → IsReport tickers number pair y → x ≡ y
+OneReport = (market : Market) (number : ℕ) (pair : Record × Record) (x y : List ℕ) → IsReport market number pair x → IsReport market number pair y → x ≡ y

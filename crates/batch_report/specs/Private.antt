@@ -8,6 +8,16 @@ use Rattle.flow_orders.specs.Outcomes.{Fill, Outcome, IsRightOutcome}
 use Rattle.market_rules.specs.Market.{Market}
 use Rattle.market_rules.specs.Journal.{Step}
 
+-- a list as it was before a text: what stood there, and for how much there was room
+pub record Before : Type 0 where
+  pub items : List ℕ
+  pub room : ℕ
+
+-- what is appended to a list, behind what stood there before
+pub record Appended : Type 0 where
+  pub before : Before
+  pub text : List ℕ
+
 -- the fill at a place that has one
 abbrev pub fill_at : List Fill → ℕ → Fill
 fill_at fills place = slice_index_or fills place (record { order = 0; rate = 0 })
@@ -16,9 +26,9 @@ fill_at fills place = slice_index_or fills place (record { order = 0; rate = 0 }
 abbrev pub no_entry : Entry
 no_entry = record { asset = 0; weight = pos 0 }
 
--- some market answers a record so
-abbrev pub IsAnswered : Record → Answer Outcome → Type 0
-IsAnswered asked answer = (old : Market) × (new : Market) × Step IsReadAs IsRightOutcome old asked answer new
+-- some market answers a record so, and is this one then
+abbrev pub IsAnswered : Market → Record → Answer Outcome → Type 0
+IsAnswered new asked answer = (old : Market) × Step IsReadAs IsRightOutcome old asked answer new
 
 -- a command that is answered by Done where it is accepted
 abbrev pub IsDone : Command → Type 0

@@ -5,13 +5,14 @@ use Rattle.std.specs.List.{flat_map, range_with_len}
 use Rattle.weight_rows.specs.declared.entries.Entry.{Entry}
 use Rattle.wire_records.specs.Records.{Record}
 use Rattle.wire_records.specs.Commands.{Request, Command, AddAsset, OpenAccount, DepositMoney, DepositAsset, WithdrawMoney, WithdrawAsset, PlaceOrder, CancelOrder, RunBatch, PlaceUntil, SetMoneyCredit, SetUnitCredit, Answer, Plain, Batch}
-use Rattle.wire_records.specs.CommandRecords.{IsRead}
+use Rattle.wire_records.specs.Versions.{IsReadAs}
 use Rattle.wire_records.specs.Refusals.{code_of}
 use Rattle.wire_records.specs.declared.reply.Reply.TheVariants.{Done, Asset, Account, Order, Refused}
 use Rattle.flow_orders.specs.Outcomes.{Fill, Clearing, Skipping, Outcome, Cleared, Skipped}
 use Rattle.weight_rows.specs.Rows.{price_of}
 use Rattle.flow_orders.specs.Residuals.{residual_in}
 use Rattle.journal_records.specs.Replies.{SpellsAnswer}
+use Rattle.market_rules.specs.Market.{Market}
 
 -- the name of a ticker: its bytes before the first space
 unfoldable pub name_of : List ℕ → List ℕ
@@ -106,20 +107,21 @@ TellsPlacing tickers order (RunBatch budget) text = ⊥
 TellsPlacing tickers order (SetMoneyCredit account ticks) text = ⊥
 TellsPlacing tickers order (SetUnitCredit account asset units) text = ⊥
 
--- what is told of a record and its answer, behind the pair's number, under the tickers of the market after the pair
-abbrev pub Tells : List (List ℕ) → Record → Answer Outcome → List ℕ → Type 0
-Tells tickers asked (Plain Done) text = (command : Command) × (line : List ℕ) × IsRead asked (Ok command) × TellsDone tickers command line × (text ≡ line then codes "\n")
-Tells tickers asked (Plain (Asset asset)) text = text ≡ codes "asset " then decimal asset then codes " " then asset_name tickers asset then codes "\n"
-Tells tickers asked (Plain (Account account)) text = text ≡ codes "account " then decimal account then codes "\n"
-Tells tickers asked (Plain (Order order)) text = (command : Command) × (line : List ℕ) × IsRead asked (Ok command) × TellsPlacing tickers order command line × (text ≡ line then codes "\n")
-Tells tickers asked (Plain (Refused refusal)) text = text ≡ codes "refused " then decimal (code_of refusal) then codes "\n"
-Tells tickers asked (Batch batch (Cleared c)) text = text ≡ cleared_lines tickers batch c
-Tells tickers asked (Batch batch (Skipped s)) text = text ≡ skipped_line batch s
+-- what is told of a record and its answer, behind the pair's number: with the command that the record is read as in the version
+-- of the market after the pair, and under that market's tickers
+abbrev pub Tells : Market → Record → Answer Outcome → List ℕ → Type 0
+Tells market asked (Plain Done) text = (command : Command) × (line : List ℕ) × IsReadAs market.version asked (Ok command) × TellsDone market.tickers command line × (text ≡ line then codes "\n")
+Tells market asked (Plain (Asset asset)) text = text ≡ codes "asset " then decimal asset then codes " " then asset_name market.tickers asset then codes "\n"
+Tells market asked (Plain (Account account)) text = text ≡ codes "account " then decimal account then codes "\n"
+Tells market asked (Plain (Order order)) text = (command : Command) × (line : List ℕ) × IsReadAs market.version asked (Ok command) × TellsPlacing market.tickers order command line × (text ≡ line then codes "\n")
+Tells market asked (Plain (Refused refusal)) text = text ≡ codes "refused " then decimal (code_of refusal) then codes "\n"
+Tells market asked (Batch batch (Cleared c)) text = text ≡ cleared_lines market.tickers batch c
+Tells market asked (Batch batch (Skipped s)) text = text ≡ skipped_line batch s
 
--- The lines of a pair of this number, counted from 1, under the tickers of the market after it.
-pub record IsReport (tickers : List (List ℕ)) (number : ℕ) (pair : Record × Record) (text : List ℕ) : Type 0 where
+-- The lines of a pair of this number, counted from 1, with the market after it.
+pub record IsReport (market : Market) (number : ℕ) (pair : Record × Record) (text : List ℕ) : Type 0 where
   pub answer : Answer Outcome
   pub told : List ℕ
   pub spelled : SpellsAnswer pair.1 answer
-  pub tells : Tells tickers pair.0 answer told
+  pub tells : Tells market pair.0 answer told
   pub numbered : text ≡ decimal number then codes " " then told

@@ -6,7 +6,7 @@ ghost use Rattle.flow_orders.specs.Residuals.{residual_in};
 ghost use Rattle.batch_report.specs.Reports.{price_line, rate_line, cleared_lines, skipped_line};
 ghost use Rattle.batch_report.specs.Private.{fill_at};
 
-use crate::words::{put, put_name, put_number};
+use crate::text::Text;
 use batch_outcome::ClearedParts;
 use journal_records::{ClearedView, SkippedView};
 use ticker_table::TickerTable;
@@ -49,25 +49,23 @@ fn put_price(
     tickers: &TickerTable,
     view: &ClearedView<'_>,
     asset: u16,
-    out: &mut Vec<u8>,
+    out: &mut Text,
 ) -> Result<(), Memory>
     requires priced { asset < length view.now.clearing.prices }
     requires left { asset < length view.now.clearing.residuals }
-    ensures { OnOk result (out.new.items ≡ out.old.items ++ price_line tickers.now view.now.clearing asset) }
+    ensures before { out.new.before ≡ out.old.before }
+    ensures put { OnOk result (out.new.text ≡ out.old.text ++ price_line tickers.now view.now.clearing asset) }
 {
-    put_name(out, b"  ", tickers, asset)?;
-    put_number(out, b" price ", price_at(view, asset))?;
-    put_number(out, b" residual ", residual_at(view, asset))?;
-    put(out, b"\n")
+    out.put_name(b"  ", tickers, asset)?;
+    out.put_number(b" price ", price_at(view, asset))?;
+    out.put_number(b" residual ", residual_at(view, asset))?;
+    out.put(b"\n")
 }
 
 // The lines of all assets.
-fn put_prices(
-    tickers: &TickerTable,
-    view: &ClearedView<'_>,
-    out: &mut Vec<u8>,
-) -> Result<(), Memory>
-    ensures { OnOk result (out.new.items ≡ out.old.items
+fn put_prices(tickers: &TickerTable, view: &ClearedView<'_>, out: &mut Text) -> Result<(), Memory>
+    ensures before { out.new.before ≡ out.old.before }
+    ensures put { OnOk result (out.new.text ≡ out.old.text
         ++ flat_map (price_line tickers.now view.now.clearing) (range_with_len 0 (length view.now.clearing.prices))) }
 {
     for asset in 0..view.price_count() {
@@ -77,18 +75,20 @@ fn put_prices(
 }
 
 // The line of an order.
-fn put_rate(view: &ClearedView<'_>, place: u32, out: &mut Vec<u8>) -> Result<(), Memory>
+fn put_rate(view: &ClearedView<'_>, place: u32, out: &mut Text) -> Result<(), Memory>
     requires { place < length view.now.clearing.fills }
-    ensures { OnOk result (out.new.items ≡ out.old.items ++ rate_line (fill_at view.now.clearing.fills place)) }
+    ensures before { out.new.before ≡ out.old.before }
+    ensures put { OnOk result (out.new.text ≡ out.old.text ++ rate_line (fill_at view.now.clearing.fills place)) }
 {
-    put_number(out, b"  order ", number_at(view, place))?;
-    put_number(out, b" rate ", rate_at(view, place))?;
-    put(out, b"\n")
+    out.put_number(b"  order ", number_at(view, place))?;
+    out.put_number(b" rate ", rate_at(view, place))?;
+    out.put(b"\n")
 }
 
 // The lines of all orders that were live.
-fn put_rates(view: &ClearedView<'_>, out: &mut Vec<u8>) -> Result<(), Memory>
-    ensures { OnOk result (out.new.items ≡ out.old.items ++ flat_map rate_line view.now.clearing.fills) }
+fn put_rates(view: &ClearedView<'_>, out: &mut Text) -> Result<(), Memory>
+    ensures before { out.new.before ≡ out.old.before }
+    ensures put { OnOk result (out.new.text ≡ out.old.text ++ flat_map rate_line view.now.clearing.fills) }
 {
     for place in 0..view.rate_count() {
         put_rate(view, place, out)?;
@@ -100,24 +100,26 @@ fn put_rates(view: &ClearedView<'_>, out: &mut Vec<u8>) -> Result<(), Memory>
 pub(crate) fn put_cleared(
     tickers: &TickerTable,
     view: &ClearedView<'_>,
-    out: &mut Vec<u8>,
+    out: &mut Text,
 ) -> Result<(), Memory>
-    ensures { OnOk result (out.new.items ≡ out.old.items ++ cleared_lines tickers.now view.now.batch view.now.clearing) }
+    ensures before { out.new.before ≡ out.old.before }
+    ensures put { OnOk result (out.new.text ≡ out.old.text ++ cleared_lines tickers.now view.now.batch view.now.clearing) }
 {
-    put_number(out, b"batch ", view.batch())?;
-    put_number(out, b" cleared gap ", view.gap())?;
-    put(out, b"\n")?;
+    out.put_number(b"batch ", view.batch())?;
+    out.put_number(b" cleared gap ", view.gap())?;
+    out.put(b"\n")?;
     put_prices(tickers, view, out)?;
     put_rates(view, out)
 }
 
 // A batch that was skipped.
-pub(crate) fn put_skipped(view: &SkippedView<'_>, out: &mut Vec<u8>) -> Result<(), Memory>
-    ensures { OnOk result (out.new.items ≡ out.old.items ++ skipped_line view.now.batch view.now.skipping) }
+pub(crate) fn put_skipped(view: &SkippedView<'_>, out: &mut Text) -> Result<(), Memory>
+    ensures before { out.new.before ≡ out.old.before }
+    ensures put { OnOk result (out.new.text ≡ out.old.text ++ skipped_line view.now.batch view.now.skipping) }
 {
-    put_number(out, b"batch ", view.batch())?;
-    put_number(out, b" skipped moves ", view.trace().len())?;
-    put_number(out, b" duals ", view.start_dual())?;
-    put_number(out, b" ", view.end_dual())?;
-    put(out, b"\n")
+    out.put_number(b"batch ", view.batch())?;
+    out.put_number(b" skipped moves ", view.trace().len())?;
+    out.put_number(b" duals ", view.start_dual())?;
+    out.put_number(b" ", view.end_dual())?;
+    out.put(b"\n")
 }

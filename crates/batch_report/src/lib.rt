@@ -6,14 +6,15 @@
 //!
 //! # Costs
 //!
-//! A pair costs its text: each number is read where it lies in the pair and printed once, and the whole text of a pair is
-//! copied once. Memory is taken for the text, and for its place in the output.
+//! A pair costs its text: each number is read where it lies in the pair and printed once, right behind what stands in the
+//! output. Memory is taken only where the output has no room for the text; where there is none, the output is cut back to
+//! what it was.
 #![tactic(auto)]
 
 mod batches;
 pub mod laws;
 mod plain;
 mod report;
-mod words;
+mod text;
 
 pub use report::report_pair;

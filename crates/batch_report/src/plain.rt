@@ -5,23 +5,25 @@ ghost use Rattle.weight_rows.specs.declared.entries.Entry.{Entry};
 ghost use Rattle.wire_records.specs.Commands.{Plain};
 ghost use Rattle.wire_records.specs.Refusals.{code_of};
 ghost use Rattle.wire_records.specs.declared.reply.Reply.TheVariants as reply;
-ghost use Rattle.wire_records.specs.CommandRecords.{IsRead};
+ghost use Rattle.wire_records.specs.Versions.{IsReadAs};
 ghost use Rattle.wire_records.specs.Views.{command_of};
 ghost use Rattle.batch_report.specs.Reports.{◌then◌, money_text, units_text, entry_text, numbers_text, order_text, until_text, asset_name, TellsDone, TellsPlacing, Tells};
 ghost use Rattle.batch_report.specs.Private.{IsAnswered, IsDone, IsPlacing, no_entry};
 
-use crate::words::{put, put_name, put_number};
+use crate::text::Text;
+use market_core::Market;
 use ticker_table::TickerTable;
 use weight_rows::Entry;
 use wire_records::{CommandView, Memory, PlaceView, RecordView, Refusal, Reply, RowView};
 
 // A deposit, a withdrawal or a credit in money.
-fn put_money(word: &[u8], account: u32, ticks: u64, out: &mut Vec<u8>) -> Result<(), Memory>
-    ensures { OnOk result (out.new.items ≡ out.old.items ++ money_text word.now account ticks) }
+fn put_money(word: &[u8], account: u32, ticks: u64, out: &mut Text) -> Result<(), Memory>
+    ensures before { out.new.before ≡ out.old.before }
+    ensures put { OnOk result (out.new.text ≡ out.old.text ++ money_text word.now account ticks) }
 {
-    put(out, word)?;
-    put_number(out, b" account ", account)?;
-    put_number(out, b" ticks ", ticks)
+    out.put(word)?;
+    out.put_number(b" account ", account)?;
+    out.put_number(b" ticks ", ticks)
 }
 
 // A deposit, a withdrawal or a credit in an asset's units.
@@ -31,25 +33,27 @@ fn put_units(
     account: u32,
     asset: u16,
     units: u64,
-    out: &mut Vec<u8>,
+    out: &mut Text,
 ) -> Result<(), Memory>
-    ensures { OnOk result (out.new.items ≡ out.old.items ++ units_text word.now tickers.now account asset units) }
+    ensures before { out.new.before ≡ out.old.before }
+    ensures put { OnOk result (out.new.text ≡ out.old.text ++ units_text word.now tickers.now account asset units) }
 {
-    put(out, word)?;
-    put_number(out, b" account ", account)?;
-    put_name(out, b" ", tickers, asset)?;
-    put_number(out, b" units ", units)
+    out.put(word)?;
+    out.put_number(b" account ", account)?;
+    out.put_name(b" ", tickers, asset)?;
+    out.put_number(b" units ", units)
 }
 
 // A command that was done, without the end of its line.
 fn put_command(
     tickers: &TickerTable,
     command: &CommandView<'_>,
-    out: &mut Vec<u8>,
+    out: &mut Text,
 ) -> Result<(), Memory>
     requires { IsDone (command_of command.now) }
-    ensures { OnOk result ((line : List ℕ) × TellsDone tickers.now (command_of command.now) line
-        × (out.new.items ≡ out.old.items ++ line)) }
+    ensures before { out.new.before ≡ out.old.before }
+    ensures put { OnOk result ((line : List ℕ) × TellsDone tickers.now (command_of command.now) line
+        × (out.new.text ≡ out.old.text ++ line)) }
 {
     match *command {
         CommandView::DepositMoney { account, ticks } => put_money(b"deposit", account, ticks, out),
@@ -66,7 +70,7 @@ fn put_command(
             asset,
             units,
         } => put_units(b"withdraw", tickers, account, asset, units, out),
-        CommandView::CancelOrder { order, .. } => put_number(out, b"cancel order ", order),
+        CommandView::CancelOrder { order, .. } => out.put_number(b"cancel order ", order),
         CommandView::SetMoneyCredit { account, ticks } => put_money(b"credit", account, ticks, out),
         CommandView::SetUnitCredit {
             account,
@@ -82,45 +86,47 @@ fn put_command(
 }
 
 // The command of a record that was answered by `Done`.
-fn done_command<'a>(asked: &RecordView<'a>) -> CommandView<'a>
-    requires { IsAnswered asked.now (Plain reply.Done) }
-    ensures read { IsRead asked.now (Ok (command_of result)) }
+fn done_command<'a>(market: &Market, asked: &RecordView<'a>) -> CommandView<'a>
+    requires { IsAnswered market.now asked.now (Plain reply.Done) }
+    ensures read { IsReadAs market.now.version asked.now (Ok (command_of result)) }
     ensures done { IsDone (command_of result) }
 {
-    match asked.command() {
+    match market.read(asked) {
         Ok(command) => command,
         Err(_) => unreachable!(),
     }
 }
 
 // The command of a record that was answered by an order's number.
-fn placing_command<'a>(asked: &RecordView<'a>) -> CommandView<'a>
-    requires { (number : ℕ) × IsAnswered asked.now (Plain (reply.Order number)) }
-    ensures read { IsRead asked.now (Ok (command_of result)) }
+fn placing_command<'a>(market: &Market, asked: &RecordView<'a>) -> CommandView<'a>
+    requires { (number : ℕ) × IsAnswered market.now asked.now (Plain (reply.Order number)) }
+    ensures read { IsReadAs market.now.version asked.now (Ok (command_of result)) }
     ensures placing { IsPlacing (command_of result) }
 {
-    match asked.command() {
+    match market.read(asked) {
         Ok(command) => command,
         Err(_) => unreachable!(),
     }
 }
 
 // The line of a command that was done.
-fn put_done(tickers: &TickerTable, asked: &RecordView<'_>, out: &mut Vec<u8>) -> Result<(), Memory>
-    requires { IsAnswered asked.now (Plain reply.Done) }
-    ensures { OnOk result ((text : List ℕ) × Tells tickers.now asked.now (Plain reply.Done) text
-        × (out.new.items ≡ out.old.items ++ text)) }
+fn put_done(market: &Market, asked: &RecordView<'_>, out: &mut Text) -> Result<(), Memory>
+    requires { IsAnswered market.now asked.now (Plain reply.Done) }
+    ensures before { out.new.before ≡ out.old.before }
+    ensures put { OnOk result ((text : List ℕ) × Tells market.now asked.now (Plain reply.Done) text
+        × (out.new.text ≡ out.old.text ++ text)) }
 {
-    put_command(tickers, &done_command(asked), out)?;
-    put(out, b"\n")
+    put_command(market.tickers(), &done_command(market, asked), out)?;
+    out.put(b"\n")
 }
 
 // An entry of an order.
-fn put_entry(tickers: &TickerTable, entry: Entry, out: &mut Vec<u8>) -> Result<(), Memory>
-    ensures { OnOk result (out.new.items ≡ out.old.items ++ entry_text tickers.now entry) }
+fn put_entry(tickers: &TickerTable, entry: Entry, out: &mut Text) -> Result<(), Memory>
+    ensures before { out.new.before ≡ out.old.before }
+    ensures put { OnOk result (out.new.text ≡ out.old.text ++ entry_text tickers.now entry) }
 {
-    put_name(out, b" ", tickers, entry.asset)?;
-    put_number(out, b":", entry.weight)
+    out.put_name(b" ", tickers, entry.asset)?;
+    out.put_number(b":", entry.weight)
 }
 
 // The entry at a place that has one.
@@ -132,8 +138,9 @@ fn entry_at(row: &RowView<'_>, place: usize) -> Entry
 }
 
 // The entries of an order.
-fn put_entries(tickers: &TickerTable, row: &RowView<'_>, out: &mut Vec<u8>) -> Result<(), Memory>
-    ensures { OnOk result (out.new.items ≡ out.old.items ++ flat_map (entry_text tickers.now) row.now) }
+fn put_entries(tickers: &TickerTable, row: &RowView<'_>, out: &mut Text) -> Result<(), Memory>
+    ensures before { out.new.before ≡ out.old.before }
+    ensures put { OnOk result (out.new.text ≡ out.old.text ++ flat_map (entry_text tickers.now) row.now) }
 {
     for place in 0..row.len() {
         put_entry(tickers, entry_at(row, place), out)?;
@@ -142,15 +149,16 @@ fn put_entries(tickers: &TickerTable, row: &RowView<'_>, out: &mut Vec<u8>) -> R
 }
 
 // An order's number, and the numbers of its request.
-fn put_numbers(place: &PlaceView<'_>, order: u64, out: &mut Vec<u8>) -> Result<(), Memory>
-    ensures { OnOk result (out.new.items ≡ out.old.items ++ numbers_text order place.now) }
+fn put_numbers(place: &PlaceView<'_>, order: u64, out: &mut Text) -> Result<(), Memory>
+    ensures before { out.new.before ≡ out.old.before }
+    ensures put { OnOk result (out.new.text ≡ out.old.text ++ numbers_text order place.now) }
 {
-    put_number(out, b"order ", order)?;
-    put_number(out, b" account ", place.account())?;
-    put_number(out, b" low ", place.low())?;
-    put_number(out, b" high ", place.high())?;
-    put_number(out, b" rate ", place.rate())?;
-    put_number(out, b" cap ", place.cap())
+    out.put_number(b"order ", order)?;
+    out.put_number(b" account ", place.account())?;
+    out.put_number(b" low ", place.low())?;
+    out.put_number(b" high ", place.high())?;
+    out.put_number(b" rate ", place.rate())?;
+    out.put_number(b" cap ", place.cap())
 }
 
 // An order under its number.
@@ -158,9 +166,10 @@ fn put_order(
     tickers: &TickerTable,
     place: &PlaceView<'_>,
     order: u64,
-    out: &mut Vec<u8>,
+    out: &mut Text,
 ) -> Result<(), Memory>
-    ensures { OnOk result (out.new.items ≡ out.old.items ++ order_text tickers.now order place.now) }
+    ensures before { out.new.before ≡ out.old.before }
+    ensures put { OnOk result (out.new.text ≡ out.old.text ++ order_text tickers.now order place.now) }
 {
     put_numbers(place, order, out)?;
     put_entries(tickers, &place.row(), out)
@@ -172,12 +181,13 @@ fn put_until(
     place: &PlaceView<'_>,
     last: u32,
     order: u64,
-    out: &mut Vec<u8>,
+    out: &mut Text,
 ) -> Result<(), Memory>
-    ensures { OnOk result (out.new.items ≡ out.old.items ++ until_text tickers.now order last place.now) }
+    ensures before { out.new.before ≡ out.old.before }
+    ensures put { OnOk result (out.new.text ≡ out.old.text ++ until_text tickers.now order last place.now) }
 {
     put_numbers(place, order, out)?;
-    put_number(out, b" last ", last)?;
+    out.put_number(b" last ", last)?;
     put_entries(tickers, &place.row(), out)
 }
 
@@ -186,11 +196,12 @@ fn put_placing(
     tickers: &TickerTable,
     command: &CommandView<'_>,
     order: u64,
-    out: &mut Vec<u8>,
+    out: &mut Text,
 ) -> Result<(), Memory>
     requires { IsPlacing (command_of command.now) }
-    ensures { OnOk result ((line : List ℕ) × TellsPlacing tickers.now order (command_of command.now) line
-        × (out.new.items ≡ out.old.items ++ line)) }
+    ensures before { out.new.before ≡ out.old.before }
+    ensures put { OnOk result ((line : List ℕ) × TellsPlacing tickers.now order (command_of command.now) line
+        × (out.new.text ≡ out.old.text ++ line)) }
 {
     match *command {
         CommandView::PlaceOrder(ref place) => put_order(tickers, place, order, out),
@@ -212,61 +223,71 @@ fn put_placing(
 
 // The line of an order.
 fn put_placed(
-    tickers: &TickerTable,
+    market: &Market,
     asked: &RecordView<'_>,
     order: u64,
-    out: &mut Vec<u8>,
+    out: &mut Text,
 ) -> Result<(), Memory>
-    requires { IsAnswered asked.now (Plain (reply.Order order)) }
-    ensures { OnOk result ((text : List ℕ) × Tells tickers.now asked.now (Plain (reply.Order order)) text
-        × (out.new.items ≡ out.old.items ++ text)) }
+    requires { IsAnswered market.now asked.now (Plain (reply.Order order)) }
+    ensures before { out.new.before ≡ out.old.before }
+    ensures put { OnOk result ((text : List ℕ) × Tells market.now asked.now (Plain (reply.Order order)) text
+        × (out.new.text ≡ out.old.text ++ text)) }
 {
-    put_placing(tickers, &placing_command(asked), order, out)?;
-    put(out, b"\n")
+    put_placing(
+        market.tickers(),
+        &placing_command(market, asked),
+        order,
+        out,
+    )?;
+    out.put(b"\n")
 }
 
 // The line of a new asset.
-fn put_asset(tickers: &TickerTable, asset: u16, out: &mut Vec<u8>) -> Result<(), Memory>
-    ensures { OnOk result (out.new.items ≡ out.old.items
+fn put_asset(tickers: &TickerTable, asset: u16, out: &mut Text) -> Result<(), Memory>
+    ensures before { out.new.before ≡ out.old.before }
+    ensures put { OnOk result (out.new.text ≡ out.old.text
         ++ (codes "asset " then decimal asset then codes " " then asset_name tickers.now asset then codes "\n")) }
 {
-    put_number(out, b"asset ", asset)?;
-    put_name(out, b" ", tickers, asset)?;
-    put(out, b"\n")
+    out.put_number(b"asset ", asset)?;
+    out.put_name(b" ", tickers, asset)?;
+    out.put(b"\n")
 }
 
 // The line of a new account.
-fn put_account(account: u32, out: &mut Vec<u8>) -> Result<(), Memory>
-    ensures { OnOk result (out.new.items ≡ out.old.items ++ (codes "account " then decimal account then codes "\n")) }
+fn put_account(account: u32, out: &mut Text) -> Result<(), Memory>
+    ensures before { out.new.before ≡ out.old.before }
+    ensures put { OnOk result (out.new.text ≡ out.old.text ++ (codes "account " then decimal account then codes "\n")) }
 {
-    put_number(out, b"account ", account)?;
-    put(out, b"\n")
+    out.put_number(b"account ", account)?;
+    out.put(b"\n")
 }
 
 // The line of a refusal.
-fn put_refused(refusal: Refusal, out: &mut Vec<u8>) -> Result<(), Memory>
-    ensures { OnOk result (out.new.items ≡ out.old.items ++ (codes "refused " then decimal (code_of refusal) then codes "\n")) }
+fn put_refused(refusal: Refusal, out: &mut Text) -> Result<(), Memory>
+    ensures before { out.new.before ≡ out.old.before }
+    ensures put { OnOk result (out.new.text ≡ out.old.text ++ (codes "refused " then decimal (code_of refusal) then codes "\n")) }
 {
-    put_number(out, b"refused ", refusal.code())?;
-    put(out, b"\n")
+    out.put_number(b"refused ", refusal.code())?;
+    out.put(b"\n")
 }
 
 // The line of a plain reply.
 pub(crate) fn put_plain(
-    tickers: &TickerTable,
+    market: &Market,
     asked: &RecordView<'_>,
     told: Reply,
-    out: &mut Vec<u8>,
+    out: &mut Text,
 ) -> Result<(), Memory>
-    requires { IsAnswered asked.now (Plain told) }
-    ensures { OnOk result ((text : List ℕ) × Tells tickers.now asked.now (Plain told) text
-        × (out.new.items ≡ out.old.items ++ text)) }
+    requires { IsAnswered market.now asked.now (Plain told) }
+    ensures before { out.new.before ≡ out.old.before }
+    ensures put { OnOk result ((text : List ℕ) × Tells market.now asked.now (Plain told) text
+        × (out.new.text ≡ out.old.text ++ text)) }
 {
     match told {
-        Reply::Done => put_done(tickers, asked, out),
-        Reply::Asset(asset) => put_asset(tickers, asset, out),
+        Reply::Done => put_done(market, asked, out),
+        Reply::Asset(asset) => put_asset(market.tickers(), asset, out),
         Reply::Account(account) => put_account(account, out),
-        Reply::Order(order) => put_placed(tickers, asked, order, out),
+        Reply::Order(order) => put_placed(market, asked, order, out),
         Reply::Refused(refusal) => put_refused(refusal, out),
     }
 }

@@ -8,45 +8,42 @@ ghost use Rattle.batch_report.specs.Private.{IsAnswered};
 
 use crate::batches::{put_cleared, put_skipped};
 use crate::plain::put_plain;
-use crate::words::{put, put_number};
+use crate::text::Text;
 use batch_audit::Audit;
 use journal_records::{PairView, ReplyView, reply};
-use ticker_table::TickerTable;
+use market_core::Market;
 use wire_records::{Memory, RecordView};
 
 // What is told of a record and its answer.
 fn put_told(
-    tickers: &TickerTable,
+    market: &Market,
     asked: &RecordView<'_>,
     seen: &ReplyView<'_>,
-    out: &mut Vec<u8>,
+    out: &mut Text,
 ) -> Result<(), Memory>
-    requires { IsAnswered asked.now (answer_of seen.now) }
-    ensures { OnOk result ((told : List ℕ) × Tells tickers.now asked.now (answer_of seen.now) told
-        × (out.new.items ≡ out.old.items ++ told)) }
+    requires { IsAnswered market.now asked.now (answer_of seen.now) }
+    ensures before { out.new.before ≡ out.old.before }
+    ensures put { OnOk result ((told : List ℕ) × Tells market.now asked.now (answer_of seen.now) told
+        × (out.new.text ≡ out.old.text ++ told)) }
 {
     match seen {
-        ReplyView::Plain(told) => put_plain(tickers, asked, *told, out),
-        ReplyView::Cleared(view) => put_cleared(tickers, view, out),
+        ReplyView::Plain(told) => put_plain(market, asked, *told, out),
+        ReplyView::Cleared(view) => put_cleared(market.tickers(), view, out),
         ReplyView::Skipped(view) => put_skipped(view, out),
     }
 }
 
 // The lines of a pair.
-fn put_pair(
-    tickers: &TickerTable,
-    pair: &PairView<'_>,
-    number: u64,
-    out: &mut Vec<u8>,
-) -> Result<(), Memory>
-    requires { (old new : Market) × IsLegalPair old pair.now new }
-    ensures { OnOk result ((text : List ℕ) × IsReport tickers.now number pair.now text
-        × (out.new.items ≡ out.old.items ++ text)) }
+fn put_pair(market: &Market, pair: &PairView<'_>, number: u64, out: &mut Text) -> Result<(), Memory>
+    requires { (old : Market) × IsLegalPair old pair.now market.now }
+    ensures before { out.new.before ≡ out.old.before }
+    ensures put { OnOk result ((text : List ℕ) × IsReport market.now number pair.now text
+        × (out.new.text ≡ out.old.text ++ text)) }
 {
-    put_number(out, b"", number)?;
-    put(out, b" ")?;
+    out.put_number(b"", number)?;
+    out.put(b" ")?;
     match reply(&pair.answered()) {
-        Some(seen) => put_told(tickers, &pair.asked(), &seen, out),
+        Some(seen) => put_told(market, &pair.asked(), &seen, out),
         None => unreachable!(),
     }
 }
@@ -58,7 +55,8 @@ fn put_pair(
 ///
 /// One line tells a plain command with what it was given or did, or the code of a refusal. A batch that cleared has a line for
 /// each asset and for each order that was live behind its own, rates of 0 among them. `Memory` comes where there was none
-/// for the text, and then `out` is as before. It costs what the pair has of numbers, and a copy of the text.
+/// for the text, and then `out` is as before: what was written of the text is taken back. It costs what the pair has of
+/// numbers, and takes memory only where `out` has no room for the text.
 pub fn report_pair(
     audit: &Audit,
     pair: &PairView<'_>,
@@ -66,13 +64,20 @@ pub fn report_pair(
     out: &mut Vec<u8>,
 ) -> Result<(), Memory>
     requires legal { (old : Market) × IsLegalPair old pair.now audit.now }
-    ensures reported { OnOk result ((text : List ℕ) × IsReport audit.now.tickers number pair.now text
+    ensures reported { OnOk result ((text : List ℕ) × IsReport audit.now number pair.now text
         × (out.new.items ≡ out.old.items ++ text)) }
     ensures stays { OnErr result (out.new.items ≡ out.old.items) }
     ensures room { vec_capacity out.old ≤ vec_capacity out.new }
 {
-    let mut text = Vec::new(*out.allocator());
-    put_pair(audit.market().tickers(), pair, number, &mut text)?;
-    out.extend_from_slice(text.as_slice())?;
-    Ok(())
+    let mut text = Text::behind(out);
+    match put_pair(audit.market(), pair, number, &mut text) {
+        Ok(()) => {
+            *out = text.whole();
+            Ok(())
+        }
+        Err(memory) => {
+            *out = text.taken_back();
+            Err(memory)
+        }
+    }
 }

@@ -122,7 +122,7 @@ are_told start new (unit ∷ units) text each goes =
         goes.1,
         goes.2,
         one.legal.step,
-        subst (λ (u : Record × Record). IsReport goes.0.market.tickers (start.pairs + 1) u goes.1) same one.sees,
+        subst (λ (u : Record × Record). IsReport goes.0.market (start.pairs + 1) u goes.1) same one.sees,
         subst (λ (n : ℕ). AreReported goes.0.market n rest.legal new.market goes.2) (ap (λ n. n + 1) one.counted) rest.told,
         goes.5,
       );

@@ -114,8 +114,8 @@ one_text : (old : Market) (number : ℕ) (pairs : List (Pair Record Outcome)) (m
 one_text old number [] m n x y a b = a.1 ∙ sym b.1
 one_text old number (pair ∷ pairs) m n x y a b =
     let same = market_is_determined old pair.asked pair.answer a.0 b.0 a.3 b.3 in
-    let here = subst (λ (next : Market). IsReport next.tickers number (records_of pair) a.1) same a.4 in
-    let first = one_report b.0.tickers number (records_of pair) a.1 b.1 here b.4 in
+    let here = subst (λ (next : Market). IsReport next number (records_of pair) a.1) same a.4 in
+    let first = one_report b.0 number (records_of pair) a.1 b.1 here b.4 in
     let rest = one_text b.0 (number + 1) pairs m n a.2 b.2 (subst (λ (next : Market). AreReported next (number + 1) pairs m a.2) same a.5) b.5 in
     a.6 ∙ ap (λ xs. xs ++ a.2) first ∙ ap (λ xs. b.1 ++ xs) rest ∙ sym b.6
 

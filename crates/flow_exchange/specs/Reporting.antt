@@ -24,7 +24,7 @@ abbrev pub AreReported : Market → ℕ → List (Pair Record Outcome) → Marke
 AreReported old number [] new text = (new ≡ old) × (text ≡ [])
 AreReported old number (pair ∷ pairs) new text =
     (next : Market) × (first : List ℕ) × (rest : List ℕ) × Step IsReadAs IsRightOutcome old pair.asked pair.answer next
-    × IsReport next.tickers number (records_of pair) first × AreReported next (number + 1) pairs new rest × (text ≡ first ++ rest)
+    × IsReport next number (records_of pair) first × AreReported next (number + 1) pairs new rest × (text ≡ first ++ rest)
 
 -- The bytes are a journal, whose pairs are these legal ones and those behind them, and the text is that of the legal ones.
 pub record ReportsFile (limit : ℕ) (bytes : List ℕ) (status : Status) (text : List ℕ) : Type 0 where

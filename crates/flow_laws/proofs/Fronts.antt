@@ -133,8 +133,8 @@ report_begins old number (v ∷ pairs) (w ∷ first) behind more m n text begun 
     let both = heads (records_of v) (records_of w) (map records_of pairs ++ behind) (map records_of first ++ more) e in
     let legal = subst (λ (r : Record × Record). IsLegalPair old r all.0) both.0 (step_is_legal old v all.0 (All-head IsPair v pairs each) all.3) in
     let next = one_market old (records_of w) all.0 front.0 legal (step_is_legal old w front.0 (All-head IsPair w first fit) front.3) in
-    let line = subst (λ (k : Market). IsReport k.tickers number (records_of w) all.1) next (subst (λ (r : Record × Record). IsReport all.0.tickers number r all.1) both.0 all.4) in
-    let same = one_report front.0.tickers number (records_of w) all.1 front.1 line front.4 in
+    let line = subst (λ (k : Market). IsReport k number (records_of w) all.1) next (subst (λ (r : Record × Record). IsReport all.0 number r all.1) both.0 all.4) in
+    let same = one_report front.0 number (records_of w) all.1 front.1 line front.4 in
     let others = subst (λ (k : Market). AreReported k (number + 1) pairs m all.2) next all.5 in
     let rest = report_begins front.0 (number + 1) pairs first behind more m n all.2 front.2 both.1 (All-tail IsPair v pairs each) (All-tail IsPair w first fit) stops others front.5 in (
       rest.0,

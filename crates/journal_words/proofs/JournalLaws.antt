@@ -178,7 +178,7 @@ one_unit t r = refl
 
 telling_is_exact : IsExactWatch telling
 telling_is_exact = record {
-  one_sight = λ m n pair s t r x y a b. (one_unit t r, one_report m.tickers (n + 1) pair x y a b);
+  one_sight = λ m n pair s t r x y a b. (one_unit t r, one_report m (n + 1) pair x y a b);
   one_reject = λ m n pair s b c x y p q. (p.0 ∙ sym q.0, p.1 ∙ sym q.1);
   one_close = λ m n s x y a b. a ∙ sym b;
   one_stop = λ m n s b c x y p q. absurd p;

@@ -45,7 +45,7 @@ audit = over_pairs counting
 -- A report writes the lines of each pair under its number, counted from 1.
 abbrev pub telling : Watch (Unit {0}) ℕ
 telling = record {
-  Sees = λ market before pair old new text. IsReport market.tickers (before + 1) pair text;
+  Sees = λ market before pair old new text. IsReport market (before + 1) pair text;
   Rejects = λ market before pair seen number text. (number ≡ before + 1) × (text ≡ []);
   Closes = λ market pairs seen text. text ≡ [];
   Stops = λ market pairs seen number text. ⊥;

@@ -4,4 +4,4 @@ use Rattle.batch_report.specs.Reports.{rate_line}
 use Rattle.batch_report.proofs.batches.put_rates.Given as goal
 
 abbrev pub invariant-loop-place : goal.invariant-loop-place
-invariant-loop-place l = l.out.items ≡ l.fn.out.items ++ flat_map rate_line (take l.place l.view.clearing.fills)
+invariant-loop-place l = (l.out.before ≡ l.fn.out.before) × (l.out.text ≡ l.fn.out.text ++ flat_map rate_line (take l.place l.view.clearing.fills))

@@ -1,6 +1,6 @@
 use Rattle.std.proofs.Common.{subst, arith}
 use Rattle.batch_report.proofs.Names.{HasPassed, one_more, ended, whole}
-use Rattle.batch_report.proofs.words.name_len.Goals as goal
+use Rattle.batch_report.proofs.text.name_len.Goals as goal
 
 pub returns-then-ticker-place-eq32-clause-name : goal.returns-then-ticker-place-eq32-clause-name
 returns-then-ticker-place-eq32-clause-name c =
