@@ -9,6 +9,7 @@ from journal_day import TICK
 WIDTH, HEIGHT = 340, 230
 LEFT, RIGHT, TOP, BOTTOM = 62, 12, 26, 38
 VOLUME_TOP = 150
+LEGEND_WIDTH = 460
 LONG = 10_000_000
 STYLE = """
 .chart text { font: 11px system-ui, sans-serif; fill: var(--ink); }
@@ -127,8 +128,8 @@ def prices_chart(batches, asset, ticker):
         parts += [dot("bought", across(batch.number), up(price), said, 3 if len(batches) > 40 else 4)]
     for batch in batches:
         if not batch.cleared():
-            x, y = across(batch.number), HEIGHT - BOTTOM - 6
-            parts += [line("skip", x - 4, y - 4, x + 4, y + 4), line("skip", x - 4, y + 4, x + 4, y - 4)]
+            x, y, arm = across(batch.number), HEIGHT - BOTTOM - 6, min(4, width / 2)
+            parts += [line("skip", x - arm, y - arm, x + arm, y + arm), line("skip", x - arm, y + arm, x + arm, y - arm)]
     parts += [line("axis", LEFT, HEIGHT - BOTTOM, WIDTH - RIGHT, HEIGHT - BOTTOM)]
     every = max(1, math.ceil(len(batches) / 10))
     parts += [text(across(batch.number), HEIGHT - 22, str(batch.number), "middle") for batch in batches[::every]]
@@ -188,7 +189,8 @@ def curves_chart(batch, asset, ticker):
     price = batch.prices[asset] / TICK
     bought, sold, residual = batch.bought(asset), batch.sold(asset), batch.residuals[asset]
     sides = [bends(trade, asset, batch.prices) for trade in batch.trades if trade.order.weight(asset) and trade.room]
-    said = f"{ticker} in batch {batch.number}: price {in_ticks(batch.prices[asset])} ticks, bought {bought}, sold {sold}, residual {residual}"
+    amounts = f"bought {bought}, sold {sold}, residual {residual}"
+    said = f"{ticker} in batch {batch.number}: price {in_ticks(batch.prices[asset])} ticks, {amounts}"
     parts = [text(LEFT, 16, ticker, kind="name"), text(WIDTH - RIGHT, 16, f"residual {residual:,} units", "end")]
     if not sides:
         parts += [text(WIDTH / 2, HEIGHT / 2, "no order names it", "middle")]
@@ -204,9 +206,11 @@ def curves_chart(batch, asset, ticker):
         parts += [line("axis", across(step), HEIGHT - BOTTOM, across(step), HEIGHT - BOTTOM + 4)]
         parts += [text(across(step), HEIGHT - 22, words, "middle")]
     parts += [line("axis", LEFT, HEIGHT - BOTTOM, WIDTH - RIGHT, HEIGHT - BOTTOM)]
-    parts += [path("demand", [(across(x), up(y)) for x, y in demand]), path("supply", [(across(x), up(y)) for x, y in supply])]
+    for kind, points in [("demand", demand), ("supply", supply)]:
+        parts += [path(kind, [(across(x), up(y)) for x, y in points])]
     parts += [line("price", across(price), TOP, across(price), HEIGHT - BOTTOM)]
-    parts += [dot("sold", across(price), up(sold), f"sold: {sold} units", 5), dot("bought", across(price), up(bought), f"bought: {bought} units", 3)]
+    parts += [dot("sold", across(price), up(sold), f"sold: {sold} units", 5)]
+    parts += [dot("bought", across(price), up(bought), f"bought: {bought} units", 3)]
     parts += [text((LEFT + WIDTH - RIGHT) / 2, HEIGHT - 6, f"ticks; cleared at {in_ticks(batch.prices[asset])}", "middle")]
     return drawing(parts, said)
 
@@ -216,7 +220,7 @@ def legend():
     parts = [line("demand", 4, 10, 40, 10), text(46, 14, "demand"), line("supply", 104, 10, 140, 10), text(146, 14, "supply")]
     parts += [line("price", 200, 10, 236, 10), text(242, 14, "clearing price")]
     parts += [dot("bought", 340, 10, "bought", 3), text(350, 14, "bought"), dot("sold", 404, 10, "sold", 5), text(416, 14, "sold")]
-    return drawing(parts, "a whole line is demand, a broken one supply, a dotted one the clearing price", 460, 20)
+    return drawing(parts, "a whole line is demand, a broken one supply, a dotted one the clearing price", LEGEND_WIDTH, 20)
 
 
 def share_bar(part, whole, words):

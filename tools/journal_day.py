@@ -21,7 +21,8 @@ COMMANDS = {
     11: "SetMoneyCredit",
     12: "SetUnitCredit",
 }
-REPLIES = {DONE: "Done", ASSET: "Asset", ACCOUNT: "Account", ORDER: "Order", REFUSED: "Refused", CLEARED: "Cleared", SKIPPED: "Skipped"}
+REPLIES = {DONE: "Done", ASSET: "Asset", ACCOUNT: "Account", ORDER: "Order", REFUSED: "Refused"}
+REPLIES.update({CLEARED: "Cleared", SKIPPED: "Skipped"})
 LIVE, FILLED, CANCELLED, ENDED = "live", "filled", "cancelled", "left after its last batch"
 
 # A pair: its number from 1, the tags and bodies of its records, and its text as a report has it, without the number.
