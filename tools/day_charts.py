@@ -187,7 +187,7 @@ def curves_chart(batch, asset, ticker):
     """Demand and supply of an asset in a batch that cleared, at the other assets' published prices, with its own on them:
     a full dot for what is bought there, a hollow one for what is sold."""
     price = batch.prices[asset] / TICK
-    bought, sold, residual = batch.bought(asset), batch.sold(asset), batch.residuals[asset]
+    bought, sold, residual = batch.bought[asset], batch.sold[asset], batch.residuals[asset]
     sides = [bends(trade, asset, batch.prices) for trade in batch.trades if trade.order.weight(asset) and trade.room]
     amounts = f"bought {bought}, sold {sold}, residual {residual}"
     said = f"{ticker} in batch {batch.number}: price {in_ticks(batch.prices[asset])} ticks, {amounts}"

@@ -1,7 +1,7 @@
 """The market that a legal journal makes, pair by pair, by the formats and the market's rules alone: orders with their
 fills, balances, the exchange's own account, and what each batch came to. It doesn't ask whether the journal is legal."""
 import struct
-from collections import namedtuple
+from collections import Counter, namedtuple
 
 from report_text import ACCOUNT, ASSET, CLEARED, DONE, ENTRY, MONEY, ORDER, REFUSED, SKIPPED, TERMS, UNITS, records, signed, told
 
@@ -54,25 +54,24 @@ class Order:
 
 
 class Batch:
-    """A batch that was held, cleared or skipped. Prices, gap and duals are in grains, amounts in units."""
+    """A batch that was held, cleared or skipped. Prices, gap and duals are in grains, amounts in units. What orders bought and
+    sold is by asset."""
 
     def __init__(self, pair, number, trades):
         self.pair, self.number, self.trades = pair, number, trades
         self.prices, self.residuals, self.gap = None, None, None
         self.start_dual, self.end_dual, self.trace = None, None, None
+        self.bought, self.sold = Counter(), Counter()
+        for order, _, rate in trades:
+            for asset, weight in order.row:
+                (self.bought if weight > 0 else self.sold)[asset] += abs(weight) * rate
 
     def cleared(self):
         return self.prices is not None
 
-    def bought(self, asset):
-        return sum(max(trade.order.weight(asset), 0) * trade.rate for trade in self.trades)
-
-    def sold(self, asset):
-        return sum(max(-trade.order.weight(asset), 0) * trade.rate for trade in self.trades)
-
     def volume(self, asset):
         """What changed hands of an asset, the exchange's part counted in."""
-        return max(self.bought(asset), self.sold(asset))
+        return max(self.bought[asset], self.sold[asset])
 
 
 def add(balances, key, amount):
