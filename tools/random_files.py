@@ -4,7 +4,7 @@ import struct
 
 TICKERS = [b"AAPL    ", b"MSFT    ", b"BRK.B   ", b"Z-9     ", b"aapl    ", b"AAPL    ", b"        "]
 MAGICS = [b"FLOWCMD1", b"FLOWCMD2", b"FLOWCMD3", b"FLOWJNL1", b"FLOWJNL2", b"FLOWJNL3", b"FLOWCMD", b""]
-BUDGETS = [0, 1, 2, 3, 10, 100, 1000, 65_536, 65_537]
+BUDGETS = [0, 1, 1, 2, 3, 10, 100, 1000, 1000, 1000, 10_000, 65_536, 65_537]
 EDGES = [0, 1, 2, 4096, 1 << 16, 1 << 24, 1 << 28, (1 << 32) - 1, 1 << 40, 1 << 60, (1 << 63) - 1, (1 << 64) - 1]
 # Lengths that a record may state, whatever stands behind it.
 LENGTHS = [0, 1, 4, 12, 14, 33, 39, 1024, 1025, 262_144, 262_145, (1 << 32) - 1]
@@ -20,24 +20,26 @@ def likely(number):
 
 
 def account():
-    return likely(4) & 0xFFFF_FFFF
+    """One of the accounts 1 to 3, most often."""
+    return random.randint(1, 3) if random.random() < 0.95 else likely(4) & 0xFFFF_FFFF
 
 
 def asset():
-    return likely(3) & 0xFFFF
+    return random.randint(0, 2) if random.random() < 0.95 else likely(3) & 0xFFFF
 
 
 def row():
-    entries = sorted(random.sample(range(4), random.choice([1, 1, 1, 2, 2, 3])))
-    return [(named, random.choice([1, 1, -1, -1, 2, -3, 4096, random.randint(-5000, 5000)])) for named in entries]
+    entries = sorted(random.sample(range(3), random.choice([1, 1, 1, 1, 2, 2, 3])))
+    weights = [1, 1, 1, -1, -1, -1, 2, -3] if random.random() < 0.9 else [4096, -4096, random.randint(-5000, 5000)]
+    return [(named, random.choice(weights)) for named in entries]
 
 
 def order():
     """The body of an order, most often a lawful one for prices around 100 ticks."""
     entries = row()
     middle = sum(weight for _, weight in entries) * 100 + random.randint(-10, 10)
-    half = random.choice([0, 1, 5, 20, 300])
-    rate, cap = likely(1000) & 0xFFFF_FFFF, random.choice([1, 10, 1000, likely(1 << 40)])
+    half = random.choice([1, 5, 5, 20, 20, 300, 0, 1 << 28])
+    rate, cap = likely(1000) & 0xFFFF_FFFF, random.choice([1, 10, 1000, 1000, 100_000, likely(1 << 40)])
     terms = struct.pack(">IqqIQB", account(), middle - half, middle + half, rate, cap, len(entries))
     return terms + b"".join(struct.pack(">Hi", *entry) for entry in entries)
 
@@ -50,12 +52,10 @@ def command():
         lambda: record(4, struct.pack(">IHQ", account(), asset(), likely(1 << 20))),
         lambda: record(5, struct.pack(">IQ", account(), likely(1 << 20))),
         lambda: record(6, struct.pack(">IHQ", account(), asset(), likely(1 << 12))),
-        lambda: record(7, order()),
-        lambda: record(7, order()),
-        lambda: record(7, order()),
+        *[lambda: record(7, order())] * 8,
         lambda: record(8, struct.pack(">IQ", account(), likely(9))),
-        lambda: record(9, struct.pack(">I", random.choice(BUDGETS))),
-        lambda: record(10, struct.pack(">I", likely(9) & 0xFFFF_FFFF) + order()),
+        *[lambda: record(9, struct.pack(">I", random.choice(BUDGETS)))] * 2,
+        *[lambda: record(10, struct.pack(">I", likely(9) & 0xFFFF_FFFF) + order())] * 2,
         lambda: record(11, struct.pack(">IQ", account(), likely(1 << 30))),
         lambda: record(12, struct.pack(">IHQ", account(), asset(), likely(1 << 20))),
         lambda: record(random.randrange(256), random.randbytes(random.choice([0, 1, 12, 39, 1024]))),
@@ -71,7 +71,7 @@ def command_file():
         for number in (1, 2, 3):
             made += [record(3, struct.pack(">IQ", number, 1 << 40))]
             made += [record(4, struct.pack(">IHQ", number, named, 1 << 40)) for named in range(3)]
-    return b"".join(made + [command() for _ in range(random.choice([0, 3, 20, 60]))])
+    return b"".join(made + [command() for _ in range(random.choice([0, 3, 20, 60, 150]))])
 
 
 def any_bytes():
