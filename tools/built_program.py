@@ -1,0 +1,29 @@
+"""The built program, for tools beside it: where it stands, and journals that it finds legal."""
+import os
+import subprocess
+import sys
+
+TOP = os.path.dirname(os.path.dirname(os.path.realpath(__file__)))
+
+
+def program():
+    """Where the program stands that is built from the sources as they are; it is built first where it isn't. Ends as
+    tools/program does where it can't be."""
+    made = subprocess.run([f"{TOP}/tools/program"], stdin=subprocess.DEVNULL, stdout=subprocess.PIPE)
+    if made.returncode:
+        sys.exit(made.returncode)
+    return os.fsdecode(made.stdout[:-1])
+
+
+def legal_journal(place):
+    """The bytes of a journal that `flow audit` finds legal. Of any other the audit's line is said, and the tool ends with
+    the audit's status."""
+    try:
+        with open(place, "rb") as file:
+            journal = file.read()
+    except OSError as fault:
+        sys.exit(f"{os.path.basename(sys.argv[0])}: {fault}")
+    ran = subprocess.run([program(), "audit"], input=journal, stdout=subprocess.DEVNULL)
+    if ran.returncode:
+        sys.exit(ran.returncode)
+    return journal

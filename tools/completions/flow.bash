@@ -1,0 +1,20 @@
+# Completes the words of flow in bash, and files behind a redirection, since each word reads standard input.
+#
+#     source tools/completions/flow.bash
+
+_flow() {
+    local word=${COMP_WORDS[COMP_CWORD]} before=${COMP_WORDS[COMP_CWORD - 1]} words=
+    COMPREPLY=()
+    case $word in '<' | '>' | '>>') word= before='<' ;; esac
+    case $before in
+    '<' | '>' | '>>')
+        compopt -o filenames 2>/dev/null
+        mapfile -t COMPREPLY < <(compgen -f -- "$word")
+        return
+        ;;
+    esac
+    [ "$COMP_CWORD" -ne 1 ] || words="run audit report encode"
+    [ "$COMP_CWORD" -ne 2 ] || [ "$before" != encode ] || words=2
+    mapfile -t COMPREPLY < <(compgen -W "$words" -- "$word")
+}
+complete -F _flow flow ./flow

@@ -1,0 +1,158 @@
+"""The market that a legal journal makes, pair by pair, by the formats and the market's rules alone: orders with their
+fills, balances, the exchange's own account, and what each batch came to. It doesn't ask whether the journal is legal."""
+import struct
+from collections import Counter, namedtuple
+
+from report_text import ACCOUNT, ASSET, CLEARED, DONE, ENTRY, MONEY, ORDER, REFUSED, SKIPPED, TERMS, UNITS, records, signed, told
+
+TICK = 1 << 32
+MONEY_KEY = None
+COMMANDS = {
+    1: "AddAsset",
+    2: "OpenAccount",
+    3: "DepositMoney",
+    4: "DepositAsset",
+    5: "WithdrawMoney",
+    6: "WithdrawAsset",
+    7: "PlaceOrder",
+    8: "CancelOrder",
+    9: "RunBatch",
+    10: "PlaceUntil",
+    11: "SetMoneyCredit",
+    12: "SetUnitCredit",
+}
+REPLIES = {DONE: "Done", ASSET: "Asset", ACCOUNT: "Account", ORDER: "Order", REFUSED: "Refused"}
+REPLIES.update({CLEARED: "Cleared", SKIPPED: "Skipped"})
+LIVE, FILLED, CANCELLED, ENDED = "live", "filled", "cancelled", "left after its last batch"
+
+# A pair: its number from 1, the tags and bodies of its records, and its text as a report has it, without the number.
+Pair = namedtuple("Pair", "number tag body reply answer text")
+# What an order had in a batch: its room, and its rate.
+Trade = namedtuple("Trade", "order room rate")
+
+
+class Order:
+    """An order that was placed. Limits are in ticks, amounts in units of the portfolio."""
+
+    def __init__(self, number, tag, body):
+        self.last = int.from_bytes(body[:4], "big") if tag == 10 else None
+        terms = body[4:] if tag == 10 else body
+        self.number = number
+        self.account, self.low, self.high, self.rate, self.cap, _ = struct.unpack(TERMS, terms[:33])
+        self.row = list(struct.iter_unpack(ENTRY, terms[33:]))
+        self.filled, self.state = 0, LIVE
+
+    def room(self):
+        return min(self.rate, self.cap - self.filled)
+
+    def weight(self, asset):
+        return next((weight for named, weight in self.row if named == asset), 0)
+
+    def cost(self, prices):
+        """The price of a unit of its portfolio, in grains."""
+        return sum(weight * prices[asset] for asset, weight in self.row)
+
+
+class Batch:
+    """A batch that was held, cleared or skipped. Prices, gap and duals are in grains, amounts in units. What orders bought and
+    sold is by asset."""
+
+    def __init__(self, pair, number, trades):
+        self.pair, self.number, self.trades = pair, number, trades
+        self.prices, self.residuals, self.gap = None, None, None
+        self.start_dual, self.end_dual, self.trace = None, None, None
+        self.bought, self.sold = Counter(), Counter()
+        for order, _, rate in trades:
+            for asset, weight in order.row:
+                (self.bought if weight > 0 else self.sold)[asset] += abs(weight) * rate
+
+    def cleared(self):
+        return self.prices is not None
+
+    def volume(self, asset):
+        """What changed hands of an asset, the exchange's part counted in."""
+        return max(self.bought[asset], self.sold[asset])
+
+
+def add(balances, key, amount):
+    balances[key] = balances.get(key, 0) + amount
+
+
+class Day:
+    """All that a legal journal tells. Balances are by account, from 1, and then by asset, in units, or MONEY_KEY, in
+    grains; what stands at none is 0."""
+
+    def __init__(self, journal):
+        self.version = int(journal[7:8])
+        self.tickers, self.accounts, self.exchange = [], {}, {}
+        self.orders, self.batches, self.pairs, self.deposited = {}, [], [], {}
+        every = list(records(journal))
+        for number, (asked, answered) in enumerate(zip(every[::2], every[1::2]), 1):
+            self.take(number, *asked, *answered)
+
+    def take(self, number, tag, body, reply, answer):
+        if reply == ASSET:
+            self.tickers.append(body.decode("ascii").rstrip(" "))
+        text = told(self.tickers, (tag, body), (reply, answer))
+        self.pairs.append(Pair(number, tag, body, reply, answer, text))
+        if reply == ACCOUNT:
+            self.accounts[int.from_bytes(answer, "big")] = {}
+        elif reply == ORDER:
+            placed = Order(int.from_bytes(answer, "big"), tag, body)
+            self.orders[placed.number] = placed
+        elif reply == DONE:
+            self.do(tag, body)
+        elif reply in (CLEARED, SKIPPED):
+            self.hold(number, reply, answer)
+
+    def do(self, tag, body):
+        if tag == 8:
+            self.orders[struct.unpack(MONEY, body)[1]].state = CANCELLED
+        elif tag in (3, 4, 5, 6):
+            account, *asset, amount = struct.unpack(MONEY if tag in (3, 5) else UNITS, body)
+            key, grains = (asset[0], amount) if asset else (MONEY_KEY, amount * TICK)
+            signed_amount = grains if tag in (3, 4) else -grains
+            add(self.accounts[account], key, signed_amount)
+            add(self.deposited, key, signed_amount)
+
+    def live(self):
+        return [order for order in self.orders.values() if order.state == LIVE]
+
+    def hold(self, pair, reply, answer):
+        live = self.live()
+        if reply == CLEARED:
+            batch = self.cleared(pair, live, answer)
+        else:
+            moves, = struct.unpack_from(">I", answer, 36)
+            batch = Batch(pair, int.from_bytes(answer[:4], "big"), [Trade(order, order.room(), 0) for order in live])
+            batch.start_dual, batch.end_dual = signed(answer, 4, 16, 2)
+            batch.trace = answer[40:40 + moves]
+        self.batches.append(batch)
+        for order in live:
+            if order.filled == order.cap:
+                order.state = FILLED
+            elif order.last is not None and order.last <= batch.number:
+                order.state = ENDED
+
+    def cleared(self, pair, live, answer):
+        number, count = struct.unpack_from(">IH", answer)
+        at = 10 + 8 * count
+        behind = at + 12 * len(live)
+        rates = [rate for _, rate in struct.iter_unpack(">QI", answer[at:behind])]
+        batch = Batch(pair, number, [Trade(order, order.room(), rate) for order, rate in zip(live, rates)])
+        batch.prices, batch.residuals = signed(answer, 6, 8, count), signed(answer, behind, 8, count)
+        batch.gap, = signed(answer, behind + 8 * count, 16, 1)
+        for order, rate in zip(live, rates):
+            self.settle(order, rate, batch.prices)
+        return batch
+
+    def settle(self, order, rate, prices):
+        """The account pays and gets what the rate comes to, and the exchange has the other side of it."""
+        order.filled += rate
+        for key, amount in [(MONEY_KEY, -order.cost(prices) * rate), *((asset, weight * rate) for asset, weight in order.row)]:
+            add(self.accounts[order.account], key, amount)
+            add(self.exchange, key, -amount)
+
+    def names(self):
+        """Money and each asset, by their keys."""
+        return [(MONEY_KEY, "money"), *enumerate(self.tickers)]
