@@ -207,17 +207,18 @@ impl Audit {
     ///
     /// It costs what the audit of the pair costs without the step, and takes memory for the start prices of a batch and, for a
     /// walk, what a search takes but for its trace.
-    pub fn explain(&self, pair: &PairView<'_>) -> Result<Finding, Memory>
-        requires next { self.now.next_order + 1 < 2 ^ 64 }
-        ensures found { IfOk result (IsFinding self.now pair.now) }
+    pub fn explain(&mut self, pair: &PairView<'_>) -> Result<Finding, Memory>
+        requires next { self.old.next_order + 1 < 2 ^ 64 }
+        ensures found { IfOk result (IsFinding self.old pair.now) }
+        ensures stays { self.new ≡ self.old }
         // Memory is wanted only by a record that the audit of the pair may want it for.
-        ensures wanted { OnErr result (RecordMayWant self.now pair.now.0) }
+        ensures wanted { OnErr result (RecordMayWant self.old pair.now.0) }
     {
         match reply(&pair.answered()) {
             None => Ok(Finding::NoReply),
             Some(seen) => {
                 let asked = pair.asked();
-                Ok(finding_of(self.alloc, &self.market, &asked, &seen)?)
+                Ok(finding_of(self.alloc, &mut self.market, &asked, &seen)?)
             }
         }
     }

@@ -55,13 +55,14 @@ fn plain_finding(market: &Market, command: &CommandView<'_>, seen: &ReplyView<'_
 // What is found of a reply where a batch with this budget is due.
 fn outcome_finding(
     alloc: Global,
-    market: &Market,
+    market: &mut Market,
     budget: u32,
     seen: &ReplyView<'_>,
 ) -> Result<Finding, Memory>
-    requires first { FirstRefusal market.now (RunBatch budget) None }
-    requires more { market.now.batches < most_batches }
-    ensures { IfOk result (IsFoundWhere market.now (λ asked. IsDue market.now asked budget) (answer_of seen.now)) }
+    requires first { FirstRefusal market.old (RunBatch budget) None }
+    requires more { market.old.batches < most_batches }
+    ensures found { IfOk result (IsFoundWhere market.old (λ asked. IsDue market.old asked budget) (answer_of seen.now)) }
+    ensures stays { market.new ≡ market.old }
 {
     let next = market.batches() + 1;
     match seen {
@@ -84,13 +85,14 @@ fn outcome_finding(
 // What is found of a reply where a batch with this budget is asked for.
 fn batch_finding(
     alloc: Global,
-    market: &Market,
+    market: &mut Market,
     budget: u32,
     seen: &ReplyView<'_>,
 ) -> Result<Finding, Memory>
-    ensures found { IfOk result (IsFoundWhere market.now
-        (λ asked. IsReadAs market.now.version asked (Ok (RunBatch budget))) (answer_of seen.now)) }
-    ensures wanted { OnErr result (MayWant market.now (RunBatch budget)) }
+    ensures found { IfOk result (IsFoundWhere market.old
+        (λ asked. IsReadAs market.old.version asked (Ok (RunBatch budget))) (answer_of seen.now)) }
+    ensures wanted { OnErr result (MayWant market.old (RunBatch budget)) }
+    ensures stays { market.new ≡ market.old }
 {
     if let Err(refusal) = market.batch_allowed(budget) {
         return Ok(reply_finding(seen, Reply::Refused(refusal)));
@@ -101,13 +103,14 @@ fn batch_finding(
 // What is found of a reply to this record.
 pub(crate) fn finding_of(
     alloc: Global,
-    market: &Market,
+    market: &mut Market,
     asked: &RecordView<'_>,
     seen: &ReplyView<'_>,
 ) -> Result<Finding, Memory>
-    requires next { market.now.next_order + 1 < 2 ^ 64 }
-    ensures found { IfOk result (IsFoundWhere market.now (λ first. first ≡ asked.now) (answer_of seen.now)) }
-    ensures wanted { OnErr result (RecordMayWant market.now asked.now) }
+    requires next { market.old.next_order + 1 < 2 ^ 64 }
+    ensures found { IfOk result (IsFoundWhere market.old (λ first. first ≡ asked.now) (answer_of seen.now)) }
+    ensures wanted { OnErr result (RecordMayWant market.old asked.now) }
+    ensures stays { market.new ≡ market.old }
 {
     match market.read(asked) {
         Ok(CommandView::RunBatch { budget }) => Ok(batch_finding(alloc, market, budget, seen)?),

@@ -33,13 +33,14 @@ use wire_records::Memory;
 // What the market settles where the reply tells a right outcome of a batch that is allowed, under the next number.
 pub(crate) fn outcome_for(
     alloc: Global,
-    market: &Market,
+    market: &mut Market,
     budget: u32,
     seen: &ReplyView<'_>,
 ) -> Result<Option<Outcome>, Memory>
-    requires first { FirstRefusal market.now (RunBatch budget) None }
-    requires more { market.now.batches < most_batches }
-    ensures { IfOk result (IsOutcomeFor market.now budget (answer_of seen.now)) }
+    requires first { FirstRefusal market.old (RunBatch budget) None }
+    requires more { market.old.batches < most_batches }
+    ensures outcome { IfOk result (IsOutcomeFor market.old budget (answer_of seen.now)) }
+    ensures stays { market.new ≡ market.old }
 {
     match seen {
         ReplyView::Plain(_) => Ok(None),
@@ -51,12 +52,13 @@ pub(crate) fn outcome_for(
 // A copy of a clearing that is right, under the next number.
 fn cleared_for(
     alloc: Global,
-    market: &Market,
+    market: &mut Market,
     view: &ClearedView<'_>,
 ) -> Result<Option<Outcome>, Memory>
-    requires more { market.now.batches < most_batches }
-    ensures { IfOk result (λ found. (budget : ℕ) → IsOutcomeFor market.now budget
+    requires more { market.old.batches < most_batches }
+    ensures outcome { IfOk result (λ found. (budget : ℕ) → IsOutcomeFor market.old budget
         (Batch view.now.batch (outcomes.Cleared view.now.clearing)) found) }
+    ensures stays { market.new ≡ market.old }
 {
     if view.batch() != market.batches() + 1 || !is_clearing_right(alloc, market, view)? {
         return Ok(None);
@@ -65,18 +67,24 @@ fn cleared_for(
 }
 
 // Whether a clearing is right for the live orders and the start prices.
-fn is_clearing_right(alloc: Global, market: &Market, view: &ClearedView<'_>) -> Result<bool, Memory>
-    ensures { IfOk result (λ right. IsTrue right
-        ↔ IsRightClearing market.now.orders (start_prices market.now) view.now.clearing) }
+fn is_clearing_right(
+    alloc: Global,
+    market: &mut Market,
+    view: &ClearedView<'_>,
+) -> Result<bool, Memory>
+    ensures right { IfOk result (λ right. IsTrue right
+        ↔ IsRightClearing market.old.orders (start_prices market.old) view.now.clearing) }
+    ensures stays { market.new ≡ market.old }
 {
     Ok(verdict_on(alloc, market, view)? == Verdict::Right)
 }
 
 // The verdict on a clearing of the live orders, from the start prices.
-fn verdict_on(alloc: Global, market: &Market, view: &ClearedView<'_>) -> Result<Verdict, Memory>
-    ensures verdict { IfOk result (IsVerdict market.now.orders (start_prices market.now) view.now.clearing) }
+fn verdict_on(alloc: Global, market: &mut Market, view: &ClearedView<'_>) -> Result<Verdict, Memory>
+    ensures verdict { IfOk result (IsVerdict market.old.orders (start_prices market.old) view.now.clearing) }
     ensures right { IfOk result (λ verdict. (verdict ≡ Right)
-        ↔ IsRightClearing market.now.orders (start_prices market.now) view.now.clearing) }
+        ↔ IsRightClearing market.old.orders (start_prices market.old) view.now.clearing) }
+    ensures stays { market.new ≡ market.old }
 {
     let start = market.start_prices(alloc)?;
     Ok(check_cleared(market.orders(), start.as_slice(), view))
@@ -85,10 +93,11 @@ fn verdict_on(alloc: Global, market: &Market, view: &ClearedView<'_>) -> Result<
 // What is found of a clearing of a batch that is due.
 pub(crate) fn clearing_finding(
     alloc: Global,
-    market: &Market,
+    market: &mut Market,
     view: &ClearedView<'_>,
 ) -> Result<Finding, Memory>
-    ensures { IfOk result (IsClearingFound market.now.orders (start_prices market.now) view.now.clearing) }
+    ensures found { IfOk result (IsClearingFound market.old.orders (start_prices market.old) view.now.clearing) }
+    ensures stays { market.new ≡ market.old }
 {
     let verdict = verdict_on(alloc, market, view)?;
     if verdict == Verdict::Right {
@@ -101,14 +110,15 @@ pub(crate) fn clearing_finding(
 // A skip that is right, under the next number. The market looks at none of its walk, so that isn't copied.
 fn skipped_for(
     alloc: Global,
-    market: &Market,
+    market: &mut Market,
     budget: u32,
     view: &SkippedView<'_>,
 ) -> Result<Option<Outcome>, Memory>
-    requires first { FirstRefusal market.now (RunBatch budget) None }
-    requires more { market.now.batches < most_batches }
-    ensures { IfOk result (IsOutcomeFor market.now budget
+    requires first { FirstRefusal market.old (RunBatch budget) None }
+    requires more { market.old.batches < most_batches }
+    ensures outcome { IfOk result (IsOutcomeFor market.old budget
         (Batch view.now.batch (outcomes.Skipped view.now.skipping))) }
+    ensures stays { market.new ≡ market.old }
 {
     if view.batch() != market.batches() + 1 || !is_skip_right(alloc, market, budget, view)? {
         return Ok(None);
@@ -123,13 +133,14 @@ fn skipped_for(
 // Whether a skip is right for the live orders, the start prices and the budget.
 fn is_skip_right(
     alloc: Global,
-    market: &Market,
+    market: &mut Market,
     budget: u32,
     view: &SkippedView<'_>,
 ) -> Result<bool, Memory>
     requires { budget ≤ most_budget }
-    ensures { IfOk result (λ right. IsTrue right
-        ↔ IsRightSkip market.now.orders (start_prices market.now) budget view.now.skipping) }
+    ensures right { IfOk result (λ right. IsTrue right
+        ↔ IsRightSkip market.old.orders (start_prices market.old) budget view.now.skipping) }
+    ensures stays { market.new ≡ market.old }
 {
     Ok(is_legal(skip_finding(alloc, market, budget, view)?))
 }
@@ -144,13 +155,15 @@ fn is_legal(found: Finding) -> bool
 // What is found of a skip of a batch that is due.
 pub(crate) fn skip_finding(
     alloc: Global,
-    market: &Market,
+    market: &mut Market,
     budget: u32,
     view: &SkippedView<'_>,
 ) -> Result<Finding, Memory>
     requires { budget ≤ most_budget }
-    ensures { IfOk result (IsSkipFound market.now.orders (start_prices market.now) budget view.now.skipping) }
+    ensures found { IfOk result (IsSkipFound market.old.orders (start_prices market.old) budget view.now.skipping) }
+    ensures stays { market.new ≡ market.old }
 {
+    let start = market.start_prices(alloc)?;
     let orders = market.orders();
     if !is_wide(orders) {
         return Ok(Finding::SingleBook);
@@ -158,7 +171,6 @@ pub(crate) fn skip_finding(
     if view.trace().len() != budget as usize {
         return Ok(Finding::TraceLength);
     }
-    let start = market.start_prices(alloc)?;
     match Workspace::new(alloc, orders, start.as_slice()) {
         Ok(mut work) => Ok(walk_finding(orders, &mut work, view)),
         Err(_) => Err(Memory),

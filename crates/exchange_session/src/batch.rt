@@ -22,12 +22,13 @@ use std::alloc::Global;
 use wire_records::{Memory, RecordView};
 
 // The outcome of a batch that is allowed.
-fn outcome_for(alloc: Global, market: &Market, budget: u32) -> Result<Outcome, Memory>
-    requires first { FirstRefusal market.now (RunBatch budget) None }
-    ensures own { IfOk result (λ outcome. IsOwnOutcome market.now.orders (start_prices market.now) budget
-        (outcome_of market.now.orders outcome)) }
-    ensures settles { IfOk result (MaySettle market.now) }
-    ensures writable { IfOk result (IsWritable market.now.orders) }
+fn outcome_for(alloc: Global, market: &mut Market, budget: u32) -> Result<Outcome, Memory>
+    requires first { FirstRefusal market.old (RunBatch budget) None }
+    ensures own { IfOk result (λ outcome. IsOwnOutcome market.old.orders (start_prices market.old) budget
+        (outcome_of market.old.orders outcome)) }
+    ensures settles { IfOk result (MaySettle market.old) }
+    ensures writable { IfOk result (IsWritable market.old.orders) }
+    ensures stays { market.new ≡ market.old }
 {
     let start = market.start_prices(alloc)?;
     match clear(alloc, market.orders(), start.as_slice(), budget) {

@@ -86,9 +86,16 @@ impl Session {
         &self.market
     }
 
+    /// The same, as a market of its own.
+    pub fn into_market(self) -> Market
+        ensures { result ≡ self }
+    {
+        self.market
+    }
+
     /// Serves one record, and appends its pair: the record as it was given, and the record of its one answer. The cost
-    /// is that of the record, however many accounts and orders there are, but for the gap that a cancelled order leaves, which is
-    /// closed by a block move, and for a batch, which goes over all live orders for each price that it looks at. The record's body
+    /// is that of the record, however many accounts and orders there are, for a cancel on average; but for a batch, which closes the
+    /// gaps that cancelled orders left and goes over all live orders for each price that it looks at. The record's body
     /// has at most 1,024 bytes, and the number that the next order gets is below 2^64 - 1; so the pair is one that a journal may have.
     ///
     /// The room of a pair with a plain reply is taken first, and that of a batch's pair before the market changes. After

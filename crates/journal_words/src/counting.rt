@@ -88,7 +88,7 @@ impl OnPair for Counting {
 
     fn illegal(
         &mut self,
-        _audit: &Audit,
+        _audit: &mut Audit,
         _pair: &PairView<'_>,
         pairs: u64,
         _text: &mut Vec<u8>,

@@ -139,7 +139,7 @@ impl OnPair for Explaining {
 
     fn illegal(
         &mut self,
-        audit: &Audit,
+        audit: &mut Audit,
         pair: &PairView<'_>,
         pairs: u64,
         text: &mut Vec<u8>,

@@ -48,24 +48,25 @@ pub trait OnPair {
         ensures within { OnOk result (is_within self.new (pairs + 1)) }
         ensures wanted { OnErr result (watch.Wants audit.now pairs (Legal pair.now) (seen self.old)) };
 
-    /// The first pair that isn't legal, and why it stops there.
+    /// The first pair that isn't legal, and why it stops there. The audit is left as it is.
     fn illegal(
         &mut self,
-        audit: &Audit,
+        audit: &mut Audit,
         pair: &PairView<'_>,
         pairs: u64,
         text: &mut Vec<u8>,
     ) -> Result<Self::Stop, Memory>
-        requires illegal { IsIllegalPair audit.now pair.now }
-        requires next { audit.now.next_order + 1 < 2 ^ 64 }
+        requires illegal { IsIllegalPair audit.old pair.now }
+        requires next { audit.old.next_order + 1 < 2 ^ 64 }
         requires few { pairs + 1 < 2 ^ 64 }
         requires empty { text.old.items ≡ [] }
         requires none { vec_len text.old ≡ 0 }
         requires room { ROOM ≤ vec_capacity text.old }
+        ensures stays { audit.new ≡ audit.old }
         ensures room { vec_capacity text.old ≤ vec_capacity text.new }
         ensures rejects { IfOk result
-            (λ why. watch.Rejects audit.now pairs pair.now (seen self.old) why text.new.items) }
-        ensures wanted { OnErr result (watch.Wants audit.now pairs (Illegal pair.now) (seen self.old)) };
+            (λ why. watch.Rejects audit.old pairs pair.now (seen self.old) why text.new.items) }
+        ensures wanted { OnErr result (watch.Wants audit.old pairs (Illegal pair.now) (seen self.old)) };
 
     /// The end of the journal.
     fn end(&mut self, audit: &Audit, pairs: u64, text: &mut Vec<u8>) -> Result<(), Halt<Self::Stop>>

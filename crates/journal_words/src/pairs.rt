@@ -61,7 +61,7 @@ impl<P: OnPair + Drop> Pairs<P> {
         match self.audit.pair(pair) {
             Ok(Legality::Legal) => {}
             Ok(Legality::Illegal) => {
-                return match self.on.illegal(&self.audit, pair, self.pairs, text) {
+                return match self.on.illegal(&mut self.audit, pair, self.pairs, text) {
                     Ok(why) => Err(Halt::Stopped(why)),
                     Err(_) => Err(Halt::Memory),
                 };

@@ -38,7 +38,7 @@ impl OnPair for Telling {
 
     fn illegal(
         &mut self,
-        _audit: &Audit,
+        _audit: &mut Audit,
         _pair: &PairView<'_>,
         pairs: u64,
         _text: &mut Vec<u8>,

@@ -1,8 +1,8 @@
 -- What an order that is asked for needs of its account, entry by entry; and a cancelled one.
-use Rattle.std.proofs.Common.{◌≡◌, ℕ, ◌+◌, ◌-◌, ◌*◌, ◌<◌, ◌≤◌, ◌↔◌, inl, inr, Bool, List, [], ◌∷◌, ◌++◌, ℤ, pos, negsuc, ◌≤ℤ◌, Option, Some, None, is_some, IsTrue, length, ⊎_elim, refl, sym, ap, ◌∙◌, subst, arith}
-use Rattle.std.specs.Prelude.{slice_get, slice_index_or, All, Contains, IsNone, IfNone, IfSome}
+use Rattle.std.proofs.Common.{◌≡◌, ℕ, ◌+◌, ◌-◌, ◌*◌, ◌<◌, ◌≤◌, ◌↔◌, inl, inr, Bool, true, false, List, [], ◌∷◌, ◌++◌, ℤ, pos, negsuc, ◌≤ℤ◌, Option, Some, None, IsTrue, IsFalse, length, ⊎_elim, refl, sym, ap, ◌∙◌, subst, arith}
+use Rattle.std.specs.Prelude.{slice_get, slice_index_or, All}
 use Rattle.std.proofs.lemmas.Int.{ints}
-use Rattle.std.proofs.lemmas.Bool.{cases_lt}
+use Rattle.std.proofs.lemmas.Bool.{cases_lt, false≢true}
 use Rattle.std.proofs.lemmas.List.{length-map, get_or-map}
 use Rattle.std.proofs.lemmas.Option.{slice_get_within, get_or_from_slice_get}
 use Rattle.weight_rows.specs.declared.entries.Entry.{Entry}
@@ -186,17 +186,14 @@ module _ (Rule : BatchRule) (m : Market) (account number : ℕ) where
   refuses-no_account new none same = record { first = Some NoAccount; refused = inl (none, refl); answered = (refl, same) }
 
   -- the order is taken out, or it isn't there
-  pub serves-cancel : (cancelled : Option Order) (old new : Book) → IsAccount m.balances account
-      → (IsNone cancelled ↔ (HasOrder old.orders account number → ⊥)) → IfNone cancelled (new ≡ old)
-      → IfSome cancelled (Contains old.orders) → IfSome cancelled (λ o. o.account ≡ account) → IfSome cancelled (λ o. o.number ≡ number)
-      → IfSome cancelled (λ _. new.orders ≡ without old.orders number)
-      → Serves Rule (record m { orders = old.orders }) (CancelOrder account number) (Plain (cancel_reply (is_some cancelled))) (record m { orders = new.orders })
-  serves-cancel (Some o) old new there none stays live owner named made =
-      let own : HasOrder old.orders account number = record { order = o; live = live; account_is = owner; number_is = named } in
-      record { first = None; refused = inr (there, inr (own, refl)); answered = (refl, ap (λ os. record m { orders = os }) made) }
-  serves-cancel None old new there none stays live owner named made =
+  pub serves-cancel : (cancelled : Bool) (old new : Book) → IsAccount m.balances account
+      → (IsTrue cancelled ↔ HasOrder old.orders account number) → (IsFalse cancelled → new ≡ old) → (IsTrue cancelled → new.orders ≡ without old.orders number)
+      → Serves Rule (record m { orders = old.orders }) (CancelOrder account number) (Plain (cancel_reply cancelled)) (record m { orders = new.orders })
+  serves-cancel true old new there is stays made =
+      record { first = None; refused = inr (there, inr (is.0 refl, refl)); answered = (refl, ap (λ os. record m { orders = os }) (made refl)) }
+  serves-cancel false old new there is stays made =
       record {
         first = Some NoOrder;
-        refused = inr (there, inl (none.0 refl, refl));
-        answered = (refl, ap (λ (b : Book). record m { orders = b.orders }) stays);
+        refused = inr (there, inl (λ has. false≢true (is.1 has), refl));
+        answered = (refl, ap (λ (b : Book). record m { orders = b.orders }) (stays refl));
       }

@@ -2,3 +2,4 @@ pub mod Expected
 pub mod Private
 pub mod Prices
 pub mod Kept
+pub mod Listing

@@ -1,5 +1,6 @@
 //! The market of a run, and what a command makes of it.
 ghost use Rattle.std.specs.Prelude.{◌≡◌, ◌≢◌, ℕ, ◌+◌, ◌<◌, ◌^◌, IfOk, OnErr, MatchResult, None, length};
+ghost use Rattle.std.specs.Borrow.{sem};
 ghost use Rattle.std.specs.Result.{ForErr};
 ghost use Rattle.wire_records.specs.Commands.{AddAsset, OpenAccount, DepositMoney, DepositAsset, WithdrawMoney, WithdrawAsset, PlaceOrder, CancelOrder, RunBatch, SetMoneyCredit, SetUnitCredit, Plain};
 ghost use Rattle.wire_records.specs.CommandRecords.{IsCommand};
@@ -93,6 +94,7 @@ impl Market {
     ghost use Rattle.market_rules.specs.Market.{empty_market, IsSound};
     ghost use Rattle.market_rules.specs.Step.{FirstRefusal, Serves};
     ghost use Rattle.market_rules.specs.Wanting.{MayWant};
+    ghost use Rattle.market_core.specs.Listing.{StaysAsListed};
 
     /// A market of version One with no asset and no account. Takes no memory.
     pub fn new(alloc: Global) -> Market
@@ -121,8 +123,9 @@ impl Market {
     /// Serves one command of the market's version that holds no batch, and answers its reply. Only a new asset, account
     /// or order may want memory; then nothing is changed. The number that the next order gets is below 2^64 - 1.
     ///
-    /// The cost is that of the command's own fields, however many accounts and orders there are; a cancelled order
-    /// leaves a gap among the live ones that is closed by a move.
+    /// The cost is that of the command's own fields, however many accounts and orders there are; for a cancel that is so on
+    /// average, since the gaps that cancelled orders leave are closed together, at the latest when they are as many as the
+    /// live ones.
     pub fn apply(&mut self, command: &CommandView<'_>) -> Result<Reply, Memory>
         requires command { IsCommand (command_of command.now) }
         requires version { IsOfVersion self.old.version (command_of command.now) }
@@ -215,10 +218,12 @@ impl Market {
         &self.accounts
     }
 
-    /// The live orders, by ascending numbers: at most 16,384.
-    pub fn orders(&self) -> &[Order]
-        ensures value { result.now ≡ self.now.orders }
-        ensures sound { IsSound self.now }
+    /// The live orders, by ascending numbers: at most 16,384. Where orders were cancelled since they were last asked for,
+    /// it takes one pass over the book, which closes the gaps that these left. The market is as before.
+    pub fn orders(&mut self) -> &[Order]
+        ensures value { result.now ≡ self.old.orders }
+        ensures sound { IsSound self.old }
+        ensures* after { sem 𝓛 (StaysAsListed self.entry) }
     {
         self.book.orders()
     }

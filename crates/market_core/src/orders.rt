@@ -134,8 +134,7 @@ impl Market {
         if self.accounts.money(account).is_none() {
             return Reply::Refused(Refusal::NoAccount);
         }
-        let there = self.book.cancel(account, number).is_some();
-        cancel_reply(there)
+        cancel_reply(self.book.cancel(account, number))
     }
 
     // The first refusal of an order that is asked for, if any holds.
@@ -191,7 +190,7 @@ impl Market {
         if !self.has_assets(&row) {
             return Some(Refusal::NoAsset);
         }
-        if self.book.orders().len() >= MOST_ORDERS {
+        if self.book.len() >= MOST_ORDERS {
             return Some(Refusal::OrderLimit);
         }
         if !self.is_affordable(place) {

@@ -8,9 +8,10 @@ use Rattle.std.proofs.lemmas.Bool.{cases_lt}
 use Rattle.std.proofs.lemmas.Bool.Decides.{nat_tests}
 use Rattle.std.proofs.lemmas.Cmp.{ranked}
 use Rattle.flow_orders.specs.Orders.{Order}
-use Rattle.order_book.specs.Book.{AreLive, IsPlaceOf}
+use Rattle.order_book.specs.Book.{IsPlaceOf}
+use Rattle.order_book.specs.Gaps.{AreSlots}
 
-module _ (orders : List Order) (live : AreLive orders) (number : ℕ) where
+module _ (orders : List Order) (live : AreSlots orders) (number : ℕ) where
   numbers_rise : (i j : ℕ) (d : Order) → i ≤ j → j < length orders → (get_or orders i d).number ≤ (get_or orders j d).number
   numbers_rise i j d le inside =
       ⊎_elim

@@ -3,9 +3,11 @@ pub mod OrderNeeds
 pub mod BookNeeds
 pub mod Places
 pub mod Found
+pub mod LiveOrders
 pub mod Standing
 pub mod Traded
 pub mod TradeLoops
 pub mod Filling
 pub mod Ending
 pub mod NeedLaws
+pub mod Room

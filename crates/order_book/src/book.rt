@@ -1,13 +1,17 @@
 //! The live orders, and the sums of what they need.
-ghost use Rattle.std.specs.Prelude.{◌≡◌, ◌≢◌, ◌+◌, ◌^◌, ◌<◌, ◌≤◌, ◌≤ℤ◌, ◌↔◌, [], ◌∷◌, ◌++◌, pos, length, All, Contains, OnOk, IsOk, IsTrue, IsNone, IfNone, IfSome, MatchOption};
+ghost use Rattle.std.specs.Prelude.{◌≡◌, ◌≢◌, ◌+◌, ◌^◌, ◌<◌, ◌≤◌, ◌≤ℤ◌, ◌↔◌, [], ◌∷◌, ◌++◌, pos, length, All, Contains, OnOk, IsOk, IsTrue, IsFalse, false, IfSome, MatchOption};
+ghost use Rattle.std.specs.Borrow.{sem};
 ghost use Rattle.flow_orders.specs.Orders.{most_orders, needed_money, needed_units};
 ghost use Rattle.std.specs.List.{HoldsAt};
 ghost use Rattle.order_book.specs.Book.{AreLive, IsPlaceOf, HasOrder};
+ghost use Rattle.order_book.specs.Gaps.{AreSlots, live_in, is_gap};
 
 use crate::ended::{end_orders, lower_ended};
 use crate::fill::{fill_orders, lower_traded};
+use crate::gaps::{close_above, close_gaps, leave_gap};
 use crate::sums::{Need, NeedSums};
 use flow_orders::Order;
+use indexmap::IndexSet;
 use std::alloc::{AllocError, Global};
 use std::marker::Model;
 
@@ -32,7 +36,10 @@ impl From<AllocError> for Memory {
 /// Contracts see the list of orders, and `room`, for how many more orders there surely is room.
 #[derive(Drop)]
 pub struct Book {
-    orders: Vec<Order>,
+    // The live orders, and between them cancelled ones, which are gaps.
+    slots: Vec<Order>,
+    // The numbers of the cancelled ones.
+    gaps: IndexSet<u64>,
     sums: NeedSums,
 }
 
@@ -53,23 +60,37 @@ impl Book {
     ghost use Rattle.flow_orders.specs.Trades.{trades, staying, going_on};
     ghost use Rattle.order_book.specs.Needs.{needed, most_needed};
     ghost use Rattle.order_book.specs.Book.{without};
+    ghost use Rattle.order_book.specs.Listing.{StaysAsListed};
 
     /// A book without orders. It takes no memory.
     pub fn new(alloc: Global) -> Book
         ensures { result.orders ≡ [] }
     {
         Book {
-            orders: Vec::new(alloc),
+            slots: Vec::new(alloc),
+            gaps: IndexSet::new(alloc),
             sums: NeedSums::new(alloc),
         }
     }
 
-    /// The live orders, by ascending numbers: at most 16,384.
-    pub fn orders(&self) -> &[Order]
-        ensures value { result.now ≡ self.now.orders }
+    /// The live orders, by ascending numbers: at most 16,384. The gaps that cancelled orders have left are closed
+    /// first, in one pass over the book; where there are none, it costs nothing. The book is as before, and no room is
+    /// lost.
+    pub fn orders(&mut self) -> &[Order]
+        ensures value { result.now ≡ self.old.orders }
+        ensures live { AreLive self.old.orders }
+        ensures* after { sem 𝓛 (StaysAsListed self.entry) }
+    {
+        close_gaps(&mut self.slots, &mut self.gaps);
+        self.slots.as_slice()
+    }
+
+    /// How many orders are live: at most 16,384.
+    pub fn len(&self) -> usize
+        ensures len { result ≡ length self.now.orders }
         ensures live { AreLive self.now.orders }
     {
-        self.orders.as_slice()
+        self.slots.len() - self.gaps.len()
     }
 
     /// The money that the live orders of an account need together, in grains: 0 to 2^114. One look-up.
@@ -108,7 +129,9 @@ impl Book {
         ensures room { self.old.room ≤ self.new.room }
         ensures orders { self.new.orders ≡ self.old.orders }
     {
-        self.orders.reserve(1)?;
+        let live = self.len();
+        self.slots.reserve(1)?;
+        self.gaps.reserve(live + 1)?;
         self.sums.reserve(PLACES_PER_ORDER)?;
         Ok(())
     }
@@ -123,8 +146,9 @@ impl Book {
         ensures room { self.old.room ≤ self.new.room + 1 }
         ensures live { AreLive self.new.orders }
     {
+        close_above(&mut self.slots, &mut self.gaps, order.number());
         self.sums.raise_for(&order, order.cap() - order.filled());
-        self.orders.push_reserved(order);
+        self.slots.push_reserved(order);
     }
 
     /// Whether there is a live order of this account and number. It is found by its number, in as many steps as the
@@ -132,27 +156,27 @@ impl Book {
     pub fn has_order(&self, account: u32, number: u64) -> bool
         ensures { IsTrue result ↔ HasOrder self.now.orders account number }
     {
-        place_in(&self.orders, account, number).is_some()
+        place_in(&self.slots, &self.gaps, account, number).is_some()
     }
 
-    /// Takes out the live order of this account and number, which needs nothing from now on, or answers `None`
-    /// exactly where there is none: no live order has the number, or the one that has it is another account's.
-    pub fn cancel(&mut self, account: u32, number: u64) -> Option<Order>
-        ensures none { IsNone result ↔ (¬ HasOrder self.old.orders account number) }
-        ensures stays { IfNone result (self.new ≡ self.old) }
-
-        ensures order { IfSome result (Contains self.old.orders) }
-        ensures account { IfSome result (λ o. o.account ≡ account) }
-        ensures number { IfSome result (λ o. o.number ≡ number) }
-        ensures orders { IfSome result (λ _. self.new.orders ≡ without self.old.orders number) }
-
+    /// Cancels the live order of this account and number, which needs nothing from now on, or answers `false` exactly
+    /// where there is none: no live order has the number, or the one that has it is another account's.
+    pub fn cancel(&mut self, account: u32, number: u64) -> bool
+        ensures there { IsTrue result ↔ HasOrder self.old.orders account number }
+        ensures stays { IsFalse result → self.new ≡ self.old }
+        ensures orders { IsTrue result → self.new.orders ≡ without self.old.orders number }
         ensures room { self.old.room ≤ self.new.room }
         ensures live { AreLive self.new.orders }
     {
-        let place = place_in(&self.orders, account, number)?;
-        let order = &self.orders[place];
-        self.sums.lower_for(order, order.cap() - order.filled());
-        Some(self.orders.remove(place))
+        match place_in(&self.slots, &self.gaps, account, number) {
+            None => false,
+            Some(place) => {
+                let order = &self.slots[place];
+                self.sums.lower_for(order, order.cap() - order.filled());
+                leave_gap(&mut self.slots, &mut self.gaps, number);
+                true
+            }
+        }
     }
 
     /// Fills the orders by these rates, in units of their portfolios: one for each order, in the same order, and none
@@ -165,8 +189,9 @@ impl Book {
         ensures room { self.old.room ≤ self.new.room }
         ensures live { AreLive self.new.orders }
     {
-        lower_traded(&mut self.sums, &self.orders, rates);
-        fill_orders(&mut self.orders, rates);
+        close_gaps(&mut self.slots, &mut self.gaps);
+        lower_traded(&mut self.sums, &self.slots, rates);
+        fill_orders(&mut self.slots, rates);
     }
 
     /// Takes out the orders whose last batch has this number, which need nothing from now on. The others stay.
@@ -175,33 +200,39 @@ impl Book {
         ensures room { self.old.room ≤ self.new.room }
         ensures live { AreLive self.new.orders }
     {
-        lower_ended(&mut self.sums, &self.orders, batch);
-        end_orders(&mut self.orders, batch);
+        close_gaps(&mut self.slots, &mut self.gaps);
+        lower_ended(&mut self.sums, &self.slots, batch);
+        end_orders(&mut self.slots, batch);
     }
 }
 
-// The place of the order of this account and number, if there is one.
-fn place_in(orders: &[Order], account: u32, number: u64) -> Option<usize>
-    requires { AreLive orders.now }
-    ensures there { MatchOption result (¬ HasOrder orders.now account number) (λ _. HasOrder orders.now account number) }
-    ensures place { IfSome result (IsPlaceOf orders.now number) }
-    ensures account { IfSome result (HoldsAt (λ o. o.account ≡ account) orders.now) }
+// The place of the live order of this account and number, if there is one.
+fn place_in(slots: &[Order], gaps: &IndexSet<u64>, account: u32, number: u64) -> Option<usize>
+    requires { AreSlots slots.now }
+    ensures there { MatchOption result (¬ HasOrder (live_in gaps.now slots.now) account number)
+        (λ _. HasOrder (live_in gaps.now slots.now) account number) }
+    ensures place { IfSome result (IsPlaceOf slots.now number) }
+    ensures live { IfSome result (HoldsAt (Contains (live_in gaps.now slots.now)) slots.now) }
+    ensures no_gap { IfSome result (λ _. is_gap gaps.now number ≡ false) }
 {
-    let place = place_of(orders, number)?;
-    let order = &orders[place];
+    let place = place_of(slots, number)?;
+    let order = &slots[place];
     if order.account() != account {
+        return None;
+    }
+    if gaps.contains(&number) {
         return None;
     }
     Some(place)
 }
 
-// The place of the order of this number, if there is one.
-fn place_of(orders: &[Order], number: u64) -> Option<usize>
-    requires { AreLive orders.now }
-    ensures { MatchOption result (All (λ o. o.number ≢ number) orders.now)
-        (IsPlaceOf orders.now number) }
+// The place of the order of this number, live or cancelled, if there is one.
+fn place_of(slots: &[Order], number: u64) -> Option<usize>
+    requires { AreSlots slots.now }
+    ensures { MatchOption result (All (λ o. o.number ≢ number) slots.now)
+        (IsPlaceOf slots.now number) }
 {
-    orders
+    slots
         .binary_search_by_key(&number, |order| order.number())
         .ok()
 }

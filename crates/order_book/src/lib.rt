@@ -20,6 +20,7 @@
 mod book;
 mod ended;
 mod fill;
+mod gaps;
 pub mod laws;
 mod sums;
 

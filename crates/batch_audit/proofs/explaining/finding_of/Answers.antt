@@ -12,13 +12,10 @@ returns-in_ok-batch_finding-in-Ok-RunBatch-clause-found c = λ pair asked spelle
     let read = rw c.in-Ok-RunBatch.field-0-is at c.in-Ok-RunBatch.ensures.command in
     c.in_ok-batch_finding-in-Ok-RunBatch.ensures.found pair (subst (λ r. IsReadAs c.args.market.now.version r (Ok (RunBatch c.in-Ok-RunBatch.budget))) (sym asked) read) spelled
 
-pub returns-in-Ok : goal.returns-in-Ok
-returns-in-Ok c =
+pub returns-in-Ok-clause-found : goal.returns-in-Ok-clause-found
+returns-in-Ok-clause-found c =
     let read : IsReadAs c.args.market.now.version c.args.asked.now (Ok (command_of c.in-Ok.command)) = c.in-Ok.ensures.command in
-    record {
-      found = λ pair asked spelled. c.plain_finding.ensures pair (subst (λ r. IsReadAs c.args.market.now.version r (Ok (command_of c.in-Ok.command))) (sym asked) read) spelled;
-      wanted = tt;
-    }
+    λ pair asked spelled. c.plain_finding.ensures pair (subst (λ r. IsReadAs c.args.market.now.version r (Ok (command_of c.in-Ok.command))) (sym asked) read) spelled
 
 pub returns-in-Err-clause-found : goal.returns-in-Err-clause-found
 returns-in-Err-clause-found c = λ pair asked spelled.

@@ -4,8 +4,8 @@ use Rattle.batch_audit.specs.Findings.{HasWholeTrace}
 use Rattle.batch_audit.specs.Private.{IsSkipFound}
 use Rattle.batch_audit.proofs.outcomes.skip_finding.Goals as goal
 
-pub returns-in-Ok : goal.returns-in-Ok
-returns-in-Ok c =
+pub returns-in-Ok-clause-found : goal.returns-in-Ok-clause-found
+returns-in-Ok-clause-found c =
     let m = c.args.market.now in
     let s = c.args.view.now.skipping in
     let trace : length c.args.view.now.skipping.trace ≡ c.args.budget = search rules in

@@ -16,14 +16,14 @@ returns-clause-served c =
     let step : Step IsReadAs IsOwnOutcome old c.args.asked.now answer c.settle.new.self = record {
       read = Ok (RunBatch c.args.budget);
       spelled = c.requires.read;
-      served = record { first = None; refused = c.requires.first; answered = (outcome, c.in_ok-outcome.ensures.own, (refl, c.settle.ensures)) };
+      served = record { first = None; refused = c.requires.first; answered = (outcome, c.in_ok-outcome.ensures.own, (refl, rw (c.orders.follows.holds-at-none, c.outcome_for.ensures.stays) at c.settle.ensures)) };
     } in (
       _,
       record {
         answer = answer;
         step = step;
-        fits = pair_fits old c.args.asked.now answer c.settle.new.self c.orders.ensures.sound c.requires.short step;
+        fits = pair_fits old c.args.asked.now answer c.settle.new.self (rw c.outcome_for.ensures.stays at c.orders.ensures.sound) c.requires.short step;
         spelled = refl;
       },
-      rw (c.batches.ensures.value, c.orders.ensures.value) at c.in_ok-write_outcome.ensures.written,
+      rw (c.batches.ensures.value, c.orders.ensures.value, c.outcome_for.ensures.stays) at c.in_ok-write_outcome.ensures.written,
     )

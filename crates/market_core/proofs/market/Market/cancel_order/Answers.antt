@@ -14,8 +14,8 @@ served c =
     let m = market_in c.self.inside in
     let there = some_where c.money.result (IsAccount c.self.inside.accounts c.args.account) (money_of c.self.inside.accounts c.args.account) c.money.ensures (c.is_none.ensures ∙ ap not c.if-is_none.false) in
     let is = c.cancel.ensures in
-    rw (c.cancel_reply.ensures, c.is_some-there.ensures)
-    (serves-cancel IsOwnOutcome m c.args.account c.args.number c.cancel.result c.self.inside.book c.cancel.new.self there is.none is.stays is.order is.account is.number is.orders)
+    rw c.cancel_reply.ensures
+    (serves-cancel IsOwnOutcome m c.args.account c.args.number c.cancel.result c.self.inside.book c.cancel.new.self there is.there is.stays is.orders)
 
 pub invariant_of-self : goal.invariant_of-self
 invariant_of-self c = sound-served (market_in c.self.inside) _ _ _ (of_each c.self.inside.version (CancelOrder c.args.account c.args.number) (omega arith) (omega arith)) c.self.invariant (served c)

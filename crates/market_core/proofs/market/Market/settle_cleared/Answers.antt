@@ -17,15 +17,15 @@ settle-requires-clause-roundings c =
 pub fill-requires-clause-within : goal.fill-requires-clause-within
 fill-requires-clause-within c =
     let may : MaySettleAt (market_in c.self.inside) c.args.cleared.now = rw (← c.self.view_is) at c.requires.right in
-    rw c.as_slice-rates.ensures (within_rooms (market_in c.self.inside) c.args.cleared.now c.self.invariant may)
+    rw (c.orders.follows.holds-at-none.orders, c.as_slice-rates.ensures) (within_rooms (market_in c.self.inside) c.args.cleared.now c.self.invariant may)
 
-made : (c : goal.After-self-1) → changed (market_in c.self.inside) c.settle.new.accounts c.settle.new.exchange c.end.new.self.orders c.set.new.self ≡ after_batch (market_in c.self.inside) (outcomes.Cleared (clearing_of (market_in c.self.inside).orders c.args.cleared.now))
+made : (c : goal.After-self-3-1) → changed (market_in c.self.inside) c.settle.new.accounts c.settle.new.exchange c.end.new.self.orders c.set.new.self ≡ after_batch (market_in c.self.inside) (outcomes.Cleared (clearing_of (market_in c.self.inside).orders c.args.cleared.now))
 made c =
     let may : MaySettleAt (market_in c.self.inside) c.args.cleared.now = rw (← c.self.view_is) at c.requires.right in
     settled_is (market_in c.self.inside) c.args.cleared.now c.self.invariant may c.settle.new.accounts c.settle.new.exchange c.end.new.self.orders c.set.new.self
     (rw (c.orders.ensures.value, c.as_slice-rates.ensures, c.as_slice-prices.ensures) at c.settle.ensures.accounts)
     (rw (c.orders.ensures.value, c.as_slice-rates.ensures, c.as_slice-prices.ensures) at c.settle.ensures.exchange)
-    (c.end.ensures.orders ∙ ap (going_on (c.self.inside.batches + 1)) (rw c.as_slice-rates.ensures at c.fill.ensures.orders))
+    (c.end.ensures.orders ∙ ap (going_on (c.self.inside.batches + 1)) (rw (c.orders.follows.holds-at-none.orders, c.as_slice-rates.ensures) at c.fill.ensures.orders))
     (rw c.as_slice-prices.ensures at c.set.ensures)
 
 pub invariant_of-self : goal.invariant_of-self

@@ -1,29 +1,48 @@
-use Rattle.std.proofs.Common.{◌≡◌, ◌-◌, ap, ◌∙◌, arith}
-use Rattle.flow_orders.specs.Orders.{left_of}
-use Rattle.order_book.specs.Book.{Book, AreLive, IsPlaceOf, without}
-use Rattle.order_book.proofs.Places.{AreLive-remove, remove_is}
-use Rattle.order_book.proofs.Standing.{SumsAre-remove}
+use Rattle.std.proofs.Common.{◌≡◌, ◌+◌, ◌-◌, length, ap, arith}
+use Rattle.indexmap.specs.IndexMap.{spare}
+use Rattle.flow_orders.specs.Orders.{Order, left_of}
+use Rattle.order_book.specs.Book.{Book, AreLive, without}
+use Rattle.order_book.specs.Kept.{listed}
+use Rattle.order_book.proofs.LiveOrders.{contains_at, number_at}
+use Rattle.order_book.proofs.NeedLaws.{is_needed, SumsAre-without, AreLive-without, length-without}
+use Rattle.order_book.proofs.Room.{room_kept}
 use Rattle.order_book.proofs.book.Book.cancel.Goals as goal
 
-place : (c : goal.After-remove) → IsPlaceOf c.self.inside.orders.items c.args.number c.in_ok-place.place
-place c = rw (← c.deref.ensures.value) c.in_ok-place.ensures.place
+pub lower_for-requires-clause-there : goal.lower_for-requires-clause-there
+lower_for-requires-clause-there c =
+    let left : c.cap.result - c.filled.result ≡ left_of c.index-order.result.now = omega (arith, c.cap.ensures.value, c.filled.ensures.value) in
+    let there = contains_at c.self.inside.gaps c.deref.result.now c.self.inside.slots.items c.in-Some.place c.index-order.result.now c.deref.ensures.value c.in-Some.ensures.live c.index-order.ensures in
+    is_needed c.self.inside.sums.table (listed c.self.inside) c.index-order.result.now _ c.self.invariant.live c.self.invariant.sums there left
 
-live : (c : goal.After-remove) → AreLive c.remove.new.self.items
-live c = rw c.remove.ensures.items (AreLive-remove c.self.inside.orders.items c.in_ok-place.place (place c).within c.self.invariant.live)
+live : (c : goal.After-leave_gap) → AreLive (without (listed c.self.inside) c.args.number)
+live c =
+    let there = contains_at c.self.inside.gaps c.deref.result.now c.self.inside.slots.items c.in-Some.place c.index-order.result.now c.deref.ensures.value c.in-Some.ensures.live c.index-order.ensures in
+    let is = number_at c.deref.result.now c.self.inside.slots.items c.args.number c.in-Some.place c.index-order.result.now c.deref.ensures.value c.in-Some.ensures.place c.index-order.ensures in
+    AreLive-without (listed c.self.inside) c.index-order.result.now c.args.number c.self.invariant.live there is
+
+fewer : (c : goal.After-leave_gap) → length (without (listed c.self.inside) c.args.number) + 1 ≡ length (listed c.self.inside)
+fewer c =
+    let there = contains_at c.self.inside.gaps c.deref.result.now c.self.inside.slots.items c.in-Some.place c.index-order.result.now c.deref.ensures.value c.in-Some.ensures.live c.index-order.ensures in
+    let is = number_at c.deref.result.now c.self.inside.slots.items c.args.number c.in-Some.place c.index-order.result.now c.deref.ensures.value c.in-Some.ensures.place c.index-order.ensures in
+    length-without (listed c.self.inside) c.index-order.result.now c.args.number c.self.invariant.live there is
 
 pub invariant_of-self : goal.invariant_of-self
 invariant_of-self c =
     let left : c.cap.result - c.filled.result ≡ left_of c.index-order.result.now = omega (arith, c.cap.ensures.value, c.filled.ensures.value) in
+    let there = contains_at c.self.inside.gaps c.deref.result.now c.self.inside.slots.items c.in-Some.place c.index-order.result.now c.deref.ensures.value c.in-Some.ensures.live c.index-order.ensures in
+    let is = number_at c.deref.result.now c.self.inside.slots.items c.args.number c.in-Some.place c.index-order.result.now c.deref.ensures.value c.in-Some.ensures.place c.index-order.ensures in
     record {
-      live = live c;
-      sums = rw c.remove.ensures.items (SumsAre-remove c.self.inside.sums.table c.lower_for.new.self.table c.self.inside.orders.items c.index-order.result.now c.in_ok-place.place _ c.self.invariant.sums (place c).within c.index-order.ensures left c.lower_for.ensures.lowered);
+      gaps = c.leave_gap.ensures.gaps;
+      live = rw c.leave_gap.ensures.orders (live c);
+      enough = omega (arith, ap length c.leave_gap.ensures.orders, fewer c, c.self.invariant.enough, c.leave_gap.ensures.room);
+      sums = rw c.leave_gap.ensures.orders (SumsAre-without (listed c.self.inside) c.index-order.result.now c.args.number c.self.invariant.live there is c.self.inside.sums.table c.lower_for.new.self.table _ c.self.invariant.sums left c.lower_for.ensures.lowered);
     }
 
-pub returns-clause-orders : goal.returns-clause-orders
-returns-clause-orders c =
-    c.remove.ensures.items
-    ∙ remove_is c.self.inside.orders.items c.in_ok-place.place c.args.number c.index-order.result.now c.self.invariant.live.ascending (place c).within ((place c).found c.index-order.result.now)
-    ∙ ap (λ (b : Book). without b.orders c.args.number) c.self.view_is
+pub returns-in-Some-clause-room : goal.returns-in-Some-clause-room
+returns-in-Some-clause-room c =
+    rw (← c.self.view_is) (room_kept _ _ (spare c.self.inside.sums.table) _ _ (spare c.lower_for.new.self.table)
+    (omega (arith, c.leave_gap.ensures.len, c.leave_gap.ensures.capacity))
+    (omega (arith, ap length c.leave_gap.ensures.orders, fewer c, c.self.invariant.enough, c.leave_gap.ensures.room)) c.lower_for.ensures.room)
 
-pub returns-clause-live : goal.returns-clause-live
-returns-clause-live c = live c
+pub returns-in-Some-clause-live : goal.returns-in-Some-clause-live
+returns-in-Some-clause-live c = rw c.leave_gap.ensures.orders (live c)

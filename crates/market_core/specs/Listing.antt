@@ -1,0 +1,10 @@
+-- What is left of a market whose live orders were looked at in one list.
+use Rattle.std.specs.Prelude.{◌≡◌, ⊤}
+use Rattle.std.specs.Borrow.{follows_so, Fml, MutBor}
+use mathlib.Core.Option.{none}
+use Rattle.market_rules.specs.Market.{Market}
+use Rattle.market_core.specs.contracts.market.Market.{the_row}
+
+-- once the list is no longer used, the market is as it was
+abbrev pub StaysAsListed : MutBor Market → Fml
+StaysAsListed market = follows_so the_row the_row market.ghost_name none (λ _ _. ⊤) (λ after. after ≡ market.now)
