@@ -7,7 +7,7 @@ use Rattle.order_text.specs.declared.line.LineRead.{LineRead}
 use Rattle.order_text.specs.declared.line.LineRead.TheVariants.{Blank, Asks, Many}
 use Rattle.order_text.specs.declared.line.LineFault.{LineFault}
 use Rattle.order_text.specs.declared.line.LineFault.TheVariants.{NoCommand, Memory}
-use Rattle.order_text.specs.Lines.{IsBlank, Alone, OfLadder, Asked, commands_of, Leave, Says, SaysNothing}
+use Rattle.order_text.specs.Lines.{IsBlank, Alone, OfLadder, commands_of, Leave, Says, SaysNothing}
 use Rattle.order_text.specs.Answers.{IsRead, wants_memory}
 use Rattle.order_text.proofs.OneAnswers.{one_saying, none_is_unanswered}
 use Rattle.line_records.specs.Lines.{Say}

@@ -1,6 +1,6 @@
 -- The points that values are, and the orders of the ladder that an object asks for.
 use Rattle.std.proofs.Common.{◌≡◌, ℕ, ℤ, pos, ◌+◌, ◌<◌, ◌≤◌, ◌^◌, Bool, true, false, List, [], ◌∷◌, ◌++◌, length, length-append, drop, get_or, map, append_assoc, append-nil, Option, Some, None, Result, Ok, Err, IfOk, option_map, is_some, true≢false, inr, refl, sym, ap, subst, ◌∙◌, arith, rules, ltb-true}
-use Rattle.std.specs.Prelude.{option_and_then, unwrap_or, codes, nat_lt, if◌then◌else◌, All, IsUtf8}
+use Rattle.std.specs.Prelude.{option_and_then, unwrap_or, codes, nat_lt, if◌then◌else◌, IsUtf8}
 use Rattle.std.proofs.lemmas.Bool.{lt-ltb}
 use Rattle.std.proofs.lemmas.List.{drop_more, drop_all}
 use Rattle.std.proofs.lemmas.List.Elements.{All-from_recursion, recursion_from_All}
@@ -10,21 +10,23 @@ use Rattle.serde_json.specs.Find.{get, as_array}
 use Rattle.serde_json.specs.Events.{items_len}
 use Rattle.serde_json.specs.View.{view, items_view}
 use Rattle.serde_json.specs.declared.value.Value.{Value as json_value}
-use Rattle.wire_records.specs.Commands.{Command, AddAsset, OpenAccount, DepositMoney, DepositAsset, WithdrawMoney, WithdrawAsset, PlaceOrder, CancelOrder, RunBatch, PlaceUntil, SetMoneyCredit, SetUnitCredit}
+use Rattle.wire_records.specs.Commands.{Request, Command, PlaceOrder}
 use Rattle.wire_records.specs.declared.command.Command as owned
 use Rattle.wire_records.specs.Views.{command_in}
 use Rattle.wire_records.specs.declared.version.Version.{Version}
 use Rattle.curve_ladder.specs.declared.points.Point.{Point}
 use Rattle.curve_ladder.specs.Ladders.{Ladder, IsLadder}
 use Rattle.curve_ladder.specs.declared.segment.Segment.{Segment}
-use Rattle.curve_ladder.specs.Segments.{segments_of, request_of}
+use Rattle.curve_ladder.specs.Segments.{segments_of, request_of, requests_of}
+use Rattle.curve_ladder.proofs.Told.{ask_together}
+use Rattle.order_text.specs.Laws.{LadderAsksTogether}
 use Rattle.serde_json.specs.Read.{read}
 use Rattle.order_text.specs.declared.line.LineRead.{LineRead}
 use Rattle.order_text.specs.declared.line.LineRead.TheVariants as line_is
 use Rattle.order_text.specs.Answers.{IsRead, IsShort}
 use Rattle.order_text.specs.declared.line.LineFault.{LineFault}
 use Rattle.order_text.specs.declared.line.LineFault.TheVariants.{NoCommand, Memory}
-use Rattle.order_text.specs.Lines.{IsBlank, Leave, whole_of, signed_of, IsPoint, ArePoints, Value, Text, Small, Weights, Points, HasAt, HasKeys, ladder_members, Asks, AsksLadder, Asked, Alone, OfLadder, AsksFor}
+use Rattle.order_text.specs.Lines.{IsBlank, Leave, whole_of, signed_of, IsPoint, ArePoints, Small, Weights, Points, HasAt, ladder_members, Asks, AsksLadder, Asked, Alone, OfLadder, AsksFor}
 use Rattle.order_text.specs.Private.{text_at, number_at, items_at, in_32_bits, rate_of, point_in, point_of, put_points, word_of, HasLadder, IsLaddered, IsAnswered, IsAsked, AreAfter}
 use Rattle.order_text.proofs.AskedFor.{word_asked, text_of, text_where}
 
@@ -273,3 +275,17 @@ pub line_is_short : (version : Version) (tickers : List (List ℕ)) (d : Data) (
 line_is_short version tickers d line_is.Blank asked = absurd asked
 line_is_short version tickers d (line_is.Asks command) asked = asked.1
 line_is_short version tickers d (line_is.Many commands) asked = asked.1
+
+-- what places orders is told by its commands
+requests_are : (a b : List Request) → map PlaceOrder a ≡ map PlaceOrder b → a ≡ b
+requests_are [] [] same = refl
+requests_are [] (y ∷ b) same = absurd (cc)
+requests_are (x ∷ a) [] same = absurd (cc)
+requests_are (x ∷ a) (y ∷ b) same =
+    let first : x ≡ y = cc in
+    let rest : map PlaceOrder a ≡ map PlaceOrder b = cc in
+    rw (first, requests_are a b rest) refl
+
+pub ladder_asks_together : LadderAsksTogether
+ladder_asks_together tickers d requests asks =
+    rw (requests_are requests (requests_of asks.ladder asks.account asks.row) asks.commands_are) (ask_together asks.ladder asks.lawful asks.account asks.row)

@@ -11,14 +11,12 @@ use Rattle.order_text.specs.declared.line.LineRead.TheVariants as line_is
 use Rattle.order_text.specs.declared.line.LineFault.{LineFault}
 use Rattle.order_text.specs.declared.line.LineFault.TheVariants.{NoCommand, Memory}
 use Rattle.wire_records.specs.declared.version.Version.{Version}
-use Rattle.order_text.specs.Lines.{HasKeys, padded, asset_named, Value, Text, Ticker, Asset, Small, Number, Signed, Weights, Points, HasAt, members_of, ladder_members, Asks, AsksLadder, Asked, Alone, OfLadder, AsksFor, commands_of, LineAsks, Leaves, Leave, Says}
+use Rattle.order_text.specs.Lines.{HasKeys, padded, asset_named, Value, Text, Ticker, Asset, Small, Number, Signed, Weights, Points, HasAt, members_of, ladder_members, Asks, AsksLadder, Asked, Alone, OfLadder, AsksFor, commands_of, Leaves, Leave, Says}
 use Rattle.order_text.specs.Private.{text_at, number_at, signed_at, members_at, items_at, word_of, Has, put_members, put_points}
 use Rattle.order_text.proofs.AskedFor.{word_asked, fits_asked}
 use Rattle.order_text.proofs.Weights.{made_where}
 use Rattle.order_text.proofs.Ladders.{made_where as points_made_where, has_ladder, ladder_asked, not_alone, ladders_are}
 use Rattle.curve_ladder.specs.declared.points.Point.{Point}
-use Rattle.curve_ladder.specs.Ladders.{Ladder}
-use Rattle.curve_ladder.specs.Segments.{requests_of}
 use Rattle.weight_rows.specs.declared.entries.Entry.{Entry}
 use Rattle.std.specs.Prelude.{option_and_then, unwrap_or, codes}
 use Rattle.std.specs.List.{AllByRecursion}

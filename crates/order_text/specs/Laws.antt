@@ -1,13 +1,16 @@
 -- What holds of lines. The module `laws` has a function for each of these.
-use Rattle.std.specs.Prelude.{◌≡◌, ◌≢◌, ℕ, List, All, Result}
-use Rattle.wire_records.specs.Commands.{Command}
+use Rattle.std.specs.Prelude.{◌≡◌, ◌≢◌, ℕ, List, map, All, Result}
+use Rattle.serde_json.specs.Data.{Data}
+use Rattle.wire_records.specs.Commands.{Request, Command, PlaceOrder}
 use Rattle.wire_records.specs.declared.version.Version.{Version}
 use Rattle.ticker_table.specs.Tickers.{AreTickers}
 use Rattle.wire_records.specs.CommandRecords.{IsCommand, HasShortRow}
 use Rattle.wire_records.specs.Versions.{IsOfVersion}
 use Rattle.order_text.specs.declared.line.LineRead.{LineRead}
 use Rattle.order_text.specs.declared.line.LineFault.{LineFault}
-use Rattle.order_text.specs.Lines.{Asked, commands_of, LineAsks, Leave, Says}
+use Rattle.curve_ladder.specs.Segments.{curve_asked}
+use Rattle.curve_ladder.specs.Demands.{AskTogether}
+use Rattle.order_text.specs.Lines.{AsksLadder, Asked, commands_of, LineAsks, Leave, Says}
 use Rattle.order_text.specs.Answers.{IsRead, wants_memory}
 
 -- a line asks for one thing at most, and there is one table after it
@@ -42,3 +45,9 @@ abbrev pub NoneIsUnanswered : Type 0
 NoneIsUnanswered =
     (version : Version) (tickers : List (List ℕ)) (line : List ℕ)
     → ¬ ((after : List (List ℕ)) (result : Result LineRead LineFault) → result ≢ wants_memory → ¬ IsRead version tickers line after result)
+
+-- the requests that place a ladder's orders, by which an object asks for them, ask together for what the ladder does: at every price
+-- their demands add up to its value, and at most one of them isn't whole
+abbrev pub LadderAsksTogether : Type 0
+LadderAsksTogether =
+    (tickers : List (List ℕ)) (d : Data) (requests : List Request) → (asks : AsksLadder tickers d (map PlaceOrder requests)) → AskTogether asks.ladder (map curve_asked requests)

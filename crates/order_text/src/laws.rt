@@ -1,5 +1,5 @@
 //! What holds of lines. Each law is the contract of a function that does nothing.
-ghost use Rattle.order_text.specs.Laws.{OneSaying, OneTable, RowsAreShort, CommandsFit, OneAnswer, NoneIsUnanswered};
+ghost use Rattle.order_text.specs.Laws.{OneSaying, OneTable, RowsAreShort, CommandsFit, OneAnswer, NoneIsUnanswered, LadderAsksTogether};
 
 /// A line says at most one list of commands, and there is one table after it.
 pub fn one_saying()
@@ -29,4 +29,10 @@ pub fn one_answer()
 /// No line is without an answer other than want of memory.
 pub fn none_is_unanswered()
     ensures { NoneIsUnanswered }
+{}
+
+/// The orders that a ladder's line asks for are its curve: at every price their demands, of which nothing is filled, add up to the
+/// ladder's value, and at most one of them isn't whole.
+pub fn ladder_asks_together()
+    ensures { LadderAsksTogether }
 {}

@@ -1,4 +1,4 @@
-use Rattle.std.proofs.Common.{◌≡◌, length, sym, ◌∙◌, rules}
+use Rattle.std.proofs.Common.{◌≡◌, length, ◌∙◌, rules}
 use Rattle.serde_json.specs.View.{view}
 use Rattle.order_text.proofs.Ladders.{not_two}
 use Rattle.order_text.proofs.ladder.point_of.Goals as goal
