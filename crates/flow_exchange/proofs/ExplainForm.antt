@@ -10,7 +10,7 @@ use Rattle.wire_records.specs.Reading as reading
 use Rattle.wire_records.specs.declared.version.Version.{Version}
 use Rattle.flow_orders.specs.Outcomes.{Outcome}
 use Rattle.journal_records.specs.Formats.{journals}
-use Rattle.market_rules.specs.Market.{Market, empty_market}
+use Rattle.market_rules.specs.Market.{Market}
 use Rattle.batch_audit.specs.Legal.{IsLegalJournal}
 use Rattle.journal_replay.specs.Audits.{Audits}
 use Rattle.word_driver.specs.declared.fault.Fault.TheVariants as word
@@ -26,7 +26,7 @@ use Rattle.flow_exchange.specs.declared.status.Status.TheVariants as answer
 use Rattle.flow_exchange.specs.Statuses.{ended_status}
 use Rattle.flow_exchange.specs.Private.{rejected}
 use Rattle.flow_exchange.specs.Auditing.{audit_status, audit_text, AuditsShort}
-use Rattle.flow_exchange.specs.Explaining.{ExplainsFile, ExplainsTo, ExplainsInto}
+use Rattle.flow_exchange.specs.Explaining.{ExplainsTo, ExplainsInto}
 use Rattle.flow_exchange.proofs.FileOf.{file_of}
 use Rattle.flow_exchange.proofs.Words.{IsForm}
 use Rattle.flow_exchange.proofs.JournalForms.{AreCounted, are_counted, judged_all, judged_some, at_pair, audit_start, behind_only, line_is}

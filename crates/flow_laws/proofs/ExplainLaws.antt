@@ -1,11 +1,10 @@
 -- Explaining comes to the status of an audit, and says what is found of the first pair that isn't legal.
-use Rattle.std.proofs.Common.{◌≡◌, ◌≢◌, ◌+◌, ℕ, List, [], ◌∷◌, length, inl, inr, sym, ap, subst, ◌∙◌}
+use Rattle.std.proofs.Common.{◌≡◌, ◌≢◌, ◌+◌, ℕ, List, [], ◌∷◌, length, inl, inr, ap, subst, ◌∙◌}
 use Rattle.wire_records.specs.Records.{Record}
 use Rattle.wire_records.specs.Commands.{Pair}
-use Rattle.wire_records.specs.Reading.{Ending, End, Torn, TooLong}
+use Rattle.wire_records.specs.Reading.{Ending}
 use Rattle.flow_orders.specs.Outcomes.{Outcome}
 use Rattle.market_rules.specs.Market.{Market}
-use Rattle.journal_replay.specs.Audits.{Audits}
 use Rattle.journal_words.specs.Findings.{IsExplained}
 use Rattle.flow_exchange.specs.declared.form.Form.TheVariants.{Audit}
 use Rattle.flow_exchange.specs.declared.status.Status.{Status}
@@ -14,7 +13,7 @@ use Rattle.flow_exchange.specs.Auditing.{audit_status}
 use Rattle.flow_exchange.specs.Explaining.{Explains}
 use Rattle.flow_exchange.proofs.FileOf.{file_of}
 use Rattle.flow_exchange.proofs.Outcomes.{one_outcome}
-use Rattle.flow_laws.specs.Laws.{HasFirstIllegal, ExplainIsAudit, RejectedIsExplained}
+use Rattle.flow_laws.specs.Laws.{ExplainIsAudit, RejectedIsExplained}
 use Rattle.flow_laws.proofs.AuditLaws.{audits_first, explained_file}
 
 -- where no pair is rejected, the line of the audit is written

@@ -24,7 +24,6 @@ use Rattle.batch_audit.proofs.LawProofs.{one_market, pairs_number_one}
 use Rattle.batch_audit.proofs.OneFinding.{one_finding}
 use Rattle.batch_audit.proofs.SomeFinding.{each_has_a_finding}
 use Rattle.batch_audit.specs.Legal.{IsLegalPair, IsIllegalPair}
-use Rattle.batch_audit.specs.declared.finding.Finding.{Finding}
 use Rattle.batch_report.proofs.OneReport.{one_report}
 use Rattle.journal_replay.specs.Audits.{cleared_by, skipped_by}
 use Rattle.word_driver.specs.Word.{Goes}
