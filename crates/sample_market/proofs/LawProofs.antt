@@ -1,5 +1,5 @@
 -- Samples are lawful, and their files are read as them.
-use Rattle.std.proofs.Common.{◌≡◌, ◌≤◌, ℕ, List, [], ◌++◌, map, length, get_or, refl, sym, ap, subst, ◌∙◌, arith}
+use Rattle.std.proofs.Common.{◌≡◌, ℕ, List, [], ◌++◌, map, length, get_or, ap, subst, arith}
 use Rattle.std.specs.Prelude.{All}
 use Rattle.std.proofs.lemmas.List.Elements.{All-map}
 use Rattle.std.proofs.lemmas.List.Folds.{flat_map-map}
@@ -13,8 +13,8 @@ use Rattle.wire_records.proofs.Fronts.{states_none-from_few}
 use Rattle.wire_records.proofs.Readings.{command_short}
 use Rattle.wire_records.proofs.ReadingLaws.{file_read}
 use Rattle.wire_records.proofs.RecordCode.{commands_readable}
-use Rattle.sample_market.specs.Files.{sample, spell_commands, sample_file}
-use Rattle.sample_market.specs.Laws.{IsLawful, SamplesAreLawful, SamplesAreRead}
+use Rattle.sample_market.specs.Files.{sample, sample_file}
+use Rattle.sample_market.specs.Laws.{SamplesAreLawful, SamplesAreRead}
 use Rattle.sample_market.proofs.Lawful.{sample_lawful}
 
 pub samples_are_lawful : SamplesAreLawful

@@ -1,19 +1,19 @@
 -- The commands of a sample are lawful, and their records short.
-use Rattle.std.proofs.Common.{◌≡◌, ℕ, zero, suc, ◌+◌, ◌-◌, ◌*◌, ◌^◌, ◌<◌, ◌≤◌, ◌%◌, ℤ, pos, neg_ℤ, ◌+ℤ◌, ◌-ℤ◌, ◌*ℤ◌, Bool, true, false, eqb, List, [], ◌∷◌, ◌++◌, map, length, get_or, replicate, codes, refl, sym, ap, subst, ◌∙◌, length-append, w32, w64, FitsSigned, arith}
+use Rattle.std.proofs.Common.{◌≡◌, ℕ, zero, suc, ◌+◌, ◌-◌, ◌*◌, ◌^◌, ◌<◌, ◌≤◌, ℤ, pos, neg_ℤ, ◌+ℤ◌, ◌-ℤ◌, ◌*ℤ◌, Bool, true, false, eqb, List, ◌∷◌, ◌++◌, length, get_or, codes, refl, w32, w64, arith}
 use Rattle.std.specs.Prelude.{if◌then◌else◌, unsigned_abs, All}
 use Rattle.std.specs.List.{flat_map, range_with_len}
 use Rattle.std.proofs.Math.Nat.{mod-lt, mul-le-mul}
 use Rattle.std.proofs.lemmas.Nat.{mod_below}
 use Rattle.std.proofs.lemmas.Int.{ints, fits_signed_from_abs}
-use Rattle.std.proofs.lemmas.List.Elements.{All-nil, All-cons, All-head, All-tail, All-append, All-map, All-replicate, All-weaker}
-use Rattle.list_sums.proofs.Products.{unsigned_abs-add, unsigned_abs-mul_le}
+use Rattle.std.proofs.lemmas.List.Elements.{All-nil, All-cons, All-append, All-map, All-replicate}
+use Rattle.list_sums.proofs.Products.{unsigned_abs-mul_le}
 use Rattle.list_sums.proofs.SumLemmas.{unsigned_abs-int_sum_by}
-use Rattle.wire_fields.specs.Numbers.{IsUnsigned, IsSigned}
+use Rattle.wire_fields.specs.Numbers.{IsSigned}
 use Rattle.wire_fields.proofs.Spelling.{IsSigned-from_fits}
 use Rattle.weight_rows.specs.declared.entries.Entry.{Entry}
 use Rattle.wire_records.specs.Records.{AreBytes}
-use Rattle.wire_records.specs.Commands.{Command, AddAsset, OpenAccount, DepositMoney, DepositAsset, PlaceOrder, RunBatch}
-use Rattle.wire_records.specs.CommandRecords.{IsEntry, IsRequest}
+use Rattle.wire_records.specs.Commands.{OpenAccount, DepositMoney, PlaceOrder, RunBatch}
+use Rattle.wire_records.specs.CommandRecords.{IsEntry}
 use Rattle.sample_market.specs.Draws.{next_state, drawn, state_after}
 use Rattle.sample_market.specs.Orders.{drawn_weight, drawn_entries, drawn_count, drawn_first, drawn_row, behind_row, usual_price, drawn_middle, drawn_half, drawn_rate, drawn_turns, drawn_order, drawn_orders, behind_order}
 use Rattle.sample_market.specs.Files.{new_asset, new_assets, new_accounts, units_of, all_units_of, deposits_of, all_deposits, batches, sample}

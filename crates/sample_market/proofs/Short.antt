@@ -1,10 +1,10 @@
 -- How many bytes a sample's file has.
-use Rattle.std.proofs.Common.{◌≡◌, ℕ, zero, suc, ◌^◌, ◌+◌, ◌*◌, ◌≤◌, List, [], ◌∷◌, ◌++◌, map, length, replicate, refl, sym, ap, ◌∙◌, length-append, arith}
+use Rattle.std.proofs.Common.{ℕ, zero, suc, ◌^◌, ◌+◌, ◌*◌, ◌≤◌, List, [], ◌∷◌, ◌++◌, map, length, replicate, ap, length-append, arith}
 use Rattle.std.specs.Prelude.{All}
 use Rattle.std.specs.List.{flat_map, range_with_len}
 use Rattle.std.proofs.lemmas.List.{length-replicate}
 use Rattle.std.proofs.lemmas.List.FromFn.{length-map-range_with_len}
-use Rattle.std.proofs.lemmas.List.Elements.{All-nil, All-cons, All-head, All-tail, All-append, All-map, All-replicate}
+use Rattle.std.proofs.lemmas.List.Elements.{All-head, All-tail, All-map, All-replicate}
 use Rattle.wire_fields.specs.Numbers.{unsigned}
 use Rattle.wire_fields.proofs.Spelling.{length-unsigned}
 use Rattle.wire_records.specs.Records.{spelling, command_magic}

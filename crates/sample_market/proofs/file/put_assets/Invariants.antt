@@ -1,4 +1,4 @@
-use Rattle.std.proofs.Common.{◌≡◌, ◌++◌, ◌≤◌, map}
+use Rattle.std.proofs.Common.{◌≡◌, ◌++◌, map}
 use Rattle.std.specs.List.{range_with_len}
 use Rattle.sample_market.specs.Files.{new_asset, spell_commands}
 use Rattle.sample_market.proofs.file.put_assets.Given as goal

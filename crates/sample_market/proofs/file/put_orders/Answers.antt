@@ -1,4 +1,4 @@
-use Rattle.std.proofs.Common.{◌-◌, ◌+◌, ◌++◌, ap, subst, ◌∙◌, sym, arith}
+use Rattle.std.proofs.Common.{◌-◌, ◌+◌, ◌++◌, ap, ◌∙◌, sym, arith}
 use Rattle.sample_market.specs.Orders.{drawn_orders}
 use Rattle.sample_market.specs.Files.{spell_commands}
 use Rattle.sample_market.proofs.Written.{order_more, orders_written}

@@ -1,4 +1,4 @@
-use Rattle.std.proofs.Common.{◌≡◌, ◌++◌, ◌-◌, ◌≤◌}
+use Rattle.std.proofs.Common.{◌≡◌, ◌++◌, ◌-◌}
 use Rattle.sample_market.specs.Orders.{drawn_orders}
 use Rattle.sample_market.specs.Files.{spell_commands}
 use Rattle.sample_market.proofs.file.put_orders.Given as goal

@@ -1,4 +1,4 @@
-use Rattle.std.proofs.Common.{◌≡◌, ◌+◌, ℤ, List, pos, ◌+ℤ◌, ◌-ℤ◌, to_z, of_z, ap, sym, ◌∙◌, w64, arith}
+use Rattle.std.proofs.Common.{◌+◌, List, pos, ◌+ℤ◌, ◌-ℤ◌, ap, ◌∙◌, w64, arith}
 use Rattle.std.proofs.lemmas.Int.{to_z-of_z, fits_signed_from_abs}
 use Rattle.wire_records.specs.Commands.{PlaceOrder}
 use Rattle.weight_rows.specs.declared.entries.Entry.{Entry}

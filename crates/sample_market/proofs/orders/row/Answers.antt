@@ -1,4 +1,4 @@
-use Rattle.std.proofs.Common.{◌≡◌, ◌+◌, ◌-◌, ◌*◌, suc, ◌++◌, ◌∷◌, [], length, ap, refl, sym, ◌∙◌, length-append, to_z, of_z, w32, arith}
+use Rattle.std.proofs.Common.{◌≡◌, ◌+◌, ◌-◌, ◌*◌, suc, ◌++◌, ◌∷◌, [], length, ap, sym, ◌∙◌, length-append, to_z, of_z, w32, arith}
 use Rattle.std.proofs.lemmas.Int.{to_z-of_z}
 use Rattle.weight_rows.specs.declared.entries.Entry.{Entry}
 use Rattle.sample_market.specs.Draws.{drawn, state_after}

@@ -1,6 +1,5 @@
 use Rattle.std.proofs.Common.{w32}
 use Rattle.std.proofs.lemmas.Int.{to_z-of_z}
-use Rattle.sample_market.specs.Orders.{drawn_weight}
 use Rattle.sample_market.proofs.Drawn.{weight_is}
 use Rattle.sample_market.proofs.orders.weight.Goals as goal
 

@@ -1,0 +1,4 @@
+mod Counted
+mod Written
+mod Frames
+pub mod Sampled
