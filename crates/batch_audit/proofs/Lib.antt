@@ -2,5 +2,5 @@ pub mod Told
 pub mod Served
 pub mod LawProofs
 mod Found
-mod OneFinding
-mod SomeFinding
+pub mod OneFinding
+pub mod SomeFinding

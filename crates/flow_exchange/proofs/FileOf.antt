@@ -13,7 +13,7 @@ use Rattle.flow_exchange.specs.declared.status.Status.{Status}
 use Rattle.flow_exchange.specs.Auditing.{audit_status, audit_text, AuditsFile}
 
 -- an audit of the first bytes comes to a status and a text
-pub file_of : (limit : ℕ) (bytes : List ℕ) (status : Status) (legal : List (Pair Record Outcome)) (behind : List (Record × Record)) (ending : Ending) (market : Market) → Audits limit bytes legal behind ending market
+unfoldable pub file_of : (limit : ℕ) (bytes : List ℕ) (status : Status) (legal : List (Pair Record Outcome)) (behind : List (Record × Record)) (ending : Ending) (market : Market) → Audits limit bytes legal behind ending market
     → status ≡ audit_status limit ending legal behind → AuditsFile limit bytes status (audit_text status legal)
 file_of limit bytes status legal behind ending market audits ends =
     let steps = audits.judged.journal.steps in

@@ -4,5 +4,6 @@ pub mod FileOf
 pub mod Words
 pub mod Pace
 pub mod JournalForms
+pub mod ExplainForm
 pub mod EncodeForm
 pub mod Dispatch

@@ -19,13 +19,15 @@ use Rattle.batch_report.specs.Reports.{IsReport}
 use Rattle.batch_report.proofs.OneReport.{one_report}
 use Rattle.market_rules.proofs.OneJournal.{one_own_journal}
 use Rattle.exchange_session.specs.Journals.{Journals}
+use Rattle.journal_words.proofs.JournalLaws.{one_line}
 use Rattle.wire_records.specs.declared.version.Version.TheVariants.{One, Two}
 use Rattle.flow_exchange.specs.declared.form.Form.{Form}
-use Rattle.flow_exchange.specs.declared.form.Form.TheVariants.{Run, Audit, Report, Encode}
+use Rattle.flow_exchange.specs.declared.form.Form.TheVariants.{Run, Audit, Explain, Report, Encode}
 use Rattle.flow_exchange.specs.declared.status.Status.{Status}
 use Rattle.flow_exchange.specs.declared.status.Status.TheVariants as answer
 use Rattle.flow_exchange.specs.Statuses.{reading_status, ended_status, bad_text}
 use Rattle.flow_exchange.specs.Auditing.{audit_status, audit_text, AuditsTo}
+use Rattle.flow_exchange.specs.Explaining.{Explains, ExplainsTo}
 use Rattle.flow_exchange.specs.Reporting.{AreReported, ReportsTo}
 use Rattle.line_records.proofs.Encoding.{encodes_one}
 use Rattle.flow_exchange.specs.Running.{WritesOf, RunsTo}
@@ -51,6 +53,7 @@ one_or_two words one two = absurd (omega (arith, ap length one, ap length two))
 pub one_form : OneForm
 one_form words Run Run a b = refl
 one_form words Audit Audit a b = refl
+one_form words Explain Explain a b = refl
 one_form words Report Report a b = refl
 one_form words (Encode One) (Encode One) a b = refl
 one_form words (Encode Two) (Encode Two) a b = refl
@@ -74,6 +77,16 @@ one_form words (Encode One) Audit a b = absurd (two_words words (codes "encode")
 one_form words (Encode Two) Audit a b = absurd (one_or_two words b a)
 one_form words (Encode One) Report a b = absurd (two_words words (codes "encode") (codes "report") (λ e. omega (arith, e)) a b)
 one_form words (Encode Two) Report a b = absurd (one_or_two words b a)
+one_form words Explain Run a b = absurd (two_words words (codes "explain") (codes "run") (λ e. omega (arith, e)) a b)
+one_form words Explain Audit a b = absurd (two_words words (codes "explain") (codes "audit") (λ e. omega (arith, e)) a b)
+one_form words Explain Report a b = absurd (two_words words (codes "explain") (codes "report") (λ e. omega (arith, e)) a b)
+one_form words Explain (Encode One) a b = absurd (two_words words (codes "explain") (codes "encode") (λ e. omega (arith, e)) a b)
+one_form words Explain (Encode Two) a b = absurd (one_or_two words a b)
+one_form words Run Explain a b = absurd (two_words words (codes "run") (codes "explain") (λ e. omega (arith, e)) a b)
+one_form words Audit Explain a b = absurd (two_words words (codes "audit") (codes "explain") (λ e. omega (arith, e)) a b)
+one_form words Report Explain a b = absurd (two_words words (codes "report") (codes "explain") (λ e. omega (arith, e)) a b)
+one_form words (Encode One) Explain a b = absurd (two_words words (codes "encode") (codes "explain") (λ e. omega (arith, e)) a b)
+one_form words (Encode Two) Explain a b = absurd (one_or_two words b a)
 
 -- records have one journal, and so one text
 journals_one : (version : Version) (records : List Record) (m n : Market) (x y : List ℕ) → Journals version records m x → Journals version records n y → x ≡ y
@@ -109,6 +122,25 @@ audits_one limit bytes s t x y (inr a) (inr b) =
     in
     (same, a.writes ∙ ap (λ (u : Status). audit_text u a.legal) same ∙ ap (audit_text t) one.0 ∙ sym b.writes)
 
+-- for the same pairs one line is written
+explained_once : (market : Market) (legal : List (Pair Record Outcome)) (behind : List (Record × Record)) (line x y : List ℕ) → Explains market legal behind line x → Explains market legal behind line y → x ≡ y
+explained_once market legal [] line x y a b = a ∙ sym b
+explained_once market legal (bad ∷ more) line x y a b = one_line market (length legal + 1) bad x y a b
+
+-- explaining comes to one status and one text
+explains_one : (limit : ℕ) (bytes : List ℕ) (s t : Status) (x y : List ℕ) → ExplainsTo limit bytes s x → ExplainsTo limit bytes t y → (s ≡ t) × (x ≡ y)
+explains_one limit bytes s t x y (inl a) (inl b) = (a.1 ∙ sym b.1, a.2 ∙ sym b.2)
+explains_one limit bytes s t x y (inl a) (inr b) = absurd (a.0 b.audit.audits.version b.audit.audits.reads.0 b.audit.audits.reads.1.0 b.audit.audits.reads.1.1)
+explains_one limit bytes s t x y (inr a) (inl b) = absurd (b.0 a.audit.audits.version a.audit.audits.reads.0 a.audit.audits.reads.1.0 a.audit.audits.reads.1.1)
+explains_one limit bytes s t x y (inr a) (inr b) =
+    let same = audits_one limit bytes s t a.line b.line (inr a.audit) (inr b.audit) in
+    let one = one_audit limit bytes a.audit.legal b.audit.legal a.audit.behind b.audit.behind a.audit.ending b.audit.ending a.audit.market b.audit.market a.audit.audits b.audit.audits in
+    let of_market = subst (λ (m : Market). Explains m a.audit.legal a.audit.behind a.line x) one.3 a.writes in
+    let of_legal = subst (λ (p : List (Pair Record Outcome)). Explains b.audit.market p a.audit.behind a.line x) one.0 of_market in
+    let of_behind = subst (λ (u : List (Record × Record)). Explains b.audit.market b.audit.legal u a.line x) one.1 of_legal in
+    let writes = subst (λ (l : List ℕ). Explains b.audit.market b.audit.legal b.audit.behind l x) same.1 of_behind in
+    (same.0, explained_once b.audit.market b.audit.legal b.audit.behind b.line x y writes b.writes)
+
 -- pairs have one text, and lead to one market
 one_text : (old : Market) (number : ℕ) (pairs : List (Pair Record Outcome)) (m n : Market) (x y : List ℕ) → AreReported old number pairs m x → AreReported old number pairs n y → x ≡ y
 one_text old number [] m n x y a b = a.1 ∙ sym b.1
@@ -143,6 +175,7 @@ lines_one version limit bytes s t x y a b =
 pub one_outcome : OneOutcome
 one_outcome Run limit bytes s t x y a b = runs_one limit bytes s t x y a b
 one_outcome Audit limit bytes s t x y a b = audits_one limit bytes s t x y a b
+one_outcome Explain limit bytes s t x y a b = explains_one limit bytes s t x y a b
 one_outcome Report limit bytes s t x y a b = reports_one limit bytes s t x y a b
 one_outcome (Encode version) limit bytes s t x y a b = lines_one version limit bytes s t x y a b
 

@@ -2,12 +2,13 @@
 use Rattle.std.specs.Prelude.{◌≡◌, ℕ, List, [], ◌∷◌, codes}
 use Rattle.wire_records.specs.declared.version.Version.TheVariants.{One, Two}
 use Rattle.flow_exchange.specs.declared.form.Form.{Form}
-use Rattle.flow_exchange.specs.declared.form.Form.TheVariants.{Run, Audit, Report, Encode}
+use Rattle.flow_exchange.specs.declared.form.Form.TheVariants.{Run, Audit, Explain, Report, Encode}
 
 -- the words, as the bytes of each, ask for this form
 abbrev pub Asks : List (List ℕ) → Form → Type 0
 Asks words Run = words ≡ codes "run" ∷ []
 Asks words Audit = words ≡ codes "audit" ∷ []
+Asks words Explain = words ≡ codes "explain" ∷ []
 Asks words Report = words ≡ codes "report" ∷ []
 Asks words (Encode One) = words ≡ codes "encode" ∷ []
 Asks words (Encode Two) = words ≡ codes "encode" ∷ codes "2" ∷ []

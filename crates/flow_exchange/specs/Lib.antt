@@ -2,6 +2,7 @@ pub mod Statuses
 pub mod Forms
 pub mod Running
 pub mod Auditing
+pub mod Explaining
 pub mod Reporting
 pub mod Program
 pub mod Laws

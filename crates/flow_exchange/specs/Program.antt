@@ -6,13 +6,14 @@ use Rattle.flow_io.specs.Changes.{Change}
 use Rattle.word_driver.specs.Ended.{Ended}
 use Rattle.line_records.specs.Encoding.{EncodesTo, EncodesInto, EncodesShort}
 use Rattle.flow_exchange.specs.declared.form.Form.{Form}
-use Rattle.flow_exchange.specs.declared.form.Form.TheVariants.{Run, Audit, Report, Encode}
+use Rattle.flow_exchange.specs.declared.form.Form.TheVariants.{Run, Audit, Explain, Report, Encode}
 use Rattle.flow_exchange.specs.declared.status.Status.{Status}
 use Rattle.flow_exchange.specs.declared.status.Status.TheVariants.{Done, Usage, NotFlow, Torn, ReadFault, WriteFault, NoMemory, Rejected, TooLong, BadText}
 use Rattle.flow_exchange.specs.Forms.{Asks, AsksNothing}
 use Rattle.flow_exchange.specs.Statuses.{line_of, ended_status, bad_text}
 use Rattle.flow_exchange.specs.Running.{RunsTo, RunsInto, RunsShort, KeepsPace}
 use Rattle.flow_exchange.specs.Auditing.{AuditsTo, AuditsShort}
+use Rattle.flow_exchange.specs.Explaining.{ExplainsTo, ExplainsInto}
 use Rattle.flow_exchange.specs.Reporting.{ReportsTo, ReportsInto, ReportsShort}
 
 -- ---- a row for each form
@@ -21,6 +22,7 @@ use Rattle.flow_exchange.specs.Reporting.{ReportsTo, ReportsInto, ReportsShort}
 abbrev pub ComesTo : Form → ℕ → List ℕ → Status → List ℕ → Type 0
 ComesTo Run limit bytes status text = RunsTo limit bytes status text
 ComesTo Audit limit bytes status text = AuditsTo limit bytes status text
+ComesTo Explain limit bytes status text = ExplainsTo limit bytes status text
 ComesTo Report limit bytes status text = ReportsTo limit bytes status text
 ComesTo (Encode version) limit bytes status text = (ended : Ended ℕ) × EncodesTo version limit bytes ended text × (status ≡ ended_status limit bad_text ended)
 
@@ -28,6 +30,7 @@ ComesTo (Encode version) limit bytes status text = (ended : Ended ℕ) × Encode
 abbrev pub GetsTo : Form → ℕ → List ℕ → List ℕ → Type 0
 GetsTo Run limit bytes text = RunsInto limit bytes text
 GetsTo Audit limit bytes text = ⊥
+GetsTo Explain limit bytes text = ExplainsInto limit bytes text
 GetsTo Report limit bytes text = ReportsInto limit bytes text
 GetsTo (Encode version) limit bytes text = EncodesInto version limit bytes text
 
@@ -35,6 +38,7 @@ GetsTo (Encode version) limit bytes text = EncodesInto version limit bytes text
 abbrev pub LacksAt : Form → ℕ → List ℕ → List ℕ → Type 0
 LacksAt Run limit bytes text = RunsShort limit bytes text
 LacksAt Audit limit bytes text = AuditsShort limit bytes text
+LacksAt Explain limit bytes text = AuditsShort limit bytes text
 LacksAt Report limit bytes text = ReportsShort limit bytes text
 LacksAt (Encode version) limit bytes text = (text ≡ []) ⊎ EncodesShort version limit bytes text
 
@@ -42,6 +46,7 @@ LacksAt (Encode version) limit bytes text = (text ≡ []) ⊎ EncodesShort versi
 abbrev pub most_taken : Form → ℕ → ℕ
 most_taken Run limit = limit + 1
 most_taken Audit limit = limit + 1
+most_taken Explain limit = limit + 1
 most_taken Report limit = limit + 1
 most_taken (Encode version) limit = limit + 1
 
@@ -49,6 +54,7 @@ most_taken (Encode version) limit = limit + 1
 abbrev pub left_by : Form → List ℕ → List ℕ
 left_by Run bytes = []
 left_by Audit bytes = []
+left_by Explain bytes = []
 left_by Report bytes = []
 left_by (Encode version) bytes = []
 

@@ -11,6 +11,8 @@ pub enum Form {
     Run,
     /// `audit`: a journal in, and out a line where it is legal.
     Audit,
+    /// `explain`: a journal in, and out the line of an audit, or what is found of the first pair that isn't legal.
+    Explain,
     /// `report`: a journal in, and its text out.
     Report,
     /// `encode`, or `encode 2`: lines of JSON in, and the command file of their commands out, of this version.
@@ -47,6 +49,9 @@ pub(crate) fn form_of(words: &[String]) -> Option<Form>
     }
     if is_word(words, "audit") {
         return Some(Form::Audit);
+    }
+    if is_word(words, "explain") {
+        return Some(Form::Explain);
     }
     if is_word(words, "report") {
         return Some(Form::Report);

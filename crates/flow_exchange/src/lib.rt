@@ -1,13 +1,14 @@
 //! The exchange program as one call: words, a source of bytes, two sinks, and a status.
 //!
 //! [`flow`] is what the program calls. Its contract is what the program promises: which journal `run` writes to `out` for
-//! the bytes of the source, what `audit` says of the journal that it reads, which text `report` writes of it, which command
-//! file `encode` makes of lines of JSON, and when each status comes.
+//! the bytes of the source, what `audit` says of the journal that it reads, what `explain` finds of its first pair that isn't
+//! legal, which text `report` writes of it, which command file `encode` makes of lines of JSON, and when each status comes.
 #![tactic(auto)]
 
 mod audit;
 mod encode;
 mod ending;
+mod explain;
 mod form;
 pub mod laws;
 mod line;

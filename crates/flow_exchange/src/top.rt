@@ -7,6 +7,7 @@ ghost use Rattle.flow_exchange.specs.Running.{KeepsPace};
 use crate::Status;
 use crate::audit::audit;
 use crate::encode::encode;
+use crate::explain::explain;
 use crate::form::{Form, form_of};
 use crate::report::report;
 use crate::run::run;
@@ -33,6 +34,7 @@ fn do_form<S: Source, K: Sink>(
     match form {
         Form::Run => run(alloc, limit, source, out),
         Form::Audit => audit(alloc, limit, source, out),
+        Form::Explain => explain(alloc, limit, source, out),
         Form::Report => report(alloc, limit, source, out),
         Form::Encode(version) => encode(alloc, version, limit, source, out),
     }
@@ -64,13 +66,14 @@ pub fn flow_limited<S: Source, K: Sink, N: Sink>(
 ///
 /// With the word `run` it reads a command file from the source, at most 2^32 bytes, and writes its
 /// journal to out: one write for the magic, and one for each pair. With the word `audit` it reads a journal, whoever wrote
-/// it, and writes a line to out where each pair is legal and nothing stands behind them. With the word `report` it reads a
+/// it, and writes a line to out where each pair is legal and nothing stands behind them. With the word `explain` it does the
+/// same, and where a pair isn't legal it writes a line on what is found of it. With the word `report` it reads a
 /// journal in the same way, and writes the text of each legal pair to out, by one write each. With the word `encode` it reads
 /// lines of JSON, and writes the command file of what they ask for to out, of version 1, or with `encode 2` of version 2: one write
 /// for the magic, and one for each record. On every status but `Done` it writes one line to notes; a fault of notes changes nothing.
 ///
 /// A command of `run` costs the same however many accounts and orders there are, but for the gap that a cancelled order leaves, which is
-/// closed by a block move. Memory of `run`, `audit` and `report` is that of the market, whatever the length of the input: a window
+/// closed by a block move. Memory of `run`, `audit`, `explain` and `report` is that of the market, whatever the length of the input: a window
 /// of 1,029 bytes (`run`) or 263,178, one buffer for a pair or its text, 1,056 bytes for each account, 72 bytes for each live order
 /// beside its entries, and the table of what orders need. Accounts and orders each stand in one block, which doubles as it grows: it
 /// has up to twice these bytes, and while it is moved the smaller one is there too. `encode` holds its input whole.

@@ -1,5 +1,5 @@
 -- When an audit is done, and when it rejects a pair.
-use Rattle.std.proofs.Common.{◌≡◌, ◌+◌, ◌<◌, ◌≤◌, ◌⊎◌, ℕ, List, [], ◌∷◌, ◌++◌, map, length, inl, inr, refl, sym, ap, ◌∙◌, append_assoc, arith}
+use Rattle.std.proofs.Common.{◌≡◌, ◌+◌, ◌<◌, ◌≤◌, ◌⊎◌, ℕ, List, [], ◌∷◌, ◌++◌, map, length, inl, inr, refl, sym, ap, subst, ◌∙◌, append_assoc, arith}
 use Rattle.std.specs.Prelude.{All}
 use Rattle.std.proofs.lemmas.Bool.{cases_lt}
 use Rattle.std.proofs.lemmas.Grind.{flat_map-append}
@@ -16,9 +16,11 @@ use Rattle.market_rules.specs.Market.{Market}
 use Rattle.batch_audit.specs.Legal.{IsLegalJournal}
 use Rattle.journal_replay.specs.Audits.{Audits}
 use Rattle.journal_replay.proofs.Judged.{read_more}
+use Rattle.journal_words.specs.Findings.{IsExplained}
 use Rattle.journal_replay.proofs.LawProofs.{audits_to_end}
 use Rattle.flow_exchange.specs.declared.status.Status.TheVariants as answer
 use Rattle.flow_exchange.specs.Auditing.{legal_line, audit_status, AuditsFile}
+use Rattle.flow_exchange.specs.Explaining.{Explains}
 use Rattle.flow_laws.specs.Laws.{DoneIsForLegalJournals, HasFirstIllegal, RejectedIsFirstIllegal}
 use Rattle.flow_exchange.proofs.FileOf.{file_of}
 
@@ -94,12 +96,23 @@ rejected_file limit number bytes legal [] (Torn n) market audits e = absurd cc
 rejected_file limit number bytes legal [] TooLong market audits e = absurd cc
 rejected_file limit number bytes legal (bad ∷ more) ending market audits e = first_illegal limit number bytes legal bad more ending market audits cc
 
+-- and the line on it is written
+pub explained_file : (limit number : ℕ) (bytes : List ℕ) (legal : List (Pair Record Outcome)) (behind : List (Record × Record)) (ending : Ending) (market : Market) (line text : List ℕ) → Audits limit bytes legal behind ending market
+    → answer.Rejected number ≡ audit_status limit ending legal behind → Explains market legal behind line text → (first : HasFirstIllegal limit bytes number) × IsExplained first.market number first.bad text
+unfolding first_illegal
+explained_file limit number bytes legal [] End market line text audits e writes = absurd cc
+explained_file limit number bytes legal [] (Torn n) market line text audits e writes = absurd cc
+explained_file limit number bytes legal [] TooLong market line text audits e writes = absurd cc
+explained_file limit number bytes legal (bad ∷ more) ending market line text audits e writes =
+    let counted : number ≡ length legal + 1 = cc in
+    (first_illegal limit number bytes legal bad more ending market audits counted, subst (λ (n : ℕ). IsExplained market n bad text) (sym counted) writes)
+
 -- there is more than the limit, or not
 more_or_not : (limit n : ℕ) → (limit < n) ⊎ (¬ (limit < n))
 more_or_not limit n = elim (cases_lt limit n) [ inl more ↦ inl more | inr not ↦ inr (λ more. omega (arith, more, not)) ]
 
 -- a legal journal, and a pair behind it that isn't legal, are audited so
-audits_first : (limit number : ℕ) (bytes : List ℕ) (first : HasFirstIllegal limit bytes number)
+pub audits_first : (limit number : ℕ) (bytes : List ℕ) (first : HasFirstIllegal limit bytes number)
     → (more : List (Record × Record)) × (ending : Ending) × Audits limit bytes first.pairs (first.bad ∷ more) ending first.market
 audits_first limit number bytes first =
     let units = map records_of first.pairs in

@@ -31,10 +31,13 @@ use Rattle.word_driver.specs.Ended.{Ended}
 use Rattle.line_records.specs.Encoding.{EncodesTo, EncodesInto, EncodesShort}
 use Rattle.line_records.proofs.OneReadings.{first_is_a_front, before_next}
 use Rattle.exchange_session.specs.Journals.{Journals}
-use Rattle.flow_exchange.specs.declared.form.Form.TheVariants.{Run, Audit, Report, Encode}
+use Rattle.flow_exchange.specs.declared.form.Form.TheVariants.{Run, Audit, Explain, Report, Encode}
 use Rattle.flow_exchange.specs.declared.status.Status.{Status}
+use Rattle.flow_exchange.specs.declared.status.Status.TheVariants as answer
 use Rattle.flow_exchange.specs.Running.{WritesOf, RunsTo, RunsInto, RunsShort}
 use Rattle.flow_exchange.specs.Reporting.{AreReported, ReportsTo, ReportsInto, ReportsShort}
+use Rattle.flow_exchange.specs.Explaining.{ExplainsTo, ExplainsInto}
+use Rattle.flow_exchange.proofs.Outcomes.{one_outcome}
 use Rattle.flow_laws.specs.Laws.{BegunIsAFront}
 
 -- a text begins with another
@@ -171,6 +174,13 @@ report_begun limit bytes begun (legal, market, next, at, wants, told) =
       writes = told;
     }
 
+-- ---- explain
+
+-- the line of a pair is the whole text
+explain_begins : (limit : ℕ) (bytes : List ℕ) (status : Status) (text begun : List ℕ) → ExplainsTo limit bytes status text → ExplainsInto limit bytes begun → Begins text begun
+explain_begins limit bytes status text begun all first =
+    ([], (one_outcome Explain limit bytes status (answer.Rejected first.0) text begun all first.1).1 ∙ sym (append-nil begun))
+
 -- ---- all forms
 
 pub begun_is_a_front : BegunIsAFront
@@ -178,6 +188,8 @@ begun_is_a_front Run limit bytes status text begun comes (inl gets) = run_begins
 begun_is_a_front Run limit bytes status text begun comes (inr lacks) = run_begins-out limit bytes status text begun comes lacks
 begun_is_a_front Audit limit bytes status text begun comes (inl gets) = absurd gets
 begun_is_a_front Audit limit bytes status text begun comes (inr (legal, market, next, at, wants, nothing)) = begins-nothing text begun nothing
+begun_is_a_front Explain limit bytes status text begun comes (inl gets) = explain_begins limit bytes status text begun comes gets
+begun_is_a_front Explain limit bytes status text begun comes (inr (legal, market, next, at, wants, nothing)) = begins-nothing text begun nothing
 begun_is_a_front Report limit bytes status text begun comes (inl gets) = report_begins-file limit bytes status text begun comes gets
 begun_is_a_front Report limit bytes status text begun comes (inr short) = report_begins-file limit bytes status text begun comes (report_begun limit bytes begun short)
 begun_is_a_front (Encode version) limit bytes status text begun comes (inl gets) = encode_begins version limit bytes comes.0 text begun comes.1 gets

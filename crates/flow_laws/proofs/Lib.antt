@@ -1,5 +1,6 @@
 mod AuditLaws
 mod EncodeLaws
+mod ExplainLaws
 mod TickersAgree
 mod RunsAudited
 mod SomeOutcome

@@ -1,5 +1,5 @@
 -- What a run writes is a legal journal, of which an audit is done.
-use Rattle.std.proofs.Common.{◌≡◌, ◌≢◌, ◌⊎◌, ◌+◌, ◌*◌, ◌^◌, ◌<◌, ◌≤◌, ℕ, List, [], ◌∷◌, ◌++◌, length, inl, inr, refl, ap, length-append, arith}
+use Rattle.std.proofs.Common.{◌≡◌, ◌≢◌, ◌+◌, ◌^◌, ◌<◌, ◌≤◌, ℕ, List, [], ◌∷◌, length, inl, inr, refl, ap, length-append, arith}
 use Rattle.std.specs.List.{flat_map}
 use Rattle.wire_records.specs.Records.{Record, spelling}
 use Rattle.wire_records.specs.Commands.{Pair}
@@ -11,20 +11,20 @@ use Rattle.flow_orders.specs.Outcomes.{Outcome}
 use Rattle.flow_orders.specs.Own.{IsOwnOutcome}
 use Rattle.journal_records.specs.Replies.{answer_record}
 use Rattle.journal_records.specs.Pairs.{pair_spelling}
-use Rattle.journal_records.specs.Formats.{journal_magic_of, journal_in}
+use Rattle.journal_records.specs.Formats.{journal_magic_of}
 use Rattle.market_rules.specs.Market.{Market, empty_market}
 use Rattle.market_rules.specs.Journal.{Follows}
 use Rattle.market_rules.proofs.LawProofs.{own_journals_are_legal, steps_number_one}
 use Rattle.batch_audit.specs.Legal.{IsLegalJournal}
 use Rattle.journal_replay.proofs.Replayed.{eight}
 use Rattle.exchange_session.specs.Journals.{Journals}
-use Rattle.flow_exchange.specs.declared.form.Form.TheVariants.{Run, Audit}
+use Rattle.flow_exchange.specs.declared.form.Form.TheVariants.{Audit}
 use Rattle.flow_exchange.specs.declared.status.Status.{Status}
 use Rattle.flow_exchange.specs.declared.status.Status.TheVariants as answer
 use Rattle.flow_exchange.specs.Statuses.{reading_status}
 use Rattle.flow_exchange.specs.Running.{WritesOf}
 use Rattle.flow_exchange.specs.Auditing.{legal_line}
-use Rattle.flow_exchange.specs.Program.{ComesTo, GetsTo, LacksAt}
+use Rattle.flow_exchange.specs.Program.{ComesTo}
 use Rattle.flow_laws.specs.Laws.{RunsAreAudited}
 use Rattle.flow_laws.proofs.AuditLaws.{done_is_for_legal}
 

@@ -5,12 +5,13 @@ use Rattle.word_driver.specs.Ended.{Ended}
 use Rattle.word_driver.proofs.SomeEnds.{some_end}
 use Rattle.exchange_session.specs.Running.{run}
 use Rattle.exchange_session.proofs.RunLaws.{run_is_exact, run_is_kept, run_has_next}
-use Rattle.journal_words.specs.Words.{counting, telling, audit, report}
-use Rattle.journal_words.proofs.JournalLaws.{over_pairs_is_kept, audit_is_exact, report_is_exact, audit_has_next, report_has_next}
+use Rattle.journal_words.specs.Words.{counting, explaining, telling, audit, explain, report}
+use Rattle.journal_words.proofs.JournalLaws.{over_pairs_is_kept, audit_is_exact, explain_is_exact, report_is_exact, audit_has_next, explain_has_next, report_has_next}
 use Rattle.line_records.specs.Tasks.{encoding}
+use Rattle.market_rules.proofs.Soundness.{sound-empty}
 use Rattle.line_records.proofs.Encoding.{encodes_some}
 use Rattle.flow_exchange.specs.declared.form.Form.{Form}
-use Rattle.flow_exchange.specs.declared.form.Form.TheVariants.{Run, Audit, Report, Encode}
+use Rattle.flow_exchange.specs.declared.form.Form.TheVariants.{Run, Audit, Explain, Report, Encode}
 use Rattle.flow_exchange.specs.declared.status.Status.{Status}
 use Rattle.flow_exchange.specs.Statuses.{ended_status, bad_text}
 use Rattle.flow_exchange.specs.Private.{no_reason, rejected}
@@ -20,6 +21,7 @@ use Rattle.flow_exchange.proofs.Words.{IsForm}
 use Rattle.flow_exchange.proofs.RunWord.{run_form, start}
 use Rattle.flow_exchange.proofs.EncodeForm.{encode_form}
 use Rattle.flow_exchange.proofs.JournalForms.{audit_form, report_form, audit_start, report_start}
+use Rattle.flow_exchange.proofs.ExplainForm.{explain_form}
 
 -- where a task has some end, its form has some outcome
 some_outcome : {B : Type 0} (t : Task B) (form : Form) (limit : ℕ) (own : B → Status) → IsForm t form limit own → (bytes : List ℕ)
@@ -30,8 +32,11 @@ pub none_is_without_outcome : NoneIsWithoutOutcome
 none_is_without_outcome Run limit bytes = some_outcome (task run start) Run limit no_reason (run_form limit) bytes (some_end run start run_is_exact run_is_kept run_has_next limit bytes)
 none_is_without_outcome Audit limit bytes =
     some_outcome (task audit audit_start) Audit limit rejected (audit_form limit) bytes
-    (some_end audit audit_start audit_is_exact (over_pairs_is_kept counting audit_start (λ version. (refl, refl))) (audit_has_next audit_start) limit bytes)
+    (some_end audit audit_start audit_is_exact (over_pairs_is_kept counting audit_start (λ version. (refl, refl))) (audit_has_next audit_start sound-empty) limit bytes)
+none_is_without_outcome Explain limit bytes =
+    some_outcome (task explain audit_start) Explain limit rejected (explain_form limit) bytes
+    (some_end explain audit_start explain_is_exact (over_pairs_is_kept explaining audit_start (λ version. (refl, refl))) (explain_has_next audit_start sound-empty) limit bytes)
 none_is_without_outcome Report limit bytes =
     some_outcome (task report report_start) Report limit rejected (report_form limit) bytes
-    (some_end report report_start report_is_exact (over_pairs_is_kept telling report_start (λ version. (refl, refl))) (report_has_next report_start) limit bytes)
+    (some_end report report_start report_is_exact (over_pairs_is_kept telling report_start (λ version. (refl, refl))) (report_has_next report_start sound-empty) limit bytes)
 none_is_without_outcome (Encode version) limit bytes = some_outcome (encoding version) (Encode version) limit bad_text (encode_form version limit) bytes (encodes_some version limit bytes)

@@ -14,8 +14,9 @@ use Rattle.batch_audit.specs.Legal.{IsLegalJournal, IsIllegalPair}
 use Rattle.word_driver.specs.Ended.{Ended}
 use Rattle.line_records.specs.Encoding.{EncodesTo}
 use Rattle.exchange_session.specs.Journals.{Journals}
+use Rattle.journal_words.specs.Findings.{IsExplained}
 use Rattle.flow_exchange.specs.declared.form.Form.{Form}
-use Rattle.flow_exchange.specs.declared.form.Form.TheVariants.{Run, Audit}
+use Rattle.flow_exchange.specs.declared.form.Form.TheVariants.{Run, Audit, Explain}
 use Rattle.flow_exchange.specs.declared.status.Status.{Status}
 use Rattle.flow_exchange.specs.declared.status.Status.TheVariants.{Done, NotFlow, Rejected}
 use Rattle.flow_exchange.specs.Auditing.{legal_line}
@@ -45,6 +46,16 @@ pub record HasFirstIllegal (limit : ℕ) (bytes : List ℕ) (number : ℕ) : Typ
 abbrev pub RejectedIsFirstIllegal : Type 0
 RejectedIsFirstIllegal = (limit number : ℕ) (bytes text : List ℕ)
     → ComesTo Audit limit bytes (Rejected number) text ↔ (HasFirstIllegal limit bytes number × (text ≡ []))
+
+-- explaining comes to the status of an audit, and but where a pair is rejected to its line
+abbrev pub ExplainIsAudit : Type 0
+ExplainIsAudit = (limit : ℕ) (bytes text line : List ℕ) (status other : Status) → ComesTo Explain limit bytes status text → ComesTo Audit limit bytes other line
+    → (status ≡ other) × (((number : ℕ) → status ≢ Rejected number) → text ≡ line)
+
+-- it rejects a pair exactly where it is the first that isn't legal, with the line of what is found of it
+abbrev pub RejectedIsExplained : Type 0
+RejectedIsExplained = (limit number : ℕ) (bytes text : List ℕ)
+    → ComesTo Explain limit bytes (Rejected number) text ↔ ((first : HasFirstIllegal limit bytes number) × IsExplained first.market number first.bad text)
 
 -- what is encoded is a command file of the version, which is read to its end as the records of the commands that the lines ask for, and each
 -- of these records as its command

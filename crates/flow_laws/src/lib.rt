@@ -4,7 +4,7 @@
 //! is built without them.
 #![tactic(auto)]
 
-ghost use Rattle.flow_laws.specs.Laws.{DoneIsForLegalJournals, RejectedIsFirstIllegal, EncodedIsRead, EncodedIsServed, RunsAreAudited, NoneIsWithoutOutcome, BegunIsAFront, TickersAgree};
+ghost use Rattle.flow_laws.specs.Laws.{DoneIsForLegalJournals, RejectedIsFirstIllegal, ExplainIsAudit, RejectedIsExplained, EncodedIsRead, EncodedIsServed, RunsAreAudited, NoneIsWithoutOutcome, BegunIsAFront, TickersAgree};
 
 /// `audit` is done exactly for the spelling of a legal journal with nothing past the limit, whoever wrote it, and the line that
 /// it writes counts the journal's pairs, and the batches that cleared and that were skipped.
@@ -15,6 +15,17 @@ pub fn done_is_for_legal_journals()
 /// `audit` rejects a pair exactly where it is the first that isn't legal, by its number, counted from 1.
 pub fn rejected_is_first_illegal()
     ensures { RejectedIsFirstIllegal }
+{}
+
+/// `explain` comes to the status of `audit`, and but where it rejects a pair it writes the same.
+pub fn explain_is_audit()
+    ensures { ExplainIsAudit }
+{}
+
+/// `explain` rejects a pair exactly where it is the first that isn't legal, and writes the line of what is found of it in the
+/// market that the pairs before it make.
+pub fn rejected_is_explained()
+    ensures { RejectedIsExplained }
 {}
 
 /// What `encode` makes of lines, up to the first that is no command, is a command file. It is read to its end as the records of

@@ -14,22 +14,25 @@ use Rattle.journal_records.specs.Pairs.{IsPair}
 use Rattle.journal_records.specs.Formats.{journal_magic_of, journals, records_of}
 use Rattle.journal_records.proofs.Files.{journals_readable, short_at_end}
 use Rattle.journal_records.proofs.Spelled.{answer_unique}
-use Rattle.market_rules.specs.Market.{Market, empty_market}
+use Rattle.market_rules.specs.Market.{Market, empty_market, IsSound}
 use Rattle.market_rules.specs.Journal.{Follows}
-use Rattle.market_rules.proofs.LawProofs.{journals_hold_deposits}
+use Rattle.market_rules.proofs.LawProofs.{journals_hold_deposits, steps_keep_soundness}
 use Rattle.market_rules.proofs.Soundness.{sound-empty}
 use Rattle.market_rules.proofs.Versions.{follows_version}
 use Rattle.market_rules.proofs.Promised.{legal_journal_keeps_promises}
 use Rattle.batch_audit.proofs.LawProofs.{one_market, pairs_number_one}
+use Rattle.batch_audit.proofs.OneFinding.{one_finding}
+use Rattle.batch_audit.proofs.SomeFinding.{each_has_a_finding}
 use Rattle.batch_audit.specs.Legal.{IsLegalPair, IsIllegalPair}
 use Rattle.batch_report.proofs.OneReport.{one_report}
 use Rattle.journal_replay.specs.Audits.{cleared_by, skipped_by}
 use Rattle.word_driver.specs.Word.{Goes}
-use Rattle.word_driver.specs.Laws.{IsExact, IsKept, HasNext}
+use Rattle.word_driver.specs.Laws.{IsExact, IsKept, IsNotDenied, HasNext}
 use Rattle.word_driver.proofs.Denying.{not_denied, follows, one_of}
 use Rattle.journal_words.specs.Line.{counted_line}
+use Rattle.journal_words.specs.Findings.{finding_line, IsExplained}
 use Rattle.journal_words.specs.Watching.{Watch, Watched, SeesOne, StopsOne, over_pairs}
-use Rattle.journal_words.specs.Words.{Counts, CountsOne, counting, telling, audit, report}
+use Rattle.journal_words.specs.Words.{Counts, CountsOne, counting, explaining, telling, audit, explain, report}
 use Rattle.journal_words.specs.Private.{HasRoom}
 use Rattle.journal_words.proofs.LongestPair.{longest}
 use Rattle.journal_words.proofs.SomeText.{some_text}
@@ -126,10 +129,10 @@ module _ {S B : Type 0} (watch : Watch S B) where
         keeps = legal_journal_keeps_promises (empty_market s.market.version) are.legal s.market sound steps;
       }
 
--- What is watched is there: a legal pair is seen, why it stops at one that isn't, and how it ends.
+-- What is watched is there: a legal pair is seen, why it stops at one that isn't, in a sound market, and how it ends.
 pub record HasSight {S B : Type 0} (watch : Watch S B) : Type 0 where
   pub some_sight : (old new : Market) (n : ℕ) (pair : Record × Record) (s : S) → IsLegalPair old pair new → (t : S) × (x : List ℕ) × watch.Sees new n pair s t x
-  pub some_reject : (m : Market) (n : ℕ) (pair : Record × Record) (s : S) → IsIllegalPair m pair → (why : B) × (x : List ℕ) × watch.Rejects m n pair s why x
+  pub some_reject : (m : Market) (n : ℕ) (pair : Record × Record) (s : S) → IsSound m → IsIllegalPair m pair → IsNotDenied ((why : B) × (x : List ℕ) × watch.Rejects m n pair s why x)
   pub some_close : (m : Market) (n : ℕ) (s : S) → ((x : List ℕ) × watch.Closes m n s x) ⊎ ((why : B) × (x : List ℕ) × watch.Stops m n s why x)
 
 module _ {S B : Type 0} (watch : Watch S B) (sight : HasSight watch) where
@@ -137,22 +140,28 @@ module _ {S B : Type 0} (watch : Watch S B) (sight : HasSight watch) where
   HasStep s u = ((t : Watched S) × (y : List ℕ) × SeesOne watch s u t y) ⊎ ((why : B) × (y : List ℕ) × StopsOne watch s (Some u) why y)
 
   -- a legal pair leads on, and any other stops it
-  has_step : (s : Watched S) (u : Record × Record) → (((m : Market) × IsLegalPair s.market u m) ⊎ (((m : Market) × IsLegalPair s.market u m) → ⊥)) → HasStep s u
-  has_step s u (inl (m, legal)) =
+  has_step : (s : Watched S) (u : Record × Record) → IsSound s.market → (((m : Market) × IsLegalPair s.market u m) ⊎ (((m : Market) × IsLegalPair s.market u m) → ⊥)) → IsNotDenied (HasStep s u)
+  has_step s u sound (inl (m, legal)) =
       let seen = sight.some_sight s.market m s.pairs u s.seen legal in
-      inl (watched watch m (s.pairs + 1) seen.0, seen.1, record { legal = legal; counted = refl; sees = seen.2 })
-  has_step s u (inr not) =
+      not_denied (inl (watched watch m (s.pairs + 1) seen.0, seen.1, record { legal = legal; counted = refl; sees = seen.2 }))
+  has_step s u sound (inr not) =
       let illegal : IsIllegalPair s.market u = λ m legal. not (m, legal) in
-      let why = sight.some_reject s.market s.pairs u s.seen illegal in
-      inr (why.0, why.1, (illegal, why.2))
+      follows (λ why. not_denied (inr (why.0, why.1, (illegal, why.2)))) (sight.some_reject s.market s.pairs u s.seen sound illegal)
 
-  pub over_pairs_has_next : (start : Version → Watched S) → HasNext (over_pairs watch) start
-  over_pairs_has_next start = record {
-    some_step = λ version units s x u goes lawful. follows (λ legal. not_denied (has_step s u legal)) (one_of ((m : Market) × IsLegalPair s.market u m));
+  -- the market stays sound
+  stays_sound : (old new : Watched S) (units : List (Record × Record)) (text : List ℕ) → IsSound old.market → Goes (over_pairs watch) old units new text → IsSound new.market
+  stays_sound old new [] text sound goes = subst IsSound (sym (ap (λ (s : Watched S). s.market) goes.0)) sound
+  stays_sound old new (unit ∷ units) text sound goes =
+      let legal = goes.3.legal in
+      stays_sound goes.0 new units goes.2 (steps_keep_soundness.1 old.market unit.0 legal.answer goes.0.market sound legal.step).0 goes.4
+
+  pub over_pairs_has_next : (start : Version → Watched S) → ((version : Version) → IsSound (start version).market) → HasNext (over_pairs watch) start
+  over_pairs_has_next start begins = record {
+    some_step = λ version units s x u goes lawful. follows (has_step s u (stays_sound (start version) s units x (begins version) goes)) (one_of ((m : Market) × IsLegalPair s.market u m));
     some_close = λ version units s x goes. not_denied (sight.some_close s.market s.pairs s.seen);
   }
 
--- ---- audit and report
+-- ---- audit, explain and report
 
 same_counts : (t r : Counts) → t.cleared ≡ r.cleared → t.skipped ≡ r.skipped → t ≡ r
 same_counts t r c s =
@@ -176,6 +185,18 @@ counting_is_exact = record {
 one_unit : (t r : Unit {0}) → t ≡ r
 one_unit t r = refl
 
+pub one_line : (m : Market) (n : ℕ) (pair : Record × Record) (x y : List ℕ) → IsExplained m n pair x → IsExplained m n pair y → x ≡ y
+one_line m n pair x y a b = a.line ∙ ap (finding_line n) (one_finding m pair a.finding b.finding a.found b.found) ∙ sym b.line
+
+explaining_is_exact : IsExactWatch explaining
+explaining_is_exact = record {
+  one_sight = λ m n pair s t r x y a b. (one_count pair s t r a.0 b.0, a.1 ∙ sym b.1);
+  one_reject = λ m n pair s b c x y p q. (p.0 ∙ sym q.0, one_line m (n + 1) pair x y p.1 q.1);
+  one_close = λ m n s x y a b. a ∙ sym b;
+  one_stop = λ m n s b c x y p q. absurd p;
+  closes_or_stops = λ m n s b x y p q. q;
+}
+
 telling_is_exact : IsExactWatch telling
 telling_is_exact = record {
   one_sight = λ m n pair s t r x y a b. (one_unit t r, one_report m.tickers (n + 1) pair x y a b);
@@ -188,31 +209,52 @@ telling_is_exact = record {
 pub audit_is_exact : IsExact audit
 audit_is_exact = over_pairs_is_exact counting counting_is_exact
 
+pub explain_is_exact : IsExact explain
+explain_is_exact = over_pairs_is_exact explaining explaining_is_exact
+
 pub report_is_exact : IsExact report
 report_is_exact = over_pairs_is_exact telling telling_is_exact
 
+-- each legal pair is counted
+some_count : (old new : Market) (n : ℕ) (pair : Record × Record) (s : Counts) → IsLegalPair old pair new → (t : Counts) × (x : List ℕ) × counting.Sees new n pair s t x
+some_count old new n pair s legal = (
+  record { cleared = s.cleared + cleared_by legal.answer; skipped = s.skipped + skipped_by legal.answer },
+  [],
+  (record { answer = legal.answer; spelled = legal.spelled; cleared = refl; skipped = refl }, refl),
+)
+
 counting_has_sight : HasSight counting
 counting_has_sight = record {
-  some_sight = λ old new n pair s legal. (
-    record { cleared = s.cleared + cleared_by legal.answer; skipped = s.skipped + skipped_by legal.answer },
-    [],
-    (record { answer = legal.answer; spelled = legal.spelled; cleared = refl; skipped = refl }, refl),
-  );
-  some_reject = λ m n pair s illegal. (n + 1, [], (refl, refl));
+  some_sight = some_count;
+  some_reject = λ m n pair s sound illegal. not_denied (n + 1, [], (refl, refl));
+  some_close = λ m n s. inl (counted_line n s.cleared s.skipped, refl);
+}
+
+-- something is found of each pair
+some_line : (m : Market) (n : ℕ) (pair : Record × Record) (s : Counts) → IsSound m → IsIllegalPair m pair → IsNotDenied ((why : ℕ) × (x : List ℕ) × explaining.Rejects m n pair s why x)
+some_line m n pair s sound illegal none = each_has_a_finding m pair sound (λ f found. none (n + 1, finding_line (n + 1) f, (refl, record { finding = f; found = found; line = refl })))
+
+explaining_has_sight : HasSight explaining
+explaining_has_sight = record {
+  some_sight = some_count;
+  some_reject = some_line;
   some_close = λ m n s. inl (counted_line n s.cleared s.skipped, refl);
 }
 
 telling_has_sight : HasSight telling
 telling_has_sight = record {
   some_sight = λ old new n pair s legal. let text = some_text old new (n + 1) pair legal in (s, text.0, text.1);
-  some_reject = λ m n pair s illegal. (n + 1, [], (refl, refl));
+  some_reject = λ m n pair s sound illegal. not_denied (n + 1, [], (refl, refl));
   some_close = λ m n s. inl ([], refl);
 }
 
-pub audit_has_next : (start : Version → Watched Counts) → HasNext audit start
+pub audit_has_next : (start : Version → Watched Counts) → ((version : Version) → IsSound (start version).market) → HasNext audit start
 audit_has_next = over_pairs_has_next counting counting_has_sight
 
-pub report_has_next : (start : Version → Watched (Unit {0})) → HasNext report start
+pub explain_has_next : (start : Version → Watched Counts) → ((version : Version) → IsSound (start version).market) → HasNext explain start
+explain_has_next = over_pairs_has_next explaining explaining_has_sight
+
+pub report_has_next : (start : Version → Watched (Unit {0})) → ((version : Version) → IsSound (start version).market) → HasNext report start
 report_has_next = over_pairs_has_next telling telling_has_sight
 
 -- ---- room

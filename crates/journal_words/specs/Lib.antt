@@ -1,4 +1,5 @@
 pub mod Line
+pub mod Findings
 pub mod Watching
 pub mod Words
 pub mod Private

@@ -1,13 +1,16 @@
--- `flow audit` and `flow report`, as words over the pairs of a journal.
+-- `flow audit`, `flow explain` and `flow report`, as words over the pairs of a journal.
 use Rattle.std.specs.Prelude.{◌≡◌, ◌+◌, ℕ, []}
 use Rattle.wire_records.specs.Records.{Record}
 use Rattle.wire_records.specs.Commands.{Answer}
 use Rattle.flow_orders.specs.Outcomes.{Outcome}
 use Rattle.journal_records.specs.Replies.{SpellsAnswer}
+use Rattle.market_rules.specs.Market.{Market}
+use Rattle.market_rules.specs.Wanting.{RecordMayWant}
 use Rattle.journal_replay.specs.Audits.{cleared_by, skipped_by}
 use Rattle.batch_report.specs.Reports.{IsReport}
 use Rattle.word_driver.specs.Word.{Word}
 use Rattle.journal_words.specs.Line.{counted_line}
+use Rattle.journal_words.specs.Findings.{IsExplained}
 use Rattle.journal_words.specs.Watching.{Sight, Legal, Illegal, End, Watch, Watched, over_pairs}
 
 -- how many batches cleared, and how many were skipped
@@ -41,6 +44,26 @@ counting = record {
 -- `flow audit`
 abbrev pub audit : Word (Record × Record) (Watched Counts) ℕ
 audit = over_pairs counting
+
+-- what is found of a pair may want memory where its audit may
+abbrev pub WantsFinding : Market → Sight → Type 0
+WantsFinding market (Legal pair) = ⊥
+WantsFinding market (Illegal pair) = RecordMayWant market pair.0
+WantsFinding market End = ⊥
+
+-- The same, and of the first illegal pair it writes the line of what is found of it.
+abbrev pub explaining : Watch Counts ℕ
+explaining = record {
+  Sees = counting.Sees;
+  Rejects = λ market before pair counts number text. (number ≡ before + 1) × IsExplained market (before + 1) pair text;
+  Closes = counting.Closes;
+  Stops = counting.Stops;
+  Wants = λ market pairs sight counts. WantsFinding market sight;
+}
+
+-- `flow explain`
+abbrev pub explain : Word (Record × Record) (Watched Counts) ℕ
+explain = over_pairs explaining
 
 -- A report writes the lines of each pair under its number, counted from 1.
 abbrev pub telling : Watch (Unit {0}) ℕ

@@ -1,21 +1,21 @@
 //! What an audit counts.
-ghost use Rattle.std.specs.Prelude.{◌≡◌, ◌≢◌, ◌≤◌, ◌++◌, ◌+◌, decimal, length, vec_len, vec_capacity};
+ghost use Rattle.std.specs.Prelude.{◌≡◌, ◌≢◌, ◌≤◌, ◌++◌, ◌+◌, vec_len, vec_capacity};
 ghost use Rattle.journal_words.specs.Line.{counted_line};
 ghost use Rattle.journal_words.specs.Words.{counting};
 
 use crate::on_pair::OnPair;
+use crate::pieces::put_number;
 use batch_audit::Audit;
-use itoa::Buffer;
 use journal_records::PairView;
 use word_driver::{Halt, Memory};
+
+// As many bytes has the longest line: three numbers of 20 digits, and 34 bytes of words.
+const MOST_LINE: usize = 94;
 
 // The tags of the replies that tell of a batch.
 const CLEARED: u8 = 133;
 
 const SKIPPED: u8 = 134;
-
-// As many bytes has the longest line: three numbers of 20 digits, and 34 bytes of words.
-const MOST_LINE: usize = 94;
 
 // 1 for a tag that is counted, and 0 for any other.
 fn count_of(tag: u8, counted: u8) -> u64
@@ -23,20 +23,6 @@ fn count_of(tag: u8, counted: u8) -> u64
     ensures none { tag ≢ counted → result ≡ 0 }
 {
     if tag == counted { 1 } else { 0 }
-}
-
-// Appends a number between two texts, for which there is room.
-fn put_number(text: &mut Vec<u8>, before: &[u8], number: u64, after: &[u8])
-    requires room { vec_len text.old + length before.now + 20 + length after.now ≤ vec_capacity text.old }
-    ensures put { text.new.items ≡ text.old.items ++ (before.now ++ decimal number ++ after.now) }
-    ensures most { vec_len text.new ≤ vec_len text.old + length before.now + 20 + length after.now }
-    ensures room { vec_capacity text.old ≤ vec_capacity text.new }
-{
-    let mut buffer = Buffer::new();
-    text.extend_from_slice(before).unwrap();
-    text.extend_from_slice(buffer.format(number).as_bytes())
-        .unwrap();
-    text.extend_from_slice(after).unwrap();
 }
 
 // Appends the line on a legal journal, for which there is room.

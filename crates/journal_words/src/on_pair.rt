@@ -57,6 +57,7 @@ pub trait OnPair {
         text: &mut Vec<u8>,
     ) -> Result<Self::Stop, Memory>
         requires illegal { IsIllegalPair audit.now pair.now }
+        requires next { audit.now.next_order + 1 < 2 ^ 64 }
         requires few { pairs + 1 < 2 ^ 64 }
         requires empty { text.old.items ≡ [] }
         requires none { vec_len text.old ≡ 0 }

@@ -9,6 +9,9 @@ returns-in-Run-clause-paced g c = λ same. c.run.ensures.paced
 pub returns-in-Audit-clause-does : goal.returns-in-Audit-clause-does
 returns-in-Audit-clause-does g c = rw c.in-Audit.is c.audit.ensures.does
 
+pub returns-in-Explain-clause-does : goal.returns-in-Explain-clause-does
+returns-in-Explain-clause-does g c = rw c.in-Explain.is c.explain.ensures.does
+
 pub returns-in-Report-clause-does : goal.returns-in-Report-clause-does
 returns-in-Report-clause-does g c = rw c.in-Report.is c.report.ensures.does
 

@@ -1,0 +1,51 @@
+-- Explaining comes to the status of an audit, and says what is found of the first pair that isn't legal.
+use Rattle.std.proofs.Common.{◌≡◌, ◌≢◌, ◌+◌, ℕ, List, [], ◌∷◌, length, inl, inr, ap, subst, ◌∙◌}
+use Rattle.wire_records.specs.Records.{Record}
+use Rattle.wire_records.specs.Commands.{Pair}
+use Rattle.wire_records.specs.Reading.{Ending}
+use Rattle.flow_orders.specs.Outcomes.{Outcome}
+use Rattle.market_rules.specs.Market.{Market}
+use Rattle.journal_words.specs.Findings.{IsExplained}
+use Rattle.flow_exchange.specs.declared.form.Form.TheVariants.{Audit}
+use Rattle.flow_exchange.specs.declared.status.Status.{Status}
+use Rattle.flow_exchange.specs.declared.status.Status.TheVariants as answer
+use Rattle.flow_exchange.specs.Auditing.{audit_status}
+use Rattle.flow_exchange.specs.Explaining.{Explains}
+use Rattle.flow_exchange.proofs.FileOf.{file_of}
+use Rattle.flow_exchange.proofs.Outcomes.{one_outcome}
+use Rattle.flow_laws.specs.Laws.{ExplainIsAudit, RejectedIsExplained}
+use Rattle.flow_laws.proofs.AuditLaws.{audits_first, explained_file}
+
+-- where no pair is rejected, the line of the audit is written
+explained_alike : (limit : ℕ) (market : Market) (legal : List (Pair Record Outcome)) (behind : List (Record × Record)) (ending : Ending) (status : Status) (line text : List ℕ) → status ≡ audit_status limit ending legal behind → ((number : ℕ) → status ≢ answer.Rejected number)
+    → Explains market legal behind line text → text ≡ line
+explained_alike limit market legal [] ending status line text ends not writes = writes
+explained_alike limit market legal (bad ∷ more) ending status line text ends not writes = absurd (not (length legal + 1) ends)
+
+pub explain_is_audit : ExplainIsAudit
+explain_is_audit limit bytes text line status other (inl none) audits =
+    let same = one_outcome Audit limit bytes status other text line (inl none) audits in
+    (same.0, λ not. same.1)
+explain_is_audit limit bytes text line status other (inr file) audits =
+    let same = one_outcome Audit limit bytes status other file.line line (inr file.audit) audits in (
+      same.0,
+      λ not. explained_alike limit file.audit.market file.audit.legal file.audit.behind file.audit.ending status file.line text file.audit.ends not file.writes ∙ same.1,
+    )
+
+pub rejected_is_explained : RejectedIsExplained
+unfolding file_of
+rejected_is_explained limit number bytes text = (
+  λ comes.
+      elim comes [
+        | inl none ↦ absurd (let no = none.1 in cc)
+        | inr file ↦ explained_file limit number bytes file.audit.legal file.audit.behind file.audit.ending file.audit.market file.line text file.audit.audits file.audit.ends file.writes
+      ],
+  λ illegal.
+      let first = illegal.0 in
+      let all = audits_first limit number bytes first in
+      inr (record {
+        line = [];
+        audit = file_of limit bytes (answer.Rejected number) first.pairs (first.bad ∷ all.0) all.1 first.market all.2 (ap (λ (n : ℕ). answer.Rejected n) first.counted);
+        writes = subst (λ (n : ℕ). IsExplained first.market n first.bad text) first.counted illegal.1;
+      }),
+)

@@ -1,0 +1,155 @@
+//! Why the first pair that isn't legal is none.
+ghost use Rattle.std.specs.Prelude.{◌≡◌, ◌≤◌, ◌++◌, ◌+◌, vec_len, vec_capacity};
+ghost use Rattle.journal_words.specs.Findings.{reply_text, part_text, finding_text, finding_line};
+ghost use Rattle.journal_words.specs.Words.{explaining};
+
+use crate::counting::Counting;
+use crate::on_pair::OnPair;
+use crate::pieces::{put, put_number};
+use batch_audit::{Audit, Finding};
+use batch_certificate::Verdict;
+use journal_records::PairView;
+use wire_records::Reply;
+use word_driver::{Halt, Memory};
+
+// Appends a plain reply, for which there is room.
+fn put_reply(text: &mut Vec<u8>, reply: Reply)
+    requires room { vec_len text.old + 28 ≤ vec_capacity text.old }
+    ensures put { text.new.items ≡ text.old.items ++ reply_text reply }
+    ensures most { vec_len text.new ≤ vec_len text.old + 28 }
+    ensures room { vec_capacity text.old ≤ vec_capacity text.new }
+{
+    match reply {
+        Reply::Done => put(text, b"done"),
+        Reply::Asset(asset) => put_number(text, b"asset ", asset, b""),
+        Reply::Account(account) => put_number(text, b"account ", account, b""),
+        Reply::Order(order) => put_number(text, b"order ", order, b""),
+        Reply::Refused(refusal) => put_number(text, b"refused ", refusal.code(), b""),
+    }
+}
+
+// Appends the part of a clearing that isn't right, for which there is room.
+fn put_part(text: &mut Vec<u8>, verdict: Verdict)
+    requires room { vec_len text.old + 28 ≤ vec_capacity text.old }
+    ensures put { text.new.items ≡ text.old.items ++ part_text verdict }
+    ensures most { vec_len text.new ≤ vec_len text.old + 28 }
+    ensures room { vec_capacity text.old ≤ vec_capacity text.new }
+{
+    match verdict {
+        Verdict::Right => {}
+        Verdict::Count => put(text, b"count"),
+        Verdict::Price(asset) => put_number(text, b"price ", asset, b""),
+        Verdict::Rate(place) => put_number(text, b"rate ", place, b""),
+        Verdict::Residual(asset) => put_number(text, b"residual ", asset, b""),
+        Verdict::Gap => put(text, b"gap"),
+    }
+}
+
+// Appends a plain reply that is expected, for which there is room.
+fn put_expected(text: &mut Vec<u8>, reply: Reply)
+    requires room { vec_len text.old + 43 ≤ vec_capacity text.old }
+    ensures put { text.new.items ≡ text.old.items ++ finding_text (Finding.OtherReply reply) }
+    ensures most { vec_len text.new ≤ vec_len text.old + 43 }
+    ensures room { vec_capacity text.old ≤ vec_capacity text.new }
+{
+    put(text, b"reply ");
+    put_reply(text, reply);
+    put(text, b" expected");
+}
+
+// Appends what is found, for which there is room.
+fn put_finding(text: &mut Vec<u8>, finding: Finding)
+    requires room { vec_len text.old + 51 ≤ vec_capacity text.old }
+    ensures put { text.new.items ≡ text.old.items ++ finding_text finding }
+    ensures most { vec_len text.new ≤ vec_len text.old + 51 }
+    ensures room { vec_capacity text.old ≤ vec_capacity text.new }
+{
+    match finding {
+        Finding::NoReply => put(text, b"no reply"),
+        Finding::OtherReply(reply) => put_expected(text, reply),
+        Finding::Batch(number) => put_number(text, b"batch ", number, b" expected"),
+        Finding::Part(verdict) => put_part(text, verdict),
+        Finding::SingleBook => put(text, b"one-asset book"),
+        Finding::TraceLength => put(text, b"trace length"),
+        Finding::TraceStep(place) => put_number(text, b"trace step ", place, b""),
+        Finding::AllSettled => put(text, b"all settled"),
+        Finding::StartDual(right) => put_number(text, b"start dual ", right, b""),
+        Finding::EndDual(right) => put_number(text, b"end dual ", right, b""),
+        Finding::Legal => {}
+    }
+}
+
+// Appends the line of what is found of the pair of a number, for which there is room.
+fn put_line(text: &mut Vec<u8>, number: u64, finding: Finding)
+    requires room { vec_len text.old + 79 ≤ vec_capacity text.old }
+    ensures put { text.new.items ≡ text.old.items ++ finding_line number finding }
+    ensures room { vec_capacity text.old ≤ vec_capacity text.new }
+{
+    put_number(text, b"pair ", number, b": ");
+    put_finding(text, finding);
+    put(text, b"\n");
+}
+
+/// The counts of an audit, and of the first pair that isn't legal the line of what is found of it.
+#[derive(Drop)]
+pub struct Explaining {
+    counting: Counting,
+}
+
+impl Explaining {
+    ghost use Rattle.journal_words.specs.Words.{Counts};
+
+    /// Nothing is counted yet.
+    pub fn new() -> Explaining
+        ensures within { ⟦<Explaining as OnPair>⟧.is_within result 0 }
+        ensures none { ⟦<Explaining as OnPair>⟧.seen result ≡ record { cleared = 0; skipped = 0 } }
+    {
+        Explaining {
+            counting: Counting::new(),
+        }
+    }
+}
+
+impl OnPair for Explaining {
+    ghost use Rattle.journal_words.specs.Words.{Counts};
+
+    type Stop = u64;
+
+    const ROOM: usize = Counting::ROOM;
+
+    ghost ROOM = { 94 };
+
+    ghost Seen = { Counts };
+
+    ghost watch = { explaining };
+
+    ghost seen = { λ e. ⟦<Counting as OnPair>⟧.seen e.counting };
+
+    ghost is_within = { λ e pairs. ⟦<Counting as OnPair>⟧.is_within e.counting pairs };
+
+    fn legal(
+        &mut self,
+        audit: &Audit,
+        pair: &PairView<'_>,
+        pairs: u64,
+        text: &mut Vec<u8>,
+    ) -> Result<(), Memory> {
+        self.counting.legal(audit, pair, pairs, text)
+    }
+
+    fn illegal(
+        &mut self,
+        audit: &Audit,
+        pair: &PairView<'_>,
+        pairs: u64,
+        text: &mut Vec<u8>,
+    ) -> Result<u64, Memory> {
+        let finding = audit.explain(pair).map_err(|_| Memory)?;
+        put_line(text, pairs + 1, finding);
+        Ok(pairs + 1)
+    }
+
+    fn end(&mut self, audit: &Audit, pairs: u64, text: &mut Vec<u8>) -> Result<(), Halt<u64>> {
+        self.counting.end(audit, pairs, text)
+    }
+}
