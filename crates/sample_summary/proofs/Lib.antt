@@ -2,3 +2,4 @@ mod Counted
 mod Written
 mod Frames
 pub mod Sampled
+pub mod OneSummary

@@ -6,6 +6,7 @@
 #![tactic(auto)]
 
 mod counting;
+pub mod laws;
 mod line;
 mod sampling;
 
