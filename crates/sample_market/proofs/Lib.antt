@@ -1,0 +1,5 @@
+mod Written
+mod Drawn
+mod Lawful
+pub mod Short
+pub mod LawProofs

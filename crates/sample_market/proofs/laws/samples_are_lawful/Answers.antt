@@ -1,0 +1,5 @@
+use Rattle.sample_market.proofs.LawProofs.{samples_are_lawful}
+use Rattle.sample_market.proofs.laws.samples_are_lawful.Goals as goal
+
+pub returns : goal.returns
+returns c = samples_are_lawful

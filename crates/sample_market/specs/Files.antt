@@ -1,0 +1,50 @@
+-- The commands of a sample, and its file.
+use Rattle.std.specs.Prelude.{ℕ, ◌+◌, ◌^◌, List, ◌∷◌, ◌++◌, map, codes, replicate}
+use Rattle.std.specs.List.{flat_map, range_with_len}
+use Rattle.wire_records.specs.Records.{spelling, command_magic}
+use Rattle.wire_records.specs.Commands.{Command, AddAsset, OpenAccount, DepositMoney, DepositAsset, RunBatch}
+use Rattle.wire_records.specs.CommandRecords.{record_of}
+use Rattle.sample_market.specs.Orders.{drawn_orders}
+
+-- the asset of a number below 10: its ticker is `A` and the number
+abbrev pub new_asset : ℕ → Command
+new_asset asset = AddAsset (codes "A" ++ (48 + asset) ∷ codes "      ")
+
+-- eight assets, A0 to A7
+unfoldable pub new_assets : List Command
+new_assets = map new_asset (range_with_len 0 8)
+
+-- 64 accounts
+unfoldable pub new_accounts : List Command
+new_accounts = replicate 64 OpenAccount
+
+-- 2^50 units of an asset for an account, and of each asset
+abbrev pub units_of : ℕ → ℕ → Command
+units_of account asset = DepositAsset account asset (2 ^ 50)
+
+unfoldable pub all_units_of : ℕ → List Command
+all_units_of account = map (units_of account) (range_with_len 0 8)
+
+-- what an account gets: 2^50 ticks, and these units
+abbrev pub deposits_of : ℕ → List Command
+deposits_of account = DepositMoney account (2 ^ 50) ∷ all_units_of account
+
+-- what all accounts get, one after the other
+unfoldable pub all_deposits : List Command
+all_deposits = flat_map deposits_of (range_with_len 1 64)
+
+-- four batches of at most 1,000 moves
+unfoldable pub batches : List Command
+batches = replicate 4 (RunBatch 1000)
+
+-- A sample: assets, accounts, deposits, so many orders that are drawn from a number on, and batches.
+unfoldable pub sample : ℕ → ℕ → List Command
+sample number orders = new_assets ++ (new_accounts ++ (all_deposits ++ (drawn_orders orders 0 number ++ batches)))
+
+-- the records of commands in bytes, one after the other
+abbrev pub spell_commands : List Command → List ℕ
+spell_commands commands = flat_map (λ command. spelling (record_of command)) commands
+
+-- its command file, of version One
+unfoldable pub sample_file : ℕ → ℕ → List ℕ
+sample_file number orders = command_magic ++ spell_commands (sample number orders)

@@ -1,0 +1,4 @@
+pub mod Draws
+pub mod Orders
+pub mod Files
+pub mod Laws

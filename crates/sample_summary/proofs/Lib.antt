@@ -1,0 +1,5 @@
+mod Counted
+mod Written
+mod Frames
+pub mod Sampled
+pub mod OneSummary

@@ -1,0 +1,69 @@
+-- Words that only private code uses: what serving and auditing one record of a sample makes.
+use Rattle.std.specs.Prelude.{◌≡◌, ◌+◌, ◌*◌, ◌^◌, ◌<◌, ℕ, List}
+use Rattle.std.specs.List.{sum_by}
+use Rattle.wire_records.specs.Records.{Record}
+use Rattle.wire_records.specs.Commands.{Answer, Pair}
+use Rattle.wire_records.specs.Versions.{IsReadAs}
+use Rattle.flow_orders.specs.Outcomes.{Clearing, Outcome, IsRightOutcome}
+use Rattle.journal_records.specs.Pairs.{IsPair, pair_spelling}
+use Rattle.market_rules.specs.Market.{Market}
+use Rattle.market_rules.specs.Journal.{Step}
+use Rattle.journal_replay.specs.Audits.{cleared_by, skipped_by}
+use Rattle.exchange_session.specs.Serving.{AnswersOne}
+use Rattle.sample_summary.specs.declared.counting.Counts.{Counts}
+use Rattle.sample_summary.specs.declared.sampling.Sampling.{Sampling}
+use Rattle.sample_summary.specs.Summary.{units_by}
+
+-- the sum of the rates of a clearing
+abbrev pub units_traded : Clearing → ℕ
+units_traded c = sum_by (λ f. f.rate) c.fills
+
+-- what an answer counts
+pub record IsCounted (answer : Answer Outcome) (counts : Counts) : Type 0 where
+  pub cleared : counts.cleared ≡ cleared_by answer
+  pub skipped : counts.skipped ≡ skipped_by answer
+  pub units : counts.units ≡ units_by answer
+
+-- an answer is counted too
+pub record CountsOne (answer : Answer Outcome) (old new : Counts) : Type 0 where
+  pub cleared : new.cleared ≡ old.cleared + cleared_by answer
+  pub skipped : new.skipped ≡ old.skipped + skipped_by answer
+  pub units : new.units ≡ old.units + units_by answer
+
+-- the counts stay within their width while so many bytes of records are left; no byte brings more units
+abbrev pub most_units : ℕ
+most_units = 4369 * 2 ^ 32
+
+pub record HasRoom (counts : Counts) (left : ℕ) : Type 0 where
+  pub cleared : counts.cleared + left < 2 ^ 64
+  pub skipped : counts.skipped + left < 2 ^ 64
+  pub units : counts.units + left * most_units < 2 ^ 64
+
+-- The bytes are a pair that is a step of a market.
+pub record IsWritten (old : Market) (bytes : List ℕ) : Type 0 where
+  pub pair : Pair Record Outcome
+  pub new : Market
+  pub fits : IsPair pair
+  pub step : Step IsReadAs IsRightOutcome old pair.asked pair.answer new
+  pub spelled : bytes ≡ pair_spelling pair
+
+-- the market, and what was counted
+pub record State : Type 0 where
+  pub market : Market
+  pub counts : Counts
+
+abbrev pub state_of : Sampling → State
+state_of s = record { market = s.session; counts = s.counts }
+
+-- A record is answered by the program's own rule, and its pair is legal and counted.
+pub record TakesOne (old : State) (asked : Record) (new : State) : Type 0 where
+  pub text : List ℕ
+  pub answers : AnswersOne old.market asked new.market text
+  pub fits : IsPair (record { asked = asked; answer = answers.answer })
+  pub counts : CountsOne answers.answer old.counts new.counts
+
+-- records can be taken while so many bytes are left: audit and session are at one market
+pub record IsReady (s : Sampling) (left : ℕ) : Type 0 where
+  pub same : s.audit ≡ s.session
+  pub next : s.session.next_order + left < 2 ^ 64
+  pub counts : HasRoom s.counts left

@@ -1,0 +1,173 @@
+//! The run of a sample, with its audit.
+ghost use Rattle.std.specs.Prelude.{◌≡◌, ◌≤◌, ◌<◌, ◌+◌, ◌^◌, OnOk, IfOk};
+ghost use Rattle.wire_records.specs.Records.{Record, IsRecord, most_body};
+ghost use Rattle.wire_records.specs.Formats.{commands};
+ghost use Rattle.market_rules.specs.Market.{Market};
+ghost use Rattle.batch_audit.specs.Legal.{IsLegalPair};
+ghost use Rattle.exchange_session.specs.Serving.{AnswersOne};
+ghost use Rattle.sample_summary.specs.Summary.{Summarizes};
+ghost use Rattle.sample_summary.specs.Private.{State, IsWritten, CountsOne, HasRoom, TakesOne, IsReady};
+
+use crate::counting::{Counts, counts_of};
+use crate::line::line_of;
+use batch_audit::{Audit, Legality};
+use exchange_session::Session;
+use file_units::{Front, TakesUnits, take_units};
+use journal_records::{PairFramed, PairView, next_pair};
+use sample_market::sample_commands;
+use std::alloc::Global;
+use wire_records::{COMMAND_MAGIC, Framed, MOST_BODY, Memory, RecordView, next_record};
+
+// The session that serves the records, the audit of the pairs that it writes, the last of these, and what was counted.
+#[derive(Drop)]
+struct Sampling {
+    session: Session,
+    audit: Audit,
+    pair: Vec<u8>,
+    counts: Counts,
+}
+
+// Serves a record: its pair stands in the buffer then, alone.
+fn serve_record(
+    session: &mut Session,
+    asked: &RecordView<'_>,
+    pair: &mut Vec<u8>,
+) -> Result<(), Memory>
+    requires short { IsRecord most_body asked.now }
+    requires next { session.old.next_order + 1 < 2 ^ 64 }
+    ensures served { OnOk result (AnswersOne session.old asked.now session.new pair.new.items) }
+{
+    pair.clear();
+    session.serve(asked, pair)
+}
+
+// Audits a pair that is legal.
+fn audit_legal(audit: &mut Audit, pair: &PairView<'_>) -> Result<(), Memory>
+    requires legal { (new : Market) × IsLegalPair audit.old pair.now new }
+    requires next { audit.old.next_order + 1 < 2 ^ 64 }
+    ensures made { OnOk result (IsLegalPair audit.old pair.now audit.new) }
+{
+    match audit.pair(pair)? {
+        Legality::Legal => Ok(()),
+        Legality::Illegal => unreachable!(),
+    }
+}
+
+// Counts what was counted of one pair to the rest.
+fn add(counts: &mut Counts, more: Counts)
+    requires cleared { counts.old.cleared + more.cleared < 2 ^ 64 }
+    requires skipped { counts.old.skipped + more.skipped < 2 ^ 64 }
+    requires units { counts.old.units + more.units < 2 ^ 64 }
+    ensures cleared { counts.new.cleared ≡ counts.old.cleared + more.cleared }
+    ensures skipped { counts.new.skipped ≡ counts.old.skipped + more.skipped }
+    ensures units { counts.new.units ≡ counts.old.units + more.units }
+{
+    counts.cleared += more.cleared;
+    counts.skipped += more.skipped;
+    counts.units += more.units;
+}
+
+// Audits the pair that these bytes are, and counts it.
+fn take_pair(audit: &mut Audit, bytes: &[u8], counts: &mut Counts) -> Result<(), Memory>
+    requires written { IsWritten audit.old bytes.now }
+    requires next { audit.old.next_order + 1 < 2 ^ 64 }
+    requires room { HasRoom counts.old 5 }
+    ensures taken { OnOk result ((written : IsWritten audit.old bytes.now)
+        → (audit.new ≡ written.new) × CountsOne written.pair.answer counts.old counts.new) }
+{
+    match next_pair(bytes) {
+        PairFramed::Whole(pair, _) => {
+            audit_legal(audit, &pair)?;
+            add(counts, counts_of(&pair));
+            Ok(())
+        }
+        PairFramed::End => unreachable!(),
+        PairFramed::Broken => unreachable!(),
+    }
+}
+
+impl Sampling {
+    ghost use Rattle.wire_records.specs.declared.version.Version.TheVariants.{One};
+    ghost use Rattle.market_rules.specs.Market.{empty_market};
+    ghost use Rattle.sample_summary.specs.Private.{state_of};
+
+    // Nothing is served yet. So many bytes has the longest file.
+    fn new(alloc: Global) -> Sampling
+        ensures ready { IsReady result 928788 }
+        ensures none { state_of result
+            ≡ record { market = empty_market One; counts = record { cleared = 0; skipped = 0; units = 0 } } }
+    {
+        Sampling {
+            session: Session::new(alloc),
+            audit: Audit::new(alloc),
+            pair: Vec::new(alloc),
+            counts: Counts {
+                cleared: 0,
+                skipped: 0,
+                units: 0,
+            },
+        }
+    }
+
+    // Serves a record, and audits and counts its pair.
+    fn take_record(&mut self, asked: &RecordView<'_>) -> Result<(), Memory>
+        requires short { IsRecord most_body asked.now }
+        requires ready { IsReady self.old 5 }
+        ensures taken { OnOk result (TakesOne (state_of self.old) asked.now (state_of self.new)) }
+        ensures same { OnOk result (self.new.audit ≡ self.new.session) }
+    {
+        // What the audit's market ensures: it is sound.
+        let _sound = self.audit.market();
+        serve_record(&mut self.session, asked, &mut self.pair)?;
+        take_pair(&mut self.audit, &self.pair, &mut self.counts)
+    }
+}
+
+impl TakesUnits<()> for Sampling {
+    ghost use Rattle.sample_summary.specs.Private.{state_of};
+
+    type Fault = Memory;
+
+    ghost Unit = { Record };
+
+    ghost State = { State };
+
+    ghost format = { commands };
+
+    ghost state = { state_of };
+
+    ghost steps = { λ old asked new before after. TakesOne old asked new };
+
+    ghost breaks = { λ old asked fault before after. Unit {0} };
+
+    ghost is_ready = { λ s left. IsReady s left };
+
+    fn take(&mut self, bytes: &[u8], _out: &mut ()) -> Result<Front, Memory> {
+        match next_record(bytes, MOST_BODY) {
+            Framed::Whole(asked, taken) => {
+                self.take_record(&asked)?;
+                Ok(Front::Taken(taken))
+            }
+            Framed::End => Ok(Front::NoBytes),
+            Framed::TooLarge(_) => Ok(Front::Overlong),
+            Framed::Short => Ok(Front::Short),
+        }
+    }
+}
+
+/// The line on a sample of so many orders, 1 to 16,384, that are drawn from a number on: how many of its four batches
+/// cleared, how many were skipped, and the sum of all rates that were published.
+///
+/// The command file is made, and its records are served one after the other; each pair is audited and counted, and let go.
+/// `Memory` where there is none for the file, the two markets, a batch or its audit. It costs what a run of the file and an audit of
+/// its journal cost, and holds the file, the market of either, and one pair.
+pub fn sample_line(alloc: Global, number: u64, orders: u32) -> Result<Vec<u8>, Memory>
+    requires some { 1 ≤ orders }
+    requires few { orders ≤ 16384 }
+    ensures { IfOk result (λ line. Summarizes number orders line.items) }
+{
+    let file = sample_commands(alloc, number, orders)?;
+    let mut sampling = Sampling::new(alloc);
+    take_units(&file, COMMAND_MAGIC.len(), false, &mut sampling, &mut ())?;
+    line_of(alloc, orders, sampling.counts)
+}
