@@ -3,8 +3,7 @@ use Rattle.std.proofs.Common.{◌≡◌, ℕ, zero, suc, ◌+◌, ◌-◌, ◌�
 use Rattle.std.proofs.lemmas.List.{drop-drop, take-append-le, drop-append-le, drop_at, take_all, append-nil, take-take, take_more, drop_more}
 use Rattle.disk_edge.specs.declared.call_log.Call.{Call}
 use Rattle.disk_edge.specs.declared.call_log.Call.TheVariants.{Look, Write, Cut, Sync}
-use Rattle.disk_edge.specs.Memory.{Made, looked, wrote, cut, synced, seen, data_of, bytes_written, content_of, content_after, crash_of, crash_after, made_of, IsStopped}
-use Rattle.disk_edge.specs.Logs.{LogState}
+use Rattle.disk_edge.specs.Memory.{Made, looked, wrote, cut, synced, seen, data_of, content_of, content_after, crash_of, crash_after, made_of, IsStopped}
 
 pub data_of-append : (calls more : List Call) → data_of (calls ++ more) ≡ data_of calls + data_of more
 data_of-append [] more = omega arith

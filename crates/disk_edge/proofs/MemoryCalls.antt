@@ -1,11 +1,10 @@
 -- What a call does to the disk in memory, as a disk.
-use Rattle.std.proofs.Common.{◌≡◌, ◌⊎◌, inl, inr, ⊎_elim, ℕ, zero, suc, ◌+◌, ◌-◌, ◌^◌, ◌≤◌, ◌<◌, min, List, [], ◌∷◌, ◌++◌, Bool, true, false, length, take, drop, Option, Some, option_map, Result, Ok, Err, OnOk, OnErr, IsErr, is_err, is_ok, ◌↔◌, if◌then◌else◌, nat_lt, refl, sym, ap, ◌∙◌, subst, arith, length-append}
+use Rattle.std.proofs.Common.{◌≡◌, ◌⊎◌, inl, inr, ⊎_elim, ℕ, ◌+◌, ◌≤◌, ◌<◌, List, [], ◌∷◌, ◌++◌, Bool, true, false, length, take, Some, Result, Ok, Err, OnOk, OnErr, IsErr, is_err, is_ok, ◌↔◌, if◌then◌else◌, nat_lt, refl, sym, ap, ◌∙◌, subst, arith, length-append}
 use Rattle.std.proofs.lemmas.List.{take_all, take-append-le}
-use Rattle.std.proofs.lemmas.Bool.{cases_eq}
 use Rattle.flow_io.specs.Fakes.{one_more}
-use Rattle.disk_edge.specs.Disks.{DiskState, Elapses}
+use Rattle.disk_edge.specs.Disks.{Elapses}
 use Rattle.disk_edge.specs.Images.{Images, written, TornWrite, TornCut, After, AddsNone, AddsBy, AddsNoLonger, LeavesOnly}
-use Rattle.disk_edge.specs.Memory.{Made, looked, wrote, cut, synced, content_of, images_of, content_after, images_after, MemoryState, images_at, disk_of, since, after_call, write_call, bytes_written, NextFails, FillsRoom}
+use Rattle.disk_edge.specs.Memory.{Made, looked, wrote, cut, synced, content_of, images_of, content_after, images_after, MemoryState, disk_of, after_call, write_call, bytes_written, NextFails, FillsRoom}
 use Rattle.disk_edge.specs.MemoryLaws.{is_disk}
 use Rattle.std.proofs.lemmas.Bool.Decides.{nat_tests}
 use Rattle.disk_edge.proofs.Torn.{write_stays, cut_stays}

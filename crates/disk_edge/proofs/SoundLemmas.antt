@@ -1,5 +1,5 @@
 -- The parts of the disk in memory fit together after one more call.
-use Rattle.std.proofs.Common.{◌≡◌, ℕ, ◌+◌, ◌^◌, ◌≤◌, ◌<◌, min, List, [], ◌∷◌, ◌++◌, length, take, drop, Vec, vec_len, vec_capacity, refl, sym, ap, ◌∙◌, arith, length-append, length-take, length-drop}
+use Rattle.std.proofs.Common.{◌≡◌, ℕ, ◌+◌, ◌^◌, ◌≤◌, ◌<◌, List, [], ◌∷◌, ◌++◌, length, take, drop, Vec, vec_len, vec_capacity, sym, ap, ◌∙◌, arith, length-append, length-take, length-drop}
 use Rattle.std.specs.declared.alloc.Global.{Global}
 use Rattle.disk_edge.specs.declared.calls.Calls.{Calls}
 use Rattle.disk_edge.specs.Images.{written}

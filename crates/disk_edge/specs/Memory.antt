@@ -1,5 +1,5 @@
 -- The disk in memory: the calls that it keeps a record of, and what a crash may leave by them.
-use Rattle.std.specs.Prelude.{◌≡◌, ◌⊎◌, ℕ, ◌+◌, ◌-◌, ◌^◌, ◌≤◌, ◌<◌, min, List, [], ◌∷◌, ◌++◌, Bool, true, false, if◌then◌else◌, nat_lt, Option, Some, length, take, drop, replicate, Contains}
+use Rattle.std.specs.Prelude.{◌≡◌, ◌⊎◌, ℕ, ◌+◌, ◌-◌, ◌≤◌, ◌<◌, List, [], ◌∷◌, ◌++◌, Bool, true, false, if◌then◌else◌, nat_lt, Some, length, take, drop, replicate}
 use Rattle.flow_io.specs.Fakes.{NextIsListed, one_more}
 use Rattle.disk_edge.specs.Disks.{DiskState}
 use Rattle.disk_edge.specs.Images.{Images, written, TornWrite, TornCut, After}

@@ -1,5 +1,4 @@
-use Rattle.std.proofs.Common.{◌≡◌, ◌+◌, ◌≤◌, [], ◌∷◌, ℕ, List, length, take, drop, get_or, sym, ap, ◌∙◌, arith, length-take, length-drop}
-use Rattle.disk_edge.specs.Memory.{seen, data_of, crash_after}
+use Rattle.std.proofs.Common.{◌≡◌, length, ap, ◌∙◌, arith, length-take, length-drop}
 use Rattle.disk_edge.proofs.LogLemmas.{data_of-at, replay_at}
 use Rattle.disk_edge.proofs.replay.replay_all.Goals as goal
 

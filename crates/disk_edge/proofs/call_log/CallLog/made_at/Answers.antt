@@ -1,4 +1,4 @@
-use Rattle.std.proofs.Common.{◌≡◌, ap, sym, ◌∙◌, arith}
+use Rattle.std.proofs.Common.{ap, sym, ◌∙◌, arith}
 use Rattle.disk_edge.specs.Logs.{LogState}
 use Rattle.disk_edge.proofs.LogLemmas.{stopped_looking, stopped_writing, stopped_cutting, stopped_syncing}
 use Rattle.disk_edge.proofs.call_log.CallLog.made_at.Goals as goal

@@ -1,5 +1,4 @@
-use Rattle.std.proofs.Common.{◌≡◌, ◌≤◌, length, take, sym, ap, ◌∙◌, refl, arith}
-use Rattle.disk_edge.specs.Memory.{seen, data_of, crash_after}
+use Rattle.std.proofs.Common.{refl, arith}
 use Rattle.disk_edge.proofs.LogLemmas.{data_of-take, seen-take}
 use Rattle.disk_edge.proofs.call_log.CallLog.replay.Goals as goal
 

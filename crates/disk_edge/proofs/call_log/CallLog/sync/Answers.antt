@@ -1,6 +1,6 @@
-use Rattle.std.proofs.Common.{◌≡◌, ◌+◌, ◌++◌, [], ◌∷◌, refl, ◌∙◌, arith, ap, rules}
-use Rattle.disk_edge.specs.Memory.{data_of, seen}
-use Rattle.disk_edge.specs.declared.call_log.Call.TheVariants.{Look, Cut, Sync}
+use Rattle.std.proofs.Common.{[], ◌∷◌, refl, arith, ap}
+use Rattle.disk_edge.specs.Memory.{data_of}
+use Rattle.disk_edge.specs.declared.call_log.Call.TheVariants.{Sync}
 use Rattle.disk_edge.proofs.LogLemmas.{data_of-append, seen-append}
 use Rattle.disk_edge.proofs.call_log.CallLog.sync.Goals as goal
 

@@ -1,5 +1,5 @@
-use Rattle.std.proofs.Common.{◌≡◌, ◌+◌, ◌++◌, [], ◌∷◌, refl, ◌∙◌, arith, ap, length, length-append}
-use Rattle.disk_edge.specs.Memory.{data_of, seen}
+use Rattle.std.proofs.Common.{[], ◌∷◌, refl, arith, ap, length, length-append}
+use Rattle.disk_edge.specs.Memory.{data_of}
 use Rattle.disk_edge.specs.declared.call_log.Call.TheVariants.{Write}
 use Rattle.disk_edge.proofs.LogLemmas.{data_of-append, seen_wrote}
 use Rattle.disk_edge.proofs.call_log.CallLog.write.Goals as goal

@@ -1,4 +1,4 @@
-use Rattle.std.proofs.Common.{◌≡◌, ◌+◌, ◌≤◌, List, ℕ, length, take, ap, ◌∙◌, arith, rules}
+use Rattle.std.proofs.Common.{◌≡◌, ◌≤◌, length, take, ap, arith, rules}
 use Rattle.disk_edge.specs.Memory.{MemoryState, IsStopped, crash_after}
 use Rattle.disk_edge.specs.MemoryLaws.{stop_left}
 use Rattle.disk_edge.proofs.memory.MemoryDisk.crashed.Goals as goal

@@ -1,6 +1,6 @@
-use Rattle.std.proofs.Common.{◌≡◌, ◌+◌, ◌++◌, [], ◌∷◌, refl, ◌∙◌, arith, ap, length, true, false, length-take}
-use Rattle.disk_edge.specs.Memory.{looked, wrote, cut, synced}
-use Rattle.disk_edge.proofs.SoundLemmas.{sound_more, sound_past, length-written}
+use Rattle.std.proofs.Common.{refl, ◌∙◌, arith}
+use Rattle.disk_edge.specs.Memory.{looked, synced}
+use Rattle.disk_edge.proofs.SoundLemmas.{sound_more}
 use Rattle.disk_edge.proofs.memory.MemoryDisk.keep.Goals as goal
 
 pub invariant_of-self-in-Listed : goal.invariant_of-self-in-Listed

@@ -1,6 +1,6 @@
-use Rattle.std.proofs.Common.{◌≡◌, ◌+◌, ◌++◌, [], ◌∷◌, refl, ◌∙◌, arith, ap, length, true, false, length-take}
-use Rattle.disk_edge.specs.Memory.{looked, wrote, cut, synced}
-use Rattle.disk_edge.proofs.SoundLemmas.{sound_more, sound_past, length-written}
+use Rattle.std.proofs.Common.{refl, ◌∙◌, arith, ap, length, true, false}
+use Rattle.disk_edge.specs.Memory.{wrote}
+use Rattle.disk_edge.proofs.SoundLemmas.{sound_more, length-written}
 use Rattle.disk_edge.proofs.memory.MemoryDisk.write.Goals as goal
 
 pub invariant_of-self-in-Listed : goal.invariant_of-self-in-Listed

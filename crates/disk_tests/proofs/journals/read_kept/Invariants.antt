@@ -1,0 +1,14 @@
+use Rattle.std.proofs.Common.{◌≡◌, ◌-◌, ◌^◌, ℕ, List}
+use Rattle.journal_disk.specs.Pairs.{RecordPair}
+use Rattle.journal_disk.specs.Entries.{Holds}
+use Rattle.journal_disk.specs.Looking.{OnlyLooks}
+use Rattle.disk_tests.proofs.journals.read_kept.Given as goal
+
+abbrev pub invariant-pairs : goal.invariant-pairs
+invariant-pairs g l = record {
+  looks : OnlyLooks (g.D.Disk.state l.fn.disk) (g.D.Disk.state l.disk);
+  holds : (pairs : List RecordPair) (rest : List ℕ) → Holds pairs l.fn.journal rest (g.D.Disk.state l.fn.disk) → (found : List RecordPair) × (left : List ℕ) × Holds found l.journal left (g.D.Disk.state l.disk);
+}
+
+abbrev pub decreases-pairs : goal.decreases-pairs
+decreases-pairs g l = 2 ^ 61 - l.journal

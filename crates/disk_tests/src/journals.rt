@@ -1,0 +1,182 @@
+//! A journal on a disk: what it holds, what a stop in any call leaves, faults, and disks that hold something else.
+ghost use Rattle.std.specs.Prelude.{ℕ, List, IfOk};
+ghost use Rattle.journal_disk.specs.Pairs.{RecordPair};
+ghost use Rattle.journal_disk.specs.Entries.{Holds, EndsAt};
+ghost use Rattle.journal_disk.specs.Looking.{OnlyLooks};
+
+use disk_edge::{Disk, MemoryDisk};
+use journal_disk::{DiskFault, DiskJournal, Step, is_whole_pair};
+use std::alloc::Global;
+use std::process::Abort;
+use std::test::Fail;
+
+// An account is opened: its number is the last byte.
+const FIRST: [u8; 14] = *b"\x02\0\0\0\0\x82\0\0\0\x04\0\0\0\x01";
+
+const SECOND: [u8; 14] = *b"\x02\0\0\0\0\x82\0\0\0\x04\0\0\0\x02";
+
+// A disk in memory with these bytes, and calls that fail.
+fn disk_of(alloc: Global, bytes: &[u8], failing: &[u64]) -> Result<MemoryDisk, Fail> {
+    Ok(MemoryDisk::new(
+        alloc,
+        bytes.to_vec(alloc)?,
+        1000,
+        100,
+        failing.to_vec(alloc)?,
+    )?)
+}
+
+// Reads the pairs that are kept, up to a gate that isn't open, and answers how many there are, and the last byte of each.
+fn read_kept<D: Disk>(
+    journal: &mut DiskJournal,
+    disk: &mut D,
+    lasts: &mut Vec<u8>,
+    pair: &mut Vec<u8>,
+) -> Result<(), DiskFault>
+    ensures ends { IfOk result (λ _. (pairs : List RecordPair) (rest : List ℕ) → Holds pairs journal.old rest (D.state disk.old) →
+        (found : List RecordPair) × EndsAt found journal.new (D.state disk.new)) }
+    ensures looks { OnlyLooks (D.state disk.old) (D.state disk.new) }
+{
+    'pairs: loop {
+        match journal.next(disk, pair)? {
+            Step::Pair => lasts.extend_from_slice(&pair[pair.len().saturating_sub(1)..])?,
+            Step::Closed => return Ok(()),
+        }
+    }
+}
+
+// Opens a disk, reads the pairs that are kept, and adds one. Answers the last byte of each pair that was kept.
+pub fn keep<D: Disk>(alloc: Global, disk: &mut D, pair: &[u8]) -> Result<Vec<u8>, DiskFault> {
+    let mut lasts = Vec::new(alloc);
+    let mut found = Vec::new(alloc);
+    let mut journal = DiskJournal::recover(disk)?;
+    read_kept(&mut journal, disk, &mut lasts, &mut found)?;
+    let mut appender = journal.begin(alloc, disk)?;
+    if is_whole_pair(pair) {
+        appender.append(disk, pair)?;
+    }
+    Ok(lasts)
+}
+
+// Whether a pair is kept behind these.
+pub fn keeps<D: Disk>(rt: &impl Abort, alloc: Global, disk: &mut D, pair: &[u8], want: &[u8]) {
+    match keep(alloc, disk, pair) {
+        Ok(lasts) => assert_eq!(rt; lasts.as_slice(), want),
+        Err(fault) => assert!(rt; false, "{fault:?}"),
+    }
+}
+
+// Whether a disk with these bytes is refused so.
+fn refuses(rt: &impl Abort, alloc: Global, bytes: &[u8], want: DiskFault) -> Result<(), Fail> {
+    let mut disk = disk_of(alloc, bytes, &[])?;
+    assert_eq!(rt; keep(alloc, &mut disk, &FIRST).err(), Some(want));
+    Ok(())
+}
+
+// An empty disk, and then one with a pair.
+#[test]
+fn pairs_are_kept(rt: HostRuntime) -> Result<(), Fail> {
+    let alloc = rt.alloc();
+    let mut disk = disk_of(alloc, b"", &[])?;
+    keeps(&rt, alloc, &mut disk, &FIRST, b"");
+    let want = b"FLOWDSK2\x01\0\0\0\x0E\x02\0\0\0\0\x82\0\0\0\x04\0\0\0\x01\0";
+    assert_eq!(rt; disk.bytes(), want.as_slice());
+    keeps(&rt, alloc, &mut disk, &SECOND, b"\x01");
+    let want =
+        b"FLOWDSK2\x01\0\0\0\x0E\x02\0\0\0\0\x82\0\0\0\x04\0\0\0\x01\x01\0\0\0\x0E\x02\0\0\0\0\x82\0\0\0\x04\0\0\0\x02\0";
+    assert_eq!(rt; disk.bytes(), want.as_slice());
+    Ok(())
+}
+
+// A stop in each call in which the second pair is added, and a third run on what it leaves: the first pair was kept,
+// and perhaps the second.
+#[test]
+fn stop_in_any_call(rt: HostRuntime) -> Result<(), Fail> {
+    let alloc = rt.alloc();
+    let mut disk = disk_of(alloc, b"", &[])?;
+    keeps(&rt, alloc, &mut disk, &FIRST, b"");
+    let first = disk.recorded();
+    keeps(&rt, alloc, &mut disk, &SECOND, b"\x01");
+    for before in 0..disk.recorded() {
+        let call = before as u64 + 1;
+        for part in [0, 1, 3] {
+            for fill in [0, 1, 255] {
+                let left = disk.crashed(alloc, call, part, fill)?;
+                let mut again = disk_of(alloc, &left, &[])?;
+                let lasts = match keep(alloc, &mut again, &FIRST) {
+                    Ok(lasts) => lasts,
+                    Err(_) => Vec::new(alloc),
+                };
+                let least = if before < first { 0 } else { 1 };
+                let most = if before < first { 1 } else { 2 };
+                assert!(rt;
+                    lasts.len() >= least && lasts.len() <= most && again.bytes().ends_with(b"\0"),
+                    "call {call}, part {part}, fill {fill}"
+                );
+            }
+        }
+    }
+    Ok(())
+}
+
+// Each call fails in turn. An empty disk is opened, read and added to by 12 calls.
+#[test]
+fn each_call_fails(rt: HostRuntime) -> Result<(), Fail> {
+    let alloc = rt.alloc();
+    for call in 1..13 {
+        let mut disk = disk_of(alloc, b"", &[call])?;
+        assert_eq!(rt;
+            keep(alloc, &mut disk, &FIRST).err(),
+            Some(DiskFault::Failed),
+            "call {call}"
+        );
+    }
+    let mut disk = disk_of(alloc, b"", &[13])?;
+    keeps(&rt, alloc, &mut disk, &FIRST, b"");
+    assert_eq!(rt; disk.recorded(), 12);
+    Ok(())
+}
+
+// A disk whose last byte is cut off, entries that aren't whole pairs, and disks that hold something else.
+#[test]
+fn broken_disks(rt: HostRuntime) -> Result<(), Fail> {
+    let alloc = rt.alloc();
+    for (bytes, want) in [
+        (
+            b"FLOWDSK2\x01\0\0\0\x0E\x02\0\0\0\0\x82\0\0\0\x04\0\0\0\x01".as_slice(),
+            DiskFault::Damaged(27),
+        ),
+        (
+            b"FLOWDSK2\x01\0\0\0\x0D\x02\0\0\0\0\x82\0\0\0\x04\0\0\0\x01\0",
+            DiskFault::Damaged(8),
+        ),
+        (
+            b"FLOWDSK2\x01\0\0\0\x0F\x02\0\0\0\0\x82\0\0\0\x04\0\0\0\x01\0",
+            DiskFault::Damaged(8),
+        ),
+        (b"FLOWDSK2\x01\0", DiskFault::Damaged(8)),
+        (b"FLOWDSK2\x01\0\0\0\0\0", DiskFault::Damaged(8)),
+        (b"\0\0\0\0\0\0\0\0\0\0", DiskFault::NotDisk),
+        (b"FLOWDSK1\0\0", DiskFault::NotDisk),
+    ] {
+        refuses(&rt, alloc, bytes, want)?;
+    }
+    Ok(())
+}
+
+// At most nine bytes are a new disk, and a closed gate of any other byte ends a journal too.
+#[test]
+fn new_disks(rt: HostRuntime) -> Result<(), Fail> {
+    let alloc = rt.alloc();
+    for bytes in [
+        b"".as_slice(),
+        b"\0\0\0\0\0\0\0\0\0",
+        b"FLOWDSK2\x01",
+        b"FLOWDSK2\x02\0\0\0\x0E\x02\0\0\0\0\x82\0\0\0\x04\0\0\0\x02\0",
+    ] {
+        let mut disk = disk_of(alloc, bytes, &[])?;
+        keeps(&rt, alloc, &mut disk, &FIRST, b"");
+        keeps(&rt, alloc, &mut disk, &SECOND, b"\x01");
+    }
+    Ok(())
+}

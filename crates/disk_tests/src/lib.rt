@@ -1,0 +1,11 @@
+//! Tests of disks (`disk_edge`), in memory and over a real file, and of the journal on one (`journal_disk`).
+//!
+//! A crate with tests is proved twice, so these have a crate of their own, on which none stands.
+#![tactic(auto)]
+
+#[cfg(test)]
+mod disks;
+#[cfg(test)]
+mod files;
+#[cfg(test)]
+mod journals;

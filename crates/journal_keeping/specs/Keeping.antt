@@ -1,0 +1,75 @@
+-- What keeping a journal on a disk does to the disk: what a crash may leave while new pairs are added, and afterwards.
+use Rattle.std.specs.Prelude.{◌≡◌, ◌⊎◌, ℕ, ◌+◌, ◌≤◌, List, ◌++◌, Option, Some, length, map, take}
+use Rattle.std.specs.List.{flat_map}
+use Rattle.flow_io.specs.Streams.{GrowsByFront}
+use Rattle.wire_records.specs.Records.{Record}
+use Rattle.wire_records.specs.Commands.{Pair}
+use Rattle.wire_records.specs.Versions.{IsReadAs}
+use Rattle.wire_records.specs.declared.version.Version.{Version}
+use Rattle.wire_records.specs.declared.version.Version.TheVariants.{Two}
+use Rattle.flow_orders.specs.Outcomes.{Outcome}
+use Rattle.flow_orders.specs.Own.{IsOwnOutcome}
+use Rattle.journal_records.specs.Pairs.{pair_spelling}
+use Rattle.journal_records.specs.Formats.{records_of}
+use Rattle.market_rules.specs.Market.{Market}
+use Rattle.market_rules.specs.Journal.{IsAnswered}
+use Rattle.batch_audit.specs.Legal.{IsLegalJournal}
+use Rattle.disk_edge.specs.Disks.{DiskState, AtEachMoment}
+use Rattle.disk_edge.specs.Images.{Images}
+use Rattle.journal_disk.specs.Entries.{StandsFor}
+
+-- the version of the records that are kept, and of their answers
+abbrev pub kept_version : Version
+kept_version = Two
+
+-- the pairs are a legal journal of that version, and lead to this market
+abbrev pub IsKeptJournal : List (Pair Record Outcome) → Market → Type 0
+IsKeptJournal pairs market = IsLegalJournal kept_version pairs market
+
+-- the image stands for these pairs of a journal
+abbrev pub Keeps : List (Pair Record Outcome) → Images
+Keeps pairs image = StandsFor (map records_of pairs) image
+
+-- the image stands for the pairs of a legal journal
+abbrev pub IsLegalImage : Images
+IsLegalImage image = (pairs : List (Pair Record Outcome)) × (market : Market) × IsKeptJournal pairs market × Keeps pairs image
+
+-- A disk that a run may begin on: it tells what it holds, which stands for these pairs of a legal journal, and a crash leaves
+-- a legal journal too, not always that one.
+pub record HoldsLegal (disk : DiskState) (old : List (Pair Record Outcome)) (market : Market) : Type 0 where
+  pub bytes : List ℕ
+  pub told : disk.content ≡ Some bytes
+  pub journal : IsKeptJournal old market
+  pub stands : Keeps old bytes
+  pub each : (image : List ℕ) → disk.images image → IsLegalImage image
+
+-- The new pairs answer these records by the program's own rule, from the market of the old ones on, and with them they are
+-- one legal journal.
+pub record GoesOn (old : List (Pair Record Outcome)) (before : Market) (records : List Record) (new : List (Pair Record Outcome)) (after : Market) : Type 0 where
+  pub answers : IsAnswered IsReadAs IsOwnOutcome before records new after
+  pub journal : IsKeptJournal (old ++ new) after
+
+-- the image stands for the old pairs, and behind them for the first of the new ones: at least and at most so many
+abbrev pub KeepsFirst : List (Pair Record Outcome) → List (Pair Record Outcome) → ℕ → ℕ → Images
+KeepsFirst old new least most image = (count : ℕ) × (least ≤ count) × (count ≤ most) × Keeps (old ++ take count new) image
+
+-- At each moment of the call a crash leaves an image that was there at its start, or the old pairs and the first of the new ones.
+abbrev pub DuringCall : DiskState → DiskState → List (Pair Record Outcome) → List (Pair Record Outcome) → Type 0
+DuringCall start end old new = AtEachMoment start end (λ image. start.images image ⊎ KeepsFirst old new 0 (length new) image)
+
+-- Afterwards it leaves an image that was there at the start, and no pair was acknowledged; or the old pairs, each
+-- acknowledged one, and at most one more.
+abbrev pub AtReturn : DiskState → DiskState → List (Pair Record Outcome) → List (Pair Record Outcome) → ℕ → Type 0
+AtReturn start end old new acknowledged =
+    (image : List ℕ) → end.images image → (start.images image × (acknowledged ≡ 0)) ⊎ KeepsFirst old new acknowledged (acknowledged + 1) image
+
+-- What a run does to the disk and to out: of the new pairs so many were acknowledged, and out gained a front of their bytes.
+pub record KeepsOn (start end : DiskState) (old : List (Pair Record Outcome)) (market : Market) (records : List Record) (before after : Option (List ℕ)) : Type 0 where
+  pub new : List (Pair Record Outcome)
+  pub now : Market
+  pub acknowledged : ℕ
+  pub within : acknowledged ≤ length new
+  pub goes_on : GoesOn old market records new now
+  pub during : DuringCall start end old new
+  pub returns : AtReturn start end old new acknowledged
+  pub written : GrowsByFront before after (flat_map pair_spelling (take acknowledged new))
