@@ -2,11 +2,11 @@
 ghost use Rattle.std.specs.Prelude.{◌≡◌, ◌≤◌, ◌<◌, ◌*◌, ◌^◌, length, slice_index_or};
 ghost use Rattle.wire_records.specs.Commands.{Answer};
 ghost use Rattle.flow_orders.specs.Outcomes.{Outcome};
-ghost use Rattle.batch_certificate.specs.Verdicts.{rates_in};
+ghost use Rattle.batch_outcome.specs.Parts.{rates_in};
 ghost use Rattle.journal_records.specs.Replies.{SpellsAnswer};
 ghost use Rattle.sample_summary.specs.Private.{units_traded, IsCounted, CountsOne, HasRoom};
 
-use batch_certificate::ClearedParts;
+use batch_outcome::ClearedParts;
 use journal_records::{ClearedView, PairView, ReplyView, reply};
 
 /// How many batches cleared, how many were skipped, and how many units all orders traded together.
