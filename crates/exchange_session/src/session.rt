@@ -70,10 +70,8 @@ impl Session {
     pub fn over(market: Market) -> Session
         ensures { result ≡ market }
     {
-        Session {
-            alloc: market.alloc(),
-            market,
-        }
+        let alloc = market.alloc();
+        Session { alloc, market }
     }
 
     /// The market after the records that were served.
