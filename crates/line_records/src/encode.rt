@@ -103,8 +103,9 @@ impl Encoding {
     }
 }
 
-/// Writes the records of the commands of a version that the lines of a text ask for, those of a line by one call. The lines are the pieces before
-/// line feeds, and the piece behind the last line feed, where it isn't empty and there is no `more` of the text.
+/// Writes the records of the commands of a version that the lines of a text ask for, those of a line by one call. The lines are
+/// the pieces before line feeds, and the piece behind the last line feed, where it isn't empty and there is no `more` of the
+/// text.
 ///
 /// `NoCommand` with its number comes exactly at the first line that is neither blank nor a command; the records of the
 /// lines before it are written. `Write` comes only where the sink's count of faults rose, and `Memory` only at a line that

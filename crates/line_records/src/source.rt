@@ -43,9 +43,9 @@ fn encode_all<K: Sink>(
     }
 }
 
-/// Reads the source to its end or the limit, and writes the command file of its lines, of a version: one write for the magic, and one
-/// for the records of each line. It stops at the first line that is neither blank nor a command, with its number, counted from 1;
-/// all before it are written. The input is held whole; one buffer holds the records of a line at a time.
+/// Reads the source to its end or the limit, and writes the command file of its lines, of a version: one write for the magic,
+/// and one for the records of each line. It stops at the first line that is neither blank nor a command, with its number,
+/// counted from 1; all before it are written. The input is held whole; one buffer holds the records of a line at a time.
 pub fn encode_source<S: Source, K: Sink>(
     alloc: Global,
     version: Version,

@@ -90,7 +90,8 @@ fn add_ticker(tickers: &mut TickerTable, read: &LineRead) -> Result<(), LineFaul
 
 /// What a line of JSON is, given the tickers of the lines before it. The line has no line feed at its end.
 ///
-/// A command is one of the version: an object with exactly the keys of one row, of which `credit`, and `place` with `last`, are of version Two alone:
+/// A command is one of the version: an object with exactly the keys of one row, of which `credit`, and `place` with `last`, are of
+/// version Two alone:
 ///
 /// | `do` | further keys | command |
 /// |---|---|---|
@@ -111,8 +112,9 @@ fn add_ticker(tickers: &mut TickerTable, read: &LineRead) -> Result<(), LineFaul
 /// A ticker is an ASCII text of at most 8 bytes, valid or not. An asset is such a text too, and has to be in the
 /// table. Numbers are whole and fit the command's fields, without fraction or exponent. `weights` is an object of a
 /// weight for each asset by its ticker; its entries come out in ascending asset number, at most one for each ticker of
-/// the table. `points` is an array of arrays of two numbers, a price in ticks and a rate; where the points and `turns` have a fault as a
-/// ladder, the line is no command. Of a doubled key the last value stays, as the reader of JSON has it.
+/// the table. `points` is an array of arrays of two numbers, a price in ticks and a rate; where
+/// [`ladder_fault`](curve_ladder::ladder_fault) finds a fault in the points and `turns`, the line is no command. Of a
+/// doubled key the last value stays, as the reader of JSON has it.
 ///
 /// The ticker of an `asset` line is added to the table where it can be added, and the line is a command either way.
 /// `NoCommand` is exactly for what is neither blank nor a command; `Memory` may be for any line that isn't blank. After either
