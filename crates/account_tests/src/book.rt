@@ -12,7 +12,7 @@ use std::test::Fail;
 // Adds the order where the book can take it.
 fn add(book: &mut Book, order: Order) -> bool {
     let number = order.number();
-    if book.orders().len() >= 16_384 || !book.orders().iter().all(|other| other.number() < number) {
+    if book.len() >= 16_384 || !book.orders().iter().all(|other| other.number() < number) {
         return false;
     }
     match book.reserve_one() {
@@ -76,7 +76,7 @@ fn needs_in(book: &Book) -> (i128, i128, i128, i128, usize) {
         book.money_needed(2),
         book.units_needed(1, 3),
         book.units_needed(2, 0),
-        book.orders().len(),
+        book.len(),
     )
 }
 
@@ -94,10 +94,54 @@ fn cancelled_orders_need_nothing(rt: HostRuntime) -> Result<(), Fail> {
         (2, 2, true, (0, 0, 0, 0, 0)),
         (2, 2, false, (0, 0, 0, 0, 0)),
     ] {
-        assert_eq!(rt; book.cancel(account, number).is_some(), there);
+        assert_eq!(rt; book.cancel(account, number), there);
         assert_eq!(rt; needs_in(&book), needs);
     }
     assert_eq!(rt; (book.units_needed(1, 0), book.money_needed(9)), (0, 0));
+    Ok(())
+}
+
+// A book of orders of account 1 with these numbers, each of which buys one unit of asset 0.
+fn numbered(alloc: Global, numbers: &[u64]) -> Result<Option<Book>, AllocError> {
+    let mut book = Book::new(alloc);
+    for number in numbers {
+        match order_of(alloc, ((*number, 1), (0, 1), (1, 1), &[(0, 1)]))? {
+            Some(order) => {
+                if !add(&mut book, order) {
+                    return Ok(None);
+                }
+            }
+            None => return Ok(None),
+        }
+    }
+    Ok(Some(book))
+}
+
+// Whether these are the numbers of the live orders.
+fn are_numbers(orders: &[Order], numbers: &[u64]) -> bool {
+    orders
+        .iter()
+        .map(|order| order.number())
+        .eq(numbers.iter().copied())
+}
+
+#[test]
+fn cancelled_orders_are_gone(rt: HostRuntime) -> Result<(), Fail> {
+    let mut book = numbered(rt.alloc(), &[2, 3, 5, 8, 13, 21])?.ok_or("an order isn't taken")?;
+    for (number, there) in [
+        (5, true),
+        (5, false),
+        (4, false),
+        (21, true),
+        (2, true),
+        (21, false),
+    ] {
+        assert_eq!(rt; book.cancel(1, number), there);
+        assert!(rt; !book.has_order(1, number));
+    }
+    assert!(rt; book.has_order(1, 3));
+    assert_eq!(rt; book.len(), 3);
+    assert!(rt; are_numbers(book.orders(), &[3, 8, 13]));
     Ok(())
 }
 
@@ -120,6 +164,6 @@ fn filled_orders_need_less(rt: HostRuntime) -> Result<(), Fail> {
         assert_eq!(rt; fill(&mut book, rates), taken);
         assert_eq!(rt; needs_in(&book), needs);
     }
-    assert!(rt; book.cancel(1, 1).is_none());
+    assert!(rt; !book.cancel(1, 1));
     Ok(())
 }

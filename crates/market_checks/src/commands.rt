@@ -81,5 +81,5 @@ pub(crate) fn put_served(alloc: Global, bytes: &[u8], rows: &mut String) -> Opti
     for record in &records(alloc, bytes)? {
         put_row(&mut market, record, rows)?;
     }
-    put_market(alloc, &market, rows)
+    put_market(alloc, &mut market, rows)
 }

@@ -17,7 +17,7 @@ fn put_ending(ending: Ending, rows: &mut String) -> Option<()> {
 }
 
 // Appends what was found where all pairs are legal.
-fn put_found(alloc: Global, found: &Audited, rows: &mut String) -> Option<()> {
+fn put_found(alloc: Global, found: &mut Audited, rows: &mut String) -> Option<()> {
     put_ending(found.ending, rows)?;
     let pairs = found.pairs;
     let cleared = found.cleared;
@@ -27,7 +27,7 @@ fn put_found(alloc: Global, found: &Audited, rows: &mut String) -> Option<()> {
         ": {pairs} pairs, {cleared} cleared, {skipped} skipped\n"
     )
     .ok()?;
-    put_market(alloc, &found.market, rows)
+    put_market(alloc, &mut found.market, rows)
 }
 
 // Audits the pairs behind the magic, and appends what was found.
@@ -42,7 +42,7 @@ pub(crate) fn put_counted(
         return None;
     }
     match audit_pairs(alloc, version, journal, MAGIC, more) {
-        Ok(found) => put_found(alloc, &found, rows),
+        Ok(mut found) => put_found(alloc, &mut found, rows),
         Err(PairFault::Illegal(number)) => write!(rows, "  illegal {number}\n").ok(),
         Err(PairFault::Memory) => None,
     }
@@ -51,7 +51,7 @@ pub(crate) fn put_counted(
 // Appends the market of a journal, or why there is none.
 pub(crate) fn put_replayed(alloc: Global, journal: &[u8], rows: &mut String) -> Option<()> {
     match replay(alloc, journal) {
-        Ok(market) => put_market(alloc, &market, rows),
+        Ok(mut market) => put_market(alloc, &mut market, rows),
         Err(fault) => write!(rows, "  {fault}\n").ok(),
     }
 }

@@ -54,7 +54,7 @@ pub(crate) fn put_judged(alloc: Global, bytes: &[u8], rows: &mut String) -> Opti
         put_legality(&mut audit, pair, rows)?;
     }
     rows.push('\n').ok()?;
-    put_market(alloc, &audit.into_market(), rows)
+    put_market(alloc, &mut audit.into_market(), rows)
 }
 
 // Reports each pair, and appends the lines of the text.

@@ -34,5 +34,5 @@ pub(crate) fn put_pairs(alloc: Global, bytes: &[u8], rows: &mut String) -> Optio
         serve_one(&mut session, record, &mut pairs)?;
     }
     put_records(alloc, &pairs, pairs.len(), rows)?;
-    put_market(alloc, session.market(), rows)
+    put_market(alloc, &mut session.into_market(), rows)
 }

@@ -46,7 +46,7 @@ fn put_exchange(exchange: &ResidualAccount, rows: &mut String) -> Option<()> {
     rows.push('\n').ok()
 }
 
-fn put_orders(market: &Market, rows: &mut String) -> Option<()> {
+fn put_orders(market: &mut Market, rows: &mut String) -> Option<()> {
     rows.push_str("  orders").ok()?;
     for order in market.orders() {
         let number = order.number();
@@ -56,7 +56,7 @@ fn put_orders(market: &Market, rows: &mut String) -> Option<()> {
 }
 
 // Appends the rows of a market.
-pub(crate) fn put_market(alloc: Global, market: &Market, rows: &mut String) -> Option<()> {
+pub(crate) fn put_market(alloc: Global, market: &mut Market, rows: &mut String) -> Option<()> {
     put_tickers(market.tickers(), rows)?;
     put_prices(alloc, market, rows)?;
     for account in 0..market.accounts().count() {
