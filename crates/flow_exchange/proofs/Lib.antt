@@ -6,4 +6,5 @@ pub mod Pace
 pub mod JournalForms
 pub mod ExplainForm
 pub mod EncodeForm
+mod SampleForm
 pub mod Dispatch

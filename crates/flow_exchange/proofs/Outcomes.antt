@@ -1,5 +1,7 @@
 -- Bytes determine one status and one text, to which a call comes that no fault broke off.
-use Rattle.std.proofs.Common.{◌≡◌, ◌≢◌, ◌+◌, ℕ, List, [], ◌∷◌, ◌++◌, length, get_or, codes, inl, inr, Option, Some, None, IfSome, refl, sym, ap, subst, ◌∙◌, arith}
+use Rattle.std.proofs.Common.{◌≡◌, ◌≢◌, ◌+◌, ◌^◌, ℕ, List, [], ◌∷◌, ◌++◌, length, get_or, codes, inl, inr, Option, Some, None, IfSome, refl, sym, ap, subst, ◌∙◌, arith}
+use Rattle.std.specs.Prelude.{decimal}
+use Rattle.std.proofs.lemmas.Fmt.{decimal_injective}
 use Rattle.wire_records.specs.Records.{Record}
 use Rattle.wire_records.specs.Versions.{IsReadAs}
 use Rattle.wire_records.specs.Commands.{Pair}
@@ -22,7 +24,7 @@ use Rattle.exchange_session.specs.Journals.{Journals}
 use Rattle.journal_words.proofs.JournalLaws.{one_line}
 use Rattle.wire_records.specs.declared.version.Version.TheVariants.{One, Two}
 use Rattle.flow_exchange.specs.declared.form.Form.{Form}
-use Rattle.flow_exchange.specs.declared.form.Form.TheVariants.{Run, Audit, Explain, Report, Encode}
+use Rattle.flow_exchange.specs.declared.form.Form.TheVariants.{Run, Audit, Explain, Report, Encode, Sample}
 use Rattle.flow_exchange.specs.declared.status.Status.{Status}
 use Rattle.flow_exchange.specs.declared.status.Status.TheVariants as answer
 use Rattle.flow_exchange.specs.Statuses.{reading_status, ended_status, bad_text}
@@ -30,6 +32,8 @@ use Rattle.flow_exchange.specs.Auditing.{audit_status, audit_text, AuditsTo}
 use Rattle.flow_exchange.specs.Explaining.{Explains, ExplainsTo}
 use Rattle.flow_exchange.specs.Reporting.{AreReported, ReportsTo}
 use Rattle.line_records.proofs.Encoding.{encodes_one}
+use Rattle.sample_summary.proofs.OneSummary.{one_summary}
+use Rattle.flow_exchange.specs.Sampling.{AskSample, SamplesTo}
 use Rattle.flow_exchange.specs.Running.{WritesOf, RunsTo}
 use Rattle.flow_exchange.specs.Program.{ComesTo, Determines, Meets}
 use Rattle.flow_exchange.specs.Laws.{OneForm, OneOutcome}
@@ -50,7 +54,38 @@ two_words words x y other a b = other (ap mark (heads x y (sym a ∙ b)))
 one_or_two : {x y z : List ℕ} → (words : List (List ℕ)) → words ≡ x ∷ [] → words ≡ y ∷ z ∷ [] → ⊥
 one_or_two words one two = absurd (omega (arith, ap length one, ap length two))
 
+-- three words aren't one or two
+three_or_one : {x y z v : List ℕ} → (words : List (List ℕ)) → words ≡ x ∷ y ∷ z ∷ [] → words ≡ v ∷ [] → ⊥
+three_or_one words three one = absurd (omega (arith, ap length three, ap length one))
+
+three_or_two : {x y z v w : List ℕ} → (words : List (List ℕ)) → words ≡ x ∷ y ∷ z ∷ [] → words ≡ v ∷ w ∷ [] → ⊥
+three_or_two words three two = absurd (omega (arith, ap length three, ap length two))
+
+-- numbers in the words of a sample
+behind_sample : (a b c d : List ℕ) → codes "sample" ∷ a ∷ b ∷ [] ≡ codes "sample" ∷ c ∷ d ∷ [] → (a ≡ c) × (b ≡ d)
+behind_sample a b c d e = (ap (λ (ws : List (List ℕ)). get_or ws 1 []) e, ap (λ (ws : List (List ℕ)). get_or ws 2 []) e)
+
+one_sample : (words : List (List ℕ)) (n m p q : ℕ) → AskSample words n p → AskSample words m q → Sample n p ≡ Sample m q
+one_sample words n m p q a b =
+    let parts = behind_sample (decimal n) (decimal p) (decimal m) (decimal q) (sym a.are ∙ b.are) in
+    let numbers = decimal_injective n m a.number_fits b.number_fits parts.0 in
+    let orders = decimal_injective p q (omega (arith, a.few)) (omega (arith, b.few)) parts.1 in
+    ap (λ k. Sample k p) numbers ∙ ap (λ k. Sample m k) orders
+
 pub one_form : OneForm
+one_form words (Sample n p) (Sample m q) a b = one_sample words n m p q a b
+one_form words (Sample n p) Run a b = absurd (three_or_one words a.are b)
+one_form words (Sample n p) Audit a b = absurd (three_or_one words a.are b)
+one_form words (Sample n p) Explain a b = absurd (three_or_one words a.are b)
+one_form words (Sample n p) Report a b = absurd (three_or_one words a.are b)
+one_form words (Sample n p) (Encode One) a b = absurd (three_or_one words a.are b)
+one_form words (Sample n p) (Encode Two) a b = absurd (three_or_two words a.are b)
+one_form words Run (Sample n p) a b = absurd (three_or_one words b.are a)
+one_form words Audit (Sample n p) a b = absurd (three_or_one words b.are a)
+one_form words Explain (Sample n p) a b = absurd (three_or_one words b.are a)
+one_form words Report (Sample n p) a b = absurd (three_or_one words b.are a)
+one_form words (Encode One) (Sample n p) a b = absurd (three_or_one words b.are a)
+one_form words (Encode Two) (Sample n p) a b = absurd (three_or_two words b.are a)
 one_form words Run Run a b = refl
 one_form words Audit Audit a b = refl
 one_form words Explain Explain a b = refl
@@ -172,7 +207,12 @@ lines_one version limit bytes s t x y a b =
     let one = encodes_one version limit bytes a.0 b.0 x y a.1 b.1 in
     (a.2 ∙ ap (ended_status limit bad_text) one.0 ∙ sym b.2, one.1)
 
+-- a sample comes to one line
+samples_one : (number orders : ℕ) (s t : Status) (x y : List ℕ) → SamplesTo number orders s x → SamplesTo number orders t y → (s ≡ t) × (x ≡ y)
+samples_one number orders s t x y a b = (a.0 ∙ sym b.0, one_summary number orders x y a.1 b.1)
+
 pub one_outcome : OneOutcome
+one_outcome (Sample number orders) limit bytes s t x y a b = samples_one number orders s t x y a b
 one_outcome Run limit bytes s t x y a b = runs_one limit bytes s t x y a b
 one_outcome Audit limit bytes s t x y a b = audits_one limit bytes s t x y a b
 one_outcome Explain limit bytes s t x y a b = explains_one limit bytes s t x y a b

@@ -4,6 +4,7 @@ pub mod Running
 pub mod Auditing
 pub mod Explaining
 pub mod Reporting
+pub mod Sampling
 pub mod Program
 pub mod Laws
 pub mod Private

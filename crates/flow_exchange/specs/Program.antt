@@ -6,7 +6,7 @@ use Rattle.flow_io.specs.Changes.{Change}
 use Rattle.word_driver.specs.Ended.{Ended}
 use Rattle.line_records.specs.Encoding.{EncodesTo, EncodesInto, EncodesShort}
 use Rattle.flow_exchange.specs.declared.form.Form.{Form}
-use Rattle.flow_exchange.specs.declared.form.Form.TheVariants.{Run, Audit, Explain, Report, Encode}
+use Rattle.flow_exchange.specs.declared.form.Form.TheVariants.{Run, Audit, Explain, Report, Encode, Sample}
 use Rattle.flow_exchange.specs.declared.status.Status.{Status}
 use Rattle.flow_exchange.specs.declared.status.Status.TheVariants.{Done, Usage, NotFlow, Torn, ReadFault, WriteFault, NoMemory, Rejected, TooLong, BadText}
 use Rattle.flow_exchange.specs.Forms.{Asks, AsksNothing}
@@ -14,6 +14,7 @@ use Rattle.flow_exchange.specs.Statuses.{line_of, ended_status, bad_text}
 use Rattle.flow_exchange.specs.Running.{RunsTo, RunsInto, RunsShort, KeepsPace}
 use Rattle.flow_exchange.specs.Auditing.{AuditsTo, AuditsShort}
 use Rattle.flow_exchange.specs.Explaining.{ExplainsTo, ExplainsInto}
+use Rattle.flow_exchange.specs.Sampling.{SamplesTo}
 use Rattle.flow_exchange.specs.Reporting.{ReportsTo, ReportsInto, ReportsShort}
 
 -- ---- a row for each form
@@ -25,6 +26,7 @@ ComesTo Audit limit bytes status text = AuditsTo limit bytes status text
 ComesTo Explain limit bytes status text = ExplainsTo limit bytes status text
 ComesTo Report limit bytes status text = ReportsTo limit bytes status text
 ComesTo (Encode version) limit bytes status text = (ended : Ended ℕ) × EncodesTo version limit bytes ended text × (status ≡ ended_status limit bad_text ended)
+ComesTo (Sample number orders) limit bytes status text = SamplesTo number orders status text
 
 -- what may stand in out, besides nothing, while a form is at work: the text of whole units
 abbrev pub GetsTo : Form → ℕ → List ℕ → List ℕ → Type 0
@@ -33,6 +35,7 @@ GetsTo Audit limit bytes text = ⊥
 GetsTo Explain limit bytes text = ExplainsInto limit bytes text
 GetsTo Report limit bytes text = ReportsInto limit bytes text
 GetsTo (Encode version) limit bytes text = EncodesInto version limit bytes text
+GetsTo (Sample number orders) limit bytes text = ⊥
 
 -- what may stand in out where memory ran out once something was read
 abbrev pub LacksAt : Form → ℕ → List ℕ → List ℕ → Type 0
@@ -41,6 +44,7 @@ LacksAt Audit limit bytes text = AuditsShort limit bytes text
 LacksAt Explain limit bytes text = AuditsShort limit bytes text
 LacksAt Report limit bytes text = ReportsShort limit bytes text
 LacksAt (Encode version) limit bytes text = (text ≡ []) ⊎ EncodesShort version limit bytes text
+LacksAt (Sample number orders) limit bytes text = ⊥
 
 -- how many bytes of the source are taken at most
 abbrev pub most_taken : Form → ℕ → ℕ
@@ -49,6 +53,7 @@ most_taken Audit limit = limit + 1
 most_taken Explain limit = limit + 1
 most_taken Report limit = limit + 1
 most_taken (Encode version) limit = limit + 1
+most_taken (Sample number orders) limit = 0
 
 -- what is left of the source where all was done
 abbrev pub left_by : Form → List ℕ → List ℕ
@@ -57,6 +62,7 @@ left_by Audit bytes = []
 left_by Explain bytes = []
 left_by Report bytes = []
 left_by (Encode version) bytes = []
+left_by (Sample number orders) bytes = bytes
 
 -- ---- what holds of all forms
 

@@ -2,6 +2,7 @@
 ghost use Rattle.std.specs.Prelude.{◌≡◌, ◌↔◌, IfSome, IfNone, IsTrue, map, string_bytes, [], ◌∷◌};
 ghost use Rattle.flow_exchange.specs.Forms.{Asks, AsksNothing};
 
+use crate::sample_form::sample_of;
 use wire_records::Version;
 
 /// What the program is asked for.
@@ -17,6 +18,8 @@ pub enum Form {
     Report,
     /// `encode`, or `encode 2`: lines of JSON in, and the command file of their commands out, of this version.
     Encode(Version),
+    /// `sample NUMBER ORDERS`: a line out on a sample of so many orders, 1 to 16,384, that are drawn from this number on.
+    Sample { number: u64, orders: u32 },
 }
 
 // Whether the words are this one alone.
@@ -62,5 +65,8 @@ pub(crate) fn form_of(words: &[String]) -> Option<Form>
     if are_two(words, "encode", "2") {
         return Some(Form::Encode(Version::Two));
     }
-    None
+    match sample_of(words) {
+        Some((number, orders)) => Some(Form::Sample { number, orders }),
+        None => None,
+    }
 }

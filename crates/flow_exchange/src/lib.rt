@@ -14,6 +14,8 @@ pub mod laws;
 mod line;
 mod report;
 mod run;
+mod sample;
+mod sample_form;
 mod status;
 mod top;
 

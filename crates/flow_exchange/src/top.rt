@@ -1,6 +1,7 @@
 //! The call that the program makes.
-ghost use Rattle.std.specs.Prelude.{◌≡◌, ◌≢◌, ◌^◌, Some, map, string_bytes};
+ghost use Rattle.std.specs.Prelude.{◌≡◌, ◌≢◌, ◌^◌, ℕ, List, Some, map, string_bytes};
 ghost use Rattle.flow_io.specs.Changes.{change};
+ghost use Rattle.flow_exchange.specs.Forms.{Asks};
 ghost use Rattle.flow_exchange.specs.Program.{Does, Serves};
 ghost use Rattle.flow_exchange.specs.Running.{KeepsPace};
 
@@ -11,6 +12,7 @@ use crate::explain::explain;
 use crate::form::{Form, form_of};
 use crate::report::report;
 use crate::run::run;
+use crate::sample::sample;
 use flow_io::{Sink, Source};
 use std::alloc::Global;
 
@@ -25,6 +27,7 @@ fn do_form<S: Source, K: Sink>(
     source: &mut S,
     out: &mut K,
 ) -> Status
+    requires form { (words : List (List ℕ)) × Asks words form }
     ensures asked { result ≢ Status.Usage }
     ensures does { Does form limit result (change S.rest S.faults source.old source.new)
         (change K.held K.faults out.old out.new) }
@@ -37,6 +40,7 @@ fn do_form<S: Source, K: Sink>(
         Form::Explain => explain(alloc, limit, source, out),
         Form::Report => report(alloc, limit, source, out),
         Form::Encode(version) => encode(alloc, version, limit, source, out),
+        Form::Sample { number, orders } => sample(alloc, number, orders, out),
     }
 }
 

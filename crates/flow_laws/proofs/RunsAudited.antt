@@ -38,7 +38,7 @@ pub pairs_short : (pairs : List (Pair Record Outcome)) → length pairs ≤ leng
 pairs_short [] = omega arith
 pairs_short (pair ∷ pairs) = omega (arith, pair_long pair, pairs_short pairs, length-append (pair_spelling pair) (flat_map pair_spelling pairs))
 
-orders_few : (old new : Market) (pairs : List (Pair Record Outcome)) → Follows IsReadAs IsOwnOutcome old pairs new → new.next_order ≤ old.next_order + length pairs
+pub orders_few : (old new : Market) (pairs : List (Pair Record Outcome)) → Follows IsReadAs IsOwnOutcome old pairs new → new.next_order ≤ old.next_order + length pairs
 orders_few old new [] follows = omega (arith, ap (λ (m : Market). m.next_order) follows)
 orders_few old new (pair ∷ pairs) (between, step, follows) =
     omega (arith, steps_number_one old pair.asked pair.answer between step, orders_few between new pairs follows)

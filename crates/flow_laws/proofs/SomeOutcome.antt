@@ -11,7 +11,7 @@ use Rattle.line_records.specs.Tasks.{encoding}
 use Rattle.market_rules.proofs.Soundness.{sound-empty}
 use Rattle.line_records.proofs.Encoding.{encodes_some}
 use Rattle.flow_exchange.specs.declared.form.Form.{Form}
-use Rattle.flow_exchange.specs.declared.form.Form.TheVariants.{Run, Audit, Explain, Report, Encode}
+use Rattle.flow_exchange.specs.declared.form.Form.TheVariants.{Run, Audit, Explain, Report, Encode, Sample}
 use Rattle.flow_exchange.specs.declared.status.Status.{Status}
 use Rattle.flow_exchange.specs.Statuses.{ended_status, bad_text}
 use Rattle.flow_exchange.specs.Private.{no_reason, rejected}

@@ -17,3 +17,12 @@ returns-in-Report-clause-does g c = rw c.in-Report.is c.report.ensures.does
 
 pub returns-in-Encode-clause-does : goal.returns-in-Encode-clause-does
 returns-in-Encode-clause-does g c = rw c.in-Encode.is c.encode.ensures.does
+
+pub sample-requires-clause-some : goal.sample-requires-clause-some
+sample-requires-clause-some g c = (rw c.in-Sample.is at c.requires.form.1).some
+
+pub sample-requires-clause-few : goal.sample-requires-clause-few
+sample-requires-clause-few g c = (rw c.in-Sample.is at c.requires.form.1).few
+
+pub returns-in-Sample-clause-does : goal.returns-in-Sample-clause-does
+returns-in-Sample-clause-does g c = rw c.in-Sample.is (c.sample.ensures.does c.args.limit (g.S.Source.rest c.args.source.now) (g.S.Source.faults c.args.source.now))

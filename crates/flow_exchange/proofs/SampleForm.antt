@@ -1,0 +1,63 @@
+-- A sample does what the clauses of the program say: it reads nothing, and writes the line on it, or a front of it.
+use Rattle.std.proofs.Common.{◌≡◌, ◌≢◌, ◌≤◌, ℕ, List, [], Option, Some, None, IfSome, inl, inr, length, refl, arith}
+use Rattle.flow_io.specs.Faults.{Blames}
+use Rattle.flow_io.specs.Streams.{Grows, GrowsByFront, TakesAtMost}
+use Rattle.flow_io.specs.Changes.{Change}
+use Rattle.flow_io.proofs.Growth.{Grows-nothing}
+use Rattle.sample_summary.specs.Summary.{Summarizes}
+use Rattle.flow_exchange.specs.declared.form.Form.TheVariants.{Sample}
+use Rattle.flow_exchange.specs.declared.status.Status.{Status}
+use Rattle.flow_exchange.specs.declared.status.Status.TheVariants as answer
+use Rattle.flow_exchange.specs.Program.{ComesTo, Meets, Does}
+use Rattle.flow_exchange.proofs.Outcomes.{one_outcome}
+use Rattle.flow_exchange.proofs.Dispatch.{completes_form}
+
+module _ (number orders limit : ℕ) where
+  -- over what a source tells
+  told_meets : (status : Status) (rest before after : Option (List ℕ)) → ((bytes : List ℕ) → Meets (Sample number orders) limit bytes (Some bytes) status before after) → IfSome rest (λ bytes. Meets (Sample number orders) limit bytes rest status before after)
+  told_meets status None before after meets = tt
+  told_meets status (Some bytes) before after meets = meets bytes
+
+  nothing_taken : (rest : Option (List ℕ)) → TakesAtMost rest rest 0
+  nothing_taken None = tt
+  nothing_taken (Some bytes) = omega arith
+
+  all_left : (rest : Option (List ℕ)) → IfSome rest (λ bytes. rest ≡ Some bytes)
+  all_left None = tt
+  all_left (Some bytes) = refl
+
+  does : (status : Status) (rest : Option (List ℕ)) (faults : ℕ) (out : Change) → status ≢ answer.ReadFault → ((bytes : List ℕ) → Meets (Sample number orders) limit bytes (Some bytes) status out.before out.after)
+      → Blames (status ≡ answer.WriteFault) out.faults out.faults_after → Does (Sample number orders) limit status (record { before = rest; after = rest; faults = faults; faults_after = faults }) out
+  does status rest faults out not_read meets writes =
+      let met = told_meets status rest out.before out.after meets in
+      let reads : Blames (status ≡ answer.ReadFault) faults faults = record { later = omega arith; rose = λ e. absurd (not_read e); quiet = λ _. refl } in
+      record {
+        meets = met;
+        complete = completes_form (Sample number orders) rest rest limit status out.before out.after faults faults out.faults out.faults_after met reads writes;
+        taken = nothing_taken rest;
+        left = λ done. all_left rest;
+        reads = reads;
+        writes = writes;
+      }
+
+  -- the line was written
+  pub does_write : (line : List ℕ) (rest : Option (List ℕ)) (faults : ℕ) (out : Change) → Summarizes number orders line → Grows out.before out.after line → out.faults_after ≡ out.faults
+      → Does (Sample number orders) limit answer.Done (record { before = rest; after = rest; faults = faults; faults_after = faults }) out
+  does_write line rest faults out summary written quiet =
+      does answer.Done rest faults out (λ e. absurd cc)
+      (λ bytes. (line, (refl, summary), written, λ other words comes. one_outcome (Sample number orders) limit bytes other answer.Done words line comes (refl, summary)))
+      (record { later = omega (arith, quiet); rose = λ e. absurd cc; quiet = λ _. quiet })
+
+  -- a front of it was
+  pub does_not_write : (line : List ℕ) (rest : Option (List ℕ)) (faults : ℕ) (out : Change) → Summarizes number orders line → GrowsByFront out.before out.after line → Blames (Unit {0}) out.faults out.faults_after
+      → Does (Sample number orders) limit answer.WriteFault (record { before = rest; after = rest; faults = faults; faults_after = faults }) out
+  does_not_write line rest faults out summary written cause =
+      does answer.WriteFault rest faults out (λ e. absurd cc) (λ bytes. inr (line, inr (answer.Done, (refl, summary)), written))
+      (record { later = cause.later; rose = λ _. cause.rose tt; quiet = λ not. absurd (not refl) })
+
+  -- there was no memory
+  pub does_not_fit : (rest held : Option (List ℕ)) (faults out_faults : ℕ)
+      → Does (Sample number orders) limit answer.NoMemory (record { before = rest; after = rest; faults = faults; faults_after = faults }) (record { before = held; after = held; faults = out_faults; faults_after = out_faults })
+  does_not_fit rest held faults out_faults =
+      does answer.NoMemory rest faults (record { before = held; after = held; faults = out_faults; faults_after = out_faults }) (λ e. absurd cc) (λ bytes. ([], inl (refl, refl), Grows-nothing held))
+      (record { later = omega arith; rose = λ e. absurd cc; quiet = λ _. refl })

@@ -1,0 +1,30 @@
+//! `flow sample NUMBER ORDERS`: a sample of a large market, and a line out.
+ghost use Rattle.std.specs.Prelude.{◌≡◌, ◌≢◌, ◌≤◌, ℕ, List, Option};
+ghost use Rattle.flow_io.specs.Changes.{change};
+ghost use Rattle.flow_exchange.specs.Program.{Does};
+ghost use Rattle.flow_exchange.specs.declared.form.Form.TheVariants.{Sample};
+
+use crate::Status;
+use flow_io::Sink;
+use sample_summary::sample_line;
+use std::alloc::Global;
+
+/// Makes the command file of a sample, runs it, audits the journal, and writes a line with its counts by one call. Nothing is
+/// read. The file, the markets of session and audit, and one pair are held.
+pub(crate) fn sample<K: Sink>(alloc: Global, number: u64, orders: u32, out: &mut K) -> Status
+    requires some { 1 ≤ orders }
+    requires few { orders ≤ 16384 }
+    ensures asked { result ≢ Status.Usage }
+    // Whatever the source has left, and whatever its count of faults is, they stay.
+    ensures does { (limit : ℕ) (rest : Option (List ℕ)) (faults : ℕ) → Does (Sample number orders) limit result
+        (record { before = rest; after = rest; faults = faults; faults_after = faults })
+        (change K.held K.faults out.old out.new) }
+{
+    match sample_line(alloc, number, orders) {
+        Ok(line) => match out.write(&line) {
+            Ok(()) => Status::Done,
+            Err(_) => Status::WriteFault,
+        },
+        Err(_) => Status::NoMemory,
+    }
+}

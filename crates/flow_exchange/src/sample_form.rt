@@ -1,0 +1,66 @@
+//! The words `sample NUMBER ORDERS`.
+ghost use Rattle.std.specs.Prelude.{◌≡◌, ◌≢◌, ◌<◌, ◌≤◌, ◌^◌, ◌↔◌, ◌∷◌, [], ℕ, IsTrue, IfSome, IfNone, decimal, map, string_bytes};
+ghost use Rattle.flow_exchange.specs.Sampling.{AskSample};
+ghost use Rattle.flow_exchange.specs.Private.{AreThree};
+
+use itoa::Buffer;
+
+// The most orders of a sample.
+const MOST_ORDERS: u64 = 16_384;
+
+// Whether the word is the number in plain decimal digits.
+fn is_decimal(word: &str, number: u64) -> bool
+    ensures { IsTrue result ↔ (word.now ≡ decimal number) }
+{
+    let mut buffer = Buffer::new();
+    word == buffer.format(number)
+}
+
+// The number that a word is in plain decimal digits: without a sign, and without a zero before others.
+fn number_of(word: &str) -> Option<u64>
+    ensures number { IfSome result (λ number. (word.now ≡ decimal number) × (number < 2 ^ 64)) }
+    ensures none { IfNone result ((number : ℕ) → number < 2 ^ 64 → word.now ≢ decimal number) }
+{
+    match word.parse::<u64>() {
+        Ok(number) if is_decimal(word, number) => Some(number),
+        Ok(_) => None,
+        Err(_) => None,
+    }
+}
+
+// How many orders a word asks for.
+fn orders_of(word: &str) -> Option<u32>
+    ensures orders { IfSome result (λ orders. (word.now ≡ decimal orders) × (1 ≤ orders) × (orders ≤ 16384)) }
+    ensures none { IfNone result ((orders : ℕ) → 1 ≤ orders → orders ≤ 16384 → word.now ≢ decimal orders) }
+{
+    match number_of(word) {
+        Some(orders) if 1 <= orders && orders <= MOST_ORDERS => Some(orders as u32),
+        Some(_) => None,
+        None => None,
+    }
+}
+
+// The second and the third of three words, of which the first is this one.
+fn behind<'a>(words: &'a [String], first: &str) -> Option<(&'a str, &'a str)>
+    ensures three { IfSome result (λ rest. map string_bytes words.now ≡ first.now ∷ rest.0.now ∷ rest.1.now ∷ []) }
+    ensures none { IfNone result (¬ AreThree (map string_bytes words.now) first.now) }
+{
+    if words.len() != 3 {
+        return None;
+    }
+    if words[0].as_str() != first {
+        return None;
+    }
+    Some((words[1].as_str(), words[2].as_str()))
+}
+
+/// The number and the orders of a sample, where the words ask for one.
+pub(crate) fn sample_of(words: &[String]) -> Option<(u64, u32)>
+    ensures asked { IfSome result (λ sample. AskSample (map string_bytes words.now) sample.0 sample.1) }
+    ensures none { IfNone result ((number orders : ℕ) → ¬ AskSample (map string_bytes words.now) number orders) }
+{
+    let (number, orders) = behind(words, "sample")?;
+    let number = number_of(number)?;
+    let orders = orders_of(orders)?;
+    Some((number, orders))
+}
