@@ -38,7 +38,7 @@ module _ (pairs : List RecordPair) (place : ℕ) (rest : List ℕ) (disk : DiskS
   told Q has = subst (λ (o : Option (List ℕ)). IfSome o Q) holds.content has
 
   -- a step over an entry
-  pub step_holds : (next : ℕ) (found : List ℕ) → IfSome disk.content (IsStep (Ok step.Pair) place next found) → (p : RecordPair) × (left : List ℕ) × Holds (pairs ++ p ∷ []) next left disk
+  pub step_holds : (next : ℕ) (found : List ℕ) → IfSome disk.content (IsStep (Ok step.Pair) place next found) → (p : RecordPair) × (left : List ℕ) × IsRecordPair p × (found ≡ pair_bytes p) × Holds (pairs ++ p ∷ []) next left disk
   step_holds next found is =
       let found_step = told (IsStep (Ok step.Pair) place next found) is in
       let has = found_step.2 in
@@ -47,6 +47,8 @@ module _ (pairs : List RecordPair) (place : ℕ) (rest : List ℕ) (disk : DiskS
       ap (λ (l : List ℕ). entries pairs ++ l) after ∙ sym (append_assoc (entries pairs) (entry found_step.0) found_step.1) ∙ ap (λ (l : List ℕ). l ++ found_step.1) (sym (entries_more pairs found_step.0)) in (
         found_step.0,
         found_step.1,
+        has.is_pair,
+        found_step.3,
         record {
           each = each_more IsRecordPair pairs found_step.0 holds.each has.is_pair;
           begins = omega (arith, holds.begins, found_step.4, ap length found_step.3, ap length (entries_more pairs found_step.0), length-append (entries pairs) (entry found_step.0), length-framed (pair_bytes found_step.0));

@@ -3,7 +3,7 @@ pub mod OneList
 mod Appending
 pub mod Opening
 mod Beginning
-mod PairBytes
+pub mod PairBytes
 mod Framing
 mod Stepping
 pub mod GoingOn

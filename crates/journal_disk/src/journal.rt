@@ -1,5 +1,5 @@
 ghost use Rattle.std.specs.Prelude.{◌≡◌, ◌≢◌, ◌⊎◌, ◌≤◌, ◌<◌, ◌+◌, ◌^◌, [], ◌∷◌, ℕ, List, length, IfSome, IsSome, ◌↔◌, IfOk, IfErr, IsErrOf, Err, OnOk};
-ghost use Rattle.journal_disk.specs.Pairs.{RecordPair};
+ghost use Rattle.journal_disk.specs.Pairs.{RecordPair, IsWholePair};
 ghost use Rattle.disk_edge.specs.Disks.{AtEachMoment};
 ghost use Rattle.journal_disk.specs.Entries.{StandsFor, Holds, EndsAt, Keeps};
 ghost use Rattle.flow_io.specs.Faults.{Blames};
@@ -71,6 +71,7 @@ impl DiskJournal {
     pub fn next<D: Disk>(&mut self, disk: &mut D, pair: &mut Vec<u8>) -> Result<Step, DiskFault>
         ensures step { IfSome (D.state disk.old).content (IsStep result self.old self.new pair.new.items) }
         ensures stays { result ≢ Ok Step.Pair → (self.new ≡ self.old) × (pair.new.items ≡ []) }
+        ensures whole { result ≡ Ok Step.Pair → IsWholePair pair.new.items }
         ensures gate { (place : ℕ) → result ≡ Err (DiskFault.Damaged place) → place ≡ self.old }
         ensures moves { result ≡ Ok Step.Pair → self.new ≡ self.old + (5 + length pair.new.items) }
         ensures known { result ≢ Err DiskFault.NotDisk }

@@ -4,6 +4,7 @@ ghost use Rattle.wire_fields.specs.Numbers.{unsigned};
 ghost use Rattle.flow_io.specs.Faults.{Blames};
 ghost use Rattle.journal_disk.specs.Looking.{OnlyLooks};
 ghost use Rattle.journal_disk.specs.Frames.{IsFramed};
+ghost use Rattle.journal_disk.specs.Pairs.{IsWholePair};
 
 use crate::calls::read_from;
 use crate::fault::DiskFault;
@@ -87,6 +88,7 @@ pub(crate) fn read_pair<D: Disk>(
     requires empty { pair.old.items ≡ [] }
     ensures framed { IfOk result (λ is. IfSome (D.state disk.old).content (IsFramed is place end pair.new.items)) }
     ensures within { result ≡ Ok true → place + (4 + length pair.new.items) ≤ end }
+    ensures whole { result ≡ Ok true → IsWholePair pair.new.items }
     ensures empty { result ≢ Ok true → pair.new.items ≡ [] }
     ensures refused { OnErr result ((result ≡ Err DiskFault.Failed) ⊎ (result ≡ Err DiskFault.Memory)) }
     ensures looks { OnlyLooks (D.state disk.old) (D.state disk.new) }

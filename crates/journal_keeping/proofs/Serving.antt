@@ -36,7 +36,7 @@ follows_more : (old : Market) (pairs : Pairs) (mid : Market) (pair : Pair Record
 follows_more old [] mid pair new follows next = (new, subst (λ (m : Market). IsNext m pair new) follows next, refl)
 follows_more old (p ∷ pairs) mid pair new follows next = (follows.0, follows.1, follows_more follows.0 pairs mid pair new follows.2 next)
 
-right_more : (old : Market) (pairs : Pairs) (mid : Market) (pair : Pair Record Outcome) (new : Market) → Follows IsReadAs IsRightOutcome old pairs mid → Step IsReadAs IsRightOutcome mid pair.asked pair.answer new → Follows IsReadAs IsRightOutcome old (pairs ++ pair ∷ []) new
+pub right_more : (old : Market) (pairs : Pairs) (mid : Market) (pair : Pair Record Outcome) (new : Market) → Follows IsReadAs IsRightOutcome old pairs mid → Step IsReadAs IsRightOutcome mid pair.asked pair.answer new → Follows IsReadAs IsRightOutcome old (pairs ++ pair ∷ []) new
 right_more old [] mid pair new follows next = (new, subst (λ (m : Market). Step IsReadAs IsRightOutcome m pair.asked pair.answer new) follows next, refl)
 right_more old (p ∷ pairs) mid pair new follows next = (follows.0, follows.1, right_more follows.0 pairs mid pair new follows.2 next)
 

@@ -16,7 +16,7 @@ pairs-preserved g c =
       holds = λ pairs rest holds.
           let was = c.pairs.invariant.holds pairs rest holds in
           let now = step_holds was.0 c.pairs.journal was.1 mid was.2 c.next.new.self c.next.new.pair.items taken in
-          (was.0 ++ now.0 ∷ [], now.1, looks_hold _ c.next.new.self now.1 mid next now.2 e.looks);
+          (was.0 ++ now.0 ∷ [], now.1, looks_hold _ c.next.new.self now.1 mid next now.4 e.looks);
     }
 
 pub returns-in-Closed-clause-ends : goal.returns-in-Closed-clause-ends

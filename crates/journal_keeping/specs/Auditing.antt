@@ -1,0 +1,36 @@
+-- How the reading of the pairs that a disk keeps ends, where each is audited.
+use Rattle.std.specs.Prelude.{◌≡◌, ℕ, ◌+◌, List, length, ⊤}
+use Rattle.wire_records.specs.Records.{Record}
+use Rattle.wire_records.specs.Commands.{Pair}
+use Rattle.flow_orders.specs.Outcomes.{Outcome}
+use Rattle.market_rules.specs.Market.{Market}
+use Rattle.batch_audit.specs.Legal.{IsLegalPair, IsIllegalPair}
+use Rattle.journal_disk.specs.Pairs.{RecordPair, IsRecordPair, pair_bytes}
+use Rattle.journal_disk.specs.Stepping.{HasEntryAt, IsDamagedAt}
+use Rattle.journal_keeping.specs.Openings.{BeginsLegal}
+use Rattle.journal_keeping.specs.declared.fault.KeepFault.{KeepFault}
+use Rattle.journal_keeping.specs.declared.fault.KeepFault.TheVariants.{Read, Write, Disk, Memory, NotDisk, Damaged, Rejected, NotFlow, Torn, TooLong}
+
+-- Behind the entries of legal pairs the bytes are damaged at this place, or have the pair of this number, which isn't legal.
+abbrev pub StopsAs : KeepFault → List ℕ → Type 0
+StopsAs (Damaged place) bytes =
+    (legal : List (Pair Record Outcome)) × (market : Market) × BeginsLegal bytes legal market place × IsDamagedAt place bytes
+StopsAs (Rejected number) bytes =
+    (legal : List (Pair Record Outcome)) × (market : Market) × (place : ℕ) × BeginsLegal bytes legal market place
+    × (bad : RecordPair) × (rest : List ℕ) × HasEntryAt place bad rest bytes × IsIllegalPair market bad × (number ≡ length legal + 1)
+StopsAs Disk bytes = ⊤
+StopsAs Memory bytes = ⊤
+StopsAs NotDisk bytes = ⊥
+StopsAs Read bytes = ⊥
+StopsAs Write bytes = ⊥
+StopsAs NotFlow bytes = ⊥
+StopsAs (Torn place) bytes = ⊥
+StopsAs TooLong bytes = ⊥
+
+-- the bytes of a pair are legal in a market, and make another of it
+abbrev pub AreLegalBytes : Market → List ℕ → Market → Type 0
+AreLegalBytes old bytes new = (pair : RecordPair) → IsRecordPair pair → bytes ≡ pair_bytes pair → IsLegalPair old pair new
+
+-- they aren't
+abbrev pub AreIllegalBytes : Market → List ℕ → Type 0
+AreIllegalBytes old bytes = (pair : RecordPair) → IsRecordPair pair → bytes ≡ pair_bytes pair → IsIllegalPair old pair

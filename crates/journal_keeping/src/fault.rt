@@ -1,0 +1,74 @@
+use flow_io::{ReadFailed, WriteFailed};
+use journal_disk::DiskFault;
+use std::alloc::AllocError;
+
+/// Why a journal wasn't kept to the end of its source.
+#[derive(Clone, Copy, Debug, PartialEq, Eq)]
+pub enum KeepFault {
+    /// A read of the source failed.
+    Read,
+    /// A write of out failed.
+    Write,
+    /// A call of the disk failed. The disk is to be opened again.
+    Disk,
+    /// There is no memory for what was asked.
+    Memory,
+    /// The disk holds something else than a journal.
+    NotDisk,
+    /// At this byte of the disk no gate is there, or one that is open and begins no entry of a whole pair.
+    Damaged(u64),
+    /// The kept pair of this number, counted from 1, isn't legal.
+    Rejected(u64),
+    /// The source is no command file of version Two.
+    NotFlow,
+    /// The source breaks off or states too long a record; the broken record begins at this byte, from 0.
+    Torn(u64),
+    /// The source has more bytes than the limit.
+    TooLong,
+}
+
+impl From<ReadFailed> for KeepFault {
+    fn from(_failed: ReadFailed) -> KeepFault {
+        KeepFault::Read
+    }
+}
+
+impl From<WriteFailed> for KeepFault {
+    fn from(_failed: WriteFailed) -> KeepFault {
+        KeepFault::Write
+    }
+}
+
+impl From<DiskFault> for KeepFault {
+    ghost use Rattle.std.specs.Prelude.{◌≡◌};
+    ghost use Rattle.journal_keeping.specs.Faults.{kept_fault};
+
+    ghost from_gives = { λ fault kept. kept ≡ kept_fault fault };
+
+    fn from(fault: DiskFault) -> KeepFault {
+        match fault {
+            DiskFault::Failed => KeepFault::Disk,
+            DiskFault::NotDisk => KeepFault::NotDisk,
+            DiskFault::Damaged(place) => KeepFault::Damaged(place),
+            DiskFault::Memory => KeepFault::Memory,
+        }
+    }
+}
+
+impl From<wire_records::Memory> for KeepFault {
+    fn from(_memory: wire_records::Memory) -> KeepFault {
+        KeepFault::Memory
+    }
+}
+
+impl From<flow_io::Memory> for KeepFault {
+    fn from(_memory: flow_io::Memory) -> KeepFault {
+        KeepFault::Memory
+    }
+}
+
+impl From<AllocError> for KeepFault {
+    fn from(_error: AllocError) -> KeepFault {
+        KeepFault::Memory
+    }
+}

@@ -1,0 +1,71 @@
+//! The pairs that a disk keeps, read and audited one after the other.
+ghost use Rattle.std.specs.Prelude.{◌≡◌, ◌≤◌, ◌<◌, ◌+◌, ◌^◌, ◌⊎◌, ℕ, List, [], map, Some, Err, IfOk, IfErr, OnOk};
+ghost use Rattle.flow_io.specs.Faults.{Blames};
+ghost use Rattle.wire_records.specs.Records.{Record};
+ghost use Rattle.wire_records.specs.Commands.{Pair};
+ghost use Rattle.flow_orders.specs.Outcomes.{Outcome};
+ghost use Rattle.journal_records.specs.Formats.{records_of};
+ghost use Rattle.market_rules.specs.Market.{empty_market};
+ghost use Rattle.journal_disk.specs.Pairs.{IsWholePair};
+ghost use Rattle.journal_disk.specs.Entries.{Holds, EndsAt};
+ghost use Rattle.journal_disk.specs.Looking.{OnlyLooks};
+ghost use Rattle.journal_keeping.specs.Keeping.{kept_version, IsKeptJournal};
+ghost use Rattle.journal_keeping.specs.Auditing.{StopsAs, AreLegalBytes, AreIllegalBytes};
+
+use crate::fault::KeepFault;
+use batch_audit::{Audit, Legality};
+use disk_edge::Disk;
+use journal_disk::{DiskJournal, Step};
+use journal_records::{PairFramed, next_pair};
+use std::alloc::Global;
+
+// Audits the bytes of a pair that is kept, the one of this number.
+fn judge(audit: &mut Audit, pair: &[u8], number: u64) -> Result<(), KeepFault>
+    requires whole { IsWholePair pair.now }
+    requires next { audit.old.next_order + 1 < 2 ^ 64 }
+    ensures legal { OnOk result (AreLegalBytes audit.old pair.now audit.new) }
+    ensures next { OnOk result (audit.new.next_order ≤ audit.old.next_order + 1) }
+    ensures illegal { result ≡ Err (KeepFault.Rejected number) → AreIllegalBytes audit.old pair.now }
+    ensures refused { IfErr result (λ fault. (fault ≡ KeepFault.Rejected number) ⊎ (fault ≡ KeepFault.Memory)) }
+{
+    match next_pair(pair) {
+        PairFramed::Whole(view, _) => match audit.pair(&view) {
+            Ok(Legality::Legal) => Ok(()),
+            Ok(Legality::Illegal) => Err(KeepFault::Rejected(number)),
+            Err(_) => Err(KeepFault::Memory),
+        },
+        PairFramed::End => unreachable!(),
+        PairFramed::Broken => unreachable!(),
+    }
+}
+
+// Reads and audits the pairs that are kept, up to a gate that isn't open.
+pub fn audit_kept<D: Disk>(
+    alloc: Global,
+    journal: &mut DiskJournal,
+    disk: &mut D,
+    audit: &mut Audit,
+) -> Result<(), KeepFault>
+    requires new { audit.old ≡ empty_market kept_version }
+    requires next { audit.old.next_order ≤ journal.old }
+    ensures ends { IfOk result (λ _. (rest : List ℕ) → Holds [] journal.old rest (D.state disk.old) →
+        (legal : List (Pair Record Outcome)) × IsKeptJournal legal audit.new × EndsAt (map records_of legal) journal.new (D.state disk.new)) }
+    ensures stops { IfErr result (λ fault. (rest bytes : List ℕ) → Holds [] journal.old rest (D.state disk.old) →
+        (D.state disk.old).content ≡ Some bytes → StopsAs fault bytes) }
+    ensures next { OnOk result (audit.new.next_order ≤ journal.new) }
+    ensures looks { OnlyLooks (D.state disk.old) (D.state disk.new) }
+    ensures cause { Blames (result ≡ Err KeepFault.Disk) (D.state disk.old).faults (D.state disk.new).faults }
+{
+    let mut pair = Vec::new(alloc);
+    let mut number: u64 = 0;
+    'pairs: loop {
+        match journal.next(disk, &mut pair) {
+            Ok(Step::Closed) => return Ok(()),
+            Ok(Step::Pair) => {
+                number = number.saturating_add(1);
+                judge(audit, &pair, number)?;
+            }
+            Err(fault) => return Err(KeepFault::from(fault)),
+        }
+    }
+}
