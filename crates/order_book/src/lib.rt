@@ -6,15 +6,17 @@
 //!
 //! # Costs
 //!
-//! Adding and cancelling an order takes the same time however many accounts and assets there are: a constant one for
-//! the sum of its money and for each entry of its row. The place of an order is found by its number, in as many steps
-//! as the count of orders has bits, and the later orders close the gap that a cancelled one leaves, in one move of
-//! their block. What an account needs is one look-up. Filling goes once over the entries of all orders, and orders that
-//! end leave in one pass over all, however many they are.
+//! Adding and cancelling an order takes the same time however many accounts, assets and orders there are: a constant
+//! one for the sum of its money and for each entry of its row, each of which is looked up once. The place of an order is
+//! found by its number, in as many steps as the count of orders has bits. A cancelled order stays there as a gap, which
+//! no call sees. Gaps are closed together, in one pass over the book: where they are more than the live orders, so that
+//! a cancel takes a constant time on average, and where the orders are asked for in one list, filled or ended. What an
+//! account needs is one look-up. Filling goes once over the entries of all orders, and orders that end leave in one pass
+//! over all, however many they are.
 //!
-//! Nothing but [`Book::reserve_one`] takes memory. Most of its calls take none; the others move all orders, or all
-//! sums, to a block of about twice the size. An order takes 72 bytes beside its row. The room that an order had stays
-//! for later ones.
+//! Nothing but [`Book::reserve_one`] takes memory. Most of its calls take none; the others move all orders, all sums, or
+//! the set of gaps, to a block of about twice the size. An order takes 72 bytes beside its row, and a place in that set;
+//! a cancelled one has these until its gap is closed. The room that an order had stays for later ones.
 #![tactic(auto)]
 
 mod book;

@@ -126,8 +126,12 @@ impl NeedSums {
         ensures room { spare self.old.table ≤ spare self.new.table + 1 }
     {
         if amount > 0 {
-            let sum = self.get(need) + amount;
-            self.table.insert(need, sum).unwrap();
+            match self.table.get_mut(&need) {
+                Some(sum) => *sum += amount,
+                None => {
+                    self.table.insert(need, amount).unwrap();
+                }
+            }
         }
     }
 
@@ -136,11 +140,12 @@ impl NeedSums {
         ensures lowered { LowersAt self.old.table self.new.table need amount }
         ensures room { spare self.old.table ≤ spare self.new.table }
     {
-        let sum = self.get(need) - amount;
-        if sum == 0 {
-            self.table.swap_remove(&need);
-        } else if let Some(kept) = self.table.get_mut(&need) {
-            *kept = sum;
+        match self.table.get_mut(&need) {
+            Some(sum) if amount < *sum => *sum -= amount,
+            Some(_) => {
+                self.table.swap_remove(&need);
+            }
+            None => {}
         }
     }
 }
