@@ -3,5 +3,6 @@ mod EncodeLaws
 mod ExplainLaws
 mod TickersAgree
 mod RunsAudited
+mod SampleLaws
 mod SomeOutcome
 mod Fronts
