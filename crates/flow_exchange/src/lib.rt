@@ -2,7 +2,8 @@
 //!
 //! [`flow`] is what the program calls. Its contract is what the program promises: which journal `run` writes to `out` for
 //! the bytes of the source, what `audit` says of the journal that it reads, what `explain` finds of its first pair that isn't
-//! legal, which text `report` writes of it, which command file `encode` makes of lines of JSON, and when each status comes.
+//! legal, which text `report` writes of it, which command file `encode` makes of lines of JSON, what the run of a `sample` comes to,
+//! and when each status comes.
 #![tactic(auto)]
 
 mod audit;

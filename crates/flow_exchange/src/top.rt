@@ -74,7 +74,9 @@ pub fn flow_limited<S: Source, K: Sink, N: Sink>(
 /// same, and where a pair isn't legal it writes a line on what is found of it. With the word `report` it reads a
 /// journal in the same way, and writes the text of each legal pair to out, by one write each. With the word `encode` it reads
 /// lines of JSON, and writes the command file of what they ask for to out, of version 1, or with `encode 2` of version 2: one write
-/// for the magic, and one for each record. On every status but `Done` it writes one line to notes; a fault of notes changes nothing.
+/// for the magic, and one for each record. With the words `sample NUMBER ORDERS` it reads nothing: it makes the command file of a sample of
+/// so many orders, 1 to 16,384, that are drawn from the number on, runs it, audits the journal, and writes a line with its counts to
+/// out, by one write. On every status but `Done` it writes one line to notes; a fault of notes changes nothing.
 ///
 /// A command of `run` costs the same however many accounts and orders there are, but for the gap that a cancelled order leaves, which is
 /// closed by a block move. Memory of `run`, `audit`, `explain` and `report` is that of the market, whatever the length of the input: a window

@@ -47,7 +47,7 @@ encoded_is_read version limit most bytes text ended encoded fits =
     )
 
 -- what a run of a file that is read to its end comes to
-run_of : (version : Version) (most : ℕ) (text journal : List ℕ) (ran : Status) (records : List Record) → Reads commands most text (File version records End) → (runs : RunsTo most text ran journal) → (ran ≡ answer.Done) × (market : Market) × Journals version records market journal
+pub run_of : (version : Version) (most : ℕ) (text journal : List ℕ) (ran : Status) (records : List Record) → Reads commands most text (File version records End) → (runs : RunsTo most text ran journal) → (ran ≡ answer.Done) × (market : Market) × Journals version records market journal
 run_of version most text journal ran records reads runs =
     let one = reads_one commands commands_readable most text runs.reading (File version records End) runs.reads reads in
     let writes = subst (λ (reading : Reading Version Record). WritesOf reading journal) one runs.writes in

@@ -187,6 +187,8 @@ pub begun_is_a_front : BegunIsAFront
 begun_is_a_front Run limit bytes status text begun comes (inl gets) = run_begins limit bytes status text begun comes gets
 begun_is_a_front Run limit bytes status text begun comes (inr lacks) = run_begins-out limit bytes status text begun comes lacks
 begun_is_a_front Audit limit bytes status text begun comes (inl gets) = absurd gets
+begun_is_a_front (Sample number orders) limit bytes status text begun comes (inl gets) = absurd gets
+begun_is_a_front (Sample number orders) limit bytes status text begun comes (inr lacks) = absurd lacks
 begun_is_a_front Audit limit bytes status text begun comes (inr (legal, market, next, at, wants, nothing)) = begins-nothing text begun nothing
 begun_is_a_front Explain limit bytes status text begun comes (inl gets) = explain_begins limit bytes status text begun comes gets
 begun_is_a_front Explain limit bytes status text begun comes (inr (legal, market, next, at, wants, nothing)) = begins-nothing text begun nothing

@@ -4,5 +4,6 @@ mod ExplainLaws
 mod TickersAgree
 mod RunsAudited
 mod GoingOn
+mod SampleLaws
 mod SomeOutcome
 mod Fronts

@@ -22,6 +22,7 @@ use Rattle.flow_exchange.proofs.RunWord.{run_form, start}
 use Rattle.flow_exchange.proofs.EncodeForm.{encode_form}
 use Rattle.flow_exchange.proofs.JournalForms.{audit_form, report_form, audit_start, report_start}
 use Rattle.flow_exchange.proofs.ExplainForm.{explain_form}
+use Rattle.flow_laws.proofs.SampleLaws.{some_sample}
 
 -- where a task has some end, its form has some outcome
 some_outcome : {B : Type 0} (t : Task B) (form : Form) (limit : ℕ) (own : B → Status) → IsForm t form limit own → (bytes : List ℕ)
@@ -29,14 +30,15 @@ some_outcome : {B : Type 0} (t : Task B) (form : Form) (limit : ℕ) (own : B �
 some_outcome t form limit own is bytes some none = some (λ ended text comes. none (ended_status limit own ended) text (is.to bytes ended text comes))
 
 pub none_is_without_outcome : NoneIsWithoutOutcome
-none_is_without_outcome Run limit bytes = some_outcome (task run start) Run limit no_reason (run_form limit) bytes (some_end run start run_is_exact run_is_kept run_has_next limit bytes)
-none_is_without_outcome Audit limit bytes =
+none_is_without_outcome words Run limit bytes asks = some_outcome (task run start) Run limit no_reason (run_form limit) bytes (some_end run start run_is_exact run_is_kept run_has_next limit bytes)
+none_is_without_outcome words Audit limit bytes asks =
     some_outcome (task audit audit_start) Audit limit rejected (audit_form limit) bytes
     (some_end audit audit_start audit_is_exact (over_pairs_is_kept counting audit_start (λ version. (refl, refl))) (audit_has_next audit_start sound-empty) limit bytes)
-none_is_without_outcome Explain limit bytes =
+none_is_without_outcome words Explain limit bytes asks =
     some_outcome (task explain audit_start) Explain limit rejected (explain_form limit) bytes
     (some_end explain audit_start explain_is_exact (over_pairs_is_kept explaining audit_start (λ version. (refl, refl))) (explain_has_next audit_start sound-empty) limit bytes)
-none_is_without_outcome Report limit bytes =
+none_is_without_outcome words Report limit bytes asks =
     some_outcome (task report report_start) Report limit rejected (report_form limit) bytes
     (some_end report report_start report_is_exact (over_pairs_is_kept telling report_start (λ version. (refl, refl))) (report_has_next report_start sound-empty) limit bytes)
-none_is_without_outcome (Encode version) limit bytes = some_outcome (encoding version) (Encode version) limit bad_text (encode_form version limit) bytes (encodes_some version limit bytes)
+none_is_without_outcome words (Encode version) limit bytes asks = some_outcome (encoding version) (Encode version) limit bad_text (encode_form version limit) bytes (encodes_some version limit bytes)
+none_is_without_outcome words (Sample number orders) limit bytes asks = some_sample number orders asks.few

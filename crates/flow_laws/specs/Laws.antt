@@ -20,8 +20,12 @@ use Rattle.line_records.specs.Encoding.{EncodesTo}
 use Rattle.exchange_session.specs.Journals.{Journals}
 use Rattle.exchange_session.specs.Running.{run}
 use Rattle.journal_words.specs.Findings.{IsExplained}
+use Rattle.journal_replay.specs.Audits.{cleared_in, skipped_in}
+use Rattle.sample_market.specs.Files.{sample_file}
+use Rattle.sample_summary.specs.Summary.{units_in, summary_line}
+use Rattle.flow_exchange.specs.Forms.{Asks}
 use Rattle.flow_exchange.specs.declared.form.Form.{Form}
-use Rattle.flow_exchange.specs.declared.form.Form.TheVariants.{Run, Audit, Explain}
+use Rattle.flow_exchange.specs.declared.form.Form.TheVariants.{Run, Audit, Explain, Sample}
 use Rattle.flow_exchange.specs.declared.status.Status.{Status}
 use Rattle.flow_exchange.specs.declared.status.Status.TheVariants.{Done, NotFlow, Rejected}
 use Rattle.flow_exchange.specs.Auditing.{legal_line}
@@ -83,9 +87,21 @@ pub record RunsAreAudited : Type 0 where
   pub begun : (limit most : ℕ) (bytes text : List ℕ) → GetsTo Run limit bytes text ⊎ LacksAt Run limit bytes text
       → most < 2 ^ 64 → length text ≤ most → (line : List ℕ) × ComesTo Audit most text Done line
 
--- no bytes are without an outcome, whatever the form
+-- no bytes are without an outcome, whatever the words ask for
 abbrev pub NoneIsWithoutOutcome : Type 0
-NoneIsWithoutOutcome = (form : Form) (limit : ℕ) (bytes : List ℕ) → ¬ ((status : Status) (text : List ℕ) → ¬ ComesTo form limit bytes status text)
+NoneIsWithoutOutcome = (words : List (List ℕ)) (form : Form) (limit : ℕ) (bytes : List ℕ) → Asks words form → ¬ ((status : Status) (text : List ℕ) → ¬ ComesTo form limit bytes status text)
+
+-- The line on a sample is that of the journal which a run of the sample's file writes, and an audit of that journal is done.
+pub record SampleIsRun (number orders most : ℕ) (line : List ℕ) : Type 0 where
+  pub pairs : List (Pair Record Outcome)
+  pub journal : List ℕ
+  pub run : ComesTo Run most (sample_file number orders) Done journal
+  pub audit : length journal ≤ most → ComesTo Audit most journal Done (legal_line pairs)
+  pub told : line ≡ summary_line orders (cleared_in pairs) (skipped_in pairs) (units_in pairs)
+
+abbrev pub SamplesAreRun : Type 0
+SamplesAreRun = (number orders limit most : ℕ) (bytes line : List ℕ) (status : Status) → ComesTo (Sample number orders) limit bytes status line
+    → length (sample_file number orders) ≤ most → SampleIsRun number orders most line
 
 -- what may stand in out while a form is at work, or where memory ran out, is a front of the text that the bytes determine
 abbrev pub BegunIsAFront : Type 0

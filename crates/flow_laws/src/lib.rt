@@ -4,7 +4,7 @@
 //! is built without them.
 #![tactic(auto)]
 
-ghost use Rattle.flow_laws.specs.Laws.{DoneIsForLegalJournals, RejectedIsFirstIllegal, ExplainIsAudit, RejectedIsExplained, EncodedIsRead, EncodedIsServed, RunsAreAudited, NoneIsWithoutOutcome, BegunIsAFront, TickersAgree, SessionsGoOn};
+ghost use Rattle.flow_laws.specs.Laws.{DoneIsForLegalJournals, RejectedIsFirstIllegal, ExplainIsAudit, RejectedIsExplained, EncodedIsRead, EncodedIsServed, RunsAreAudited, NoneIsWithoutOutcome, SamplesAreRun, BegunIsAFront, TickersAgree, SessionsGoOn};
 
 /// `audit` is done exactly for the spelling of a legal journal with nothing past the limit, whoever wrote it, and the line that
 /// it writes counts the journal's pairs, and the batches that cleared and that were skipped.
@@ -58,7 +58,13 @@ pub fn tickers_agree()
     ensures { TickersAgree }
 {}
 
-/// For each form no bytes are without a status and a text.
+/// The line of `sample` is that of the journal which `run` of the sample's file writes, and `audit` of that journal is done: it
+/// counts the same batches.
+pub fn samples_are_run()
+    ensures { SamplesAreRun }
+{}
+
+/// For each form that words ask for no bytes are without a status and a text.
 pub fn none_is_without_outcome()
     ensures { NoneIsWithoutOutcome }
 {}
