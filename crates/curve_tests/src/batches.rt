@@ -1,7 +1,7 @@
 //! Batches from orders and start prices to their outcomes.
 use crate::orders::{BUYER, FILLED, Placed, SELLER, STEEP, TOP, are_priced, are_starts, orders_of};
-use batch_outcome::Outcome;
 use batch_engine::clear;
+use batch_outcome::Outcome;
 use flow_orders::Order;
 use std::alloc::{AllocError, Global};
 use std::test::Fail;

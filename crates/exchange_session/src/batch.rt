@@ -13,8 +13,8 @@ ghost use Rattle.market_rules.specs.Settling.{MaySettle};
 ghost use Rattle.exchange_session.specs.Serving.{AnswersOne};
 ghost use Rattle.exchange_session.specs.Private.{IsWritable};
 
-use batch_outcome::Outcome;
 use batch_engine::clear;
+use batch_outcome::Outcome;
 use flow_orders::Order;
 use journal_records::{write_cleared, write_skipped};
 use market_core::Market;
