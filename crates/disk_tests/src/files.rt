@@ -63,7 +63,10 @@ fn file_keeps_pairs(rt: HostRuntime) -> Result<(), Fail> {
         assert_eq!(rt; none.length(), Err(DiskFailed), "{path}");
     }
     fs::create_dir(&rt, "folder")?;
-    let mut deep = FileDisk::open(&rt, "folder/../folder/pairs.disk");
+    let deep_path = "folder/../folder/pairs.disk";
+    let mut deep = FileDisk::open(&rt, deep_path);
     assert_eq!(rt; deep.length(), Ok(0));
+    fs::remove_file(&rt, deep_path)?;
+    fs::remove_dir(&rt, "folder")?;
     Ok(())
 }
