@@ -16,6 +16,7 @@
 //! | `line TICKERS: TEXT` | `read_line`, with the tickers of the lines before | the command, `many` and how many commands with these, `blank` or `no_command`; then `of` how many tickers |
 //! | `lines: TEXT` | `encode_lines` | `done`, or `no_command` and the line's number. Then the records. With `lines more:` there is more of the text |
 //! | `line_2`, `lines_2` | the same of version Two | |
+//! | `sample NUMBER ORDERS:` | `sample_commands` | how many bytes, their sum (FNV-1a of 64 bits), and the last seven records |
 //! | `write: RECORD` | `write_command` of the command that this spells, copied | |
 //! | `plain REPLY: RECORD` | `reserve_plain`, `write_plain` | |
 //! | `cleared BATCH GAP ASSETS FILLS: RECORD` | `write_cleared` | |
@@ -35,6 +36,7 @@
 mod pairs;
 mod records;
 mod replies;
+mod samples;
 mod telling;
 mod texts;
 
@@ -85,6 +87,7 @@ fn put_case(alloc: Global, words: (&str, &str), bytes: &[u8], text: &mut String)
         "reply" => replies::put_reply(alloc, &records::record_in(bytes)?, text)?,
         "line" => texts::put_line(alloc, Version::One, words.1, bytes, text)?,
         "line_2" => texts::put_line(alloc, Version::Two, words.1, bytes, text)?,
+        "sample" => return samples::put_sample(alloc, words.1, text),
         "lines" => {
             return texts::put_lines(alloc, Version::One, bytes, words.1 == "more", text);
         }
