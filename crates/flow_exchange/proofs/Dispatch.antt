@@ -9,7 +9,7 @@ use Rattle.flow_exchange.specs.declared.status.Status.{Status}
 use Rattle.flow_exchange.specs.declared.status.Status.TheVariants as answer
 use Rattle.flow_exchange.specs.Forms.{Asks, AsksNothing}
 use Rattle.flow_exchange.specs.Statuses.{line_of}
-use Rattle.flow_exchange.specs.Program.{Determines, Meets, Does, Serves}
+use Rattle.flow_exchange.specs.Program.{Determines, Meets, Does, ServesCall}
 use Rattle.flow_exchange.specs.Running.{KeepsPace}
 use Rattle.flow_exchange.proofs.Outcomes.{one_form, completes}
 
@@ -21,7 +21,7 @@ completes_form form told left limit status before after reads reads_now writes w
     completes told left form limit status before after meets (λ e. no_read (read.rose e)) (λ e. no_write (written.rose e)) memory
 
 -- the words are a form, which was done
-pub serves_form : (limit : ℕ) (words : List (List ℕ)) (form : Form) (status : Status) (source out notes : Change) → Asks words form → status ≢ answer.Usage → Does form limit status source out → (form ≡ Run → KeepsPace limit status source out) → ((¬ Rose notes.faults notes.faults_after) → Grows notes.before notes.after (line_of status)) → GrowsByFront notes.before notes.after (line_of status) → Serves limit words status source out notes
+pub serves_form : (limit : ℕ) (words : List (List ℕ)) (form : Form) (status : Status) (source out notes : Change) → Asks words form → status ≢ answer.Usage → Does form limit status source out → (form ≡ Run → KeepsPace limit status source out) → ((¬ Rose notes.faults notes.faults_after) → Grows notes.before notes.after (line_of status)) → GrowsByFront notes.before notes.after (line_of status) → ServesCall limit words status source out notes
 serves_form limit words form status source out notes asks asked does paced noted cut = record {
   usage = (λ e. absurd (asked e), λ none. absurd (none form asks));
   does = λ other also. rw (one_form words other form also asks) does;
@@ -31,7 +31,7 @@ serves_form limit words form status source out notes asks asked does paced noted
 }
 
 -- the words are none
-pub serves_none : (limit : ℕ) (words : List (List ℕ)) (source out notes : Change) → AsksNothing words → ((¬ Rose notes.faults notes.faults_after) → Grows notes.before notes.after (line_of answer.Usage)) → GrowsByFront notes.before notes.after (line_of answer.Usage) → Serves limit words answer.Usage source out notes
+pub serves_none : (limit : ℕ) (words : List (List ℕ)) (source out notes : Change) → AsksNothing words → ((¬ Rose notes.faults notes.faults_after) → Grows notes.before notes.after (line_of answer.Usage)) → GrowsByFront notes.before notes.after (line_of answer.Usage) → ServesCall limit words answer.Usage source out notes
 serves_none limit words source out notes none noted cut = record {
   usage = (λ e. none, λ not. refl);
   does = λ form asks. absurd (none form asks);

@@ -36,7 +36,7 @@ use Rattle.sample_summary.proofs.OneSummary.{one_summary}
 use Rattle.flow_exchange.specs.Sampling.{AskSample, SamplesTo}
 use Rattle.flow_exchange.specs.Running.{WritesOf, RunsTo}
 use Rattle.flow_exchange.specs.Program.{ComesTo, Determines, Meets}
-use Rattle.flow_exchange.specs.Laws.{OneForm, OneOutcome}
+use Rattle.flow_exchange.specs.Laws.{OneForm, OneEnd}
 
 -- the first of one word
 heads : (x y : List ℕ) → x ∷ [] ≡ y ∷ [] → x ≡ y
@@ -211,13 +211,13 @@ lines_one version limit bytes s t x y a b =
 samples_one : (number orders : ℕ) (s t : Status) (x y : List ℕ) → SamplesTo number orders s x → SamplesTo number orders t y → (s ≡ t) × (x ≡ y)
 samples_one number orders s t x y a b = (a.0 ∙ sym b.0, one_summary number orders x y a.1 b.1)
 
-pub one_outcome : OneOutcome
-one_outcome (Sample number orders) limit bytes s t x y a b = samples_one number orders s t x y a b
-one_outcome Run limit bytes s t x y a b = runs_one limit bytes s t x y a b
-one_outcome Audit limit bytes s t x y a b = audits_one limit bytes s t x y a b
-one_outcome Explain limit bytes s t x y a b = explains_one limit bytes s t x y a b
-one_outcome Report limit bytes s t x y a b = reports_one limit bytes s t x y a b
-one_outcome (Encode version) limit bytes s t x y a b = lines_one version limit bytes s t x y a b
+pub one_end : OneEnd
+one_end (Sample number orders) limit bytes s t x y a b = samples_one number orders s t x y a b
+one_end Run limit bytes s t x y a b = runs_one limit bytes s t x y a b
+one_end Audit limit bytes s t x y a b = audits_one limit bytes s t x y a b
+one_end Explain limit bytes s t x y a b = explains_one limit bytes s t x y a b
+one_end Report limit bytes s t x y a b = reports_one limit bytes s t x y a b
+one_end (Encode version) limit bytes s t x y a b = lines_one version limit bytes s t x y a b
 
 -- what a form comes to, where its status is none that a fault or want of memory has
 determined : (form : Form) (limit : ℕ) (bytes : List ℕ) (left : Option (List ℕ)) (status : Status) (before after : Option (List ℕ)) → Meets form limit bytes left status before after

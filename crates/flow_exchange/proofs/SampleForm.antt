@@ -9,7 +9,7 @@ use Rattle.flow_exchange.specs.declared.form.Form.TheVariants.{Sample}
 use Rattle.flow_exchange.specs.declared.status.Status.{Status}
 use Rattle.flow_exchange.specs.declared.status.Status.TheVariants as answer
 use Rattle.flow_exchange.specs.Program.{ComesTo, Meets, Does}
-use Rattle.flow_exchange.proofs.Outcomes.{one_outcome}
+use Rattle.flow_exchange.proofs.Outcomes.{one_end}
 use Rattle.flow_exchange.proofs.Dispatch.{completes_form}
 
 module _ (number orders limit : ℕ) where
@@ -45,7 +45,7 @@ module _ (number orders limit : ℕ) where
       → Does (Sample number orders) limit answer.Done (record { before = rest; after = rest; faults = faults; faults_after = faults }) out
   does_write line rest faults out summary written quiet =
       does answer.Done rest faults out (λ e. absurd cc)
-      (λ bytes. (line, (refl, summary), written, λ other words comes. one_outcome (Sample number orders) limit bytes other answer.Done words line comes (refl, summary)))
+      (λ bytes. (line, (refl, summary), written, λ other words comes. one_end (Sample number orders) limit bytes other answer.Done words line comes (refl, summary)))
       (record { later = omega (arith, quiet); rose = λ e. absurd cc; quiet = λ _. quiet })
 
   -- a front of it was

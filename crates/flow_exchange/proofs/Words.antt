@@ -12,7 +12,7 @@ use Rattle.flow_exchange.specs.declared.status.Status.{Status}
 use Rattle.flow_exchange.specs.declared.status.Status.TheVariants as answer
 use Rattle.flow_exchange.specs.Statuses.{ended_status}
 use Rattle.flow_exchange.specs.Program.{ComesTo, GetsTo, LacksAt, most_taken, left_by, Determines, Meets, Does}
-use Rattle.flow_exchange.proofs.Outcomes.{one_outcome}
+use Rattle.flow_exchange.proofs.Outcomes.{one_end}
 use Rattle.flow_exchange.proofs.Dispatch.{completes_form}
 
 take_nothing : (n : ℕ) → take {A = ℕ} n [] ≡ []
@@ -45,7 +45,7 @@ module _ {B : Type 0} (t : Task B) (form : Form) (limit : ℕ) (own : B → Stat
   determines : (bytes : List ℕ) (ended : Ended B) (before after : Option (List ℕ)) → driver.Determines t limit bytes ended before after → Determines form limit bytes (ended_status limit own ended) before after
   determines bytes ended before after (text, comes, written, one) =
       let here = is.to bytes ended text comes in
-      (text, here, written, λ other words also. one_outcome form limit bytes other (ended_status limit own ended) words text also here)
+      (text, here, written, λ other words also. one_end form limit bytes other (ended_status limit own ended) words text also here)
 
   meets : (bytes : List ℕ) (left : Option (List ℕ)) (ended : Ended B) (before after : Option (List ℕ)) → driver.Meets t limit bytes left ended before after → Meets form limit bytes left (ended_status limit own ended) before after
   meets bytes left (Ok done) before after met = determines bytes (Ok done) before after met

@@ -10,6 +10,6 @@ abbrev pub OneForm : Type 0
 OneForm = (words : List (List ℕ)) (f g : Form) → Asks words f → Asks words g → f ≡ g
 
 -- bytes determine one status and one text
-abbrev pub OneOutcome : Type 0
-OneOutcome =
+abbrev pub OneEnd : Type 0
+OneEnd =
     (form : Form) (limit : ℕ) (bytes : List ℕ) (s t : Status) (x y : List ℕ) → ComesTo form limit bytes s x → ComesTo form limit bytes t y → (s ≡ t) × (x ≡ y)

@@ -116,7 +116,7 @@ pub record Does (form : Form) (limit : ℕ) (status : Status) (source out : Chan
   pub writes : Blames (status ≡ WriteFault) out.faults out.faults_after
 
 -- What a call of the program does, with a limit of its input.
-pub record Serves (limit : ℕ) (words : List (List ℕ)) (status : Status) (source out notes : Change) : Type 0 where
+pub record ServesCall (limit : ℕ) (words : List (List ℕ)) (status : Status) (source out notes : Change) : Type 0 where
   -- Usage comes exactly where the words are none of the forms.
   pub usage : (status ≡ Usage) ↔ AsksNothing words
   pub does : (form : Form) → Asks words form → Does form limit status source out

@@ -1,7 +1,7 @@
 //! What holds of the program's words and outcomes, whatever code there is, where its own promise rests on it. Each law is the
 //! contract of a function that does nothing. What else holds stands in the crate `flow_laws`.
 ghost use Rattle.std.specs.Prelude.{◌≡◌, ◌↔◌, IsTrue};
-ghost use Rattle.flow_exchange.specs.Laws.{OneForm, OneOutcome};
+ghost use Rattle.flow_exchange.specs.Laws.{OneForm, OneEnd};
 
 use crate::Status;
 
@@ -11,8 +11,8 @@ pub fn one_form()
 {}
 
 /// For each form the bytes of the source determine one status, and one text for out.
-pub fn one_outcome()
-    ensures { OneOutcome }
+pub fn one_end()
+    ensures { OneEnd }
 {}
 
 /// Two statuses are equal in a test exactly where they are the same.

@@ -2,7 +2,7 @@
 ghost use Rattle.std.specs.Prelude.{◌≡◌, ◌≢◌, ◌^◌, ℕ, List, Some, map, string_bytes};
 ghost use Rattle.flow_io.specs.Changes.{change};
 ghost use Rattle.flow_exchange.specs.Forms.{Asks};
-ghost use Rattle.flow_exchange.specs.Program.{Does, Serves};
+ghost use Rattle.flow_exchange.specs.Program.{Does, ServesCall};
 ghost use Rattle.flow_exchange.specs.Running.{KeepsPace};
 
 use crate::Status;
@@ -53,7 +53,7 @@ pub fn flow_limited<S: Source, K: Sink, N: Sink>(
     out: &mut K,
     notes: &mut N,
 ) -> Status
-    ensures serves { Serves limit (map string_bytes words.now) result (change S.rest S.faults source.old source.new)
+    ensures serves { ServesCall limit (map string_bytes words.now) result (change S.rest S.faults source.old source.new)
         (change K.held K.faults out.old out.new) (change N.held N.faults notes.old notes.new) }
     // The words are no form: nothing is read, and nothing is written to out.
     ensures idle { result ≡ Status.Usage → (source.new ≡ source.old) × (out.new ≡ out.old) }
@@ -93,7 +93,7 @@ pub fn flow<S: Source, K: Sink, N: Sink>(
     out: &mut K,
     notes: &mut N,
 ) -> Status
-    ensures serves { Serves (2 ^ 32) (map string_bytes words.now) result (change S.rest S.faults source.old source.new)
+    ensures serves { ServesCall (2 ^ 32) (map string_bytes words.now) result (change S.rest S.faults source.old source.new)
         (change K.held K.faults out.old out.new) (change N.held N.faults notes.old notes.new) }
     ensures idle { result ≡ Status.Usage → (source.new ≡ source.old) × (out.new ≡ out.old) }
 {

@@ -12,7 +12,7 @@ use Rattle.flow_exchange.specs.declared.status.Status.TheVariants as answer
 use Rattle.flow_exchange.specs.Auditing.{audit_status}
 use Rattle.flow_exchange.specs.Explaining.{Explains}
 use Rattle.flow_exchange.proofs.FileOf.{file_of}
-use Rattle.flow_exchange.proofs.Outcomes.{one_outcome}
+use Rattle.flow_exchange.proofs.Outcomes.{one_end}
 use Rattle.flow_laws.specs.Laws.{ExplainIsAudit, RejectedIsExplained}
 use Rattle.flow_laws.proofs.AuditLaws.{audits_first, explained_file}
 
@@ -24,10 +24,10 @@ explained_alike limit market legal (bad ∷ more) ending status line text ends n
 
 pub explain_is_audit : ExplainIsAudit
 explain_is_audit limit bytes text line status other (inl none) audits =
-    let same = one_outcome Audit limit bytes status other text line (inl none) audits in
+    let same = one_end Audit limit bytes status other text line (inl none) audits in
     (same.0, λ not. same.1)
 explain_is_audit limit bytes text line status other (inr file) audits =
-    let same = one_outcome Audit limit bytes status other file.line line (inr file.audit) audits in (
+    let same = one_end Audit limit bytes status other file.line line (inr file.audit) audits in (
       same.0,
       λ not. explained_alike limit file.audit.market file.audit.legal file.audit.behind file.audit.ending status file.line text file.audit.ends not file.writes ∙ same.1,
     )

@@ -37,7 +37,7 @@ use Rattle.flow_exchange.specs.declared.status.Status.TheVariants as answer
 use Rattle.flow_exchange.specs.Running.{WritesOf, RunsTo, RunsInto, RunsShort}
 use Rattle.flow_exchange.specs.Reporting.{AreReported, ReportsTo, ReportsInto, ReportsShort}
 use Rattle.flow_exchange.specs.Explaining.{ExplainsTo, ExplainsInto}
-use Rattle.flow_exchange.proofs.Outcomes.{one_outcome}
+use Rattle.flow_exchange.proofs.Outcomes.{one_end}
 use Rattle.flow_laws.specs.Laws.{BegunIsAFront}
 
 -- a text begins with another
@@ -179,7 +179,7 @@ report_begun limit bytes begun (legal, market, next, at, wants, told) =
 -- the line of a pair is the whole text
 explain_begins : (limit : ℕ) (bytes : List ℕ) (status : Status) (text begun : List ℕ) → ExplainsTo limit bytes status text → ExplainsInto limit bytes begun → Begins text begun
 explain_begins limit bytes status text begun all first =
-    ([], (one_outcome Explain limit bytes status (answer.Rejected first.0) text begun all first.1).1 ∙ sym (append-nil begun))
+    ([], (one_end Explain limit bytes status (answer.Rejected first.0) text begun all first.1).1 ∙ sym (append-nil begun))
 
 -- ---- all forms
 

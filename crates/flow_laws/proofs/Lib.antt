@@ -5,5 +5,5 @@ mod TickersAgree
 mod RunsAudited
 mod GoingOn
 mod SampleLaws
-mod SomeOutcome
+mod SomeEnd
 mod Fronts

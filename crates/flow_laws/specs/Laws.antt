@@ -87,9 +87,9 @@ pub record RunsAreAudited : Type 0 where
   pub begun : (limit most : ℕ) (bytes text : List ℕ) → GetsTo Run limit bytes text ⊎ LacksAt Run limit bytes text
       → most < 2 ^ 64 → length text ≤ most → (line : List ℕ) × ComesTo Audit most text Done line
 
--- no bytes are without an outcome, whatever the words ask for
-abbrev pub NoneIsWithoutOutcome : Type 0
-NoneIsWithoutOutcome = (words : List (List ℕ)) (form : Form) (limit : ℕ) (bytes : List ℕ) → Asks words form → ¬ ((status : Status) (text : List ℕ) → ¬ ComesTo form limit bytes status text)
+-- no bytes are without an end of a form that words ask for
+abbrev pub NoneIsWithoutEnd : Type 0
+NoneIsWithoutEnd = (words : List (List ℕ)) (form : Form) (limit : ℕ) (bytes : List ℕ) → Asks words form → ¬ ((status : Status) (text : List ℕ) → ¬ ComesTo form limit bytes status text)
 
 -- The line on a sample is that of the journal which a run of the sample's file writes, and an audit of that journal is done.
 pub record SampleIsRun (number orders most : ℕ) (line : List ℕ) : Type 0 where

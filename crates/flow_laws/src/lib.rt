@@ -4,7 +4,7 @@
 //! is built without them.
 #![tactic(auto)]
 
-ghost use Rattle.flow_laws.specs.Laws.{DoneIsForLegalJournals, RejectedIsFirstIllegal, ExplainIsAudit, RejectedIsExplained, EncodedIsRead, EncodedIsServed, RunsAreAudited, NoneIsWithoutOutcome, SamplesAreRun, BegunIsAFront, TickersAgree, SessionsGoOn};
+ghost use Rattle.flow_laws.specs.Laws.{DoneIsForLegalJournals, RejectedIsFirstIllegal, ExplainIsAudit, RejectedIsExplained, EncodedIsRead, EncodedIsServed, RunsAreAudited, NoneIsWithoutEnd, SamplesAreRun, BegunIsAFront, TickersAgree, SessionsGoOn};
 
 /// `audit` is done exactly for the spelling of a legal journal with nothing past the limit, whoever wrote it, and the line that
 /// it writes counts the journal's pairs, and the batches that cleared and that were skipped.
@@ -65,8 +65,8 @@ pub fn samples_are_run()
 {}
 
 /// For each form that words ask for no bytes are without a status and a text.
-pub fn none_is_without_outcome()
-    ensures { NoneIsWithoutOutcome }
+pub fn none_is_without_end()
+    ensures { NoneIsWithoutEnd }
 {}
 
 /// What stands in out after a fault, up to a whole unit, or where memory ran out, is a front of the text that the bytes

@@ -16,7 +16,7 @@ use Rattle.flow_exchange.specs.declared.status.Status.{Status}
 use Rattle.flow_exchange.specs.Statuses.{ended_status, bad_text}
 use Rattle.flow_exchange.specs.Private.{no_reason, rejected}
 use Rattle.flow_exchange.specs.Program.{ComesTo}
-use Rattle.flow_laws.specs.Laws.{NoneIsWithoutOutcome}
+use Rattle.flow_laws.specs.Laws.{NoneIsWithoutEnd}
 use Rattle.flow_exchange.proofs.Words.{IsForm}
 use Rattle.flow_exchange.proofs.RunWord.{run_form, start}
 use Rattle.flow_exchange.proofs.EncodeForm.{encode_form}
@@ -25,20 +25,20 @@ use Rattle.flow_exchange.proofs.ExplainForm.{explain_form}
 use Rattle.flow_laws.proofs.SampleLaws.{some_sample}
 
 -- where a task has some end, its form has some outcome
-some_outcome : {B : Type 0} (t : Task B) (form : Form) (limit : ℕ) (own : B → Status) → IsForm t form limit own → (bytes : List ℕ)
+some_end_of : {B : Type 0} (t : Task B) (form : Form) (limit : ℕ) (own : B → Status) → IsForm t form limit own → (bytes : List ℕ)
     → (((ended : Ended B) (text : List ℕ) → ¬ t.Comes limit bytes ended text) → ⊥) → ((status : Status) (text : List ℕ) → ¬ ComesTo form limit bytes status text) → ⊥
-some_outcome t form limit own is bytes some none = some (λ ended text comes. none (ended_status limit own ended) text (is.to bytes ended text comes))
+some_end_of t form limit own is bytes some none = some (λ ended text comes. none (ended_status limit own ended) text (is.to bytes ended text comes))
 
-pub none_is_without_outcome : NoneIsWithoutOutcome
-none_is_without_outcome words Run limit bytes asks = some_outcome (task run start) Run limit no_reason (run_form limit) bytes (some_end run start run_is_exact run_is_kept run_has_next limit bytes)
-none_is_without_outcome words Audit limit bytes asks =
-    some_outcome (task audit audit_start) Audit limit rejected (audit_form limit) bytes
+pub none_is_without_end : NoneIsWithoutEnd
+none_is_without_end words Run limit bytes asks = some_end_of (task run start) Run limit no_reason (run_form limit) bytes (some_end run start run_is_exact run_is_kept run_has_next limit bytes)
+none_is_without_end words Audit limit bytes asks =
+    some_end_of (task audit audit_start) Audit limit rejected (audit_form limit) bytes
     (some_end audit audit_start audit_is_exact (over_pairs_is_kept counting audit_start (λ version. (refl, refl))) (audit_has_next audit_start sound-empty) limit bytes)
-none_is_without_outcome words Explain limit bytes asks =
-    some_outcome (task explain audit_start) Explain limit rejected (explain_form limit) bytes
+none_is_without_end words Explain limit bytes asks =
+    some_end_of (task explain audit_start) Explain limit rejected (explain_form limit) bytes
     (some_end explain audit_start explain_is_exact (over_pairs_is_kept explaining audit_start (λ version. (refl, refl))) (explain_has_next audit_start sound-empty) limit bytes)
-none_is_without_outcome words Report limit bytes asks =
-    some_outcome (task report report_start) Report limit rejected (report_form limit) bytes
+none_is_without_end words Report limit bytes asks =
+    some_end_of (task report report_start) Report limit rejected (report_form limit) bytes
     (some_end report report_start report_is_exact (over_pairs_is_kept telling report_start (λ version. (refl, refl))) (report_has_next report_start sound-empty) limit bytes)
-none_is_without_outcome words (Encode version) limit bytes asks = some_outcome (encoding version) (Encode version) limit bad_text (encode_form version limit) bytes (encodes_some version limit bytes)
-none_is_without_outcome words (Sample number orders) limit bytes asks = some_sample number orders asks.few
+none_is_without_end words (Encode version) limit bytes asks = some_end_of (encoding version) (Encode version) limit bad_text (encode_form version limit) bytes (encodes_some version limit bytes)
+none_is_without_end words (Sample number orders) limit bytes asks = some_sample number orders asks.few
