@@ -1,0 +1,4 @@
+mod Lists
+mod OwnParts
+pub mod Told
+pub mod ViewLaws
