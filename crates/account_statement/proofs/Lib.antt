@@ -1,4 +1,5 @@
 mod Lists
 mod OwnParts
-pub mod Told
-pub mod ViewLaws
+mod Told
+mod ViewLaws
+mod WorkedRows
