@@ -3,3 +3,5 @@ mod OwnParts
 mod Told
 mod ViewLaws
 mod WorkedRows
+mod Texts
+mod OwnRates

@@ -71,8 +71,12 @@ views_compose account old mid new (pair ∷ pairs) more v w (next, read, rest, r
 pub equal_views_equal_statements : EqualViewsEqualStatements
 equal_views_equal_statements account one other pairs more v w m n first second same = ap statement same
 
+-- the market after a step is sound too
+pub sound_after : (old : Market) (asked : Record) (a : Answer Outcome) (next : Market) (read : Result Command BodyFault) → IsSound old → IsReadAs old.version asked read → ServesRead IsRightOutcome old read a next → IsSound next
+sound_after old asked a next read sound reads serves = sound_step IsReadAs read_own old asked a next sound (step_of old asked a next read reads serves)
+
 -- events one after the other
-after_both : (v : List Event) (h : Holding) (w : List Event) → after_all h (v ++ w) ≡ after_all (after_all h v) w
+pub after_both : (v : List Event) (h : Holding) (w : List Event) → after_all h (v ++ w) ≡ after_all (after_all h v) w
 after_both [] h w = refl
 after_both (event ∷ v) h w = after_both v (after h event) w
 
@@ -85,7 +89,7 @@ steps account old (pair ∷ pairs) view new h sound held (next, read, rest, read
     let all = steps account next pairs rest new (after_all h (seen account old read pair.answer)) sound_next here more in
     subst (IsHeld account new) (sym (ap (after_all h) is ∙ after_both (seen account old read pair.answer) h rest)) all
 
-empty_held : (account : ℕ) (version : Version) → IsHeld account (empty_market version) nothing
+pub empty_held : (account : ℕ) (version : Version) → IsHeld account (empty_market version) nothing
 empty_held account version = record {
   tickers = refl;
   opened = closed account;
@@ -97,6 +101,9 @@ empty_held account version = record {
     closed : (number : ℕ) → false ≡ is_there (empty_market version) number
     closed zero = refl
     closed (suc k) = sym (and_right (nat_lt 0 (suc k)) (nat_lt (suc k) 1) (le-ltb (suc k) 1 (omega arith)))
+
+pub told_all : (account : ℕ) (version : Version) (pairs : List (Pair Record Outcome)) (view : List Event) (m : Market) → Sees account (empty_market version) pairs view m → IsHeld account m (after_all nothing view)
+told_all account version pairs view m sees = steps account (empty_market version) pairs view m nothing (sound-empty version) (empty_held account version) sees
 
 pub views_tell_holdings : ViewsTellHoldings
 views_tell_holdings = record {

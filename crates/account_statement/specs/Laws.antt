@@ -1,17 +1,17 @@
 -- What holds of views and statements.
-use Rattle.std.specs.Prelude.{◌≡◌, ℕ, ◌<◌, ◌≤◌, ◌↔◌, true, ℤ, pos, List, [], ◌++◌, length}
+use Rattle.std.specs.Prelude.{◌≡◌, ℕ, ◌↔◌, true, pos, List, [], ◌++◌, map, All, Contains}
 use Rattle.wire_records.specs.Records.{Record}
 use Rattle.wire_records.specs.Commands.{Answer, Pair}
 use Rattle.wire_records.specs.Versions.{IsReadAs}
 use Rattle.wire_records.specs.declared.version.Version.{Version}
 use Rattle.flow_accounts.specs.Balances.{IsAccount, IsAsset, money_of, units_of}
-use Rattle.flow_orders.specs.Orders.{needed_money, needed_units}
-use Rattle.flow_orders.specs.Outcomes.{Outcome, IsRightOutcome}
-use Rattle.market_rules.specs.Market.{Market, IsSound, empty_market}
+use Rattle.flow_orders.specs.Orders.{Order, needed_money, needed_units}
+use Rattle.flow_orders.specs.Outcomes.{Fill, Clearing, Outcome, IsRightClearing, IsRightOutcome}
+use Rattle.market_rules.specs.Market.{Market, IsSound, empty_market, start_prices}
 use Rattle.market_rules.specs.Laws.{Leads}
-use Rattle.account_statement.specs.Views.{Event, Shows}
-use Rattle.account_statement.specs.Holdings.{Holding, nothing, after_all, IsHeld}
-use Rattle.account_statement.specs.Statements.{statement, money_reserved, units_reserved}
+use Rattle.account_statement.specs.Views.{Event, Shows, own_fills}
+use Rattle.account_statement.specs.Holdings.{Holding, nothing, after_all, own_orders, IsHeld}
+use Rattle.account_statement.specs.Statements.{lines_from, view_text, statement, money_reserved, units_reserved}
 
 -- this is what an account sees of legal steps
 abbrev pub Sees : ℕ → Market → List (Pair Record Outcome) → List Event → Market → Type 0
@@ -49,3 +49,19 @@ pub record StatementsEndWithBalances : Type 0 where
   pub units : (account : ℕ) (m : Market) (h : Holding) (asset : ℕ) → IsAccount m.balances account → IsAsset m.balances asset → IsHeld account m h → h.units asset ≡ units_of m.balances account asset
   pub money_needed : (account : ℕ) (m : Market) (h : Holding) → IsHeld account m h → pos (money_reserved h) ≡ needed_money m.orders account
   pub units_needed : (account : ℕ) (m : Market) (h : Holding) (asset : ℕ) → IsHeld account m h → pos (units_reserved h asset) ≡ needed_units m.orders account asset
+
+-- the text of a view that goes on is that of its first part and the lines of what follows: what was written stays
+abbrev pub TextsGoOn : Type 0
+TextsGoOn = (v w : List Event) → view_text (v ++ w) ≡ view_text v ++ lines_from (after_all nothing v) w
+
+-- of a number that no account of the market has, a legal journal tells nothing
+abbrev pub AbsentAccountsHaveNoText : Type 0
+AbsentAccountsHaveNoText = (account : ℕ) (version : Version) (pairs : List (Pair Record Outcome)) (view : List Event) (m : Market)
+    → Sees account (empty_market version) pairs view m → ¬ IsAccount m.balances account → view_text view ≡ []
+
+-- the rates that are told of a right clearing are those that were published for the account's live orders, one each, by ascending numbers
+pub record OwnRatesArePublished : Type 0 where
+  pub numbers : (account : ℕ) (m : Market) (c : Clearing) → IsRightClearing m.orders (start_prices m) c
+      → map (λ (f : Fill). f.order) (own_fills account m c) ≡ map (λ (o : Order). o.number) (own_orders account m.orders)
+  pub published : (account : ℕ) (m : Market) (c : Clearing) → IsRightClearing m.orders (start_prices m) c
+      → All (λ (f : Fill). Contains c.fills f) (own_fills account m c)
