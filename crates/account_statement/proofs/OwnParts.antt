@@ -1,15 +1,14 @@
 -- An account's own orders and trades among all.
-use Rattle.std.proofs.Common.{◌≡◌, ◌≢◌, ◌⊎◌, inl, inr, ℕ, ◌+◌, ◌-◌, ◌<◌, ◌≤◌, Bool, true, false, not, ℤ, pos, ◌+ℤ◌, ◌-ℤ◌, List, [], ◌∷◌, length, map, get_or, refl, sym, ap, subst, ⊎_elim, ◌∙◌, arith}
-use Rattle.std.specs.Prelude.{All, AllPairs, slice_index_or, ◌==◌}
+use Rattle.std.proofs.Common.{◌≡◌, ◌≢◌, ◌⊎◌, inl, inr, ℕ, ◌-◌, ◌<◌, ◌≤◌, true, false, not, pos, List, [], ◌∷◌, length, map, get_or, refl, sym, ap, subst, ⊎_elim, ◌∙◌, arith}
+use Rattle.std.specs.Prelude.{AllPairs, slice_index_or, ◌==◌}
 use Rattle.std.specs.List.{filter}
-use Rattle.std.proofs.lemmas.Int.{ints}
-use Rattle.std.proofs.lemmas.Bool.{cases_Bool, cases_lt, ne_eqb, eqb-true, true≢false}
+use Rattle.std.proofs.lemmas.Bool.{cases_Bool, cases_lt, ne_eqb, eqb-true}
 use Rattle.std.proofs.lemmas.List.{get_or_past, get_or_default}
 use Rattle.flow_accounts.specs.Balances.{Account, Balances, IsAccount, account_count, empty_account, money_of, units_of}
 use Rattle.flow_accounts.proofs.ListLemmas.{zero_at}
 use Rattle.flow_orders.specs.Orders.{Order}
-use Rattle.flow_orders.specs.Outcomes.{Fill, trades_of, fill_of}
-use Rattle.flow_orders.specs.Trades.{Trade, trades, trader, after_fill, is_live, staying, going_on}
+use Rattle.flow_orders.specs.Outcomes.{trades_of, fill_of}
+use Rattle.flow_orders.specs.Trades.{Trade, trades, after_fill, is_live, staying, going_on}
 use Rattle.order_book.specs.Book.{HasOrder, without}
 use Rattle.market_rules.specs.Market.{Market, IsSound}
 use Rattle.account_statement.specs.Views.{own_trades}

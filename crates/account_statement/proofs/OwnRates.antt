@@ -1,15 +1,13 @@
 -- The rates that are told are those that were published.
-use Rattle.std.proofs.Common.{◌≡◌, ◌⊎◌, inl, inr, ℕ, zero, suc, ◌+◌, ◌<◌, Bool, true, false, List, [], ◌∷◌, length, map, refl, sym, ap, subst, ◌∙◌, arith}
+use Rattle.std.proofs.Common.{◌≡◌, ◌⊎◌, inl, inr, ℕ, zero, suc, true, false, List, [], ◌∷◌, length, map, refl, sym, ap, subst, ◌∙◌, arith}
 use Rattle.std.specs.Prelude.{All, Contains, ◌==◌}
-use Rattle.std.specs.List.{filter}
 use Rattle.std.proofs.lemmas.Bool.{cases_Bool}
 use Rattle.std.proofs.lemmas.List.{length-map}
 use Rattle.std.proofs.lemmas.List.Elements.{All-filter, All-map, All-contains_itself}
 use Rattle.flow_orders.specs.Orders.{Order}
-use Rattle.flow_orders.specs.Outcomes.{Fill, Clearing, IsRightClearing, trades_of, fill_of}
+use Rattle.flow_orders.specs.Outcomes.{Fill, trades_of, fill_of}
 use Rattle.flow_orders.specs.Trades.{Trade, trades, trader}
-use Rattle.market_rules.specs.Market.{Market, start_prices}
-use Rattle.account_statement.specs.Views.{own_fills, own_trades}
+use Rattle.account_statement.specs.Views.{own_trades}
 use Rattle.account_statement.specs.Holdings.{own_orders}
 use Rattle.account_statement.specs.Laws.{OwnRatesArePublished}
 

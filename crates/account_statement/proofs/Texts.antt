@@ -1,22 +1,19 @@
 -- Texts that go on, accounts that aren't there, and the rates of own orders.
-use Rattle.std.proofs.Common.{◌≡◌, ◌⊎◌, inl, inr, ℕ, zero, suc, ◌+◌, ◌<◌, Bool, true, false, ◌&&◌, List, [], ◌∷◌, ◌++◌, length, map, Result, Ok, Err, refl, sym, ap, subst, ⊎_elim, ◌∙◌, arith}
-use Rattle.std.specs.Prelude.{All, Contains, ◌==◌, slice_index_or}
-use Rattle.std.specs.List.{filter}
-use Rattle.std.proofs.lemmas.Bool.{cases_Bool, true≢false, false≢true, false_from_ne_true}
+use Rattle.std.proofs.Common.{◌≡◌, ℕ, Bool, true, false, ◌&&◌, List, [], ◌∷◌, ◌++◌, Result, Ok, Err, refl, sym, ap, ◌∙◌}
+use Rattle.std.specs.Prelude.{◌==◌}
+use Rattle.std.proofs.lemmas.Bool.{true≢false, false_from_ne_true}
 use Rattle.std.proofs.lemmas.List.{append_assoc}
 use Rattle.wire_records.specs.Records.{Record}
 use Rattle.wire_records.specs.Commands.{Command, AddAsset, OpenAccount, DepositMoney, DepositAsset, WithdrawMoney, WithdrawAsset, PlaceOrder, CancelOrder, RunBatch, PlaceUntil, SetMoneyCredit, SetUnitCredit, Answer, Plain, Batch, Pair}
 use Rattle.wire_records.specs.declared.command.BodyFault.{BodyFault}
-use Rattle.wire_records.specs.declared.version.Version.{Version}
 use Rattle.wire_records.specs.declared.reply.Reply.{Reply}
 use Rattle.wire_records.specs.declared.reply.Reply.TheVariants.{Done, Asset, Account, Order, Refused}
-use Rattle.flow_accounts.specs.Balances.{account_count}
 use Rattle.flow_orders.specs.Outcomes.{Outcome, Cleared, Skipped}
 use Rattle.market_rules.specs.Market.{Market, IsSound, empty_market}
 use Rattle.market_rules.proofs.Soundness.{sound-empty}
 use Rattle.account_statement.specs.Views.{Event, Adds, Opens, Asks, Clears, Skips, is_there, event_if, seen, seen_plain}
 use Rattle.account_statement.specs.Holdings.{Holding, nothing, after, after_done, after_placing, after_all, IsHeld}
-use Rattle.account_statement.specs.Statements.{event_lines, lines_from, view_text}
+use Rattle.account_statement.specs.Statements.{event_lines, lines_from}
 use Rattle.account_statement.specs.Laws.{Sees, TextsGoOn, AbsentAccountsHaveNoText}
 use Rattle.account_statement.proofs.Told.{told, is_account}
 use Rattle.account_statement.proofs.ViewLaws.{empty_held, after_both, sound_after, told_all}

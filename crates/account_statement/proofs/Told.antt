@@ -1,33 +1,29 @@
 -- What an account's view tells of a step is what the step makes of the account.
-use Rattle.std.proofs.Common.{◌≡◌, ◌≢◌, ◌⊎◌, inl, inr, ℕ, ◌+◌, ◌-◌, ◌<◌, ◌≤◌, Bool, true, false, not, ◌&&◌, ℤ, pos, neg_ℤ, ◌+ℤ◌, ◌-ℤ◌, List, [], ◌∷◌, ◌++◌, length, map, Option, Some, None, Result, Ok, Err, refl, sym, ap, subst, ⊎_elim, ◌∙◌, arith}
-use Rattle.std.specs.Prelude.{All, nat_lt, ◌==◌, if◌then◌else◌}
-use Rattle.std.specs.List.{filter}
-use Rattle.std.proofs.lemmas.Int.{ints}
-use Rattle.std.proofs.lemmas.Bool.{cases_Bool, cases_lt, ne_eqb, eq-eqb, eqb-true, lt-ltb, le-ltb, ltb-true, and_from, and_parts, true≢false}
+use Rattle.std.proofs.Common.{◌≡◌, ◌≢◌, ◌⊎◌, inl, inr, ℕ, ◌+◌, ◌<◌, ◌≤◌, Bool, true, false, not, ◌&&◌, ℤ, pos, neg_ℤ, ◌+ℤ◌, ◌-ℤ◌, List, [], ◌∷◌, ◌++◌, length, map, Option, Some, None, Result, Ok, Err, refl, sym, ap, subst, ◌∙◌, arith}
+use Rattle.std.specs.Prelude.{nat_lt, ◌==◌}
+use Rattle.std.proofs.lemmas.Bool.{cases_Bool, ne_eqb, eq-eqb, eqb-true, lt-ltb, ltb-true, and_from, and_parts, true≢false}
 use Rattle.std.proofs.lemmas.Bool.Decides.{eqb_tells}
 use Rattle.std.proofs.lemmas.List.{length-map, length_push, append-nil}
 use Rattle.std.proofs.lemmas.List.Elements.{filter-append}
 use Rattle.list_sums.specs.Sums.{int_sum_by}
-use Rattle.wire_records.specs.Commands.{Request, Command, AddAsset, OpenAccount, DepositMoney, DepositAsset, WithdrawMoney, WithdrawAsset, PlaceOrder, CancelOrder, RunBatch, PlaceUntil, SetMoneyCredit, SetUnitCredit, Answer, Plain, Batch}
+use Rattle.wire_records.specs.Commands.{Command, AddAsset, OpenAccount, DepositMoney, DepositAsset, WithdrawMoney, WithdrawAsset, PlaceOrder, CancelOrder, RunBatch, PlaceUntil, SetMoneyCredit, SetUnitCredit, Answer, Plain, Batch}
 use Rattle.wire_records.specs.declared.command.BodyFault.{BodyFault}
 use Rattle.wire_records.specs.declared.reply.Refusal.{Refusal}
-use Rattle.wire_records.specs.declared.reply.Reply.{Reply}
 use Rattle.wire_records.specs.declared.reply.Reply.TheVariants as reply
 use Rattle.flow_accounts.specs.Balances.{Balances, IsAccount, IsAsset, account_count, asset_count, grains, money_of, units_of, open_account, add_asset, change_money, change_units}
-use Rattle.flow_accounts.specs.Changes.{KeepsBalances, AddsAsset, ChangesMoneyOf, ChangesUnitsOf}
+use Rattle.flow_accounts.specs.Changes.{KeepsBalances, AddsAsset, ChangesUnitsOf}
 use Rattle.flow_accounts.proofs.Moves.{money_changes, units_change, opened_kept, asset_kept, assets_start_at_zero}
 use Rattle.flow_orders.specs.Orders.{Order, own_sum}
-use Rattle.flow_orders.specs.Outcomes.{Outcome, Cleared, Skipped, Fill, Clearing, IsRightOutcome, trades_of, fill_of}
+use Rattle.flow_orders.specs.Outcomes.{Outcome, Cleared, Skipped, Fill, Clearing, IsRightOutcome, trades_of}
 use Rattle.flow_orders.specs.Trades.{Trade, trader, paid, received, staying, going_on}
-use Rattle.fill_caps.specs.Settlement.{settled_balances}
 use Rattle.fill_caps.specs.Settles.{Settles}
 use Rattle.fill_caps.proofs.SettledBalances.{settles}
 use Rattle.order_book.specs.Book.{without}
 use Rattle.market_rules.specs.Market.{Market, IsSound}
-use Rattle.market_rules.specs.Step.{FirstRefusal, Accepts, Answers, Serves, ServesRead, placed, after_batch}
-use Rattle.market_rules.proofs.Accepted.{past_when, past_unless}
+use Rattle.market_rules.specs.Step.{FirstRefusal, Accepts, Answers, ServesRead, placed, after_batch}
+use Rattle.market_rules.proofs.Accepted.{past_unless}
 use Rattle.market_rules.proofs.Lawful.{sound_is_lawful}
-use Rattle.account_statement.specs.Views.{Event, Adds, Opens, Asks, Clears, Skips, is_there, event_if, seen_plain, seen, own_trades, own_fills}
+use Rattle.account_statement.specs.Views.{Event, Adds, Opens, Asks, Clears, Skips, is_there, event_if, seen, own_trades, own_fills}
 use Rattle.account_statement.specs.Holdings.{Holding, IsHeld, after, after_all, own_orders, units_changed}
 use Rattle.account_statement.proofs.Lists.{filters_swap, own_sum_is}
 use Rattle.account_statement.proofs.OwnParts.{own_again, own_going_on, none_own, others_cancel, no_money, no_units}

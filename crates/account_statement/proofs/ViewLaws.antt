@@ -1,7 +1,6 @@
 -- The laws of views and statements.
-use Rattle.std.proofs.Common.{◌≡◌, ℕ, ◌+◌, ◌<◌, ◌≤◌, ℤ, pos, ◌+ℤ◌, true, List, [], ◌∷◌, ◌++◌, zero, suc, false, Result, refl, sym, ap, subst, ◌∙◌, arith}
+use Rattle.std.proofs.Common.{◌≡◌, ℕ, pos, ◌+ℤ◌, List, [], ◌∷◌, ◌++◌, zero, suc, false, Result, refl, sym, ap, subst, ◌∙◌, arith}
 use Rattle.std.specs.List.{sum_by}
-use Rattle.std.proofs.lemmas.Int.{ints}
 use Rattle.std.proofs.lemmas.List.{append_assoc}
 use Rattle.std.proofs.lemmas.List.Sums.{sum_by-cons}
 use Rattle.list_sums.specs.Sums.{int_sum_by}
@@ -20,7 +19,7 @@ use Rattle.market_rules.specs.Laws.{Leads}
 use Rattle.market_rules.proofs.LawProofs.{market_is_determined}
 use Rattle.market_rules.proofs.Soundness.{sound_step, sound-empty}
 use Rattle.account_statement.specs.Views.{Event, seen, is_there}
-use Rattle.account_statement.specs.Holdings.{Holding, nothing, IsHeld, after, after_all, own_orders}
+use Rattle.account_statement.specs.Holdings.{Holding, nothing, IsHeld, after, after_all}
 use Rattle.account_statement.specs.Statements.{statement}
 use Rattle.account_statement.specs.Laws.{Sees, OneView, ViewsCompose, EqualViewsEqualStatements, ViewsTellHoldings, StatementsEndWithBalances}
 use Rattle.account_statement.proofs.Lists.{own_sum_is}

@@ -1,12 +1,11 @@
 -- The statements of two accounts that trade with each other, computed: one buys up to 10000 shares at a price from 90 to 110 ticks, at
 -- most 1000 a batch, and the other one sells them.
-use Rattle.std.proofs.Common.{◌≡◌, ℕ, ℤ, pos, negsuc, List, [], ◌∷◌, ◌++◌, codes, refl}
+use Rattle.std.proofs.Common.{◌≡◌, ℤ, pos, negsuc, List, [], ◌∷◌, codes, refl}
 use Rattle.std.specs.Fmt.{digits}
 use Rattle.weight_rows.specs.declared.entries.Entry.{Entry}
 use Rattle.weight_rows.specs.Rows.{weight_in, portfolio_price}
 use Rattle.wire_records.specs.Commands.{Request, DepositMoney, DepositAsset, PlaceOrder}
 use Rattle.wire_records.specs.declared.reply.Reply.TheVariants.{Done, Order}
-use Rattle.flow_orders.specs.Outcomes.{Fill}
 use Rattle.account_statement.specs.Views.{Event, Adds, Opens, Asks, Clears}
 use Rattle.account_statement.specs.Holdings.{Holding, nothing, after, after_all}
 use Rattle.account_statement.specs.Statements.{event_lines, end_lines, name_of}

@@ -7,7 +7,7 @@ use Rattle.wire_records.specs.declared.reply.Reply.{Reply}
 use Rattle.wire_records.specs.declared.reply.Reply.TheVariants as reply
 use Rattle.flow_accounts.specs.Balances.{IsAsset, grains, money_of, units_of}
 use Rattle.flow_orders.specs.Orders.{Order, price_of_ticks}
-use Rattle.flow_orders.specs.Outcomes.{Fill, trades_of}
+use Rattle.flow_orders.specs.Outcomes.{trades_of}
 use Rattle.flow_orders.specs.Trades.{paid, received, staying, going_on}
 use Rattle.order_book.specs.Book.{without}
 use Rattle.market_rules.specs.Market.{Market}

@@ -1,7 +1,7 @@
 -- What holds of views and statements.
 use Rattle.std.specs.Prelude.{◌≡◌, ℕ, ◌↔◌, true, pos, List, [], ◌++◌, map, All, Contains}
 use Rattle.wire_records.specs.Records.{Record}
-use Rattle.wire_records.specs.Commands.{Answer, Pair}
+use Rattle.wire_records.specs.Commands.{Pair}
 use Rattle.wire_records.specs.Versions.{IsReadAs}
 use Rattle.wire_records.specs.declared.version.Version.{Version}
 use Rattle.flow_accounts.specs.Balances.{IsAccount, IsAsset, money_of, units_of}

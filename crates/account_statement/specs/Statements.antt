@@ -8,7 +8,7 @@ use Rattle.wire_records.specs.Commands.{Request, Command, AddAsset, OpenAccount,
 use Rattle.wire_records.specs.Refusals.{code_of}
 use Rattle.wire_records.specs.declared.reply.Reply.{Reply}
 use Rattle.wire_records.specs.declared.reply.Reply.TheVariants as reply
-use Rattle.flow_orders.specs.Orders.{Order, money_need, unit_need}
+use Rattle.flow_orders.specs.Orders.{money_need, unit_need}
 use Rattle.flow_orders.specs.Outcomes.{trades_of}
 use Rattle.flow_orders.specs.Trades.{Trade, paid}
 use Rattle.account_statement.specs.Views.{Event, Adds, Opens, Asks, Clears, Skips}
