@@ -11,10 +11,10 @@ use Rattle.wire_records.specs.declared.reply.Reply.TheVariants.{Done, Asset, Acc
 use Rattle.flow_orders.specs.Outcomes.{Outcome, Cleared, Skipped}
 use Rattle.market_rules.specs.Market.{Market, IsSound, empty_market}
 use Rattle.market_rules.proofs.Soundness.{sound-empty}
-use Rattle.account_statement.specs.Views.{Event, Adds, Opens, Asks, Clears, Skips, is_there, event_if, seen, seen_plain}
+use Rattle.account_statement.specs.Views.{Sees, Event, Adds, Opens, Asks, Clears, Skips, is_there, event_if, seen, seen_plain}
 use Rattle.account_statement.specs.Holdings.{Holding, nothing, after, after_done, after_placing, after_all, IsHeld}
 use Rattle.account_statement.specs.Statements.{event_lines, lines_from}
-use Rattle.account_statement.specs.Laws.{Sees, TextsGoOn, AbsentAccountsHaveNoText}
+use Rattle.account_statement.specs.Laws.{TextsGoOn, AbsentAccountsHaveNoText}
 use Rattle.account_statement.proofs.Told.{told, is_account}
 use Rattle.account_statement.proofs.ViewLaws.{empty_held, after_both, sound_after, told_all}
 

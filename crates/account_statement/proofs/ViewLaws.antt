@@ -18,10 +18,10 @@ use Rattle.market_rules.specs.Journal.{Step}
 use Rattle.market_rules.specs.Laws.{Leads}
 use Rattle.market_rules.proofs.LawProofs.{market_is_determined}
 use Rattle.market_rules.proofs.Soundness.{sound_step, sound-empty}
-use Rattle.account_statement.specs.Views.{Event, seen, is_there}
+use Rattle.account_statement.specs.Views.{Sees, Event, seen, is_there}
 use Rattle.account_statement.specs.Holdings.{Holding, nothing, IsHeld, after, after_all}
-use Rattle.account_statement.specs.Statements.{statement}
-use Rattle.account_statement.specs.Laws.{Sees, OneView, ViewsCompose, EqualViewsEqualStatements, ViewsTellHoldings, StatementsEndWithBalances}
+use Rattle.account_statement.specs.Statements.{IsStatement, statement}
+use Rattle.account_statement.specs.Laws.{OneView, ViewsCompose, EqualViewsEqualStatements, ViewsTellHoldings, StatementsEndWithBalances, OneStatement}
 use Rattle.account_statement.proofs.Lists.{own_sum_is}
 use Rattle.std.proofs.lemmas.Bool.{le-ltb, and_right}
 use Rattle.std.specs.Prelude.{nat_lt}
@@ -122,4 +122,13 @@ statements_end_with_balances = record {
   units = λ account m h asset there is_asset held. held.units there.0 asset is_asset;
   money_needed = λ account m h held. sum_is money_need h.orders ∙ ap (int_sum_by (λ (o : Order). pos (money_need o))) held.orders ∙ sym (own_sum_is (λ (o : Order). o.account) account (λ (o : Order). pos (money_need o)) m.orders);
   units_needed = λ account m h asset held. sum_is (unit_need asset) h.orders ∙ ap (int_sum_by (λ (o : Order). pos (unit_need asset o))) held.orders ∙ sym (own_sum_is (λ (o : Order). o.account) account (λ (o : Order). pos (unit_need asset o)) m.orders);
+}
+
+pub one_statement : OneStatement
+one_statement = record {
+  some = λ account version pairs m follows there.
+      let seen_so = some account (empty_market version) pairs m follows in
+      (statement seen_so.0, record { view = seen_so.0; market = m; sees = seen_so.1; there = there; text_is = refl });
+  one = λ account version pairs x y first other.
+      first.text_is ∙ ap statement (one account (empty_market version) pairs first.view other.view first.market other.market first.sees other.sees) ∙ sym other.text_is;
 }

@@ -2,20 +2,15 @@
 use Rattle.std.specs.Prelude.{◌≡◌, ℕ, ◌↔◌, true, pos, List, [], ◌++◌, map, All, Contains}
 use Rattle.wire_records.specs.Records.{Record}
 use Rattle.wire_records.specs.Commands.{Pair}
-use Rattle.wire_records.specs.Versions.{IsReadAs}
 use Rattle.wire_records.specs.declared.version.Version.{Version}
 use Rattle.flow_accounts.specs.Balances.{IsAccount, IsAsset, money_of, units_of}
 use Rattle.flow_orders.specs.Orders.{Order, needed_money, needed_units}
-use Rattle.flow_orders.specs.Outcomes.{Fill, Clearing, Outcome, IsRightClearing, IsRightOutcome}
+use Rattle.flow_orders.specs.Outcomes.{Fill, Clearing, Outcome, IsRightClearing}
 use Rattle.market_rules.specs.Market.{Market, IsSound, empty_market, start_prices}
 use Rattle.market_rules.specs.Laws.{Leads}
-use Rattle.account_statement.specs.Views.{Event, Shows, own_fills}
+use Rattle.account_statement.specs.Views.{Event, Sees, own_fills}
 use Rattle.account_statement.specs.Holdings.{Holding, nothing, after_all, own_orders, IsHeld}
-use Rattle.account_statement.specs.Statements.{lines_from, view_text, statement, money_reserved, units_reserved}
-
--- this is what an account sees of legal steps
-abbrev pub Sees : ℕ → Market → List (Pair Record Outcome) → List Event → Market → Type 0
-Sees = Shows IsReadAs IsRightOutcome
+use Rattle.account_statement.specs.Statements.{IsStatement, lines_from, view_text, statement, money_reserved, units_reserved}
 
 -- a view of legal steps is one of steps that lead there, and steps have exactly one view
 pub record OneView : Type 0 where
@@ -49,6 +44,12 @@ pub record StatementsEndWithBalances : Type 0 where
   pub units : (account : ℕ) (m : Market) (h : Holding) (asset : ℕ) → IsAccount m.balances account → IsAsset m.balances asset → IsHeld account m h → h.units asset ≡ units_of m.balances account asset
   pub money_needed : (account : ℕ) (m : Market) (h : Holding) → IsHeld account m h → pos (money_reserved h) ≡ needed_money m.orders account
   pub units_needed : (account : ℕ) (m : Market) (h : Holding) (asset : ℕ) → IsHeld account m h → pos (units_reserved h asset) ≡ needed_units m.orders account asset
+
+-- each account of the market after a legal journal has exactly one statement
+pub record OneStatement : Type 0 where
+  pub some : (account : ℕ) (version : Version) (pairs : List (Pair Record Outcome)) (m : Market) → Leads (empty_market version) pairs m → IsAccount m.balances account
+      → (text : List ℕ) × IsStatement account version pairs text
+  pub one : (account : ℕ) (version : Version) (pairs : List (Pair Record Outcome)) (x y : List ℕ) → IsStatement account version pairs x → IsStatement account version pairs y → x ≡ y
 
 -- the text of a view that goes on is that of its first part and the lines of what follows: what was written stays
 abbrev pub TextsGoOn : Type 0

@@ -1,17 +1,21 @@
 -- The statement of an account: the text of its view, and its last lines. Money is in grains but where it is given in ticks, limits
 -- are in ticks, all other amounts in whole units; numbers are plain decimal.
-use Rattle.std.specs.Prelude.{ℕ, ℤ, List, [], ◌∷◌, ◌++◌, length, codes, decimal, get_or, ◌==◌, if◌then◌else◌}
+use Rattle.std.specs.Prelude.{◌≡◌, ℕ, ℤ, List, [], ◌∷◌, ◌++◌, length, codes, decimal, get_or, ◌==◌, if◌then◌else◌}
 use Rattle.std.specs.Fmt.{signed_decimal}
 use Rattle.std.specs.List.{flat_map, range_with_len, sum_by}
 use Rattle.weight_rows.specs.declared.entries.Entry.{Entry}
-use Rattle.wire_records.specs.Commands.{Request, Command, AddAsset, OpenAccount, DepositMoney, DepositAsset, WithdrawMoney, WithdrawAsset, PlaceOrder, CancelOrder, RunBatch, PlaceUntil, SetMoneyCredit, SetUnitCredit}
+use Rattle.wire_records.specs.Commands.{Request, Command, AddAsset, OpenAccount, DepositMoney, DepositAsset, WithdrawMoney, WithdrawAsset, PlaceOrder, CancelOrder, RunBatch, PlaceUntil, SetMoneyCredit, SetUnitCredit, Pair}
+use Rattle.wire_records.specs.Records.{Record}
+use Rattle.wire_records.specs.declared.version.Version.{Version}
 use Rattle.wire_records.specs.Refusals.{code_of}
 use Rattle.wire_records.specs.declared.reply.Reply.{Reply}
 use Rattle.wire_records.specs.declared.reply.Reply.TheVariants as reply
 use Rattle.flow_orders.specs.Orders.{money_need, unit_need}
-use Rattle.flow_orders.specs.Outcomes.{trades_of}
+use Rattle.flow_accounts.specs.Balances.{IsAccount}
+use Rattle.flow_orders.specs.Outcomes.{Outcome, trades_of}
 use Rattle.flow_orders.specs.Trades.{Trade, paid}
-use Rattle.account_statement.specs.Views.{Event, Adds, Opens, Asks, Clears, Skips}
+use Rattle.market_rules.specs.Market.{Market, empty_market}
+use Rattle.account_statement.specs.Views.{Event, Adds, Opens, Asks, Clears, Skips, Sees}
 use Rattle.account_statement.specs.Holdings.{Holding, nothing, after, after_all}
 
 infixr 5 ◌then◌
@@ -130,3 +134,11 @@ end_lines h =
 -- the statement of a view
 abbrev pub statement : List Event → List ℕ
 statement view = view_text view then end_lines (after_all nothing view)
+
+-- The statement of an account after a legal journal of a version, in whose market the account is there.
+pub record IsStatement (account : ℕ) (version : Version) (pairs : List (Pair Record Outcome)) (text : List ℕ) : Type 0 where
+  pub view : List Event
+  pub market : Market
+  pub sees : Sees account (empty_market version) pairs view market
+  pub there : IsAccount market.balances account
+  pub text_is : text ≡ statement view

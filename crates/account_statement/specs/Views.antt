@@ -1,13 +1,15 @@
 -- What an account sees of a journal: its view. Nothing else of the journal is in it.
 use Rattle.std.specs.Prelude.{◌≡◌, ℕ, ◌+◌, nat_lt, ◌==◌, Bool, ◌&&◌, if◌then◌else◌, ℤ, List, [], ◌∷◌, ◌++◌, map, Result, Ok, Err}
 use Rattle.std.specs.List.{filter}
+use Rattle.wire_records.specs.Records.{Record}
+use Rattle.wire_records.specs.Versions.{IsReadAs}
 use Rattle.wire_records.specs.Commands.{Command, AddAsset, OpenAccount, DepositMoney, DepositAsset, WithdrawMoney, WithdrawAsset, PlaceOrder, CancelOrder, RunBatch, PlaceUntil, SetMoneyCredit, SetUnitCredit, Answer, Plain, Batch, Pair}
 use Rattle.wire_records.specs.declared.command.BodyFault.{BodyFault}
 use Rattle.wire_records.specs.declared.version.Version.{Version}
 use Rattle.wire_records.specs.declared.reply.Reply.{Reply}
 use Rattle.wire_records.specs.declared.reply.Reply.TheVariants.{Done, Asset, Account, Order, Refused}
 use Rattle.flow_accounts.specs.Balances.{account_count}
-use Rattle.flow_orders.specs.Outcomes.{Fill, Clearing, Outcome, BatchRule, Cleared, Skipped, trades_of, fill_of}
+use Rattle.flow_orders.specs.Outcomes.{Fill, Clearing, Outcome, BatchRule, IsRightOutcome, Cleared, Skipped, trades_of, fill_of}
 use Rattle.flow_orders.specs.Trades.{Trade, trader}
 use Rattle.market_rules.specs.Market.{Market}
 use Rattle.market_rules.specs.Step.{ServesRead}
@@ -87,3 +89,7 @@ module _ {R : Type 0} (Reads : Version → R → Result Command BodyFault → Ty
   Shows account old (pair ∷ pairs) view new =
       (next : Market) × (read : Result Command BodyFault) × (rest : List Event) × Reads old.version pair.asked read
       × ServesRead Rule old read pair.answer next × Shows account next pairs rest new × (view ≡ seen account old read pair.answer ++ rest)
+
+-- this is what an account sees of legal steps, whatever right outcomes their batches have
+abbrev pub Sees : ℕ → Market → List (Pair Record Outcome) → List Event → Market → Type 0
+Sees = Shows IsReadAs IsRightOutcome

@@ -1,6 +1,6 @@
 //! What holds of views and statements, whatever code there is. Each law is the contract of a function that does nothing.
 ghost use Rattle.account_statement.specs.Laws.{OneView, ViewsCompose, EqualViewsEqualStatements, ViewsTellHoldings, StatementsEndWithBalances};
-ghost use Rattle.account_statement.specs.Laws.{TextsGoOn, AbsentAccountsHaveNoText, OwnRatesArePublished};
+ghost use Rattle.account_statement.specs.Laws.{OneStatement, TextsGoOn, AbsentAccountsHaveNoText, OwnRatesArePublished};
 
 /// Legal steps have exactly one view of an account.
 pub fn one_view()
@@ -25,6 +25,11 @@ pub fn views_tell_holdings()
 /// The last lines of a statement are the account's balances, and what its live orders need, in the market of the journal.
 pub fn statements_end_with_balances()
     ensures { StatementsEndWithBalances }
+{}
+
+/// Each account of the market after a legal journal has exactly one statement.
+pub fn one_statement()
+    ensures { OneStatement }
 {}
 
 /// What was written of a journal stays as it is when the journal goes on.
