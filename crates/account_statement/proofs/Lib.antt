@@ -1,0 +1,7 @@
+mod Lists
+mod OwnParts
+mod Told
+mod ViewLaws
+mod WorkedRows
+mod Texts
+mod OwnRates
