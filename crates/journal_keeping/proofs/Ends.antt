@@ -122,7 +122,7 @@ module _ {R D K : Type 0} (rest : R → Option (List ℕ)) (faults : R → ℕ) 
   serves_broken Memory broke =
       let there = broke.2 in
       rw (broke.0, broke.1) (serves_so first (rest from_source) (rest source) (state begun) (state now) before market from place (held begun_out) (held out) new so (Err Memory)
-      (broken [] Memory (record { unit = there.0; rest = there.1; lawful = there.2.0; front = there.2.1; broken = (refl, inl refl) })) (λ P p. tt))
+      (broken [] Memory (record { unit = there.0; rest = there.1; lawful = there.2.0; front = there.2.1; broken = (refl, inl refl) })) (λ P p. p))
   serves_broken Disk broke =
       rw (broke.0) (serves_failed first (rest from_source) (rest source) (state begun) (state now) before market from place (held begun_out) (held out) new so (state next) broke.2 broke.1 w.held is_disk broke.3 broke.4
       (broken (broke.1 ∷ []) Disk (at_pair broke.1 broke.2 Disk broke.3)))

@@ -1,17 +1,20 @@
 -- The records that were served are the first ones of what was read.
-use Rattle.std.proofs.Common.{◌≡◌, ◌⊎◌, ⊎_elim, inl, inr, ℕ, ◌-◌, ◌+◌, List, [], ◌∷◌, ◌++◌, Option, Result, Ok, Err, length, map, take, drop, refl, sym, ap, subst, ◌∙◌, arith, append_assoc, take-append-drop}
+use Rattle.std.proofs.Common.{◌≡◌, ◌⊎◌, ⊎_elim, inl, inr, ℕ, ◌-◌, ◌+◌, List, [], ◌∷◌, ◌++◌, Option, Some, None, Result, Ok, Err, ◌≤◌, length, map, take, drop, refl, sym, ap, subst, ◌∙◌, arith, append_assoc, length-append, take-append-drop}
 use Rattle.std.specs.Prelude.{All}
 use Rattle.std.proofs.lemmas.List.{append-nil, map-append}
 use Rattle.std.proofs.lemmas.List.Elements.{All-append, All-cons, All-nil}
 use Rattle.std.proofs.lemmas.Grind.{flat_map-append}
-use Rattle.flow_io.specs.Windows.{WindowState}
-use Rattle.wire_records.specs.Records.{Record}
+use Rattle.std.proofs.Math.Seq.{take-append-add}
+use Rattle.flow_io.specs.Streams.{Takes}
+use Rattle.wire_records.specs.Records.{Record, command_magic_2}
 use Rattle.wire_records.specs.Commands.{Pair}
-use Rattle.wire_records.specs.Grammars.{spell_all}
-use Rattle.wire_records.specs.Reading.{Ending}
+use Rattle.wire_records.specs.Grammars.{BeginsWith, spell_all}
+use Rattle.wire_records.specs.Reading.{Ending, StartsWith}
 use Rattle.wire_records.specs.Formats.{commands}
 use Rattle.flow_orders.specs.Outcomes.{Outcome}
 use Rattle.file_units.specs.Units.{Leads, GoesToEnd, GoesToBreak}
+use Rattle.file_units.specs.Inputs.{known}
+use Rattle.journal_keeping.specs.Keeping.{kept_version}
 use Rattle.journal_keeping.specs.declared.fault.KeepFault.{KeepFault}
 use Rattle.journal_keeping.specs.Private.{Adds, asked_of, Names}
 use Rattle.journal_keeping.proofs.Turns.{Pairs}
@@ -57,3 +60,29 @@ all_to_break bytes fault new more goes =
       each = All-append commands.units.IsLawful goes.units (off.unit ∷ []) goes.each (All-cons commands.units.IsLawful off.unit [] off.lawful (All-nil commands.units.IsLawful));
     }))
     named.1
+
+-- what begins with them begins with them also where more is seen
+longer : (n : ℕ) (bytes : List ℕ) (records : List Record) → BeginsWithAll (take n bytes) records → BeginsWithAll bytes records
+longer n bytes records all = record {
+  rest = all.rest ++ drop n bytes;
+  whole = sym (take-append-drop n bytes) ∙ ap (λ (l : List ℕ). l ++ drop n bytes) all.whole ∙ append_assoc (spell_all commands.units records) all.rest (drop n bytes);
+  each = all.each;
+}
+
+-- behind the magic, in the bytes of a source that tells them
+pub starts_with : (limit : ℕ) (bytes first held taken : List ℕ) (mid left : Option (List ℕ)) (records : List Record) → Takes (Some bytes) mid first → BeginsWith commands.magics first kept_version held → length first ≤ limit → Takes mid left taken
+    → BeginsWithAll (take (limit - 8) (held ++ known taken left)) records → StartsWith commands limit bytes kept_version records
+starts_with limit bytes first held taken None left records opens magic few takes all = absurd opens
+starts_with limit bytes first held taken (Some m) None records opens magic few takes all = absurd takes
+starts_with limit bytes first held taken (Some m) (Some l) records opens magic few takes all =
+    let behind = held ++ (taken ++ l) in
+    let whole : bytes ≡ command_magic_2 ++ behind = opens ∙ ap (λ (xs : List ℕ). xs ++ m) magic.1 ∙ append_assoc command_magic_2 held m ∙ ap (λ (xs : List ℕ). command_magic_2 ++ (held ++ xs)) takes in
+    let eight : length command_magic_2 ≡ 8 = refl in
+    let parts : limit ≡ length command_magic_2 + (limit - 8) = omega (arith, few, ap length magic.1, length-append command_magic_2 held, eight) in
+    record {
+      body = take (limit - 8) behind;
+      rest = all.rest;
+      magic = (tt, ap (take limit) whole ∙ ap (λ (n : ℕ). take n (command_magic_2 ++ behind)) parts ∙ take-append-add command_magic_2 behind (limit - 8));
+      whole = all.whole;
+      each = all.each;
+    }

@@ -129,15 +129,15 @@ as_going (Err NotFlow) = Err (fault.Broken NotFlow)
 abbrev pub Names : (new more : List (Pair Record Outcome)) → List (Pair Record Outcome) → Record → KeepFault → Unit {0} → Unit {0} → Type 0
 Names new more done asked why before after = (done ≡ new) × ((more ≡ []) ⊎ (asked_of more ≡ asked ∷ []))
 
--- where it ends as the source does
+-- where no pair was at hand as it ended
 abbrev pub IfEnded : Result (Unit {0}) KeepFault → Type 0 → Type 0
 IfEnded (Ok done) P = P
 IfEnded (Err (Torn place)) P = P
 IfEnded (Err TooLong) P = P
-IfEnded (Err Read) P = ⊤
+IfEnded (Err Read) P = P
 IfEnded (Err Write) P = ⊤
 IfEnded (Err Disk) P = ⊤
-IfEnded (Err Memory) P = ⊤
+IfEnded (Err Memory) P = P
 IfEnded (Err NotDisk) P = ⊥
 IfEnded (Err (Damaged place)) P = ⊥
 IfEnded (Err (Rejected number)) P = ⊥

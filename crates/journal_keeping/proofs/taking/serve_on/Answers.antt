@@ -121,7 +121,7 @@ returns-in-Err-read_on-clause-goes g c =
     let none = rw (c.in-Short.is, c.bytes_of.ensures.value, c.held.ensures.held) at c.in-Ok.ensures.taken in
     let same = rw (c.in-Short.is) at c.in-Ok.ensures.still in
     let how = c.in-Err-read_on.ensures.failed in
-    rw (same.2, same.3) (serves_so c.args.window.now (g.S.Source.rest c.args.source.now) (g.S.Source.rest c.read_on.new.source) (g.D.Disk.state c.args.disk.now) (g.D.Disk.state c.units.disk) c.args.keeper.now.session c.units.keeper.session c.args.keeper.now.appender c.units.keeper.appender (g.K.Sink.held c.args.out.now) (g.K.Sink.held c.units.out) i.0 i.2 (Err Read) (gone_unread commands Adds g.S.Source.rest g.S.Source.faults c.args.window.now w c.args.source.now c.units.source [] i.0 tt tt (Names i.0 []) (IsReady c.units.keeper.session c.units.keeper.appender) i.1 inside c.read_on.new.window c.read_on.new.source c.read_on.ensures.fills how.0 i.0 tt refl refl none.0 none.2 how.1) (λ P p. tt))
+    rw (same.2, same.3) (serves_so c.args.window.now (g.S.Source.rest c.args.source.now) (g.S.Source.rest c.read_on.new.source) (g.D.Disk.state c.args.disk.now) (g.D.Disk.state c.units.disk) c.args.keeper.now.session c.units.keeper.session c.args.keeper.now.appender c.units.keeper.appender (g.K.Sink.held c.args.out.now) (g.K.Sink.held c.units.out) i.0 i.2 (Err Read) (gone_unread commands Adds g.S.Source.rest g.S.Source.faults c.args.window.now w c.args.source.now c.units.source [] i.0 tt tt (Names i.0 []) (IsReady c.units.keeper.session c.units.keeper.appender) i.1 inside c.read_on.new.window c.read_on.new.source c.read_on.ensures.fills how.0 i.0 tt refl refl none.0 none.2 how.1) (λ P p. p))
 
 pub returns-in-Ok-Limited-read_on-clause-goes : goal.returns-in-Ok-Limited-read_on-clause-goes
 returns-in-Ok-Limited-read_on-clause-goes g c =
@@ -151,7 +151,7 @@ returns-in-Err-read_on-2-clause-goes g c =
     let none = rw (c.in-NoBytes.is, c.bytes_of.ensures.value, c.held.ensures.held) at c.in-Ok.ensures.taken in
     let same = rw (c.in-NoBytes.is) at c.in-Ok.ensures.still in
     let how = c.in-Err-read_on-2.ensures.failed in
-    rw (same.2, same.3) (serves_so c.args.window.now (g.S.Source.rest c.args.source.now) (g.S.Source.rest c.read_on-in-NoBytes.new.source) (g.D.Disk.state c.args.disk.now) (g.D.Disk.state c.units.disk) c.args.keeper.now.session c.units.keeper.session c.args.keeper.now.appender c.units.keeper.appender (g.K.Sink.held c.args.out.now) (g.K.Sink.held c.units.out) i.0 i.2 (Err Read) (gone_unread commands Adds g.S.Source.rest g.S.Source.faults c.args.window.now w c.args.source.now c.units.source [] i.0 tt tt (Names i.0 []) (IsReady c.units.keeper.session c.units.keeper.appender) i.1 inside c.read_on-in-NoBytes.new.window c.read_on-in-NoBytes.new.source c.read_on-in-NoBytes.ensures.fills how.0 i.0 tt refl refl none.0 none.2 how.1) (λ P p. tt))
+    rw (same.2, same.3) (serves_so c.args.window.now (g.S.Source.rest c.args.source.now) (g.S.Source.rest c.read_on-in-NoBytes.new.source) (g.D.Disk.state c.args.disk.now) (g.D.Disk.state c.units.disk) c.args.keeper.now.session c.units.keeper.session c.args.keeper.now.appender c.units.keeper.appender (g.K.Sink.held c.args.out.now) (g.K.Sink.held c.units.out) i.0 i.2 (Err Read) (gone_unread commands Adds g.S.Source.rest g.S.Source.faults c.args.window.now w c.args.source.now c.units.source [] i.0 tt tt (Names i.0 []) (IsReady c.units.keeper.session c.units.keeper.appender) i.1 inside c.read_on-in-NoBytes.new.window c.read_on-in-NoBytes.new.source c.read_on-in-NoBytes.ensures.fills how.0 i.0 tt refl refl none.0 none.2 how.1) (λ P p. p))
 
 pub read_on-requires-clause-room : goal.read_on-requires-clause-room
 read_on-requires-clause-room g c =
