@@ -3,7 +3,7 @@ use Rattle.std.proofs.Common.{◌≡◌, ◌⊎◌, ⊎_elim, inl, inr, ℕ, Lis
 use Rattle.std.proofs.lemmas.List.{append-nil, take_all, take-append-le, map-append}
 use Rattle.std.proofs.lemmas.List.Elements.{All-append, All-cons, All-nil}
 use Rattle.std.specs.List.{flat_map}
-use Rattle.flow_io.specs.Streams.{GrowsByFront}
+use Rattle.flow_io.specs.Streams.{Grows}
 use Rattle.journal_records.specs.Pairs.{pair_spelling}
 use Rattle.wire_records.specs.Records.{Record}
 use Rattle.wire_records.specs.Commands.{Pair}
@@ -19,7 +19,7 @@ use Rattle.disk_edge.proofs.Moments.{weaker, then_more, at_the_end}
 use Rattle.journal_disk.specs.Pairs.{RecordPair}
 use Rattle.journal_disk.specs.Entries.{StandsFor, WithOrWithout}
 use Rattle.journal_disk.specs.Entries.{Keeps as KeepsAt}
-use Rattle.journal_keeping.specs.Keeping.{kept_version, IsKeptJournal, Keeps, GoesOn, KeepsFirst, DuringCall, AtReturn, KeepsOn}
+use Rattle.journal_keeping.specs.Keeping.{kept_version, IsKeptJournal, Keeps, GoesOn, KeepsFirst, DuringCall, AtReturn, StandIn, Runs}
 use Rattle.journal_keeping.specs.Serving.{HasKept, IsNext}
 use Rattle.journal_keeping.proofs.Legal.{more_pairs_stay}
 
@@ -117,47 +117,69 @@ module _ (start now : DiskState) (old : Pairs) (before : Market) (place : ℕ) (
     }
 
 -- What a run did, by how it ended: after its last pair, ..
-pub ended : (start now : DiskState) (old : Pairs) (before : Market) (place : ℕ) (records : List Record) (new : Pairs) (market : Market) (held holds : Option (List ℕ))
-    → HasKept start now old before place records new market → GrowsByFront held holds (flat_map pair_spelling new) → KeepsOn start now old before records held holds
-ended start now old before place records new market held holds kept grows = record {
-  new = new;
+pub ended : (start now : DiskState) (old : Pairs) (before : Market) (place : ℕ) (records : List Record) (new : Pairs) (market : Market)
+    → HasKept start now old before place records new market → Runs start now old before records new (length new)
+ended start now old before place records new market kept = record {
   now = market;
-  acknowledged = length new;
   within = omega arith;
+  all_but_one = omega arith;
   goes_on = kept.goes_on;
   during = kept.during;
   returns = kept_returns start now old before place records new market kept;
-  written = subst (λ (l : Pairs). GrowsByFront held holds (flat_map pair_spelling l)) (sym (take_all (length new) new (omega arith))) grows;
 }
 
 -- .. at an append that failed, ..
-pub failed : (start now next : DiskState) (old : Pairs) (before : Market) (place : ℕ) (records : List Record) (new : Pairs) (market after : Market) (pair : Pair Record Outcome) (held holds : Option (List ℕ))
+pub failed : (start now next : DiskState) (old : Pairs) (before : Market) (place : ℕ) (records : List Record) (new : Pairs) (market after : Market) (pair : Pair Record Outcome)
     → HasKept start now old before place records new market → IsDisk next → IsPair pair → IsNext market pair after → Step IsReadAs IsRightOutcome market pair.asked pair.answer after
-    → AtEachMoment now next (WithOrWithout (map records_of (old ++ new)) (records_of pair)) → GrowsByFront held holds (flat_map pair_spelling new)
-    → KeepsOn start next old before (records ++ pair.asked ∷ []) held holds
-failed start now next old before place records new market after pair held holds kept is_disk fits own right moments grows =
-    let same : take (length new) (new ++ pair ∷ []) ≡ new = take-append-le (length new) new (pair ∷ []) (omega arith) ∙ take_all (length new) new (omega arith) in
-    record {
-      new = new ++ pair ∷ [];
-      now = after;
-      acknowledged = length new;
-      within = omega (arith, length-append new (pair ∷ []));
-      goes_on = goes_more old before records new market pair after kept.goes_on fits own right;
-      during = more_during start now old before place records new market kept next pair moments;
-      returns = failed_returns start now old before place records new market kept next pair moments is_disk;
-      written = subst (λ (l : Pairs). GrowsByFront held holds (flat_map pair_spelling l)) (sym same) grows;
-    }
+    → AtEachMoment now next (WithOrWithout (map records_of (old ++ new)) (records_of pair))
+    → Runs start next old before (records ++ pair.asked ∷ []) (new ++ pair ∷ []) (length new)
+failed start now next old before place records new market after pair kept is_disk fits own right moments = record {
+  now = after;
+  within = omega (arith, length-append new (pair ∷ []));
+  all_but_one = omega (arith, length-append new (pair ∷ []));
+  goes_on = goes_more old before records new market pair after kept.goes_on fits own right;
+  during = more_during start now old before place records new market kept next pair moments;
+  returns = failed_returns start now old before place records new market kept next pair moments is_disk;
+}
 
 -- .. or before the first one.
-pub unbegun : (start next : DiskState) (old : Pairs) (before : Market) (held holds : Option (List ℕ)) → IsKeptJournal old before → IsDisk next
-    → AtEachMoment start next (λ image. start.images image ⊎ Keeps old image) → GrowsByFront held holds [] → KeepsOn start next old before [] held holds
-unbegun start next old before held holds is is_disk opens grows = record {
-  new = [];
+pub unbegun : (start next : DiskState) (old : Pairs) (before : Market) → IsKeptJournal old before → IsDisk next
+    → AtEachMoment start next (λ image. start.images image ⊎ Keeps old image) → Runs start next old before [] [] 0
+unbegun start next old before is is_disk opens = record {
   now = before;
-  acknowledged = 0;
   within = omega arith;
+  all_but_one = omega arith;
   goes_on = goes_none old before is;
   during = weaker start next _ _ (λ image was. ⊎_elim (λ early. inl early) (λ (stands : Keeps old image). inr (0, omega arith, omega arith, subst (λ (l : Pairs). Keeps l image) (sym (append-nil old)) stands)) was) opens;
   returns = opened_returns start next old is_disk opens;
-  written = grows;
+}
+
+-- a run whose disk was opened first
+pub opened_first : (first start end : DiskState) (old : Pairs) (before : Market) (place : ℕ) (records : List Record) (new : Pairs) (acknowledged : ℕ)
+    → AtEachMoment first start (λ image. first.images image ⊎ Keeps old image) → KeepsAt (map records_of old) place start
+    → Runs start end old before records new acknowledged → Runs first end old before records new acknowledged
+opened_first first start end old before place records new acknowledged opens keeps runs =
+    record {
+      now = runs.now;
+      within = runs.within;
+      all_but_one = runs.all_but_one;
+      goes_on = runs.goes_on;
+      during = then_more first start end _
+          (weaker first start _ _ (λ image was. ⊎_elim (λ early. inl early) (λ (stands : Keeps old image). inr (0, omega arith, omega arith, subst (λ (l : Pairs). Keeps l image) (sym (append-nil old)) stands)) was) opens)
+          (weaker start end _ _ (λ image was. ⊎_elim (λ (early : start.images image). inr (0, omega arith, omega arith, subst (λ (l : Pairs). Keeps l image) (sym (append-nil old)) (kept_stands (map records_of old) place start image keeps early))) (λ later. inr later) was) runs.during);
+      returns = λ image left. ⊎_elim
+          (λ (early : start.images image × (acknowledged ≡ 0)). inr (0, omega (arith, early.1), omega arith, subst (λ (l : Pairs). Keeps l image) (sym (append-nil old)) (kept_stands (map records_of old) place start image keeps early.0)))
+          (λ later. inr later)
+          (runs.returns image left);
+    }
+
+-- pairs that stand in out whole
+pub stand_whole : (Cut : Type 0) (before after : Option (List ℕ)) (pairs : Pairs) → Grows before after (flat_map pair_spelling pairs) → StandIn Cut before after pairs
+stand_whole Cut before after pairs grows = record {
+  whole = pairs;
+  last = [];
+  parts = sym (append-nil pairs);
+  one = omega arith;
+  none = λ _. refl;
+  written = (flat_map pair_spelling pairs, grows, 0, sym (append-nil (flat_map pair_spelling pairs)));
 }

@@ -1,10 +1,12 @@
 -- What keeping a journal on a disk does to the disk: what a crash may leave while new pairs are added, and afterwards.
-use Rattle.std.specs.Prelude.{◌≡◌, ◌⊎◌, ℕ, ◌+◌, ◌≤◌, List, ◌++◌, Option, Some, length, map, take}
+use Rattle.std.specs.Prelude.{◌≡◌, ◌⊎◌, ℕ, ◌+◌, ◌≤◌, List, [], ◌++◌, Option, Some, IfSome, length, map, take}
 use Rattle.std.specs.List.{flat_map}
-use Rattle.flow_io.specs.Streams.{GrowsByFront}
+use Rattle.flow_io.specs.Streams.{Grows}
 use Rattle.wire_records.specs.Records.{Record}
 use Rattle.wire_records.specs.Commands.{Pair}
 use Rattle.wire_records.specs.Versions.{IsReadAs}
+use Rattle.wire_records.specs.Reading.{StartsWith}
+use Rattle.wire_records.specs.Formats.{commands}
 use Rattle.wire_records.specs.declared.version.Version.{Version}
 use Rattle.wire_records.specs.declared.version.Version.TheVariants.{Two}
 use Rattle.flow_orders.specs.Outcomes.{Outcome}
@@ -63,13 +65,34 @@ abbrev pub AtReturn : DiskState → DiskState → List (Pair Record Outcome) →
 AtReturn start end old new acknowledged =
     (image : List ℕ) → end.images image → (start.images image × (acknowledged ≡ 0)) ⊎ KeepsFirst old new acknowledged (acknowledged + 1) image
 
--- What a run does to the disk and to out: of the new pairs so many were acknowledged, and out gained a front of their bytes.
-pub record KeepsOn (start end : DiskState) (old : List (Pair Record Outcome)) (market : Market) (records : List Record) (before after : Option (List ℕ)) : Type 0 where
-  pub new : List (Pair Record Outcome)
+-- These records were served: the first of those that stand in the first limit bytes of the source, where it tells them; or none.
+abbrev pub AreServed : ℕ → Option (List ℕ) → List Record → Type 0
+AreServed limit content records = (records ≡ []) ⊎ IfSome content (λ bytes. StartsWith commands limit bytes kept_version records)
+
+-- What out gained are these pairs, whole; but that where a write was cut short only a front of the last one may be there.
+pub record StandIn (Cut : Type 0) (before after : Option (List ℕ)) (pairs : List (Pair Record Outcome)) : Type 0 where
+  pub whole : List (Pair Record Outcome)
+  pub last : List (Pair Record Outcome)
+  pub parts : pairs ≡ whole ++ last
+  pub one : length last ≤ 1
+  pub none : ¬ Cut → last ≡ []
+  pub written : (text : List ℕ) × Grows before after text × (count : ℕ) × (text ≡ flat_map pair_spelling whole ++ take count (flat_map pair_spelling last))
+
+-- What a run does to the disk: these records were served, and their new pairs acknowledged, up to one at most.
+pub record Runs (start end : DiskState) (old : List (Pair Record Outcome)) (market : Market) (records : List Record) (new : List (Pair Record Outcome)) (acknowledged : ℕ) : Type 0 where
   pub now : Market
-  pub acknowledged : ℕ
   pub within : acknowledged ≤ length new
+  pub all_but_one : length new ≤ acknowledged + 1
   pub goes_on : GoesOn old market records new now
   pub during : DuringCall start end old new
   pub returns : AtReturn start end old new acknowledged
-  pub written : GrowsByFront before after (flat_map pair_spelling (take acknowledged new))
+
+-- What it does to the disk and to out: the records that were served are the first ones of the source, and out gained the pairs that
+-- were acknowledged.
+pub record KeepsOn (limit : ℕ) (content : Option (List ℕ)) (Cut : Type 0) (start end : DiskState) (old : List (Pair Record Outcome)) (market : Market) (before after : Option (List ℕ)) : Type 0 where
+  pub records : List Record
+  pub new : List (Pair Record Outcome)
+  pub acknowledged : ℕ
+  pub served : AreServed limit content records
+  pub runs : Runs start end old market records new acknowledged
+  pub written : StandIn Cut before after (take acknowledged new)

@@ -28,12 +28,22 @@ pub enum KeepFault {
 }
 
 impl From<ReadFailed> for KeepFault {
+    ghost use Rattle.std.specs.Prelude.{◌≡◌};
+    ghost use Rattle.journal_keeping.specs.declared.fault.KeepFault.TheVariants.{Read};
+
+    ghost from_gives = { λ _ fault. fault ≡ Read };
+
     fn from(_failed: ReadFailed) -> KeepFault {
         KeepFault::Read
     }
 }
 
 impl From<WriteFailed> for KeepFault {
+    ghost use Rattle.std.specs.Prelude.{◌≡◌};
+    ghost use Rattle.journal_keeping.specs.declared.fault.KeepFault.TheVariants.{Write};
+
+    ghost from_gives = { λ _ fault. fault ≡ Write };
+
     fn from(_failed: WriteFailed) -> KeepFault {
         KeepFault::Write
     }
@@ -56,18 +66,33 @@ impl From<DiskFault> for KeepFault {
 }
 
 impl From<wire_records::Memory> for KeepFault {
+    ghost use Rattle.std.specs.Prelude.{◌≡◌};
+    ghost use Rattle.journal_keeping.specs.declared.fault.KeepFault.TheVariants.{Memory};
+
+    ghost from_gives = { λ _ fault. fault ≡ Memory };
+
     fn from(_memory: wire_records::Memory) -> KeepFault {
         KeepFault::Memory
     }
 }
 
 impl From<flow_io::Memory> for KeepFault {
+    ghost use Rattle.std.specs.Prelude.{◌≡◌};
+    ghost use Rattle.journal_keeping.specs.declared.fault.KeepFault.TheVariants.{Memory};
+
+    ghost from_gives = { λ _ fault. fault ≡ Memory };
+
     fn from(_memory: flow_io::Memory) -> KeepFault {
         KeepFault::Memory
     }
 }
 
 impl From<AllocError> for KeepFault {
+    ghost use Rattle.std.specs.Prelude.{◌≡◌};
+    ghost use Rattle.journal_keeping.specs.declared.fault.KeepFault.TheVariants.{Memory};
+
+    ghost from_gives = { λ _ fault. fault ≡ Memory };
+
     fn from(_error: AllocError) -> KeepFault {
         KeepFault::Memory
     }

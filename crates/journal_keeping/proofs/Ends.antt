@@ -1,0 +1,138 @@
+-- How serving records onto a disk ends.
+use Rattle.std.proofs.Common.{◌≡◌, ◌⊎◌, inl, inr, ℕ, ◌+◌, ◌≤◌, List, [], ◌∷◌, ◌++◌, Option, Result, Err, length, map, take, flat_map, refl, sym, ap, subst, ◌∙◌, arith}
+use Rattle.std.proofs.lemmas.List.{append-nil, map-append, take_all, take-append-le}
+use Rattle.flow_io.specs.Streams.{Grows, GrowsByFront}
+use Rattle.flow_io.specs.Windows.{WindowState}
+use Rattle.flow_io.proofs.Growth.{Grows-more}
+use Rattle.wire_records.specs.Records.{Record}
+use Rattle.wire_records.specs.Commands.{Pair}
+use Rattle.wire_records.specs.Formats.{commands}
+use Rattle.flow_orders.specs.Outcomes.{Outcome}
+use Rattle.journal_records.specs.Pairs.{IsPair, pair_spelling}
+use Rattle.journal_records.specs.Formats.{records_of}
+use Rattle.market_rules.specs.Market.{Market}
+use Rattle.file_units.specs.Units.{BreaksOff}
+use Rattle.file_units.specs.Inputs.{GoesFrom}
+use Rattle.file_units.specs.declared.input.TakeFault.TheVariants.{Broken}
+use Rattle.file_units.proofs.Gone.{HasGone, gone_broken}
+use Rattle.disk_edge.specs.Disks.{DiskState, IsDisk, AtEachMoment}
+use Rattle.journal_disk.specs.Pairs.{RecordPair}
+use Rattle.journal_disk.specs.Entries.{WithOrWithout}
+use Rattle.journal_disk.specs.Entries.{Keeps as KeepsAt}
+use Rattle.journal_keeping.specs.declared.fault.KeepFault.{KeepFault}
+use Rattle.journal_keeping.specs.declared.fault.KeepFault.TheVariants.{Read, Write, Disk, Memory, NotDisk, Damaged, Rejected, NotFlow, Torn, TooLong}
+use Rattle.journal_keeping.specs.Keeping.{IsKeptJournal, Runs, StandIn}
+use Rattle.journal_keeping.specs.Serving.{HasKept, IsNext}
+use Rattle.journal_keeping.specs.Private.{KeepsOneMore, IsServed, BreaksNext, Adds, asked_of, SoFar, as_going, Names, IfEnded, ServesOn}
+use Rattle.journal_keeping.proofs.Serving.{ended, failed, stand_whole}
+use Rattle.journal_keeping.proofs.Turns.{Pairs, own_is_right, kept_one_more}
+
+asked_more : (new : Pairs) (pair : Pair Record Outcome) → asked_of new ++ pair.asked ∷ [] ≡ asked_of (new ++ pair ∷ [])
+asked_more new pair = sym (map-append (λ (p : Pair Record Outcome). p.asked) new (pair ∷ []))
+
+-- all of the pairs, and all but the last
+take_every : (new : Pairs) → take (length new) (new ++ []) ≡ new
+take_every new = ap (λ (l : Pairs). take (length new) l) (append-nil new) ∙ take_all (length new) new (omega arith)
+
+take_first : (new : Pairs) (pair : Pair Record Outcome) → take (length new) (new ++ pair ∷ []) ≡ new
+take_first new pair = take-append-le (length new) new (pair ∷ []) (omega arith) ∙ take_all (length new) new (omega arith)
+
+module _ (window : WindowState) (rest left : Option (List ℕ)) (start now : DiskState) (before market : Market) (from place : ℕ) (held holds : Option (List ℕ)) (new : Pairs)
+    (so : SoFar start now before market from place held holds new) where
+  abbrev Goes : Pairs → Result (Unit {0}) KeepFault → Type 0
+  Goes more result = GoesFrom commands Adds (Names new more) window rest left (as_going result) [] new tt tt
+
+  -- behind a pair, without a fault of disk or out
+  pub serves_so : (result : Result (Unit {0}) KeepFault) → Goes [] result → ((P : Type 0) → P → IfEnded result P) → ServesOn window rest left result before from start now held holds
+  serves_so result goes ends = record {
+    new = new;
+    more = [];
+    acknowledged = length new;
+    goes = goes;
+    runs = λ old is at. subst (λ (l : Pairs). Runs start now old before (asked_of l) l (length new)) (sym (append-nil new)) (ended start now old before place (asked_of new) new market (so.kept old is at));
+    written = subst (λ (l : Pairs). StandIn (result ≡ Err Write) held holds l) (sym (take_every new)) (stand_whole (result ≡ Err Write) held holds new so.written);
+    ended = ends _ (refl, refl, λ old is at. (place, (so.kept old is at).keeps));
+  }
+
+  -- at a pair that wasn't kept
+  pub serves_failed : (next : DiskState) (after : Market) (pair : Pair Record Outcome) (bytes : List ℕ) → IsDisk next → IsServed bytes market pair after
+      → ((pairs : List RecordPair) → KeepsAt pairs place now → AtEachMoment now next (WithOrWithout pairs (records_of pair)))
+      → Goes (pair ∷ []) (Err Disk) → ServesOn window rest left (Err Disk) before from start next held holds
+  serves_failed next after pair bytes is_disk served moments goes = record {
+    new = new;
+    more = pair ∷ [];
+    acknowledged = length new;
+    goes = goes;
+    runs = λ old is at.
+        let kept = so.kept old is at in
+        let right = own_is_right (old ++ new) market pair after kept.goes_on.journal served.step in
+        subst (λ (l : List Record). Runs start next old before l (new ++ pair ∷ []) (length new)) (asked_more new pair)
+        (failed start now next old before place (asked_of new) new market after pair kept is_disk served.fits served.step right (moments (map records_of (old ++ new)) kept.keeps));
+    written = subst (λ (l : Pairs). StandIn (◌≡◌ {A = Result (Unit {0}) KeepFault} (Err Disk) (Err Write)) held holds l) (sym (take_first new pair)) (stand_whole _ held holds new so.written);
+    ended = tt;
+  }
+
+  -- at one that was kept and not written whole
+  pub serves_cut : (next : DiskState) (after : Market) (later : ℕ) (last : Option (List ℕ)) (pair : Pair Record Outcome) (bytes : List ℕ) → IsServed bytes market pair after
+      → KeepsOneMore pair place later now next → GrowsByFront holds last (pair_spelling pair)
+      → Goes (pair ∷ []) (Err Write) → ServesOn window rest left (Err Write) before from start next held last
+  serves_cut next after later last pair bytes served keeps cut goes =
+      let all = new ++ pair ∷ [] in
+      let one : pair_spelling pair ≡ flat_map pair_spelling (pair ∷ []) = sym (append-nil (pair_spelling pair)) in
+      record {
+        new = new;
+        more = pair ∷ [];
+        acknowledged = length all;
+        goes = goes;
+        runs = λ old is at. ended start next old before later (asked_of all) all after
+            (kept_one_more start now next before market after from place later held holds last new pair so served.fits served.step keeps old is at);
+        written = subst (λ (l : Pairs). StandIn (◌≡◌ {A = Result (Unit {0}) KeepFault} (Err Write) (Err Write)) held last l) (sym (take_all (length all) all (omega arith))) (record {
+          whole = new;
+          last = pair ∷ [];
+          parts = refl;
+          one = omega arith;
+          none = λ not. absurd (not refl);
+          written = (
+            flat_map pair_spelling new ++ take cut.0 (pair_spelling pair),
+            Grows-more held holds last (flat_map pair_spelling new) (take cut.0 (pair_spelling pair)) so.written cut.2,
+            cut.0,
+            ap (λ (l : List ℕ). flat_map pair_spelling new ++ take cut.0 l) one,
+          );
+        });
+        ended = tt;
+      }
+
+-- By what it broke off with, over a window.
+module _ {R D K : Type 0} (rest : R → Option (List ℕ)) (faults : R → ℕ) (state : D → DiskState) (held : K → Option (List ℕ)) (Ready : ℕ → Type 0) (first w : WindowState) (from_source source : R)
+    (begun now next : D) (begun_out out last : K) (before market : Market) (from place later : ℕ) (new : Pairs) (gone : HasGone commands Adds rest faults Ready first w from_source source [] new tt tt)
+    (so : SoFar (state begun) (state now) before market from place (held begun_out) (held out) new) (inside : w.place + length w.held ≤ w.limit) (few : length w.held ≤ w.room) (is_disk : IsDisk (state next)) where
+  broken : (more : Pairs) (fault : KeepFault) → BreaksOff commands (Names new more) w.held new fault tt tt → GoesFrom commands Adds (Names new more) first (rest from_source) (rest source) (Err (Broken fault)) [] new tt tt
+  broken more fault off = gone_broken commands Adds rest faults first w from_source source [] new tt tt (Names new more) Ready gone inside fault new tt few off
+
+  at_pair : (pair : Pair Record Outcome) (after : Market) (fault : KeepFault) → IsServed w.held market pair after → BreaksOff commands (Names new (pair ∷ [])) w.held new fault tt tt
+  at_pair pair after fault served = record { unit = pair.asked; rest = served.rest; lawful = served.lawful; front = served.front; broken = (refl, inr refl) }
+
+  abbrev Broke : KeepFault → Type 0
+  Broke fault = BreaksNext w.held market place later (state now) (state next) (held out) (held last) (next ≡ now) (last ≡ out) fault
+
+  abbrev Came : KeepFault → Type 0
+  Came fault = ServesOn first (rest from_source) (rest source) (Err fault) before from (state begun) (state next) (held begun_out) (held last)
+
+  pub serves_broken : (fault : KeepFault) → Broke fault → Came fault
+  serves_broken Memory broke =
+      let there = broke.2 in
+      rw (broke.0, broke.1) (serves_so first (rest from_source) (rest source) (state begun) (state now) before market from place (held begun_out) (held out) new so (Err Memory)
+      (broken [] Memory (record { unit = there.0; rest = there.1; lawful = there.2.0; front = there.2.1; broken = (refl, inl refl) })) (λ P p. p))
+  serves_broken Disk broke =
+      rw (broke.0) (serves_failed first (rest from_source) (rest source) (state begun) (state now) before market from place (held begun_out) (held out) new so (state next) broke.2 broke.1 w.held is_disk broke.3 broke.4
+      (broken (broke.1 ∷ []) Disk (at_pair broke.1 broke.2 Disk broke.3)))
+  serves_broken Write broke =
+      serves_cut first (rest from_source) (rest source) (state begun) (state now) before market from place (held begun_out) (held out) new so (state next) broke.1 later (held last) broke.0 w.held broke.2 broke.3 broke.4
+      (broken (broke.0 ∷ []) Write (at_pair broke.0 broke.1 Write broke.2))
+  serves_broken Read broke = absurd broke
+  serves_broken NotDisk broke = absurd broke
+  serves_broken (Damaged place) broke = absurd broke
+  serves_broken (Rejected number) broke = absurd broke
+  serves_broken NotFlow broke = absurd broke
+  serves_broken (Torn place) broke = absurd broke
+  serves_broken TooLong broke = absurd broke

@@ -1,0 +1,20 @@
+-- One turn of the loop that serves and keeps.
+use Rattle.std.proofs.Common.{◌≡◌, ℕ, List, [], ◌∷◌, ◌++◌, Option, refl, ap, ◌∙◌}
+use Rattle.wire_records.specs.Formats.{commands}
+use Rattle.market_rules.specs.Market.{Market}
+use Rattle.file_units.specs.Units.{TakesOne}
+use Rattle.disk_edge.specs.Disks.{DiskState}
+use Rattle.journal_keeping.specs.Private.{TakesNext, Adds}
+use Rattle.journal_keeping.proofs.Turns.{Pairs}
+
+-- a record that was served is a unit that was taken
+pub takes_one : {n : ℕ} {bytes : List ℕ} {old next : Market} {from to : ℕ} {disk later : DiskState} {before after : Option (List ℕ)} (new : Pairs) (one : TakesNext n bytes old next from to disk later before after)
+    → TakesOne commands Adds n bytes new (new ++ one.pair ∷ []) tt tt
+takes_one new one = record {
+  unit = one.pair.asked;
+  lawful = one.served.lawful;
+  size = one.size;
+  some = one.some;
+  front = one.served.front ∙ ap (λ (l : List ℕ). commands.units.spell one.pair.asked ++ l) one.behind;
+  step = (one.pair, refl, refl);
+}

@@ -1,0 +1,73 @@
+-- The record at the front is served: its pair is one that may be kept.
+use Rattle.std.proofs.Common.{◌≡◌, ◌⊎◌, ⊎_elim, ◌+◌, ◌-◌, ◌*◌, ◌<◌, ◌≤◌, ◌^◌, ℕ, List, [], ◌∷◌, ◌++◌, Option, IsSome, length, drop, refl, sym, ap, subst, ◌∙◌, arith}
+use Rattle.flow_io.specs.Streams.{Grows, GrowsByFront}
+use Rattle.wire_records.specs.Records.{Record}
+use Rattle.wire_records.specs.Commands.{Pair}
+use Rattle.wire_records.specs.Formats.{commands}
+use Rattle.flow_orders.specs.Outcomes.{Outcome}
+use Rattle.journal_records.specs.Pairs.{IsPair, pair_spelling}
+use Rattle.journal_records.specs.Formats.{records_of}
+use Rattle.market_rules.specs.Market.{Market}
+use Rattle.market_rules.proofs.LawProofs.{steps_number_one}
+use Rattle.file_units.specs.Units.{TakesOne}
+use Rattle.disk_edge.specs.Disks.{DiskState, AtEachMoment}
+use Rattle.journal_disk.specs.Pairs.{RecordPair, IsRecordPair, pair_bytes, IsWholePair}
+use Rattle.journal_disk.specs.Entries.{WithOrWithout}
+use Rattle.journal_disk.specs.Entries.{Keeps as KeepsAt}
+use Rattle.journal_disk.proofs.Entries.{pair_short}
+use Rattle.journal_keeping.specs.declared.fault.KeepFault.{KeepFault}
+use Rattle.journal_keeping.specs.declared.fault.KeepFault.TheVariants.{Disk, Write}
+use Rattle.journal_keeping.specs.Private.{Answers, KeepsOneMore, IsServed, TakesNext, BreaksNext}
+use Rattle.journal_keeping.proofs.Frames.{record_within}
+use Rattle.journal_keeping.proofs.Turns.{is_record_pair, same_bytes, is_whole}
+
+module _ (n : ℕ) (bytes : List ℕ) (old new : Market) (text : List ℕ) (one : TakesOne commands Answers n bytes old new [] text) (left : ℕ) (inside : length bytes ≤ left) (ready : old.next_order + left < 2 ^ 64) where
+  abbrev pub pair_of : Pair Record Outcome
+  pair_of = record { asked = one.unit; answer = one.step.answer }
+
+  within : (n ≤ length bytes) × (5 ≤ n)
+  within = record_within bytes one.unit n one.size one.front
+
+  pub fits : IsPair pair_of
+  fits = one.step.fits (omega (arith, steps_number_one old one.unit one.step.answer new one.step.step, within.0, within.1, inside, ready))
+
+  pub served : IsServed bytes old pair_of new
+  served = record { lawful = one.lawful; rest = drop n bytes; front = one.front; step = one.step.step; fits = fits }
+
+  pub whole : IsWholePair text
+  whole = is_whole pair_of text fits one.step.spelled
+
+  -- the pair as two records, and its bytes
+  pub two_records : IsRecordPair (records_of pair_of)
+  two_records = is_record_pair pair_of fits
+
+  pub their_bytes : text ≡ pair_bytes (records_of pair_of)
+  their_bytes = one.step.spelled ∙ same_bytes pair_of
+
+  pub takes : (from to : ℕ) (disk later : DiskState) (before after : Option (List ℕ)) → KeepsOneMore pair_of from to disk later → (IsSome later.content → IsSome disk.content) → Grows before after text → TakesNext n bytes old new from to disk later before after
+  takes from to disk later before after keeps told grows = record {
+    pair = pair_of;
+    served = record { lawful = one.lawful; rest = drop n bytes; front = one.front; step = one.step.step; fits = fits };
+    size = one.size;
+    some = one.some;
+    behind = refl;
+    keeps = keeps;
+    told = told;
+    written = subst (λ (l : List ℕ). Grows before after l) one.step.spelled grows;
+  }
+
+  pub still_ready : (place later : ℕ) → place + 263183 * left ≤ 2 ^ 61 → later ≡ place + (5 + length text) → later + 263183 * (left - n) ≤ 2 ^ 61
+  still_ready place later room moved = omega (arith, room, moved, ap length their_bytes, pair_short (records_of pair_of) two_records, within.0, within.1, inside)
+
+  -- where it wasn't kept, or not written whole
+  pub breaks : (from to : ℕ) (disk later : DiskState) (before after : Option (List ℕ)) (SameDisk SameOut : Type 0) (fault : KeepFault) → (fault ≡ Disk) ⊎ (fault ≡ Write) → (fault ≡ Disk → SameOut)
+      → ((pairs : List RecordPair) → KeepsAt pairs from disk → AtEachMoment disk later (WithOrWithout pairs (records_of pair_of)))
+      → (fault ≡ Write → (pairs : List RecordPair) → KeepsAt pairs from disk → KeepsAt (pairs ++ records_of pair_of ∷ []) to later) → (fault ≡ Write → GrowsByFront before after text)
+      → BreaksNext bytes old from to disk later before after SameDisk SameOut fault
+  breaks from to disk later before after SameDisk SameOut fault refused silent moments keeps cut =
+      let there : IsServed bytes old pair_of new = record { lawful = one.lawful; rest = drop n bytes; front = one.front; step = one.step.step; fits = fits } in
+      ⊎_elim
+      (λ (is : fault ≡ Disk). subst (λ (f : KeepFault). BreaksNext bytes old from to disk later before after SameDisk SameOut f) (sym is) (silent is, pair_of, new, there, moments))
+      (λ (is : fault ≡ Write). subst (λ (f : KeepFault). BreaksNext bytes old from to disk later before after SameDisk SameOut f) (sym is)
+      (pair_of, new, there, record { keeps = keeps is; moments = moments }, subst (λ (l : List ℕ). GrowsByFront before after l) one.step.spelled (cut is)))
+      refused

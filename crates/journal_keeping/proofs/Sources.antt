@@ -1,0 +1,88 @@
+-- The records that were served are the first ones of what was read.
+use Rattle.std.proofs.Common.{◌≡◌, ◌⊎◌, ⊎_elim, inl, inr, ℕ, ◌-◌, ◌+◌, List, [], ◌∷◌, ◌++◌, Option, Some, None, Result, Ok, Err, ◌≤◌, length, map, take, drop, refl, sym, ap, subst, ◌∙◌, arith, append_assoc, length-append, take-append-drop}
+use Rattle.std.specs.Prelude.{All}
+use Rattle.std.proofs.lemmas.List.{append-nil, map-append}
+use Rattle.std.proofs.lemmas.List.Elements.{All-append, All-cons, All-nil}
+use Rattle.std.proofs.lemmas.Grind.{flat_map-append}
+use Rattle.std.proofs.Math.Seq.{take-append-add}
+use Rattle.flow_io.specs.Streams.{Takes}
+use Rattle.wire_records.specs.Records.{Record, command_magic_2}
+use Rattle.wire_records.specs.Commands.{Pair}
+use Rattle.wire_records.specs.Grammars.{BeginsWith, spell_all}
+use Rattle.wire_records.specs.Reading.{Ending, StartsWith}
+use Rattle.wire_records.specs.Formats.{commands}
+use Rattle.flow_orders.specs.Outcomes.{Outcome}
+use Rattle.file_units.specs.Units.{Leads, GoesToEnd, GoesToBreak}
+use Rattle.file_units.specs.Inputs.{known}
+use Rattle.journal_keeping.specs.Keeping.{kept_version}
+use Rattle.journal_keeping.specs.declared.fault.KeepFault.{KeepFault}
+use Rattle.journal_keeping.specs.Private.{Adds, asked_of, Names}
+use Rattle.journal_keeping.proofs.Turns.{Pairs}
+
+-- bytes that begin with these records
+pub record BeginsWithAll (bytes : List ℕ) (records : List Record) : Type 0 where
+  pub rest : List ℕ
+  pub whole : bytes ≡ spell_all commands.units records ++ rest
+  pub each : All commands.units.IsLawful records
+
+pub asked_are_units : (old : Pairs) (units : List Record) (new : Pairs) (x y : Unit {0}) → Leads commands Adds old x units new y → asked_of new ≡ asked_of old ++ units
+asked_are_units old [] new x y leads = ap asked_of leads.0 ∙ sym (append-nil (asked_of old))
+asked_are_units old (unit ∷ units) new x y leads =
+    let next = leads.0 in
+    let step = leads.2 in
+    let asked : Pair Record Outcome → Record = λ p. p.asked in
+    asked_are_units next units new leads.1 y leads.3
+    ∙ ap (λ (l : Pairs). asked_of l ++ units) step.2
+    ∙ ap (λ (l : List Record). l ++ units) (map-append asked old (step.0 ∷ []))
+    ∙ append_assoc (asked_of old) (step.0.asked ∷ []) units
+    ∙ ap (λ (r : Record). asked_of old ++ r ∷ units) step.1
+
+-- all that were taken
+pub all_to_end : (place : ℕ) (More : Type 0) (bytes : List ℕ) (ending : Ending) (new : Pairs) → GoesToEnd commands Adds place More bytes ending [] new tt tt → BeginsWithAll bytes (asked_of new)
+all_to_end place More bytes ending new goes =
+    let is = asked_are_units [] goes.units new tt tt goes.leads in
+    subst (λ (l : List Record). BeginsWithAll bytes l) (sym is) (record { rest = goes.reads.rest; whole = goes.reads.whole; each = goes.reads.each })
+
+-- and the one at which it broke off
+pub all_to_break : (bytes : List ℕ) (fault : KeepFault) (new more : Pairs) → GoesToBreak commands Adds (Names new more) bytes fault [] tt tt → BeginsWithAll bytes (asked_of (new ++ more))
+all_to_break bytes fault new more goes =
+    let off = goes.breaks in
+    let named = off.broken in
+    let is : asked_of new ≡ goes.units = ap asked_of (sym named.0) ∙ asked_are_units [] goes.units goes.middle tt goes.between goes.leads in
+    let asked : Pair Record Outcome → Record = λ p. p.asked in
+    ⊎_elim
+    (λ (none : more ≡ []). subst (λ (l : List Record). BeginsWithAll bytes l) (sym (ap (λ (m : Pairs). asked_of (new ++ m)) none ∙ ap asked_of (append-nil new) ∙ is)) (record { rest = goes.left; whole = goes.begins; each = goes.each }))
+    (λ (one : asked_of more ≡ off.unit ∷ []). subst (λ (l : List Record). BeginsWithAll bytes l) (sym (map-append asked new more ∙ ap (λ (l : List Record). l ++ asked_of more) is ∙ ap (λ (l : List Record). goes.units ++ l) one)) (record {
+      rest = off.rest;
+      whole = goes.begins ∙ ap (λ (l : List ℕ). spell_all commands.units goes.units ++ l) off.front
+          ∙ sym (append_assoc (spell_all commands.units goes.units) (commands.units.spell off.unit) off.rest)
+          ∙ ap (λ (l : List ℕ). l ++ off.rest) (sym (flat_map-append commands.units.spell goes.units (off.unit ∷ []) ∙ ap (λ (l : List ℕ). spell_all commands.units goes.units ++ l) (append-nil (commands.units.spell off.unit))));
+      each = All-append commands.units.IsLawful goes.units (off.unit ∷ []) goes.each (All-cons commands.units.IsLawful off.unit [] off.lawful (All-nil commands.units.IsLawful));
+    }))
+    named.1
+
+-- what begins with them begins with them also where more is seen
+longer : (n : ℕ) (bytes : List ℕ) (records : List Record) → BeginsWithAll (take n bytes) records → BeginsWithAll bytes records
+longer n bytes records all = record {
+  rest = all.rest ++ drop n bytes;
+  whole = sym (take-append-drop n bytes) ∙ ap (λ (l : List ℕ). l ++ drop n bytes) all.whole ∙ append_assoc (spell_all commands.units records) all.rest (drop n bytes);
+  each = all.each;
+}
+
+-- behind the magic, in the bytes of a source that tells them
+pub starts_with : (limit : ℕ) (bytes first held taken : List ℕ) (mid left : Option (List ℕ)) (records : List Record) → Takes (Some bytes) mid first → BeginsWith commands.magics first kept_version held → length first ≤ limit → Takes mid left taken
+    → BeginsWithAll (take (limit - 8) (held ++ known taken left)) records → StartsWith commands limit bytes kept_version records
+starts_with limit bytes first held taken None left records opens magic few takes all = absurd opens
+starts_with limit bytes first held taken (Some m) None records opens magic few takes all = absurd takes
+starts_with limit bytes first held taken (Some m) (Some l) records opens magic few takes all =
+    let behind = held ++ (taken ++ l) in
+    let whole : bytes ≡ command_magic_2 ++ behind = opens ∙ ap (λ (xs : List ℕ). xs ++ m) magic.1 ∙ append_assoc command_magic_2 held m ∙ ap (λ (xs : List ℕ). command_magic_2 ++ (held ++ xs)) takes in
+    let eight : length command_magic_2 ≡ 8 = refl in
+    let parts : limit ≡ length command_magic_2 + (limit - 8) = omega (arith, few, ap length magic.1, length-append command_magic_2 held, eight) in
+    record {
+      body = take (limit - 8) behind;
+      rest = all.rest;
+      magic = (tt, ap (take limit) whole ∙ ap (λ (n : ℕ). take n (command_magic_2 ++ behind)) parts ∙ take-append-add command_magic_2 behind (limit - 8));
+      whole = all.whole;
+      each = all.each;
+    }

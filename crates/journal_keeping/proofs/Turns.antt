@@ -1,0 +1,79 @@
+-- One record more that is served, kept and written.
+use Rattle.std.proofs.Common.{◌≡◌, ◌⊎◌, inl, inr, ℕ, ◌+◌, ◌≤◌, ◌<◌, ◌^◌, List, [], ◌∷◌, ◌++◌, Option, IsSome, length, map, drop, refl, sym, ap, subst, ◌∙◌, arith, append_assoc}
+use Rattle.std.proofs.lemmas.List.{append-nil, map-append}
+use Rattle.std.proofs.lemmas.Grind.{flat_map-append}
+use Rattle.std.specs.List.{flat_map}
+use Rattle.flow_io.specs.Streams.{Grows}
+use Rattle.flow_io.proofs.Growth.{Grows-nothing, Grows-more}
+use Rattle.wire_records.specs.Records.{Record}
+use Rattle.wire_records.specs.Commands.{Pair, Answer}
+use Rattle.wire_records.specs.Versions.{IsReadAs}
+use Rattle.wire_records.proofs.Readings.{read_own}
+use Rattle.flow_orders.specs.Outcomes.{Outcome, IsRightOutcome}
+use Rattle.flow_orders.specs.Own.{IsOwnOutcome}
+use Rattle.journal_records.specs.Pairs.{IsPair, pair_spelling}
+use Rattle.journal_records.specs.Formats.{records_of}
+use Rattle.market_rules.specs.Market.{Market, empty_market}
+use Rattle.market_rules.specs.Journal.{Step}
+use Rattle.market_rules.proofs.OwnIsLegal.{own_follows_are_right}
+use Rattle.market_rules.proofs.LawProofs.{journals_hold_deposits, steps_keep_soundness}
+use Rattle.disk_edge.specs.Disks.{DiskState, IsDisk}
+use Rattle.disk_edge.proofs.Moments.{no_call}
+use Rattle.journal_disk.specs.Pairs.{RecordPair, IsRecordPair, pair_bytes, IsWholePair}
+use Rattle.journal_disk.specs.Entries.{Keeps as KeepsAt}
+use Rattle.journal_keeping.specs.Keeping.{kept_version, IsKeptJournal}
+use Rattle.journal_keeping.specs.Serving.{HasKept}
+use Rattle.journal_keeping.specs.Private.{KeepsOneMore, asked_of, SoFar}
+use Rattle.journal_keeping.proofs.Serving.{kept_none, kept_more}
+
+abbrev pub Pairs : Type 0
+Pairs = List (Pair Record Outcome)
+
+-- an own step from the market of a legal journal is a right one
+pub own_is_right : (pairs : Pairs) (m : Market) (pair : Pair Record Outcome) (n : Market) → IsKeptJournal pairs m → Step IsReadAs IsOwnOutcome m pair.asked pair.answer n → Step IsReadAs IsRightOutcome m pair.asked pair.answer n
+own_is_right pairs m pair n legal step =
+    let sound = (journals_hold_deposits (empty_market kept_version) pairs m (steps_keep_soundness.0 kept_version) legal.steps).sound in
+    let right = own_follows_are_right IsReadAs read_own m (pair ∷ []) n sound (n, step, refl) in
+    subst (λ (x : Market). Step IsReadAs IsRightOutcome m pair.asked pair.answer x) (sym right.2) right.1
+
+-- the two records of a pair of a journal, and their bytes
+pub is_record_pair : (pair : Pair Record Outcome) → IsPair pair → IsRecordPair (records_of pair)
+is_record_pair pair fits = (fits.asked, fits.answered)
+
+pub same_bytes : (pair : Pair Record Outcome) → pair_spelling pair ≡ pair_bytes (records_of pair)
+unfolding pair_spelling pair_bytes
+same_bytes pair = refl
+
+pub is_whole : (pair : Pair Record Outcome) (text : List ℕ) → IsPair pair → text ≡ pair_spelling pair → IsWholePair text
+is_whole pair text fits is = (records_of pair, is_record_pair pair fits, is ∙ same_bytes pair)
+
+-- the spellings of pairs, and of one more
+spelled_more : (new : Pairs) (pair : Pair Record Outcome) → flat_map pair_spelling new ++ pair_spelling pair ≡ flat_map pair_spelling (new ++ pair ∷ [])
+spelled_more new pair = sym (flat_map-append pair_spelling new (pair ∷ []) ∙ ap (λ (l : List ℕ). flat_map pair_spelling new ++ l) (append-nil (pair_spelling pair)))
+
+-- nothing yet
+pub so_none : (start : DiskState) (before : Market) (from : ℕ) (held : Option (List ℕ)) → IsDisk start → SoFar start start before before from from held held []
+so_none start before from held is_disk = record {
+  written = Grows-nothing held;
+  kept = λ old is keeps. kept_none start start old before from is keeps (no_call start _ is_disk (λ image left. inl left));
+  told = λ some. some;
+}
+
+module _ (start now next : DiskState) (before market after : Market) (from place later : ℕ) (held holds last : Option (List ℕ)) (new : Pairs) (pair : Pair Record Outcome)
+    (so : SoFar start now before market from place held holds new) (fits : IsPair pair) (step : Step IsReadAs IsOwnOutcome market pair.asked pair.answer after)
+    (keeps : KeepsOneMore pair place later now next) where
+  -- the disk keeps one more
+  pub kept_one_more : (old : Pairs) → IsKeptJournal old before → KeepsAt (map records_of old) from start → HasKept start next old before later (asked_of (new ++ pair ∷ [])) (new ++ pair ∷ []) after
+  kept_one_more old is at =
+      let kept = so.kept old is at in
+      let right = own_is_right (old ++ new) market pair after kept.goes_on.journal step in
+      let more = kept_more start now old before place (asked_of new) new market kept next pair (keeps.moments (map records_of (old ++ new)) kept.keeps) later after fits step right (keeps.keeps (map records_of (old ++ new)) kept.keeps) in
+      subst (λ (l : List Record). HasKept start next old before later l (new ++ pair ∷ []) after) (sym (map-append (λ (p : Pair Record Outcome). p.asked) new (pair ∷ []))) more
+
+  -- and it was written
+  pub so_more : (IsSome next.content → IsSome now.content) → Grows holds last (pair_spelling pair) → SoFar start next before after from later held last (new ++ pair ∷ [])
+  so_more told written = record {
+    written = subst (λ (l : List ℕ). Grows held last l) (spelled_more new pair) (Grows-more held holds last (flat_map pair_spelling new) (pair_spelling pair) so.written written);
+    kept = kept_one_more;
+    told = λ some. so.told (told some);
+  }

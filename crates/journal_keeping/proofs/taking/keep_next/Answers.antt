@@ -1,0 +1,39 @@
+use Rattle.std.proofs.Common.{◌≡◌, ℕ, List, [], Err, refl, sym, ap, subst, ◌∙◌, arith}
+use Rattle.journal_records.specs.Formats.{records_of}
+use Rattle.journal_keeping.proofs.Next.{pair_of, whole, two_records, their_bytes, takes, still_ready, breaks}
+use Rattle.journal_keeping.proofs.taking.keep_next.Goals as goal
+
+pub put_pair-requires-clause-pair : goal.put_pair-requires-clause-pair
+put_pair-requires-clause-pair g c =
+    let one = rw c.in-Ok-Taken.field-0-is at c.in-Ok-Taken.ensures.taken in
+    let ready = c.requires.ready in
+    rw c.deref.ensures.value (whole c.in-Ok-Taken.taken c.args.bytes.now c.args.keeper.now.session c.serve_next.new.session c.serve_next.new.text.items one ready.0 ready.1 ready.2.0)
+
+pub returns-in-Ok-clause-taken : goal.returns-in-Ok-clause-taken
+returns-in-Ok-clause-taken g c =
+    let one = rw c.in-Ok-Taken.field-0-is at c.in-Ok-Taken.ensures.taken in
+    let ready = c.requires.ready in
+    let pair = pair_of c.in-Ok-Taken.taken c.args.bytes.now c.args.keeper.now.session c.serve_next.new.session c.serve_next.new.text.items one ready.0 ready.1 ready.2.0 in
+    let two = two_records c.in-Ok-Taken.taken c.args.bytes.now c.args.keeper.now.session c.serve_next.new.session c.serve_next.new.text.items one ready.0 ready.1 ready.2.0 in
+    let bytes = c.deref.ensures.value ∙ their_bytes c.in-Ok-Taken.taken c.args.bytes.now c.args.keeper.now.session c.serve_next.new.session c.serve_next.new.text.items one ready.0 ready.1 ready.2.0 in
+    takes c.in-Ok-Taken.taken c.args.bytes.now c.args.keeper.now.session c.serve_next.new.session c.serve_next.new.text.items one ready.0 ready.1 ready.2.0 c.args.keeper.now.appender c.put_pair.new.appender (g.D.Disk.state c.args.disk.now) (g.D.Disk.state c.put_pair.new.disk) (g.K.Sink.held c.args.out.now) (g.K.Sink.held c.put_pair.new.out)
+    (record { keeps = λ pairs at. c.in-Ok.ensures.kept (λ is. cc is) pairs (records_of pair) at two bytes; moments = λ pairs at. c.in-Ok.ensures.moments pairs (records_of pair) at two bytes })
+    c.in-Ok.ensures.told (rw c.deref.ensures.value at c.in-Ok.ensures.written)
+
+pub returns-in-Ok-clause-stays : goal.returns-in-Ok-clause-stays
+returns-in-Ok-clause-stays g c = λ left inside ready.
+    let one = rw c.in-Ok-Taken.field-0-is at c.in-Ok-Taken.ensures.taken in
+    let stays = rw c.in-Ok-Taken.field-0-is at c.in-Ok-Taken.ensures.stays in
+    (stays left inside ready.0, still_ready c.in-Ok-Taken.taken c.args.bytes.now c.args.keeper.now.session c.serve_next.new.session c.serve_next.new.text.items one left inside ready.0 c.args.keeper.now.appender c.put_pair.new.appender ready.1 (rw c.deref.ensures.value at c.in-Ok.ensures.place))
+
+pub returns-in-Err-put_pair-clause-broken : goal.returns-in-Err-put_pair-clause-broken
+returns-in-Err-put_pair-clause-broken g c =
+    let one = rw c.in-Ok-Taken.field-0-is at c.in-Ok-Taken.ensures.taken in
+    let ready = c.requires.ready in
+    let pair = pair_of c.in-Ok-Taken.taken c.args.bytes.now c.args.keeper.now.session c.serve_next.new.session c.serve_next.new.text.items one ready.0 ready.1 ready.2.0 in
+    let two = two_records c.in-Ok-Taken.taken c.args.bytes.now c.args.keeper.now.session c.serve_next.new.session c.serve_next.new.text.items one ready.0 ready.1 ready.2.0 in
+    let bytes = c.deref.ensures.value ∙ their_bytes c.in-Ok-Taken.taken c.args.bytes.now c.args.keeper.now.session c.serve_next.new.session c.serve_next.new.text.items one ready.0 ready.1 ready.2.0 in
+    let put = c.in-Err-put_pair.ensures in
+    breaks c.in-Ok-Taken.taken c.args.bytes.now c.args.keeper.now.session c.serve_next.new.session c.serve_next.new.text.items one ready.0 ready.1 ready.2.0 c.args.keeper.now.appender c.put_pair.new.appender (g.D.Disk.state c.args.disk.now) (g.D.Disk.state c.put_pair.new.disk) (g.K.Sink.held c.args.out.now) (g.K.Sink.held c.put_pair.new.out)
+    (c.put_pair.new.disk ≡ c.args.disk.now) (c.put_pair.new.out ≡ c.args.out.now) c.in-Err-put_pair.fault put.refused (λ is. put.unasked (ap Err is)) (λ pairs at. put.moments pairs (records_of pair) at two bytes)
+    (λ is pairs at. put.kept (λ bad. cc (bad, is)) pairs (records_of pair) at two bytes) (λ is. rw c.deref.ensures.value at put.cut (ap Err is))

@@ -1,0 +1,20 @@
+use Rattle.std.proofs.Common.{◌≡◌, ◌-◌, ◌+◌, List, [], length}
+use Rattle.wire_records.specs.Commands.{Pair}
+use Rattle.wire_records.specs.Records.{Record}
+use Rattle.wire_records.specs.Formats.{commands}
+use Rattle.flow_orders.specs.Outcomes.{Outcome}
+use Rattle.file_units.proofs.Gone.{HasGone}
+use Rattle.journal_keeping.specs.Private.{IsReady, Adds, SoFar}
+use Rattle.journal_keeping.proofs.taking.serve_on.Given as goal
+
+abbrev pub invariant-units : goal.invariant-units
+invariant-units g l =
+    (new : List (Pair Record Outcome))
+    × HasGone commands Adds g.S.Source.rest g.S.Source.faults (IsReady l.keeper.session l.keeper.appender) l.fn.window l.window l.fn.source l.source [] new tt tt
+    × SoFar (g.D.Disk.state l.fn.disk) (g.D.Disk.state l.disk) l.fn.keeper.session l.keeper.session l.fn.keeper.appender l.keeper.appender (g.K.Sink.held l.fn.out) (g.K.Sink.held l.out) new
+    × ((g.D.Disk.state l.disk).faults ≡ (g.D.Disk.state l.fn.disk).faults)
+    × (g.K.Sink.faults l.out ≡ g.K.Sink.faults l.fn.out)
+
+-- the bytes that may be given up yet, and those that may be read
+abbrev pub decreases-units : goal.decreases-units
+decreases-units g l = (l.window.limit - l.window.place) + (l.window.limit - (l.window.place + length l.window.held))

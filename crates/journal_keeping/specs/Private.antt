@@ -1,0 +1,156 @@
+-- Words that only private functions use: what serving, keeping and writing one pair does.
+use Rattle.std.specs.Prelude.{◌≡◌, ◌≢◌, ◌<◌, ◌≤◌, ◌+◌, ◌*◌, ◌^◌, ◌⊎◌, ℕ, List, [], ◌∷◌, ◌++◌, length, drop, take, map, Option, IsSome, Result, Ok, Err, ⊤}
+use Rattle.std.specs.List.{flat_map}
+use Rattle.flow_io.specs.Streams.{Grows, GrowsByFront}
+use Rattle.flow_io.specs.Windows.{WindowState}
+use Rattle.wire_records.specs.Records.{Record}
+use Rattle.wire_records.specs.Commands.{Pair}
+use Rattle.wire_records.specs.Versions.{IsReadAs}
+use Rattle.wire_records.specs.Grammars.{BeginsWith, BeginsWithNone}
+use Rattle.wire_records.specs.Formats.{commands}
+use Rattle.flow_orders.specs.Outcomes.{Outcome}
+use Rattle.flow_orders.specs.Own.{IsOwnOutcome}
+use Rattle.journal_records.specs.Pairs.{IsPair, pair_spelling}
+use Rattle.journal_records.specs.Formats.{records_of}
+use Rattle.market_rules.specs.Market.{Market}
+use Rattle.market_rules.specs.Journal.{Step}
+use Rattle.file_units.specs.declared.units.Front.{Front}
+use Rattle.file_units.specs.declared.units.Front.TheVariants.{Taken, NoBytes, Overlong, Short}
+use Rattle.file_units.specs.declared.units.Ending.{Ending}
+use Rattle.file_units.specs.declared.units.Ending.TheVariants as ending
+use Rattle.file_units.specs.declared.input.TakeFault.{TakeFault}
+use Rattle.file_units.specs.declared.input.TakeFault.TheVariants as fault
+use Rattle.file_units.specs.Inputs.{GoesFrom}
+use Rattle.exchange_session.specs.Serving.{AnswersOne}
+use Rattle.disk_edge.specs.Disks.{DiskState, AtEachMoment}
+use Rattle.journal_disk.specs.Pairs.{RecordPair}
+use Rattle.journal_disk.specs.Entries.{WithOrWithout}
+use Rattle.journal_disk.specs.Entries.{Keeps as KeepsAt}
+use Rattle.journal_keeping.specs.Keeping.{IsKeptJournal, Runs, StandIn}
+use Rattle.journal_keeping.specs.Serving.{HasKept}
+use Rattle.journal_keeping.specs.declared.fault.KeepFault.{KeepFault}
+use Rattle.journal_keeping.specs.declared.fault.KeepFault.TheVariants.{Read, Write, Disk, Memory, NotDisk, Damaged, Rejected, NotFlow, Torn, TooLong}
+
+-- a record was answered, and its pair put into an empty buffer
+abbrev pub Answers : Market → Record → Market → List ℕ → List ℕ → Type 0
+Answers old asked new before text = AnswersOne old asked new text
+
+-- Records can be served and kept while so many bytes of them are left: their orders get numbers, and their pairs a place.
+abbrev pub IsReady : Market → ℕ → ℕ → Type 0
+IsReady market place left = (market.next_order + left < 2 ^ 64) × (place + 263183 * left ≤ 2 ^ 61)
+
+-- a disk that kept pairs keeps one more, and at each moment since left them with it or without
+pub record KeepsOneMore (pair : Pair Record Outcome) (from to : ℕ) (old new : DiskState) : Type 0 where
+  pub keeps : (pairs : List RecordPair) → KeepsAt pairs from old → KeepsAt (pairs ++ records_of pair ∷ []) to new
+  pub moments : (pairs : List RecordPair) → KeepsAt pairs from old → AtEachMoment old new (WithOrWithout pairs (records_of pair))
+
+-- the record at the front of the bytes was answered so, by one step of the market, and the pair may stand in a journal
+pub record IsServed (bytes : List ℕ) (old : Market) (pair : Pair Record Outcome) (new : Market) : Type 0 where
+  pub lawful : commands.units.IsLawful pair.asked
+  pub rest : List ℕ
+  pub front : bytes ≡ commands.units.spell pair.asked ++ rest
+  pub step : Step IsReadAs IsOwnOutcome old pair.asked pair.answer new
+  pub fits : IsPair pair
+
+-- the record at the front was served, its pair kept, and then written
+pub record TakesNext (n : ℕ) (bytes : List ℕ) (old new : Market) (from to : ℕ) (disk later : DiskState) (before after : Option (List ℕ)) : Type 0 where
+  pub pair : Pair Record Outcome
+  pub served : IsServed bytes old pair new
+  pub size : n ≡ length (commands.units.spell pair.asked)
+  pub some : 0 < n
+  pub behind : served.rest ≡ drop n bytes
+  pub keeps : KeepsOneMore pair from to disk later
+  pub told : IsSome later.content → IsSome disk.content
+  pub written : Grows before after (pair_spelling pair)
+
+-- what stands at the front, and what was done with it
+abbrev pub IsTakenNext : Front → List ℕ → Market → Market → ℕ → ℕ → DiskState → DiskState → Option (List ℕ) → Option (List ℕ) → Type 0
+IsTakenNext (Taken n) bytes old new from to disk later before after = TakesNext n bytes old new from to disk later before after
+IsTakenNext NoBytes bytes old new from to disk later before after = BeginsWithNone commands.units bytes × (bytes ≡ []) × (¬ commands.IsOverlong bytes)
+IsTakenNext Overlong bytes old new from to disk later before after = BeginsWithNone commands.units bytes × commands.IsOverlong bytes
+IsTakenNext Short bytes old new from to disk later before after = BeginsWithNone commands.units bytes × (bytes ≢ []) × (¬ commands.IsOverlong bytes)
+
+-- nothing changed where nothing was taken
+abbrev pub IsStill : Front → Type 0 → Type 0
+IsStill (Taken n) Same = ⊤
+IsStill NoBytes Same = Same
+IsStill Overlong Same = Same
+IsStill Short Same = Same
+
+-- a whole record stands at the front
+abbrev pub HasRecord : List ℕ → Type 0
+HasRecord bytes = (asked : Record) × (rest : List ℕ) × BeginsWith commands.units bytes asked rest
+
+-- why the record at the front wasn't served, kept and written, where disk and out may have stayed
+module _ (bytes : List ℕ) (old : Market) (from to : ℕ) (disk later : DiskState) (before after : Option (List ℕ)) (SameDisk SameOut : Type 0) where
+  abbrev pub BreaksNext : KeepFault → Type 0
+  BreaksNext Memory = SameDisk × SameOut × HasRecord bytes
+  BreaksNext Disk =
+      SameOut × (pair : Pair Record Outcome) × (new : Market) × IsServed bytes old pair new
+      × ((pairs : List RecordPair) → KeepsAt pairs from disk → AtEachMoment disk later (WithOrWithout pairs (records_of pair)))
+  BreaksNext Write = (pair : Pair Record Outcome) × (new : Market) × IsServed bytes old pair new × KeepsOneMore pair from to disk later × GrowsByFront before after (pair_spelling pair)
+  BreaksNext Read = ⊥
+  BreaksNext NotDisk = ⊥
+  BreaksNext (Damaged place) = ⊥
+  BreaksNext (Rejected number) = ⊥
+  BreaksNext NotFlow = ⊥
+  BreaksNext (Torn place) = ⊥
+  BreaksNext TooLong = ⊥
+
+-- the pairs so far, and one more for a record that was taken
+abbrev pub Adds : List (Pair Record Outcome) → Record → List (Pair Record Outcome) → Unit {0} → Unit {0} → Type 0
+Adds old asked new before after = (pair : Pair Record Outcome) × (pair.asked ≡ asked) × (new ≡ old ++ pair ∷ [])
+
+-- the records of pairs
+abbrev pub asked_of : List (Pair Record Outcome) → List Record
+asked_of pairs = map (λ (pair : Pair Record Outcome). pair.asked) pairs
+
+-- What serving has come to, from a market and a place on: these pairs were kept and written.
+pub record SoFar (start now : DiskState) (before market : Market) (from place : ℕ) (held holds : Option (List ℕ)) (new : List (Pair Record Outcome)) : Type 0 where
+  pub written : Grows held holds (flat_map pair_spelling new)
+  pub kept : (old : List (Pair Record Outcome)) → IsKeptJournal old before → KeepsAt (map records_of old) from start → HasKept start now old before place (asked_of new) new market
+  pub told : IsSome now.content → IsSome start.content
+
+-- an end of keeping as one of going through units
+abbrev pub as_going : Result (Unit {0}) KeepFault → Result Ending (TakeFault KeepFault)
+as_going (Ok done) = Ok ending.End
+as_going (Err (Torn place)) = Ok (ending.Torn place)
+as_going (Err TooLong) = Ok ending.TooLong
+as_going (Err Read) = Err fault.Read
+as_going (Err Write) = Err (fault.Broken Write)
+as_going (Err Disk) = Err (fault.Broken Disk)
+as_going (Err Memory) = Err (fault.Broken Memory)
+as_going (Err NotDisk) = Err (fault.Broken NotDisk)
+as_going (Err (Damaged place)) = Err (fault.Broken (Damaged place))
+as_going (Err (Rejected number)) = Err (fault.Broken (Rejected number))
+as_going (Err NotFlow) = Err (fault.Broken NotFlow)
+
+-- it broke off behind the pairs that were written, at the record of the next pair, where there is one
+abbrev pub Names : (new more : List (Pair Record Outcome)) → List (Pair Record Outcome) → Record → KeepFault → Unit {0} → Unit {0} → Type 0
+Names new more done asked why before after = (done ≡ new) × ((more ≡ []) ⊎ (asked_of more ≡ asked ∷ []))
+
+-- where no pair was at hand as it ended
+abbrev pub IfEnded : Result (Unit {0}) KeepFault → Type 0 → Type 0
+IfEnded (Ok done) P = P
+IfEnded (Err (Torn place)) P = P
+IfEnded (Err TooLong) P = P
+IfEnded (Err Read) P = P
+IfEnded (Err Write) P = ⊤
+IfEnded (Err Disk) P = ⊤
+IfEnded (Err Memory) P = P
+IfEnded (Err NotDisk) P = ⊥
+IfEnded (Err (Damaged place)) P = ⊥
+IfEnded (Err (Rejected number)) P = ⊥
+IfEnded (Err NotFlow) P = ⊥
+
+-- The records from what a window held on were served: these pairs were kept and written, and at the next one it broke off, or there
+-- is none.
+pub record ServesOn (window : WindowState) (rest left : Option (List ℕ)) (result : Result (Unit {0}) KeepFault) (before : Market) (from : ℕ) (start end : DiskState) (held holds : Option (List ℕ)) : Type 0 where
+  pub new : List (Pair Record Outcome)
+  pub more : List (Pair Record Outcome)
+  pub acknowledged : ℕ
+  pub goes : GoesFrom commands Adds (Names new more) window rest left (as_going result) [] new tt tt
+  pub runs : (old : List (Pair Record Outcome)) → IsKeptJournal old before → KeepsAt (map records_of old) from start → Runs start end old before (asked_of (new ++ more)) (new ++ more) acknowledged
+  pub written : StandIn (result ≡ Err Write) held holds (take acknowledged (new ++ more))
+  pub ended : IfEnded result ((more ≡ []) × (acknowledged ≡ length new)
+      × ((old : List (Pair Record Outcome)) → IsKeptJournal old before → KeepsAt (map records_of old) from start → (place : ℕ) × KeepsAt (map records_of (old ++ new)) place end))

@@ -1,0 +1,192 @@
+//! Records that are served onto a disk, one after the other.
+ghost use Rattle.std.specs.Prelude.{◌≡◌, ◌≢◌, ◌≤◌, ◌<◌, ◌+◌, ◌-◌, ◌^◌, ◌⊎◌, ◌++◌, ℕ, List, [], ◌∷◌, length, map, Some, None, Err, IsErr, IfSome, IsSome, IfOk, IfErr, OnOk, OnErr};
+ghost use Rattle.flow_io.specs.Faults.{Blames};
+ghost use Rattle.flow_io.specs.Streams.{Grows, GrowsByFront};
+ghost use Rattle.flow_io.specs.Windows.{Fills, IsWithin};
+ghost use Rattle.flow_io.specs.declared.window.InputEnd.TheVariants.{Source as source_end, Limit as limit_end};
+ghost use Rattle.wire_records.specs.Records.{Record, AreBytes};
+ghost use Rattle.wire_records.specs.Commands.{Pair};
+ghost use Rattle.wire_records.specs.Formats.{commands};
+ghost use Rattle.flow_orders.specs.Outcomes.{Outcome};
+ghost use Rattle.journal_records.specs.Formats.{records_of};
+ghost use Rattle.file_units.specs.Units.{IsTaken, StaysReady};
+ghost use Rattle.file_units.specs.Inputs.{HasLongest};
+ghost use Rattle.disk_edge.specs.Disks.{AtEachMoment};
+ghost use Rattle.journal_disk.specs.Pairs.{RecordPair, IsRecordPair, pair_bytes, IsWholePair};
+ghost use Rattle.journal_disk.specs.Entries.{WithOrWithout, Keeps};
+ghost use Rattle.journal_keeping.specs.Keeping.{IsKeptJournal};
+ghost use Rattle.journal_keeping.specs.Private.{Answers, IsReady, IsTakenNext, IsStill, HasRecord, BreaksNext, ServesOn};
+
+use crate::fault::KeepFault;
+use disk_edge::Disk;
+use exchange_session::Session;
+use file_units::Front;
+use flow_io::{Filled, ReadFailed, Sink, Source, Window};
+use journal_disk::Appender;
+use wire_records::{Framed, MOST_BODY, Memory, next_record};
+
+// A session and an appender, by which records are served and their pairs kept. One buffer is used for all pairs.
+#[derive(Drop)]
+pub(crate) struct Keeper {
+    pub(crate) session: Session,
+    pub(crate) appender: Appender,
+    pub(crate) pair: Vec<u8>,
+}
+
+// Serves the record at the front of the bytes, if a whole one stands there, and puts its pair into an empty buffer.
+fn serve_next(session: &mut Session, bytes: &[u8], text: &mut Vec<u8>) -> Result<Front, Memory>
+    requires ready { (left : ℕ) × (length bytes.now ≤ left) × (session.old.next_order + left < 2 ^ 64) }
+    requires empty { text.old.items ≡ [] }
+    ensures taken { IfOk result (λ front. IsTaken commands Answers front bytes.now session.old session.new [] text.new.items) }
+    ensures stays { IfOk result (λ front. (left : ℕ) → length bytes.now ≤ left → session.old.next_order + left < 2 ^ 64 →
+        StaysReady (λ left. session.new.next_order + left < 2 ^ 64) front left) }
+    ensures wanted { OnErr result (HasRecord bytes.now) }
+{
+    match next_record(bytes, MOST_BODY) {
+        Framed::Whole(asked, taken) => match session.serve(&asked, text) {
+            Ok(()) => Ok(Front::Taken(taken)),
+            Err(_) => Err(Memory),
+        },
+        Framed::End => Ok(Front::NoBytes),
+        Framed::TooLarge(_) => Ok(Front::Overlong),
+        Framed::Short => Ok(Front::Short),
+    }
+}
+
+// Keeps a pair, and once it is kept writes it.
+fn put_pair<D: Disk, K: Sink>(
+    appender: &mut Appender,
+    pair: &[u8],
+    disk: &mut D,
+    out: &mut K,
+) -> Result<(), KeepFault>
+    requires pair { IsWholePair pair.now }
+    requires room { appender.old ≤ 2 ^ 61 }
+    requires kept { IfSome (D.state disk.old).content
+        (λ _. (pairs : List RecordPair) × Keeps pairs appender.old (D.state disk.old)) }
+    ensures kept { result ≢ Err KeepFault.Disk → (pairs : List RecordPair) (last : RecordPair) →
+        Keeps pairs appender.old (D.state disk.old) → IsRecordPair last → pair.now ≡ pair_bytes last →
+        Keeps (pairs ++ last ∷ []) appender.new (D.state disk.new) }
+    ensures moments { (pairs : List RecordPair) (last : RecordPair) →
+        Keeps pairs appender.old (D.state disk.old) → IsRecordPair last → pair.now ≡ pair_bytes last →
+        AtEachMoment (D.state disk.old) (D.state disk.new) (WithOrWithout pairs last) }
+    ensures told { OnOk result (IsSome (D.state disk.new).content → IsSome (D.state disk.old).content) }
+    ensures place { OnOk result (appender.new ≡ appender.old + (5 + length pair.now)) }
+    ensures written { OnOk result (Grows (K.held out.old) (K.held out.new) pair.now) }
+    ensures cut { result ≡ Err KeepFault.Write → GrowsByFront (K.held out.old) (K.held out.new) pair.now }
+    ensures unasked { result ≡ Err KeepFault.Disk → out.new ≡ out.old }
+    ensures refused { IfErr result (λ fault. (fault ≡ KeepFault.Disk) ⊎ (fault ≡ KeepFault.Write)) }
+    ensures disk_cause { Blames (result ≡ Err KeepFault.Disk) (D.state disk.old).faults (D.state disk.new).faults }
+    ensures out_cause { Blames (result ≡ Err KeepFault.Write) (K.faults out.old) (K.faults out.new) }
+{
+    match appender.append(disk, pair) {
+        Ok(()) => match out.write(pair) {
+            Ok(()) => Ok(()),
+            Err(_) => Err(KeepFault::Write),
+        },
+        Err(_) => Err(KeepFault::Disk),
+    }
+}
+
+// Serves the record at the front of the bytes, if a whole one stands there, keeps its pair, and then writes it.
+fn keep_next<D: Disk, K: Sink>(
+    keeper: &mut Keeper,
+    bytes: &[u8],
+    disk: &mut D,
+    out: &mut K,
+) -> Result<Front, KeepFault>
+    requires ready { (left : ℕ) × (length bytes.now ≤ left) × IsReady keeper.old.session keeper.old.appender left }
+    requires kept { IfSome (D.state disk.old).content
+        (λ _. (pairs : List RecordPair) × Keeps pairs keeper.old.appender (D.state disk.old)) }
+    ensures taken { IfOk result (λ front. IsTakenNext front bytes.now keeper.old.session keeper.new.session
+        keeper.old.appender keeper.new.appender (D.state disk.old) (D.state disk.new) (K.held out.old) (K.held out.new)) }
+    ensures still { IfOk result (λ front. IsStill front ((keeper.new.session ≡ keeper.old.session)
+        × (keeper.new.appender ≡ keeper.old.appender) × (disk.new ≡ disk.old) × (out.new ≡ out.old))) }
+    ensures stays { IfOk result (λ front. (left : ℕ) → length bytes.now ≤ left → IsReady keeper.old.session keeper.old.appender left →
+        StaysReady (IsReady keeper.new.session keeper.new.appender) front left) }
+    ensures broken { IfErr result (BreaksNext bytes.now keeper.old.session keeper.old.appender keeper.new.appender
+        (D.state disk.old) (D.state disk.new) (K.held out.old) (K.held out.new) (disk.new ≡ disk.old) (out.new ≡ out.old)) }
+    ensures disk_cause { Blames (result ≡ Err KeepFault.Disk) (D.state disk.old).faults (D.state disk.new).faults }
+    ensures out_cause { Blames (result ≡ Err KeepFault.Write) (K.faults out.old) (K.faults out.new) }
+{
+    keeper.pair.clear();
+    match serve_next(&mut keeper.session, bytes, &mut keeper.pair) {
+        Ok(Front::Taken(taken)) => match put_pair(&mut keeper.appender, &keeper.pair, disk, out) {
+            Ok(()) => Ok(Front::Taken(taken)),
+            Err(fault) => Err(fault),
+        },
+        Ok(Front::NoBytes) => Ok(Front::NoBytes),
+        Ok(Front::Overlong) => Ok(Front::Overlong),
+        Ok(Front::Short) => Ok(Front::Short),
+        Err(_) => Err(KeepFault::Memory),
+    }
+}
+
+// The bytes that a window holds, with what their type says of them as a clause.
+fn bytes_of(held: &[u8]) -> &[u8]
+    ensures value { result.now ≡ held.now }
+    ensures bytes { AreBytes held.now }
+{
+    held
+}
+
+// Reads once more behind the held bytes, of which there are fewer than the room.
+fn read_on<S: Source>(window: &mut Window, source: &mut S) -> Result<Filled, ReadFailed>
+    requires room { length window.old.held < window.old.room }
+    requires same { window.old.over ≡ Some source_end → IfSome (S.rest source.old) (λ left. left ≡ []) }
+    ensures fills { Fills window.old window.new (S.rest source.old) (S.rest source.new) }
+    ensures more { IfOk result (λ filled. filled ≡ Filled.Enough → (length window.old.held < length window.new.held) × (window.new.over ≡ window.old.over)) }
+    ensures limited { IfOk result (λ filled. filled ≡ Filled.Limited → (window.new.held ≡ window.old.held) × (window.new.over ≡ Some limit_end)) }
+    ensures ended { IfOk result (λ filled. filled ≡ Filled.Ended → (window.new.held ≡ window.old.held) × (window.new.over ≡ Some source_end)) }
+    ensures all { window.new.over ≡ Some source_end → IfSome (S.rest source.new) (λ left. left ≡ []) }
+    ensures within { IsWithin window.new.place (length window.new.held) window.new.limit window.new.over }
+    ensures failed { OnErr result ((window.new.held ≡ window.old.held) × (window.new.over ≡ None)) }
+    ensures cause { Blames (IsErr result) (S.faults source.old) (S.faults source.new) }
+{
+    let want = window.held().len() + 1;
+    window.fill(source, want)
+}
+
+// Serves the records of a source from what a window holds on, one after the other, each kept and then written before the source
+// is asked for more.
+pub(crate) fn serve_on<S: Source, D: Disk, K: Sink>(
+    window: &mut Window,
+    source: &mut S,
+    keeper: &mut Keeper,
+    disk: &mut D,
+    out: &mut K,
+) -> Result<(), KeepFault>
+    requires longest { HasLongest commands window.old.room }
+    requires open { window.old.over ≡ None }
+    requires ready { IsReady keeper.old.session keeper.old.appender (window.old.limit - window.old.place) }
+    requires kept { IfSome (D.state disk.old).content (λ _. (old : List (Pair Record Outcome))
+        × IsKeptJournal old keeper.old.session × Keeps (map records_of old) keeper.old.appender (D.state disk.old)) }
+    ensures goes { ServesOn window.old (S.rest source.old) (S.rest source.new) result keeper.old.session keeper.old.appender
+        (D.state disk.old) (D.state disk.new) (K.held out.old) (K.held out.new) }
+    ensures disk_cause { Blames (result ≡ Err KeepFault.Disk) (D.state disk.old).faults (D.state disk.new).faults }
+    ensures source_cause { Blames (result ≡ Err KeepFault.Read) (S.faults source.old) (S.faults source.new) }
+    ensures out_cause { Blames (result ≡ Err KeepFault.Write) (K.faults out.old) (K.faults out.new) }
+{
+    'units: loop {
+        let front = match keep_next(keeper, bytes_of(window.held()), disk, out) {
+            Ok(front) => front,
+            Err(fault) => return Err(fault),
+        };
+        match front {
+            Front::Taken(taken) => window.advance(taken),
+            Front::Overlong => return Err(KeepFault::Torn(window.place())),
+            Front::Short => match read_on(window, source) {
+                Ok(Filled::Enough) => {}
+                Ok(Filled::Limited) => return Err(KeepFault::TooLong),
+                Ok(Filled::Ended) => return Err(KeepFault::Torn(window.place())),
+                Err(_) => return Err(KeepFault::Read),
+            },
+            Front::NoBytes => match read_on(window, source) {
+                Ok(Filled::Enough) => {}
+                Ok(Filled::Limited) => return Err(KeepFault::TooLong),
+                Ok(Filled::Ended) => return Ok(()),
+                Err(_) => return Err(KeepFault::Read),
+            },
+        }
+    }
+}
