@@ -62,7 +62,7 @@ all_to_break bytes fault new more goes =
     named.1
 
 -- what begins with them begins with them also where more is seen
-longer : (n : ℕ) (bytes : List ℕ) (records : List Record) → BeginsWithAll (take n bytes) records → BeginsWithAll bytes records
+pub longer : (n : ℕ) (bytes : List ℕ) (records : List Record) → BeginsWithAll (take n bytes) records → BeginsWithAll bytes records
 longer n bytes records all = record {
   rest = all.rest ++ drop n bytes;
   whole = sym (take-append-drop n bytes) ∙ ap (λ (l : List ℕ). l ++ drop n bytes) all.whole ∙ append_assoc (spell_all commands.units records) all.rest (drop n bytes);

@@ -1,0 +1,43 @@
+-- The records that were served are the first ones of the source.
+use Rattle.std.proofs.Common.{◌≡◌, inl, inr, ℕ, ◌-◌, ◌≤◌, List, [], ◌++◌, Option, Some, None, Result, Ok, Err, length, take, sym, ap, subst, ◌∙◌}
+use Rattle.std.proofs.lemmas.List.{append-nil}
+use Rattle.flow_io.specs.Streams.{Takes}
+use Rattle.flow_io.specs.Windows.{WindowState}
+use Rattle.wire_records.specs.Records.{Record}
+use Rattle.wire_records.specs.Grammars.{BeginsWith}
+use Rattle.wire_records.specs.Formats.{commands}
+use Rattle.market_rules.specs.Market.{Market}
+use Rattle.file_units.specs.Inputs.{known}
+use Rattle.disk_edge.specs.Disks.{DiskState}
+use Rattle.journal_keeping.specs.declared.fault.KeepFault.{KeepFault}
+use Rattle.journal_keeping.specs.declared.fault.KeepFault.TheVariants.{Read, Write, Disk, Memory, NotDisk, Damaged, Rejected, NotFlow, Torn, TooLong}
+use Rattle.journal_keeping.specs.Keeping.{kept_version, AreServed}
+use Rattle.journal_keeping.specs.Private.{asked_of, ServesOn}
+use Rattle.journal_keeping.proofs.Turns.{Pairs}
+use Rattle.journal_keeping.proofs.Sources.{BeginsWithAll, all_to_end, all_to_break, longer, starts_with}
+
+-- where no pair was at hand
+none_more : (bytes : List ℕ) (new more : Pairs) → more ≡ [] → BeginsWithAll bytes (asked_of new) → BeginsWithAll bytes (asked_of (new ++ more))
+none_more bytes new more none all = subst (λ (l : Pairs). BeginsWithAll bytes (asked_of l)) (sym (ap (λ (m : Pairs). new ++ m) none ∙ append-nil new)) all
+
+-- the bytes that were known from what a window held on begin with them
+pub served_first : (window : WindowState) (mid left : Option (List ℕ)) (result : Result (Unit {0}) KeepFault) (before : Market) (from : ℕ) (start end : DiskState) (held holds : Option (List ℕ)) (on : ServesOn window mid left result before from start end held holds)
+    → BeginsWithAll (take (window.limit - window.place) (window.held ++ known on.goes.taken left)) (asked_of (on.new ++ on.more))
+served_first window mid left (Ok done) before from start end held holds on = none_more _ on.new on.more on.ended.0 (all_to_end _ _ _ _ on.new on.goes.goes.0)
+served_first window mid left (Err (Torn n)) before from start end held holds on = none_more _ on.new on.more on.ended.0 (all_to_end _ _ _ _ on.new on.goes.goes.0)
+served_first window mid left (Err TooLong) before from start end held holds on = none_more _ on.new on.more on.ended.0 (all_to_end _ _ _ _ on.new on.goes.goes.0)
+served_first window mid left (Err Read) before from start end held holds on =
+    longer (length (window.held ++ on.goes.taken)) _ _ (none_more _ on.new on.more on.ended.0 (all_to_end _ _ _ _ on.new on.goes.goes))
+served_first window mid left (Err Write) before from start end held holds on = all_to_break _ Write on.new on.more on.goes.goes.0
+served_first window mid left (Err Disk) before from start end held holds on = all_to_break _ Disk on.new on.more on.goes.goes.0
+served_first window mid left (Err Memory) before from start end held holds on = all_to_break _ Memory on.new on.more on.goes.goes.0
+served_first window mid left (Err NotDisk) before from start end held holds on = absurd on.ended
+served_first window mid left (Err (Damaged n)) before from start end held holds on = absurd on.ended
+served_first window mid left (Err (Rejected n)) before from start end held holds on = absurd on.ended
+served_first window mid left (Err NotFlow) before from start end held holds on = absurd on.ended
+
+-- and so the source's, behind the magic
+pub are_served : (limit : ℕ) (content mid left : Option (List ℕ)) (first held taken : List ℕ) (records : List Record) → Takes content mid first → BeginsWith commands.magics first kept_version held → length first ≤ limit → Takes mid left taken
+    → BeginsWithAll (take (limit - 8) (held ++ known taken left)) records → AreServed limit content records
+are_served limit None mid left first held taken records opens magic few takes all = inr tt
+are_served limit (Some bytes) mid left first held taken records opens magic few takes all = inr (starts_with limit bytes first held taken mid left records opens magic few takes all)
