@@ -99,6 +99,7 @@ pub record SampleIsRun (number orders most : ℕ) (line : List ℕ) : Type 0 whe
   pub audit : length journal ≤ most → ComesTo Audit most journal Done (legal_line pairs)
   pub told : line ≡ summary_line orders (cleared_in pairs) (skipped_in pairs) (units_in pairs)
 
+-- where a sample's words come to a status and a line, they do so
 abbrev pub SamplesAreRun : Type 0
 SamplesAreRun = (number orders limit most : ℕ) (bytes line : List ℕ) (status : Status) → ComesTo (Sample number orders) limit bytes status line
     → length (sample_file number orders) ≤ most → SampleIsRun number orders most line

@@ -4,6 +4,7 @@ use Rattle.journal_disk.specs.declared.fault.DiskFault.TheVariants as disk
 use Rattle.journal_keeping.specs.declared.fault.KeepFault.{KeepFault}
 use Rattle.journal_keeping.specs.declared.fault.KeepFault.TheVariants.{Disk, Memory, NotDisk, Damaged}
 
+-- what a fault of the journal on the disk is to a run that keeps one
 abbrev pub kept_fault : DiskFault → KeepFault
 kept_fault disk.Failed = Disk
 kept_fault disk.NotDisk = NotDisk

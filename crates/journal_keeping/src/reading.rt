@@ -39,7 +39,12 @@ fn judge(audit: &mut Audit, pair: &[u8], number: u64) -> Result<(), KeepFault>
     }
 }
 
-// Reads and audits the pairs that are kept, up to a gate that isn't open.
+/// Reads the pairs that a disk keeps one after the other and audits each, up to a gate that isn't open: at Ok all of them are a
+/// legal journal, whose market the audit has. The audit is at the empty market of version Two, and the journal was just opened.
+///
+/// `Damaged` has the place of the first gate that isn't one, and `Rejected` the number of the first pair that isn't legal, counted
+/// from 1; `Disk` comes only where the disk's count rose, and `Memory` is free. Nothing of the disk is changed. It costs the audit
+/// of the pairs, and the memory of one pair.
 pub fn audit_kept<D: Disk>(
     alloc: Global,
     journal: &mut DiskJournal,
