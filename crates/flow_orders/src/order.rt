@@ -158,10 +158,17 @@ impl Order {
         } }
         ensures order { IsOrder result }
     {
-        let mut order = Order::new(number, account, low, high, rate, cap, row);
-        order.filled = filled;
-        order.last = last;
-        order
+        Order {
+            number,
+            cap,
+            filled,
+            account,
+            rate,
+            low: low as i32,
+            high: high as i32,
+            last,
+            row,
+        }
     }
 
     /// The order's number.
