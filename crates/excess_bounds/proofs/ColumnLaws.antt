@@ -1,5 +1,5 @@
 -- The column of an asset lists the orders that name it, by their places.
-use Rattle.std.proofs.Common.{◌≡◌, ◌≢◌, ⊎_elim, ℕ, zero, suc, ◌+◌, ◌<◌, ℤ, pos, false, List, [], ◌∷◌, length, eqb, refl, ap, sym, ◌∙◌, arith}
+use Rattle.std.proofs.Common.{◌≡◌, ◌≢◌, ⊎_elim, ℕ, zero, suc, ◌+◌, ◌<◌, pos, false, List, [], ◌∷◌, eqb, refl, ap, sym, ◌∙◌, arith}
 use Rattle.std.specs.Prelude.{unsigned_abs, All, AllPairs}
 use Rattle.std.specs.List.{Contains}
 use Rattle.std.proofs.lemmas.Int.{ints}
@@ -9,8 +9,8 @@ use Rattle.std.proofs.lemmas.List.Kept.{AllPairs-cons}
 use Rattle.weight_rows.specs.Rows.{weight_in}
 use Rattle.flow_orders.specs.Orders.{Order}
 use Rattle.excess_bounds.specs.declared.columns.Cell.{Cell}
-use Rattle.excess_bounds.specs.Columns.{column_from, column_of}
-use Rattle.excess_bounds.specs.Laws.{weight_at, ListsOrders, ColumnsListOrders}
+use Rattle.excess_bounds.specs.Columns.{column_from}
+use Rattle.excess_bounds.specs.Laws.{weight_at, ColumnsListOrders}
 use Rattle.excess_bounds.proofs.ColumnSums.{cell_at}
 
 module _ (asset : ℕ) where

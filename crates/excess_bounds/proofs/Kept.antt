@@ -1,13 +1,12 @@
 -- What is kept of each order and of each asset, at the prices of the assets.
-use Rattle.std.proofs.Common.{◌≡◌, ℕ, ◌+◌, ◌*◌, ◌^◌, ◌≤◌, ◌<◌, ℤ, pos, ◌+ℤ◌, ◌-ℤ◌, ◌*ℤ◌, List, [], ◌∷◌, ◌++◌, length, map, set, take, drop, get_or, refl, ap, sym, ◌∙◌, append-nil, arith}
-use Rattle.std.specs.Prelude.{unsigned_abs, All}
-use Rattle.std.specs.List.{range_with_len}
+use Rattle.std.proofs.Common.{◌≡◌, ℕ, ◌+◌, ◌*◌, ◌<◌, ℤ, pos, ◌+ℤ◌, ◌-ℤ◌, ◌*ℤ◌, List, [], ◌∷◌, ◌++◌, length, map, set, take, drop, get_or, refl, ap, sym, ◌∙◌, append-nil, arith}
+use Rattle.std.specs.Prelude.{All}
 use Rattle.std.proofs.lemmas.Int.{ints}
 use Rattle.std.proofs.lemmas.List.{take_all, drop_all, length-set, get_or-map, length-map, map_more}
-use Rattle.std.proofs.lemmas.List.FromFn.{map-range_with_len_more, get_or-map-range_with_len, length-map-range_with_len}
+use Rattle.std.proofs.lemmas.List.FromFn.{get_or-map-range_with_len, length-map-range_with_len}
 use Rattle.std.proofs.lemmas.List.Elements.{All-set}
 use Rattle.list_sums.specs.Sums.{int_sum_by}
-use Rattle.weight_rows.specs.Rows.{weight_in, price_of, IsPrice, portfolio_price}
+use Rattle.weight_rows.specs.Rows.{weight_in, price_of, IsPrice}
 use Rattle.weight_rows.proofs.RowLawProofs.{price_follows_one_price, weights_are_small}
 use Rattle.weight_rows.proofs.RowLemmas.{price_is_bounded}
 use Rattle.demand_curve.specs.Demand.{Terms, floor_rate, ceil_rate}
@@ -15,10 +14,10 @@ use Rattle.flow_orders.specs.Orders.{Order, terms_of}
 use Rattle.flow_orders.specs.Excess.{price_for, low_part, high_part, low_excess, high_excess}
 use Rattle.flow_orders.proofs.BookSums.{own_price}
 use Rattle.excess_bounds.specs.declared.columns.Cell.{Cell}
-use Rattle.excess_bounds.specs.Workspace.{ArePriced}
 use Rattle.excess_bounds.specs.Columns.{column_of}
-use Rattle.excess_bounds.specs.Private.{Quote, quote_at, quote_in, no_quote, low_in, high_in, StaysInRange, requoted, CanRequote, IsColumn, IsKept}
-use Rattle.excess_bounds.proofs.ColumnSums.{cell_at, is_light, all_cells, column_length, column_sum}
+use Rattle.excess_bounds.specs.Quotes.{Quote, quote_at}
+use Rattle.excess_bounds.specs.Private.{quote_in, no_quote, low_in, high_in, StaysInRange, requoted, CanRequote, IsColumn, IsKept}
+use Rattle.excess_bounds.proofs.ColumnSums.{is_light, all_cells, column_length, column_sum}
 use Rattle.excess_bounds.proofs.Requoting.{Follows, column_requoted}
 
 -- the column of each asset is listed at its number

@@ -1,8 +1,7 @@
 -- The columns of all assets grow order by order, and entry by entry.
-use Rattle.std.proofs.Common.{◌≡◌, ◌≢◌, ⊎_elim, ℕ, zero, suc, ◌+◌, ◌<◌, ◌≤◌, ℤ, pos, Bool, true, false, eqb, cond, List, [], ◌∷◌, ◌++◌, length, map, set, take, drop, get_or, refl, ap, sym, ◌∙◌, append_assoc, append-nil, length-append, length-take, arith}
+use Rattle.std.proofs.Common.{◌≡◌, ◌≢◌, ⊎_elim, ℕ, suc, ◌+◌, ◌<◌, ◌≤◌, pos, false, eqb, List, [], ◌∷◌, ◌++◌, length, map, set, take, get_or, refl, ap, sym, ◌∙◌, append_assoc, append-nil, length-take, arith}
 use Rattle.std.specs.Prelude.{if◌then◌else◌, unsigned_abs, All, AllPairs}
 use Rattle.std.specs.List.{range_with_len}
-use Rattle.std.proofs.lemmas.Int.{ints}
 use Rattle.std.proofs.lemmas.Bool.{cases_Bool, ne_eqb, eq-eqb}
 use Rattle.std.proofs.lemmas.Bool.Decides.{eqb_tells}
 use Rattle.std.proofs.lemmas.List.{ext_get_or, get_or-set_same, get_or-set_other, length-set, length-map}
@@ -12,7 +11,7 @@ use Rattle.weight_rows.specs.declared.entries.Entry.{Entry}
 use Rattle.weight_rows.specs.Rows.{IsLawfulRow, IsLawfulWeight, assets_of, weight_in}
 use Rattle.flow_orders.specs.Orders.{Order}
 use Rattle.excess_bounds.specs.declared.columns.Cell.{Cell}
-use Rattle.excess_bounds.specs.Columns.{column_from, column_of}
+use Rattle.excess_bounds.specs.Columns.{column_of}
 use Rattle.excess_bounds.specs.Private.{listed}
 use Rattle.excess_bounds.proofs.ColumnSums.{cells_more, column_length}
 

@@ -1,17 +1,18 @@
 -- What the orders of a column ask for as the price of its asset rises or falls.
-use Rattle.std.proofs.Common.{◌≡◌, ℕ, zero, suc, ◌+◌, ◌*◌, ◌^◌, ◌≤◌, ◌<◌, ℤ, pos, negsuc, ◌+ℤ◌, ◌-ℤ◌, ◌*ℤ◌, ◌≤ℤ◌, true, false, List, [], ◌∷◌, length, set, refl, ap, sym, ◌∙◌, arith}
-use Rattle.std.specs.Prelude.{unsigned_abs, All, neg_ℤ}
+use Rattle.std.proofs.Common.{◌≡◌, ℕ, zero, suc, ◌^◌, ◌≤◌, ◌<◌, ℤ, pos, negsuc, ◌+ℤ◌, ◌-ℤ◌, ◌*ℤ◌, ◌≤ℤ◌, true, false, List, [], ◌∷◌, length, refl, ap, sym, ◌∙◌, arith}
+use Rattle.std.specs.Prelude.{All, neg_ℤ}
 use Rattle.std.proofs.Math.IntN.{negsuc-*ℤ-pos, pos-*ℤ-pos, *ℤ-negsuc}
 use Rattle.std.proofs.lemmas.Int.{ints}
 use Rattle.list_sums.specs.Sums.{int_sum_by}
 use Rattle.weight_rows.specs.Rows.{price_of, IsPrice}
-use Rattle.demand_curve.specs.Demand.{Terms, floor_rate}
+use Rattle.demand_curve.specs.Demand.{Terms}
 use Rattle.flow_orders.specs.Orders.{Order}
 use Rattle.flow_orders.specs.Excess.{low_part, high_part, low_excess, high_excess}
 use Rattle.flow_orders.specs.Moves.{risen, fallen}
 use Rattle.excess_bounds.specs.declared.columns.Cell.{Cell}
 use Rattle.excess_bounds.specs.Columns.{column_of}
-use Rattle.excess_bounds.specs.Private.{Quote, quote_in, low_in, high_in, StaysInRange, IsKept}
+use Rattle.excess_bounds.specs.Quotes.{Quote}
+use Rattle.excess_bounds.specs.Private.{quote_in, low_in, high_in, IsKept}
 use Rattle.excess_bounds.specs.Steps.{asked_after, turned, CanMove}
 use Rattle.excess_bounds.proofs.Kept.{own_in_range, stay_in_range, low_is, high_is}
 

@@ -1,6 +1,6 @@
 -- The orders of a column are requoted as the price of its asset moves, and no others.
-use Rattle.std.proofs.Common.{◌≡◌, ⊎_elim, ℕ, zero, suc, ◌+◌, ◌*◌, ◌^◌, ◌≤◌, ◌<◌, ℤ, pos, ◌+ℤ◌, ◌*ℤ◌, List, [], ◌∷◌, ◌++◌, length, map, set, drop, get_or, eqb, refl, ap, sym, ◌∙◌, append_assoc, length-append, arith}
-use Rattle.std.specs.Prelude.{unsigned_abs, All}
+use Rattle.std.proofs.Common.{◌≡◌, ⊎_elim, ℕ, suc, ◌+◌, ◌^◌, ◌≤◌, ◌<◌, ℤ, pos, ◌+ℤ◌, ◌*ℤ◌, List, [], ◌∷◌, ◌++◌, length, map, set, drop, get_or, eqb, refl, ap, ◌∙◌, append_assoc, length-append, arith}
+use Rattle.std.specs.Prelude.{unsigned_abs}
 use Rattle.std.proofs.Math.IntN.{zero-*ℤ}
 use Rattle.std.proofs.lemmas.Int.{ints}
 use Rattle.std.proofs.lemmas.Bool.{cases_Bool, eqb-true}
@@ -10,8 +10,8 @@ use Rattle.flow_orders.specs.Orders.{Order, terms_of}
 use Rattle.flow_orders.specs.Excess.{price_for}
 use Rattle.excess_bounds.specs.declared.columns.Cell.{Cell}
 use Rattle.excess_bounds.specs.Columns.{column_from}
-use Rattle.excess_bounds.specs.Private.{Quote, quote_at, quote_in, no_quote, requoted, CanRequote}
-use Rattle.excess_bounds.proofs.ColumnSums.{cell_at}
+use Rattle.excess_bounds.specs.Quotes.{Quote, quote_at}
+use Rattle.excess_bounds.specs.Private.{quote_in, no_quote, requoted, CanRequote}
 
 -- an order's price as the price of an asset moves by an amount
 pub record Follows (prices next : List ℤ) (asset : ℕ) (amount : ℤ) (o : Order) : Type 0 where

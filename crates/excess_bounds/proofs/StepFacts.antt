@@ -1,6 +1,6 @@
 -- Steps between two amounts: what they ask for together, and what is left of them as the amounts come nearer.
-use Rattle.std.proofs.Common.{◌≡◌, ◌⊎◌, inl, inr, ⊎_elim, ℕ, zero, suc, ◌+◌, ◌-◌, ◌*◌, ◌^◌, ◌≤◌, ◌<◌, ℤ, pos, negsuc, ◌+ℤ◌, ◌*ℤ◌, ◌≤ℤ◌, ◌<ℤ◌, Bool, true, false, List, [], ◌∷◌, ◌++◌, length, map, take, drop, set, get_or, append_assoc, refl, ap, sym, subst, ◌∙◌, length-append, arith}
-use Rattle.std.specs.Prelude.{unsigned_abs, All, neg_ℤ, int_lt, if◌then◌else◌}
+use Rattle.std.proofs.Common.{◌≡◌, inl, inr, ⊎_elim, ℕ, zero, suc, ◌+◌, ◌-◌, ◌*◌, ◌^◌, ◌≤◌, ◌<◌, ℤ, pos, negsuc, ◌+ℤ◌, ◌*ℤ◌, ◌≤ℤ◌, Bool, true, false, List, [], ◌∷◌, ◌++◌, length, map, take, drop, set, get_or, append_assoc, refl, ap, sym, subst, ◌∙◌, length-append, arith}
+use Rattle.std.specs.Prelude.{unsigned_abs, All, int_lt, if◌then◌else◌}
 use Rattle.std.specs.Ordering.{int_eq}
 use Rattle.std.proofs.Math.Nat.{mul-le-mul_left}
 use Rattle.std.proofs.lemmas.Int.{ints}
@@ -10,7 +10,7 @@ use Rattle.std.proofs.lemmas.List.{length-map, length-take, drop_more, get_or_at
 use Rattle.std.proofs.lemmas.List.Elements.{All-push, All-set}
 use Rattle.list_sums.specs.Sums.{int_sum_by}
 use Rattle.list_sums.proofs.Products.{*ℤ-add, unsigned_abs-add}
-use Rattle.list_sums.proofs.SumLemmas.{int_sum_by_more, int_sum_by-push, int_sum_by-map_same, int_sum_by-same}
+use Rattle.list_sums.proofs.SumLemmas.{int_sum_by_more, int_sum_by-push, int_sum_by-map_same}
 use Rattle.weight_rows.specs.Rows.{most_weight}
 use Rattle.demand_curve.specs.Demand.{Terms, IsWithinLimits, floor_rate, ceil_rate}
 use Rattle.demand_curve.specs.Curve.{terms}
@@ -22,7 +22,8 @@ use Rattle.excess_bounds.specs.declared.narrowing.Bracket.{Bracket}
 use Rattle.excess_bounds.specs.declared.steps.Step.{Step}
 use Rattle.excess_bounds.specs.Parts.{part_by_sign}
 use Rattle.excess_bounds.specs.Brackets.{IsBracket}
-use Rattle.excess_bounds.specs.Private.{Quote, quote_in, no_quote, low_in}
+use Rattle.excess_bounds.specs.Quotes.{Quote}
+use Rattle.excess_bounds.specs.Private.{quote_in, no_quote, low_in}
 use Rattle.excess_bounds.specs.Steps.{part_after, looked, closed, still_open, settled_sum, CanLook, IsSmall, IsStep, IsNarrowed, turned, asked_after, CanMove}
 
 -- ---- one step
@@ -264,26 +265,26 @@ turned_place true c = refl
 turned_place false c = refl
 
 -- the step of one cell more
-pub begin_more : (slots : List Quote) (falls : Bool) (cells : List Cell) (i : ℕ) (d t : Cell) (reach : ℕ) (steps next : List Step) (s : Step) (q : Quote)
-    → i < length cells → All (λ c. c.place < length slots) cells → All (CanMove slots falls reach) cells
-    → IsNarrowed (asked_after slots falls (take i cells)) steps (pos 0) i 0 reach
-    → t ≡ turned falls (get_or cells i d) → unsigned_abs t.weight ≤ most_weight → q ≡ get_or slots t.place q
+pub begin_more : (quotes : List Quote) (falls : Bool) (cells : List Cell) (i : ℕ) (d t : Cell) (reach : ℕ) (steps next : List Step) (s : Step) (q : Quote)
+    → i < length cells → All (λ c. c.place < length quotes) cells → All (CanMove quotes falls reach) cells
+    → IsNarrowed (asked_after quotes falls (take i cells)) steps (pos 0) i 0 reach
+    → t ≡ turned falls (get_or cells i d) → unsigned_abs t.weight ≤ most_weight → q ≡ get_or quotes t.place q
     → terms s.curve ≡ q.terms → s.price ≡ q.price → s.weight ≡ t.weight
     → s.first ≡ part_by_sign t.weight (floor_rate q.terms q.price) (ceil_rate q.terms q.price) → s.last ≡ part_by_sign t.weight 0 q.terms.room → IsSmall s
     → next ≡ steps ++ s ∷ []
-    → IsNarrowed (asked_after slots falls (take (i + 1) cells)) next (pos 0) (i + 1) 0 reach
-begin_more slots falls cells i d t reach steps next s q within there moves before t_is light q_is terms_are price_is weight_is first_is last_is small next_is =
+    → IsNarrowed (asked_after quotes falls (take (i + 1) cells)) next (pos 0) (i + 1) 0 reach
+begin_more quotes falls cells i d t reach steps next s q within there moves before t_is light q_is terms_are price_is weight_is first_is last_is small next_is =
     let c : Cell = get_or cells i d in
     let place : t.place ≡ c.place = ap (λ (x : Cell). x.place) t_is ∙ turned_place falls c in
-    let inside : t.place < length slots = omega (arith, place, there i d within) in
-    let quote : q ≡ quote_in slots t.place = q_is ∙ get_or_default slots t.place q no_quote inside in
+    let inside : t.place < length quotes = omega (arith, place, there i d within) in
+    let quote : q ≡ quote_in quotes t.place = q_is ∙ get_or_default quotes t.place q no_quote inside in
     let stays : (m : ℕ) → m ≤ reach → unsigned_abs (q.price +ℤ t.weight *ℤ pos m) ≤ 2 ^ 78 = λ m h. rw (quote, t_is) (moves i d within m h) in
     let step = first_step s q t.weight reach terms_are price_is weight_is first_is last_is small light stays in
     rw next_is
-    (add_open (asked_after slots falls (take i cells)) (asked_after slots falls (take (i + 1) cells)) steps (pos 0) i 0 reach s before step.0
+    (add_open (asked_after quotes falls (take i cells)) (asked_after quotes falls (take (i + 1) cells)) steps (pos 0) i 0 reach s before step.0
     (λ m.
-    let part : part_after m s ≡ low_in slots (pos m) (turned falls c) = step.1 m ∙ rw (quote, t_is) refl in
-    int_sum_by_more (λ c. low_in slots (pos m) (turned falls c)) cells i d within ∙ ap (λ x. asked_after slots falls (take i cells) m +ℤ x) (sym part)))
+    let part : part_after m s ≡ low_in quotes (pos m) (turned falls c) = step.1 m ∙ rw (quote, t_is) refl in
+    int_sum_by_more (λ c. low_in quotes (pos m) (turned falls c)) cells i d within ∙ ap (λ x. asked_after quotes falls (take i cells) m +ℤ x) (sym part)))
 
 -- the steps before a place are kept where they are open
 pub record IsClosing (is_low : Bool) (steps now : List Step) (kept at : ℕ) (rest : ℤ) : Type 0 where

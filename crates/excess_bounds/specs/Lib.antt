@@ -1,3 +1,4 @@
+pub mod Quotes
 pub mod Workspace
 pub mod Columns
 pub mod Brackets

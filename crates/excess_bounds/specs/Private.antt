@@ -2,24 +2,14 @@
 use Rattle.std.specs.Prelude.{◌≡◌, ℕ, ◌*◌, ◌^◌, ◌<◌, ◌≤◌, ℤ, pos, ◌+ℤ◌, ◌*ℤ◌, unsigned_abs, List, [], ◌∷◌, ◌++◌, length, map, slice_index_or, slice_set, All}
 use Rattle.std.specs.List.{range_with_len, sum_by}
 use Rattle.std.specs.Int.{div_ceil}
-use Rattle.list_sums.specs.Sums.{int_sum_by}
 use Rattle.weight_rows.specs.declared.entries.Entry.{Entry}
 use Rattle.weight_rows.specs.Rows.{most_weight}
-use Rattle.demand_curve.specs.Demand.{Terms, floor_rate, ceil_rate}
-use Rattle.flow_orders.specs.Orders.{Order, most_orders, terms_of}
-use Rattle.flow_orders.specs.Excess.{price_for, low_part, high_part}
+use Rattle.flow_orders.specs.Orders.{Order, most_orders}
+use Rattle.flow_orders.specs.Excess.{low_part, high_part}
 use Rattle.excess_bounds.specs.declared.columns.Cell.{Cell}
 use Rattle.excess_bounds.specs.Workspace.{ArePriced}
+use Rattle.excess_bounds.specs.Quotes.{Quote, quote_at}
 use Rattle.excess_bounds.specs.Columns.{column_of}
-
--- an order at some price of its portfolio
-pub record Quote : Type 0 where
-  pub terms : Terms
-  pub price : ℤ
-
--- an order at the prices of the assets
-abbrev pub quote_at : List ℤ → Order → Quote
-quote_at prices o = record { terms = terms_of o; price = price_for prices o }
 
 -- what stands for an order that isn't there
 abbrev pub no_quote : Quote

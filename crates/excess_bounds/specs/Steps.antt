@@ -7,7 +7,8 @@ use Rattle.demand_curve.specs.Curve.{terms}
 use Rattle.flow_orders.specs.Excess.{low_part}
 use Rattle.excess_bounds.specs.declared.columns.Cell.{Cell}
 use Rattle.excess_bounds.specs.declared.steps.Step.{Step}
-use Rattle.excess_bounds.specs.Private.{Quote, low_in, StaysInRange}
+use Rattle.excess_bounds.specs.Quotes.{Quote}
+use Rattle.excess_bounds.specs.Private.{low_in, StaysInRange}
 
 -- what a step asks for after an amount
 abbrev pub part_after : ℕ → Step → ℤ

@@ -1,7 +1,8 @@
 -- What contracts see of the state of a search for prices, and what holds of every one.
-use Rattle.std.specs.Prelude.{ℕ, ℤ, ◌≤◌, List, length, All}
+use Rattle.std.specs.Prelude.{◌≡◌, ℕ, ℤ, ◌≤◌, List, length, All}
 use Rattle.weight_rows.specs.Rows.{IsPrice, IsPricedBy}
 use Rattle.flow_orders.specs.Orders.{Order, IsOrder, most_orders}
+use Rattle.excess_bounds.specs.Quotes.{Quote, quotes_at}
 
 -- the orders of a batch, and one price for each asset
 pub record Workspace : Type 0 where
@@ -19,3 +20,8 @@ pub record ArePriced (orders : List Order) (prices : List ℤ) : Type 0 where
   pub each : All IsOrder orders
   pub range : All IsPrice prices
   pub priced : All (λ o. IsPricedBy o.row prices) orders
+
+-- prices of orders as above, and each order at them
+pub record AreQuoted (orders : List Order) (prices : List ℤ) (quotes : List Quote) : Type 0 where
+  pub priced : ArePriced orders prices
+  pub quotes_are : quotes ≡ quotes_at orders prices

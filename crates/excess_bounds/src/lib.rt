@@ -3,7 +3,9 @@
 //! A [`Workspace`] answers how much of an asset the orders ask for at its prices, bought less sold, as an [`Excess`]: a
 //! lower and an upper bound in whole units. It answers the same with one price changed, and whether the asset is
 //! settled. [`Workspace::narrow_rise`] and its like tell between which two amounts, a [`Bracket`], a move of a price
-//! ends. The words are those of `flow_orders`; [`laws`] has what holds as a price moves.
+//! ends. [`Workspace::quotes`] are its orders at its prices, a [`Quote`] each: whoever rounds demands or measures what that
+//! loses computes neither price nor demand again, and [`Workspace::into_quoted`] gives them away with the prices. The words
+//! are those of `flow_orders`; [`laws`] has what holds as a price moves.
 //!
 //! # Costs
 //!
@@ -22,11 +24,12 @@ mod columns;
 pub mod laws;
 mod narrowing;
 mod parts;
-mod slots;
+mod quotes;
 mod steps;
 mod workspace;
 
 pub use columns::Cell;
 pub use narrowing::Bracket;
 pub use parts::Excess;
-pub use workspace::{Memory, Workspace};
+pub use quotes::{Quote, quotes_of};
+pub use workspace::{Memory, Quoted, Workspace};

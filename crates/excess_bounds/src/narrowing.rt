@@ -11,7 +11,7 @@ ghost use Rattle.excess_bounds.specs.Private.{IsColumn};
 ghost use Rattle.excess_bounds.specs.Steps.{CanLook, IsSmall, IsNarrowed, CanMove, asked_after, part_after, looked, closed, still_open, settled_sum};
 
 use crate::columns::Cell;
-use crate::slots::Slot;
+use crate::quotes::Quote;
 use crate::steps::Step;
 
 /// Two amounts, in grains, between which the move of a price ends: after the low one it has to go on, and after the high
@@ -36,7 +36,7 @@ const MOST_TURNS: u32 = 160;
 
 // Narrows down after which amount, of at most `reach`, the orders of a column ask for no more than the bound.
 pub(crate) fn narrow(
-    slots: &[Slot],
+    quotes: &[Quote],
     cells: &[Cell],
     falls: bool,
     steps: &mut Vec<Step>,
@@ -44,15 +44,15 @@ pub(crate) fn narrow(
     reach: u64,
 ) -> Bracket
     requires column { IsColumn cells.now }
-    requires there { All (λ c. c.place < length slots.now) cells.now }
-    requires moves { All (CanMove slots.now falls reach) cells.now }
+    requires there { All (λ c. c.place < length quotes.now) cells.now }
+    requires moves { All (CanMove quotes.now falls reach) cells.now }
     requires room { length cells.now ≤ vec_capacity steps.old }
     requires some { 0 < reach }
     requires most { reach ≤ 2 ^ 62 }
-    ensures bracket { IsBracket (asked_after slots.now falls cells.now) bound reach result.low result.high }
+    ensures bracket { IsBracket (asked_after quotes.now falls cells.now) bound reach result.low result.high }
     ensures capacity { vec_capacity steps.new ≡ vec_capacity steps.old }
 {
-    let seen = begin(slots, cells, falls, reach, steps);
+    let seen = begin(quotes, cells, falls, reach, steps);
     let mut rest = 0;
     let mut bracket = Bracket {
         low: 0,
@@ -105,12 +105,12 @@ fn is_above(asked: i64, bound: i64) -> bool
 }
 
 // The steps of a column's orders before the move, and what they do.
-fn begin(slots: &[Slot], cells: &[Cell], falls: bool, reach: u64, steps: &mut Vec<Step>) -> Seen
+fn begin(quotes: &[Quote], cells: &[Cell], falls: bool, reach: u64, steps: &mut Vec<Step>) -> Seen
     requires column { IsColumn cells.now }
-    requires there { All (λ c. c.place < length slots.now) cells.now }
-    requires moves { All (CanMove slots.now falls reach) cells.now }
+    requires there { All (λ c. c.place < length quotes.now) cells.now }
+    requires moves { All (CanMove quotes.now falls reach) cells.now }
     requires room { length cells.now ≤ vec_capacity steps.old }
-    ensures narrowed { IsNarrowed (asked_after slots.now falls cells.now) steps.new.items (pos 0) (length cells.now) 0 reach }
+    ensures narrowed { IsNarrowed (asked_after quotes.now falls cells.now) steps.new.items (pos 0) (length cells.now) 0 reach }
     ensures capacity { vec_capacity steps.new ≡ vec_capacity steps.old }
 {
     let mut sum = 0i64;
@@ -118,7 +118,7 @@ fn begin(slots: &[Slot], cells: &[Cell], falls: bool, reach: u64, steps: &mut Ve
     steps.clear();
     for cell in cells {
         let cell = cell.turned(falls);
-        let step = slots[cell.place as usize].step(cell);
+        let step = quotes[cell.place as usize].step(cell);
         sum = sum.wrapping_add(step.first);
         slope = slope.saturating_add(step.pull_now());
         steps.push_reserved(step);

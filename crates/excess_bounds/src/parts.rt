@@ -7,7 +7,7 @@ ghost use Rattle.excess_bounds.specs.Parts.{part_by_sign};
 ghost use Rattle.excess_bounds.specs.Private.{IsColumn, StaysInRange, low_in, high_in};
 
 use crate::columns::Cell;
-use crate::slots::Slot;
+use crate::quotes::Quote;
 use demand_curve::Roundings;
 
 /// How much of an asset orders ask for, bought less sold, in whole units: at least the low bound and at most the high
@@ -21,18 +21,18 @@ pub struct Excess {
 }
 
 // The excess of the asset of a column.
-pub(crate) fn excess_of(slots: &[Slot], cells: &[Cell]) -> Excess
+pub(crate) fn excess_of(quotes: &[Quote], cells: &[Cell]) -> Excess
     requires column { IsColumn cells.now }
-    requires there { All (λ c. c.place < length slots.now) cells.now }
-    ensures low { result.low ≡ int_sum_by (low_in slots.now (pos 0)) cells.now }
-    ensures high { result.high ≡ int_sum_by (high_in slots.now (pos 0)) cells.now }
+    requires there { All (λ c. c.place < length quotes.now) cells.now }
+    ensures low { result.low ≡ int_sum_by (low_in quotes.now (pos 0)) cells.now }
+    ensures high { result.high ≡ int_sum_by (high_in quotes.now (pos 0)) cells.now }
     ensures low_bound { unsigned_abs result.low ≤ 2 ^ 50 }
     ensures high_bound { unsigned_abs result.high ≤ 2 ^ 50 }
 {
     let mut low = 0;
     let mut high = 0;
     for cell in cells {
-        let part = part_now(slots, *cell);
+        let part = part_now(quotes, *cell);
         low += part.low;
         high += part.high;
     }
@@ -40,20 +40,20 @@ pub(crate) fn excess_of(slots: &[Slot], cells: &[Cell]) -> Excess
 }
 
 // The excess of the asset of a column once its price has moved by an amount.
-pub(crate) fn excess_after(slots: &[Slot], cells: &[Cell], amount: i128) -> Excess
+pub(crate) fn excess_after(quotes: &[Quote], cells: &[Cell], amount: i128) -> Excess
     requires column { IsColumn cells.now }
-    requires there { All (λ c. c.place < length slots.now) cells.now }
+    requires there { All (λ c. c.place < length quotes.now) cells.now }
     requires amount { unsigned_abs amount ≤ 2 ^ 63 }
-    requires stays { All (StaysInRange slots.now amount) cells.now }
-    ensures low { result.low ≡ int_sum_by (low_in slots.now amount) cells.now }
-    ensures high { result.high ≡ int_sum_by (high_in slots.now amount) cells.now }
+    requires stays { All (StaysInRange quotes.now amount) cells.now }
+    ensures low { result.low ≡ int_sum_by (low_in quotes.now amount) cells.now }
+    ensures high { result.high ≡ int_sum_by (high_in quotes.now amount) cells.now }
     ensures low_bound { unsigned_abs result.low ≤ 2 ^ 50 }
     ensures high_bound { unsigned_abs result.high ≤ 2 ^ 50 }
 {
     let mut low = 0;
     let mut high = 0;
     for cell in cells {
-        let part = part_after(slots, *cell, amount);
+        let part = part_after(quotes, *cell, amount);
         low += part.low;
         high += part.high;
     }
@@ -61,30 +61,30 @@ pub(crate) fn excess_after(slots: &[Slot], cells: &[Cell], amount: i128) -> Exce
 }
 
 // What the order of a cell asks for of the cell's asset.
-fn part_now(slots: &[Slot], cell: Cell) -> Excess
-    requires there { cell.place < length slots.now }
+fn part_now(quotes: &[Quote], cell: Cell) -> Excess
+    requires there { cell.place < length quotes.now }
     requires light { unsigned_abs cell.weight ≤ most_weight }
-    ensures low { result.low ≡ low_in slots.now (pos 0) cell }
-    ensures high { result.high ≡ high_in slots.now (pos 0) cell }
+    ensures low { result.low ≡ low_in quotes.now (pos 0) cell }
+    ensures high { result.high ≡ high_in quotes.now (pos 0) cell }
     ensures low_bound { unsigned_abs result.low ≤ 2 ^ 36 }
     ensures high_bound { unsigned_abs result.high ≤ 2 ^ 36 }
 {
-    part_of(cell.weight, slots[cell.place as usize].demand())
+    part_of(cell.weight, quotes[cell.place as usize].demand())
 }
 
 // What it asks for once the asset's price has moved by an amount.
-fn part_after(slots: &[Slot], cell: Cell, amount: i128) -> Excess
-    requires there { cell.place < length slots.now }
+fn part_after(quotes: &[Quote], cell: Cell, amount: i128) -> Excess
+    requires there { cell.place < length quotes.now }
     requires light { unsigned_abs cell.weight ≤ most_weight }
     requires amount { unsigned_abs amount ≤ 2 ^ 63 }
-    requires stays { StaysInRange slots.now amount cell }
-    ensures low { result.low ≡ low_in slots.now amount cell }
-    ensures high { result.high ≡ high_in slots.now amount cell }
+    requires stays { StaysInRange quotes.now amount cell }
+    ensures low { result.low ≡ low_in quotes.now amount cell }
+    ensures high { result.high ≡ high_in quotes.now amount cell }
     ensures low_bound { unsigned_abs result.low ≤ 2 ^ 36 }
     ensures high_bound { unsigned_abs result.high ≤ 2 ^ 36 }
 {
-    let slot = &slots[cell.place as usize];
-    part_of(cell.weight, slot.demand_after(cell.weight, amount))
+    let quote = &quotes[cell.place as usize];
+    part_of(cell.weight, quote.demand_after(cell.weight, amount))
 }
 
 // What an order asks for of an asset of this weight.

@@ -13,7 +13,7 @@ ghost use Rattle.excess_bounds.specs.Private.{IsColumn};
 use crate::columns::{Cell, Column, columns_of};
 use crate::narrowing::{Bracket, narrow};
 use crate::parts::{Excess, excess_after, excess_of};
-use crate::slots::{Slot, requote, slots_of};
+use crate::quotes::{Quote, quotes_of, requote};
 use crate::steps::Step;
 use flow_orders::Order;
 use std::alloc::{AllocError, Global};
@@ -38,11 +38,20 @@ pub struct Workspace<'a> {
     orders: &'a [Order],
     prices: Vec<i64>,
     // The order at each place, at the prices.
-    slots: Vec<Slot>,
+    quotes: Vec<Quote>,
     // The column of each asset.
     columns: Vec<Column>,
     // Room for the steps of a column.
     steps: Vec<Step>,
+}
+
+/// Prices, in grains by the assets' numbers, and each order of a batch at them.
+#[derive(Drop)]
+pub struct Quoted {
+    /// The prices.
+    pub prices: Vec<i64>,
+    /// The orders at the prices, in their order.
+    pub quotes: Vec<Quote>,
 }
 
 impl<'a> Model for Workspace<'a> {
@@ -54,12 +63,13 @@ impl<'a> Model for Workspace<'a> {
 
     ghost view = { λ w. record { orders = w.orders.now; prices = w.prices.items } };
 
-    ghost invariant = { λ w. IsKept w.orders.now w.prices.items w.slots.items w.columns.items
+    ghost invariant = { λ w. IsKept w.orders.now w.prices.items w.quotes.items w.columns.items
         × (length w.orders.now ≤ vec_capacity w.steps) };
 }
 
 impl<'a> Workspace<'a> {
-    ghost use Rattle.excess_bounds.specs.Workspace.{ArePriced};
+    ghost use Rattle.excess_bounds.specs.Workspace.{ArePriced, AreQuoted};
+    ghost use Rattle.excess_bounds.specs.Quotes.{quotes_at};
 
     /// The state at the start of a search: the prices, in grains by the assets' numbers, are copied. It costs one pass over
     /// the entries of all orders. `Memory` comes only where there is none for prices, orders or
@@ -72,14 +82,14 @@ impl<'a> Workspace<'a> {
         ensures orders { IfOk result (λ w. w.orders ≡ orders.now) }
         ensures prices { IfOk result (λ w. w.prices ≡ prices.now) }
     {
-        let slots = slots_of(alloc, orders, prices)?;
+        let quotes = quotes_of(alloc, orders, prices)?;
         let columns = columns_of(alloc, orders, prices)?;
         let prices = Vec::from_slice(alloc, prices)?;
         let steps = Vec::with_capacity(alloc, orders.len())?;
         Ok(Workspace {
             orders,
             prices,
-            slots,
+            quotes,
             columns,
             steps,
         })
@@ -111,6 +121,24 @@ impl<'a> Workspace<'a> {
         self.prices.as_slice()
     }
 
+    /// Each order at the prices, in their order. Constant time.
+    pub fn quotes(&self) -> &[Quote]
+        ensures { result.now ≡ quotes_at self.now.orders self.now.prices }
+    {
+        self.quotes.as_slice()
+    }
+
+    /// Gives away the prices, and each order at them. Nothing is copied.
+    pub fn into_quoted(self) -> Quoted
+        ensures prices { result.prices.items ≡ self.entry.prices }
+        ensures quoted { AreQuoted self.entry.orders result.prices.items result.quotes.items }
+    {
+        Quoted {
+            prices: self.prices,
+            quotes: self.quotes,
+        }
+    }
+
     /// The excess of an asset at the prices, in units: both bounds are within 2^50 of 0. It costs one pass over the
     /// asset's column, without a division.
     pub fn excess(&self, asset: u16) -> Excess
@@ -120,7 +148,7 @@ impl<'a> Workspace<'a> {
         ensures low_bound { unsigned_abs result.low ≤ 2 ^ 50 }
         ensures high_bound { unsigned_abs result.high ≤ 2 ^ 50 }
     {
-        excess_of(&self.slots, self.cells(asset))
+        excess_of(&self.quotes, self.cells(asset))
     }
 
     /// The excess of an asset with this one price in place, in units: both bounds are within 2^50 of 0. The prices stay.
@@ -135,7 +163,7 @@ impl<'a> Workspace<'a> {
         ensures low_bound { unsigned_abs result.low ≤ 2 ^ 50 }
         ensures high_bound { unsigned_abs result.high ≤ 2 ^ 50 }
     {
-        excess_after(&self.slots, self.cells(asset), self.amount(asset, price))
+        excess_after(&self.quotes, self.cells(asset), self.amount(asset, price))
     }
 
     /// Two amounts between which a rise of an asset's price by at most `reach` grains ends: where its low excess is no longer
@@ -153,7 +181,7 @@ impl<'a> Workspace<'a> {
     {
         let column = &self.columns[usize::from(asset)];
         narrow(
-            &self.slots,
+            &self.quotes,
             column.cells(),
             false,
             &mut self.steps,
@@ -174,7 +202,7 @@ impl<'a> Workspace<'a> {
     {
         let column = &self.columns[usize::from(asset)];
         narrow(
-            &self.slots,
+            &self.quotes,
             column.cells(),
             true,
             &mut self.steps,
@@ -240,7 +268,7 @@ impl<'a> Workspace<'a> {
     {
         let amount = self.amount(asset, price);
         requote(
-            &mut self.slots,
+            &mut self.quotes,
             self.columns[usize::from(asset)].cells(),
             amount,
         );

@@ -1,28 +1,10 @@
 -- The amounts that an order moves, as the code computes them.
-use Rattle.std.proofs.Common.{◌≡◌, ℕ, ◌*◌, ◌^◌, ◌≤◌, ◌<◌, ℤ, pos, ◌+ℤ◌, ◌-ℤ◌, ◌*ℤ◌, FitsSigned, to_z, of_z, to_z-of_z, set, ap, ◌∙◌, arith}
+use Rattle.std.proofs.Common.{◌≡◌, ℕ, ◌^◌, ◌≤◌, ◌<◌, ℤ, pos, ◌+ℤ◌, ◌-ℤ◌, ◌*ℤ◌, FitsSigned, to_z, of_z, to_z-of_z, set, ap, ◌∙◌, arith}
 use Rattle.std.specs.Prelude.{unsigned_abs}
 use Rattle.std.specs.Int.{Width, w32, w64, w128}
 use mir.Val.{hbits}
-use Rattle.std.proofs.Math.IntN.{*ℤ_comm}
 use Rattle.std.proofs.lemmas.Int.{ints, fits_signed_from_abs}
 use Rattle.flow_accounts.specs.Balances.{Account, units_in}
-use Rattle.list_sums.proofs.Products.{unsigned_abs-mul_le}
-
--- what n units cost at a price
-pub record IsCost (price : ℤ) (n : ℕ) (cost : ℤ) : Type 0 where
-  pub value : cost ≡ pos n *ℤ price
-  pub bound : unsigned_abs cost ≤ 2 ^ 110
-
--- the product of a price and a number of 32 bits
-abbrev pub computed : ℤ → ℤ → ℤ
-computed price x = to_z w128 (of_z w128 (to_z w128 (of_z w128 price) *ℤ to_z w128 (of_z w128 x)))
-
-pub cost_is : (price x : ℤ) (n : ℕ) → FitsSigned w128 price → unsigned_abs price ≤ 2 ^ 78 → x ≡ pos n → n < 2 ^ 32 → IsCost price n (computed price x)
-cost_is price x n price_fits small is few =
-    let bound : unsigned_abs (price *ℤ pos n) ≤ 2 ^ 78 * 2 ^ 32 = unsigned_abs-mul_le price (pos n) (2 ^ 78) (2 ^ 32) small (omega (arith, few)) in
-    let n_fits : FitsSigned w128 (pos n) = fits_signed_from_abs w128 (pos n) (omega (arith, few)) in
-    let fits : FitsSigned w128 (price *ℤ pos n) = fits_signed_from_abs w128 (price *ℤ pos n) (omega (arith, bound)) in
-    rw (is, to_z-of_z price_fits, to_z-of_z n_fits, to_z-of_z fits) (record { value = *ℤ_comm price (pos n); bound = omega (arith, bound) })
 
 -- a number with its sign turned
 abbrev pub turned : Width → ℤ → ℤ
@@ -36,6 +18,21 @@ turned_is w z fits small =
 -- what is added with its sign turned is taken away
 pub taken_away : (w : Width) (held z amount : ℤ) → FitsSigned w z → unsigned_abs z < 2 ^ hbits w → z ≡ amount → held +ℤ turned w z ≡ held -ℤ amount
 taken_away w held z amount fits small is = omega (arith, ints, turned_is w z fits small, is)
+
+-- what was held less what is held now, as the code computes it
+abbrev pub gone : ℤ → ℤ → ℤ
+gone held now = to_z w128 (of_z w128 (to_z w128 (of_z w128 held) -ℤ to_z w128 (of_z w128 now)))
+
+-- where this came, that much is gone
+pub record IsGone (held now came : ℤ) : Type 0 where
+  pub fits : FitsSigned w128 (to_z w128 (of_z w128 held) -ℤ to_z w128 (of_z w128 now))
+  pub value : gone held now ≡ pos 0 -ℤ came
+
+pub gone_is : (held now came : ℤ) → FitsSigned w128 held → FitsSigned w128 now → now ≡ held +ℤ came → unsigned_abs came ≤ 2 ^ 110 → IsGone held now came
+gone_is held now came held_fits now_fits is small =
+    let difference : held -ℤ now ≡ pos 0 -ℤ came = omega (arith, ints, is) in
+    let fits : FitsSigned w128 (pos 0 -ℤ came) = fits_signed_from_abs w128 (pos 0 -ℤ came) (omega (arith, ints, small)) in
+    record { fits = rw (to_z-of_z held_fits, to_z-of_z now_fits, difference) fits; value = rw (to_z-of_z held_fits, to_z-of_z now_fits, difference) (to_z-of_z fits) }
 
 -- the units of an entry whose weight was passed on
 pub amount_is : (units weight : ℤ) (rate : ℕ) → FitsSigned w32 weight → units ≡ to_z w32 (of_z w32 weight) *ℤ pos rate → units ≡ weight *ℤ pos rate

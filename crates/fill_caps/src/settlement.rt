@@ -67,7 +67,7 @@ pub fn settle(
     }
 }
 
-// Settles one order: its account pays, and then each entry of its row is moved.
+// Settles one order: each entry of its row is moved, and its account pays what the exchange got for them.
 fn settle_order(
     accounts: &mut Accounts,
     exchange: &mut ResidualAccount,
@@ -75,6 +75,7 @@ fn settle_order(
     prices: &[i64],
     rate: u32,
 )
+    requires lawful { AreLawful accounts.old }
     requires rounding { IsRounding (terms_of order.now) rate (price_for prices.now order.now) }
     requires one_price_each { length prices.now ≡ asset_count accounts.old }
     requires range { All IsPrice prices.now }
@@ -89,17 +90,8 @@ fn settle_order(
     ensures order { IsOrder order.now }
 {
     let account = order.account();
-    let row = order.row();
-    let cost = cost_at(row.price(prices), rate);
-    accounts.add_money(account, -cost);
-    settle_entries(accounts, exchange, account, row.entries(), prices, rate);
-}
-
-// What so many units of a portfolio cost at this price of one, in grains.
-fn cost_at(price: i128, rate: u32) -> i128
-    requires { unsigned_abs price ≤ 2 ^ 78 }
-    ensures value { result ≡ pos rate *ℤ price }
-    ensures bound { unsigned_abs result ≤ 2 ^ 110 }
-{
-    price * i128::from(rate)
+    let held = exchange.money();
+    let entries = order.row().entries();
+    settle_entries(accounts, exchange, account, entries, prices, rate);
+    accounts.add_money(account, held - exchange.money());
 }

@@ -1,11 +1,10 @@
-use Rattle.std.proofs.Common.{◌≡◌, ◌+ℤ◌, ◌≤◌, ◌*◌, ◌^◌, ◌<◌, length, get_or, to_z, of_z, sym, ap, refl, ◌∙◌, append-nil, arith}
-use Rattle.std.specs.Prelude.{unsigned_abs, vec_len}
+use Rattle.std.proofs.Common.{◌≡◌, ◌≤◌, ◌<◌, length, to_z, of_z, ap, ◌∙◌, append-nil, arith}
 use Rattle.std.specs.Int.{w64}
 use Rattle.std.proofs.lemmas.Int.{to_z-of_z, fits_signed_from_abs}
 use Rattle.std.proofs.lemmas.List.{take_all, drop_all}
 use Rattle.std.proofs.lemmas.List.Edits.{map_over_more}
 use Rattle.list_sums.proofs.Products.{unsigned_abs-add}
-use Rattle.excess_bounds.specs.Steps.{CanLook, part_after, looked}
+use Rattle.excess_bounds.specs.Steps.{part_after, looked}
 use Rattle.excess_bounds.proofs.Sums.{one_more_summed, all_summed}
 use Rattle.excess_bounds.proofs.StepFacts.{mixed_at}
 use Rattle.excess_bounds.proofs.narrowing.ask.Goals as goal

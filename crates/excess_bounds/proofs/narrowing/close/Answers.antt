@@ -1,12 +1,10 @@
-use Rattle.std.proofs.Common.{◌≡◌, ◌+ℤ◌, ◌≤◌, ◌<◌, ◌*◌, ◌^◌, length, get_or, to_z, of_z, sym, ap, ◌∙◌, append-nil, arith}
-use Rattle.std.specs.Prelude.{unsigned_abs}
-use Rattle.std.specs.Ordering.{int_eq}
+use Rattle.std.proofs.Common.{◌≡◌, ◌+ℤ◌, ◌≤◌, ◌<◌, length, to_z, of_z, sym, ap, ◌∙◌, append-nil, arith}
 use Rattle.std.specs.Int.{w64}
 use Rattle.std.proofs.lemmas.Int.{ints, to_z-of_z, fits_signed_from_abs}
 use Rattle.std.proofs.lemmas.List.{get_or_default, drop_all}
 use Rattle.list_sums.proofs.Products.{unsigned_abs-add}
 use Rattle.excess_bounds.specs.Steps.{closed}
-use Rattle.excess_bounds.proofs.StepFacts.{IsClosing, next_small, one_settled, one_open}
+use Rattle.excess_bounds.proofs.StepFacts.{next_small, one_settled, one_open}
 use Rattle.excess_bounds.proofs.narrowing.close.Goals as goal
 use Rattle.excess_bounds.proofs.narrowing.close.Goals.{then-is_closed, else-is_closed}
 

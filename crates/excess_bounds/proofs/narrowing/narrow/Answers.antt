@@ -1,9 +1,7 @@
-use Rattle.std.proofs.Common.{◌≡◌, ◌+ℤ◌, ◌≤◌, ◌*◌, ◌^◌, length, inl, inr, map, to_z, of_z, sym, ap, refl, ◌∙◌, arith}
-use Rattle.std.specs.Prelude.{unsigned_abs}
+use Rattle.std.proofs.Common.{◌≡◌, ◌+ℤ◌, inl, to_z, of_z, ap, refl, ◌∙◌, arith}
 use Rattle.std.specs.Int.{w64}
-use Rattle.std.proofs.lemmas.Int.{ints, to_z-of_z, fits_signed_from_abs}
+use Rattle.std.proofs.lemmas.Int.{to_z-of_z, fits_signed_from_abs}
 use Rattle.list_sums.proofs.Products.{unsigned_abs-add}
-use Rattle.excess_bounds.specs.Steps.{asked_after, looked, closed, settled_sum}
 use Rattle.excess_bounds.proofs.StepFacts.{can_look, all_small, turn_room, with_order, one_turn}
 use Rattle.excess_bounds.proofs.narrowing.narrow.Goals as goal
 

@@ -5,4 +5,4 @@ use Rattle.excess_bounds.proofs.parts.excess_of.Given as goal
 
 abbrev pub invariant-loop-cell : goal.invariant-loop-cell
 invariant-loop-cell l =
-    IsSumBefore (low_in l.slots (pos 0)) l.cells l.cell-index l.low × IsSumBefore (high_in l.slots (pos 0)) l.cells l.cell-index l.high
+    IsSumBefore (low_in l.quotes (pos 0)) l.cells l.cell-index l.low × IsSumBefore (high_in l.quotes (pos 0)) l.cells l.cell-index l.high

@@ -1,4 +1,4 @@
-use Rattle.std.proofs.Common.{◌≡◌, length, pos, ap, sym, subst, ◌∙◌, arith}
+use Rattle.std.proofs.Common.{◌≡◌, length, ◌∙◌, arith}
 use Rattle.excess_bounds.proofs.Kept.{columns_count, column_at, is_column}
 use Rattle.excess_bounds.proofs.workspace.Workspace.cells.Goals as goal
 

@@ -1,4 +1,4 @@
-use Rattle.std.proofs.Common.{◌≡◌, length, w64, ap, sym, subst, ◌∙◌, arith, pos}
+use Rattle.std.proofs.Common.{◌≡◌, length, w64, ap, ◌∙◌, arith, pos}
 use Rattle.std.proofs.lemmas.Int.{to_z-of_z}
 use Rattle.excess_bounds.specs.Private.{steepness_in}
 use Rattle.excess_bounds.proofs.ColumnSums.{column_length, steepness_is}

@@ -27,11 +27,11 @@ requote-requires-clause-can c =
     rw (c.deref_mut.ensures.value, c.cells.ensures.value ∙ at ∙ column, same)
     (can_requote _ _ _ _ c.self.invariant.0 c.args.asset there c.args.price c.amount-amount.result c.requires.price amount)
 
--- the slots as they are written back
-slots_are : (c : goal.After-self-2-1) → take c.self.inside.slots.len (c.requote.new.slots ++ drop (length c.requote.new.slots) c.self.inside.slots.items) ≡ c.requote.new.slots
-slots_are c =
-    let kept : length c.requote.new.slots ≡ length c.deref_mut.result.now = c.requote.auto.slots in
-    written_back c.self.inside.slots.len c.requote.new.slots c.self.inside.slots.items (kept ∙ c.deref_mut.ensures.len) (ap length (sym c.deref_mut.ensures.value) ∙ c.deref_mut.ensures.len)
+-- the quotes as they are written back
+quotes_are : (c : goal.After-self-2-1) → take c.self.inside.quotes.len (c.requote.new.quotes ++ drop (length c.requote.new.quotes) c.self.inside.quotes.items) ≡ c.requote.new.quotes
+quotes_are c =
+    let kept : length c.requote.new.quotes ≡ length c.deref_mut.result.now = c.requote.auto.quotes in
+    written_back c.self.inside.quotes.len c.requote.new.quotes c.self.inside.quotes.items (kept ∙ c.deref_mut.ensures.len) (ap length (sym c.deref_mut.ensures.value) ∙ c.deref_mut.ensures.len)
 
 pub invariant_of-self : goal.invariant_of-self
 invariant_of-self c =
@@ -40,6 +40,6 @@ invariant_of-self c =
     let at = rw c.from.ensures at c.index.ensures in
     let amount = rw (to_z-of_z w64 c.args.price c.ranges.price, ← c.self.view_is) at c.amount-amount.ensures.value in
     let same = to_z-of_z w128 c.amount-amount.result (record { sfits = c.amount-amount.type_inv }) in
-    let slots = rw (c.deref_mut.ensures.value, c.cells.ensures.value ∙ at ∙ column, same) at c.requote.ensures in
-    rw (slots_are c, slots, c.from-2.ensures, to_z-of_z w64 c.args.price c.ranges.price)
+    let quotes = rw (c.deref_mut.ensures.value, c.cells.ensures.value ∙ at ∙ column, same) at c.requote.ensures in
+    rw (quotes_are c, quotes, c.from-2.ensures, to_z-of_z w64 c.args.price c.ranges.price)
     (stays_kept _ _ _ _ c.self.invariant.0 c.args.asset there c.args.price c.amount-amount.result c.requires.price amount, c.self.invariant.1)

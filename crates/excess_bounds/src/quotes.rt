@@ -1,11 +1,13 @@
-//! Each order at the prices of a search.
+//! Each order at the price of its portfolio.
 ghost use Rattle.std.specs.Prelude.{◌≡◌, ℤ, ◌^◌, ◌<◌, ◌≤◌, ◌+ℤ◌, ◌*ℤ◌, length, map, unsigned_abs, All, IfOk};
 ghost use Rattle.weight_rows.specs.Rows.{most_weight, IsPrice, IsPricedBy};
 ghost use Rattle.demand_curve.specs.Demand.{floor_rate, ceil_rate, most_rate};
 ghost use Rattle.demand_curve.specs.Curve.{terms};
-ghost use Rattle.flow_orders.specs.Orders.{IsOrder};
+ghost use Rattle.flow_orders.specs.Orders.{IsOrder, most_orders};
 ghost use Rattle.excess_bounds.specs.Parts.{part_by_sign};
-ghost use Rattle.excess_bounds.specs.Private.{quote_at, quote_in, requoted, CanRequote};
+ghost use Rattle.excess_bounds.specs.Quotes.{quote_at};
+ghost use Rattle.excess_bounds.specs.Workspace.{most_prices, AreQuoted};
+ghost use Rattle.excess_bounds.specs.Private.{quote_in, requoted, CanRequote};
 ghost use Rattle.excess_bounds.specs.Steps.{IsSmall};
 
 use crate::columns::Cell;
@@ -16,9 +18,11 @@ use flow_orders::Order;
 use std::alloc::{AllocError, Global};
 use std::marker::Model;
 
-// An order at some price of its portfolio, in grains, with its demand there.
+/// An order at some price of its portfolio, with its demand there. Whoever has it needn't compute either again.
+///
+/// Contracts see the terms of its curve, and the price.
 #[derive(Drop)]
-pub(crate) struct Slot {
+pub struct Quote {
     curve: Curve,
     price: i128,
     demand: Roundings,
@@ -26,36 +30,36 @@ pub(crate) struct Slot {
     pull: u32,
 }
 
-impl Model for Slot {
+impl Model for Quote {
     ghost use Rattle.std.specs.Prelude.{◌≡◌, ◌≤◌, ◌^◌, unsigned_abs};
     ghost use Rattle.demand_curve.specs.Curve.{terms};
     ghost use Rattle.demand_curve.specs.Demand.{floor_rate, ceil_rate};
-    ghost use Rattle.excess_bounds.specs.Private.{Quote};
+    ghost use Rattle.excess_bounds.specs.Quotes.{Quote as quote_value};
 
-    ghost Value = { Quote };
+    ghost Value = { quote_value };
 
-    ghost view = { λ s. record { terms = terms s.curve; price = s.price } };
+    ghost view = { λ q. record { terms = terms q.curve; price = q.price } };
 
-    ghost invariant = { λ s. (unsigned_abs s.price ≤ 2 ^ 78)
-        × (s.demand.floor ≡ floor_rate (terms s.curve) s.price)
-        × (s.demand.ceil ≡ ceil_rate (terms s.curve) s.price)
-        × (s.demand.floor ≤ s.curve.room)
-        × (s.demand.ceil ≤ s.curve.room) };
+    ghost invariant = { λ q. (unsigned_abs q.price ≤ 2 ^ 78)
+        × (q.demand.floor ≡ floor_rate (terms q.curve) q.price)
+        × (q.demand.ceil ≡ ceil_rate (terms q.curve) q.price)
+        × (q.demand.floor ≤ q.curve.room)
+        × (q.demand.ceil ≤ q.curve.room) };
 }
 
-impl Slot {
-    fn at(curve: Curve, price: i128) -> Slot
+impl Quote {
+    fn at(curve: Curve, price: i128) -> Quote
         requires { unsigned_abs price ≤ 2 ^ 78 }
         ensures { result ≡ record { terms = terms curve; price = price } }
     {
-        Slot::with(curve, price, pull_of(&curve))
+        Quote::with(curve, price, pull_of(&curve))
     }
 
-    fn with(curve: Curve, price: i128, pull: u32) -> Slot
+    fn with(curve: Curve, price: i128, pull: u32) -> Quote
         requires { unsigned_abs price ≤ 2 ^ 78 }
         ensures { result ≡ record { terms = terms curve; price = price } }
     {
-        Slot {
+        Quote {
             curve,
             price,
             demand: curve.roundings(price),
@@ -64,17 +68,32 @@ impl Slot {
     }
 
     // An order at the prices of the assets.
-    fn of(order: &Order, prices: &[i64]) -> Slot
+    fn of(order: &Order, prices: &[i64]) -> Quote
         requires range { All IsPrice prices.now }
         requires priced { IsPricedBy order.now.row prices.now }
         ensures value { result ≡ quote_at prices.now order.now }
         ensures order { IsOrder order.now }
     {
-        Slot::at(order.curve(), order.row().price(prices))
+        Quote::at(order.curve(), order.row().price(prices))
     }
 
-    // The demand, rounded both ways.
-    pub(crate) fn demand(&self) -> Roundings
+    /// The demand curve of the order. Constant time, as the other calls.
+    pub fn curve(&self) -> Curve
+        ensures { terms result ≡ self.now.terms }
+    {
+        self.curve
+    }
+
+    /// The price of the order's portfolio, in grains.
+    pub fn price(&self) -> i128
+        ensures value { result ≡ self.now.price }
+        ensures bound { unsigned_abs result ≤ 2 ^ 78 }
+    {
+        self.price
+    }
+
+    /// The demand at the price, rounded down and up, in whole units per batch.
+    pub fn demand(&self) -> Roundings
         ensures floor { result.floor ≡ floor_rate self.now.terms self.now.price }
         ensures ceil { result.ceil ≡ ceil_rate self.now.terms self.now.price }
         ensures floor_most { result.floor ≤ most_rate }
@@ -98,13 +117,13 @@ impl Slot {
     }
 
     // The order after the price of a cell's asset has moved by an amount.
-    fn after(&self, cell: Cell, amount: i128) -> Slot
+    fn after(&self, cell: Cell, amount: i128) -> Quote
         requires light { unsigned_abs cell.weight ≤ most_weight }
         requires amount { unsigned_abs amount ≤ 2 ^ 63 }
         requires stays { unsigned_abs (self.now.price +ℤ cell.weight *ℤ amount) ≤ 2 ^ 78 }
         ensures { result ≡ record { terms = self.now.terms; price = self.now.price +ℤ cell.weight *ℤ amount } }
     {
-        Slot::with(
+        Quote::with(
             self.curve,
             price_after(self.price, cell.weight, amount),
             self.pull,
@@ -140,34 +159,35 @@ fn pull_of(curve: &Curve) -> u32 {
     pull.min(u64::from(u32::MAX)) as u32
 }
 
-// Each order at the prices of the assets.
-pub(crate) fn slots_of(
-    alloc: Global,
-    orders: &[Order],
-    prices: &[i64],
-) -> Result<Vec<Slot>, AllocError>
+/// Each order at these prices, in grains by the assets' numbers: at most 64, within 2^62 of 0, and each asset that an order
+/// names has one. There are at most 16,384 orders.
+///
+/// It goes once over the entries of all orders, divides at most once an order, and takes memory once, 64 bytes for each
+/// order; the one fault is that there is none.
+pub fn quotes_of(alloc: Global, orders: &[Order], prices: &[i64]) -> Result<Vec<Quote>, AllocError>
+    requires few { length orders.now ≤ most_orders }
+    requires assets { length prices.now ≤ most_prices }
     requires range { All IsPrice prices.now }
     requires priced { All (λ o. IsPricedBy o.row prices.now) orders.now }
-    ensures value { IfOk result (λ slots. slots.items ≡ map (quote_at prices.now) orders.now) }
-    ensures each { IfOk result (λ _. All IsOrder orders.now) }
+    ensures { IfOk result (λ quotes. AreQuoted orders.now prices.now quotes.items) }
 {
-    let mut slots = Vec::with_capacity(alloc, orders.len())?;
+    let mut quotes = Vec::with_capacity(alloc, orders.len())?;
     for order in orders {
-        slots.push(Slot::of(order, prices))?;
+        quotes.push(Quote::of(order, prices))?;
     }
-    Ok(slots)
+    Ok(quotes)
 }
 
 // Moves the price of a column's asset by an amount: the orders of the column alone have another price then.
-pub(crate) fn requote(slots: &mut [Slot], cells: &[Cell], amount: i128)
+pub(crate) fn requote(quotes: &mut [Quote], cells: &[Cell], amount: i128)
     requires light { All (λ c. unsigned_abs c.weight ≤ most_weight) cells.now }
     requires amount { unsigned_abs amount ≤ 2 ^ 63 }
-    requires can { CanRequote slots.old cells.now amount }
-    ensures { slots.new ≡ requoted slots.old cells.now amount }
+    requires can { CanRequote quotes.old cells.now amount }
+    ensures { quotes.new ≡ requoted quotes.old cells.now amount }
 {
     for cell in cells {
         let place = cell.place as usize;
-        let slot = slots[place].after(*cell, amount);
-        slots[place] = slot;
+        let quote = quotes[place].after(*cell, amount);
+        quotes[place] = quote;
     }
 }

@@ -1,7 +1,7 @@
 use Rattle.std.proofs.lemmas.List.Elements.{All-more}
 use Rattle.flow_orders.specs.Orders.{IsOrder}
 use Rattle.excess_bounds.proofs.Kept.{quotes_more}
-use Rattle.excess_bounds.proofs.slots.slots_of.Goals as goal
+use Rattle.excess_bounds.proofs.quotes.quotes_of.Goals as goal
 
 pub loop-order-preserved : goal.loop-order-preserved
 loop-order-preserved c = (
