@@ -3,8 +3,8 @@ ghost use Rattle.std.specs.Prelude.{◌≡◌, ◌^◌, ◌≤◌, ◌<◌, ◌�
 ghost use Rattle.std.specs.List.{sum_by, range_with_len};
 ghost use Rattle.list_sums.specs.Sums.{int_sum_by};
 ghost use Rattle.weight_rows.specs.Rows.{IsPrice, IsPricedBy};
-ghost use Rattle.demand_curve.specs.Demand.{IsRounding, loss};
-ghost use Rattle.flow_orders.specs.Orders.{most_orders, IsOrder, terms_of};
+ghost use Rattle.demand_curve.specs.Demand.{IsRounding, loss, most_rate};
+ghost use Rattle.flow_orders.specs.Orders.{most_orders, terms_of};
 ghost use Rattle.flow_orders.specs.Excess.{price_for};
 ghost use Rattle.flow_orders.specs.Trades.{trades};
 ghost use Rattle.flow_orders.specs.Outcomes.{residuals_of, gap_of};
@@ -14,11 +14,12 @@ ghost use Rattle.batch_outcome.specs.GapBound.{gap_bound};
 ghost use Rattle.batch_certificate.specs.Laws.{AreBounded, AreBoundedWhereSettled};
 ghost use Rattle.batch_outcome.specs.Published.{clearing_of};
 ghost use Rattle.flow_orders.specs.Residuals.{most_prices, AreZeros, AreNear};
+ghost use Rattle.excess_bounds.specs.Workspace.{AreQuoted};
 ghost use Rattle.batch_certificate.specs.Residuals.{cost_at};
 
-use crate::trade::add_trade;
 use batch_outcome::{Cleared, PriceList, RateList, ResidualList};
-use flow_orders::Order;
+use excess_bounds::{Quote, quotes_of};
+use flow_orders::{Order, add_residuals};
 use std::alloc::{AllocError, Global};
 
 /// There is no memory for the residuals.
@@ -44,8 +45,9 @@ impl From<AllocError> for Memory {
 /// order names. There is one rate for each order, in its place, and each is the order's demand at the prices, rounded
 /// up or down.
 ///
-/// It costs one pass over the entries of all orders, one division for each order, and one pass over the prices. It takes
-/// memory once, 8 bytes for each price, before it adds anything; `Memory` comes only where there is none.
+/// It costs two passes over the entries of all orders, at most two divisions for each order, and one pass over the prices.
+/// It takes memory for what orders are quoted at, 64 bytes for each, and 8 bytes for each price, before it adds anything;
+/// `Memory` comes only where there is none. [`certify_quoted`] does without the first pass and without memory.
 pub fn certify(
     alloc: Global,
     orders: &[Order],
@@ -71,63 +73,104 @@ pub fn certify(
     ensures certified { IfOk result (λ c. clearing_of orders.now c
         ≡ clearing_at (length prices) prices (trades orders.now rates)) }
 {
+    let quotes = quotes_of(alloc, orders, prices.as_slice())?;
     let mut residuals = vec![in alloc; 0; prices.as_slice().len()]?;
-    let gap = measure(
+    add_trades(orders, rates.as_slice(), residuals.as_mut_slice());
+    Ok(certify_quoted(
         orders,
-        prices.as_slice(),
-        rates.as_slice(),
-        residuals.as_mut_slice(),
-    );
-    Ok(Cleared {
+        quotes.as_slice(),
         prices,
         rates,
-        residuals: ResidualList::new(residuals),
-        gap,
-    })
+        ResidualList::new(residuals),
+    ))
 }
 
-// Makes zeros the residuals of all trades, and answers the gap.
-fn measure(orders: &[Order], prices: &[i64], rates: &[u32], residuals: &mut [i64]) -> i128
-    requires few { length orders.now ≤ most_orders }
-    requires assets { length prices.now ≤ most_prices }
-    requires range { All IsPrice prices.now }
-    requires priced { All (λ o. IsPricedBy o.row prices.now) orders.now }
+/// The same of orders that are quoted at the prices, where what the rates leave over was added before: adds the gap.
+///
+/// It costs one division for each order and one pass over the prices, computes no price of a portfolio, and takes no
+/// memory.
+pub fn certify_quoted(
+    orders: &[Order],
+    quotes: &[Quote],
+    prices: PriceList,
+    rates: RateList,
+    residuals: ResidualList,
+) -> Cleared
+    requires quoted { AreQuoted orders.now prices quotes.now }
+    requires one_each { length rates ≡ length orders.now }
+    requires roundings { All
+        (λ t. IsRounding (terms_of t.order) t.traded (price_for prices t.order))
+        (trades orders.now rates) }
+    requires left { residuals ≡ residuals_of (length prices) (trades orders.now rates) }
+    ensures prices { result.prices ≡ prices }
+    ensures rates { result.rates ≡ rates }
+    ensures residuals { result.residuals ≡ residuals }
+    ensures gap { result.gap ≡ gap_of prices (trades orders.now rates) }
+    ensures settled { AreBoundedWhereSettled orders.now prices result.residuals }
+    ensures bounded { AreBounded orders.now result.residuals → result.gap ≤ℤ pos (gap_bound orders.now prices) }
+    ensures optimal { IsOptimalWithin result.gap orders.now result.rates }
+    ensures certified { clearing_of orders.now result
+        ≡ clearing_at (length prices) prices (trades orders.now rates) }
+{
+    let gap = measure(
+        orders,
+        quotes,
+        prices.as_slice(),
+        rates.as_slice(),
+        residuals.as_slice(),
+    );
+    Cleared {
+        prices,
+        rates,
+        residuals,
+        gap,
+    }
+}
+
+// The gap: what all rates lose, less what the residuals cost.
+fn measure(
+    orders: &[Order],
+    quotes: &[Quote],
+    prices: &[i64],
+    rates: &[u32],
+    residuals: &[i64],
+) -> i128
+    requires quoted { AreQuoted orders.now prices.now quotes.now }
     requires one_each { length rates.now ≡ length orders.now }
     requires roundings { All
         (λ t. IsRounding (terms_of t.order) t.traded (price_for prices.now t.order))
         (trades orders.now rates.now) }
-    requires zeros { AreZeros (length prices.now) residuals.old }
-    ensures residuals { residuals.new ≡ residuals_of (length prices.now) (trades orders.now rates.now) }
-    ensures gap { result ≡ gap_of prices.now (trades orders.now rates.now) }
-    ensures orders { All IsOrder orders.now }
+    requires left { residuals.now ≡ residuals_of (length prices.now) (trades orders.now rates.now) }
+    ensures { result ≡ gap_of prices.now (trades orders.now rates.now) }
 {
-    let lost = add_trades(orders, prices, rates, residuals);
+    let mut lost = 0;
+    for place in 0..orders.len() {
+        lost += loss_of(&quotes[place], rates[place]);
+    }
     lost - cost(prices, residuals)
 }
 
-// Makes zeros the residuals of all trades, and answers what all rates lose.
-fn add_trades(orders: &[Order], prices: &[i64], rates: &[u32], residuals: &mut [i64]) -> i128
-    requires few { length orders.now ≤ most_orders }
-    requires range { All IsPrice prices.now }
-    requires priced { All (λ o. IsPricedBy o.row prices.now) orders.now }
-    requires one_each { length rates.now ≡ length orders.now }
-    requires roundings { All
-        (λ t. IsRounding (terms_of t.order) t.traded (price_for prices.now t.order))
-        (trades orders.now rates.now) }
-    requires zeros { AreZeros (length prices.now) residuals.old }
-    ensures residuals { residuals.new ≡ residuals_of (length prices.now) (trades orders.now rates.now) }
-    ensures near { AreNear (2 ^ 50) residuals.new }
-    ensures lost { result ≡ pos (sum_by
-        (λ t. loss (terms_of t.order) t.traded (price_for prices.now t.order))
-        (trades orders.now rates.now)) }
-    ensures small { unsigned_abs result ≤ 2 ^ 74 }
-    ensures orders { All IsOrder orders.now }
+// What an order loses at this rate.
+fn loss_of(quote: &Quote, rate: u32) -> i128
+    requires { IsRounding quote.now.terms rate quote.now.price }
+    ensures lost { result ≡ pos (loss quote.now.terms rate quote.now.price) }
+    ensures small { unsigned_abs result ≤ 2 ^ 60 }
 {
-    let mut lost = 0;
+    quote.curve().loss(rate, quote.price())
+}
+
+// Makes zeros the residuals of all trades.
+fn add_trades(orders: &[Order], rates: &[u32], residuals: &mut [i64])
+    requires few { length orders.now ≤ most_orders }
+    requires priced { All (λ o. IsPricedBy o.row residuals.old) orders.now }
+    requires one_each { length rates.now ≡ length orders.now }
+    requires slow { All (λ t. t.traded ≤ most_rate) (trades orders.now rates.now) }
+    requires zeros { AreZeros (length residuals.old) residuals.old }
+    ensures { residuals.new ≡ residuals_of (length residuals.old) (trades orders.now rates.now) }
+{
     for (place, order) in orders.iter().enumerate() {
-        lost += add_trade(order, rates[place], prices, residuals);
+        add_residuals(order.row(), rates[place], residuals);
     }
-    lost
 }
 
 // What the residuals cost at the prices.

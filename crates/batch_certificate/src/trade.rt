@@ -1,4 +1,4 @@
-//! One order's part of the certificate.
+//! One order's part of the check of a clearing.
 ghost use Rattle.std.specs.Prelude.{◌≡◌, ◌^◌, ◌≤◌, pos, unsigned_abs, length, All, IfSome, IfNone};
 ghost use Rattle.weight_rows.specs.Rows.{IsPrice, IsPricedBy};
 ghost use Rattle.demand_curve.specs.Demand.{most_rate, IsRounding, loss};
@@ -8,25 +8,8 @@ ghost use Rattle.flow_orders.specs.Residuals.{AreNear, IsTradeAdded};
 
 use flow_orders::{Order, add_residuals};
 
-/// Adds what an order trades at this rate to the residuals of its assets, and answers what the rate loses.
-pub(crate) fn add_trade(order: &Order, rate: u32, prices: &[i64], residuals: &mut [i64]) -> i128
-    requires range { All IsPrice prices.now }
-    requires priced { IsPricedBy order.now.row prices.now }
-    requires rounding { IsRounding (terms_of order.now) rate (price_for prices.now order.now) }
-    requires places { length residuals.old ≡ length prices.now }
-    requires near { AreNear (2 ^ 50) residuals.old }
-    ensures added { IsTradeAdded order.now.row rate residuals.old residuals.new }
-    ensures lost { result ≡ pos (loss (terms_of order.now) rate (price_for prices.now order.now)) }
-    ensures small { unsigned_abs result ≤ 2 ^ 60 }
-    ensures rate { rate ≤ most_rate }
-    ensures order { IsOrder order.now }
-{
-    let lost = loss_of(order, rate, prices);
-    add_residuals(order.row(), rate, residuals);
-    lost
-}
-
-/// Does the same where the rate is a rounding of the order's demand at the prices, and else answers None and adds nothing.
+/// Adds what an order trades at this rate to the residuals of its assets, and answers what the rate loses. Where the rate is
+/// no rounding of the order's demand at the prices, it answers None and adds nothing.
 pub(crate) fn try_trade(
     order: &Order,
     rate: u32,
@@ -68,17 +51,4 @@ fn rounding_loss(order: &Order, rate: u32, prices: &[i64]) -> Option<i128>
     } else {
         None
     }
-}
-
-// What an order loses at this rate.
-fn loss_of(order: &Order, rate: u32, prices: &[i64]) -> i128
-    requires range { All IsPrice prices.now }
-    requires priced { IsPricedBy order.now.row prices.now }
-    requires rounding { IsRounding (terms_of order.now) rate (price_for prices.now order.now) }
-    ensures lost { result ≡ pos (loss (terms_of order.now) rate (price_for prices.now order.now)) }
-    ensures small { unsigned_abs result ≤ 2 ^ 60 }
-    ensures rate { rate ≤ most_rate }
-    ensures order { IsOrder order.now }
-{
-    order.curve().loss(rate, order.row().price(prices))
 }

@@ -1,22 +1,22 @@
 //! The outcome of a batch.
 ghost use Rattle.std.specs.Prelude.{◌≡◌, ℕ, ◌^◌, ◌≤◌, ◌↔◌, true, false, length, All, IsTrue, IfOk};
-ghost use Rattle.weight_rows.specs.Rows.{IsPricedBy, IsPrice};
+ghost use Rattle.weight_rows.specs.Rows.{IsPricedBy};
 ghost use Rattle.demand_curve.specs.Demand.{IsWithin};
-ghost use Rattle.flow_orders.specs.Orders.{IsOrder, IsFrom1To, most_orders};
+ghost use Rattle.flow_orders.specs.Orders.{IsFrom1To, most_orders};
 ghost use Rattle.flow_orders.specs.Outcomes.{most_budget, IsRightOutcome};
 ghost use Rattle.flow_orders.specs.Own.{are_single, IsOwnOutcome, ClearsNear};
-ghost use Rattle.excess_bounds.specs.Workspace.{most_prices};
+ghost use Rattle.excess_bounds.specs.Workspace.{most_prices, AreQuoted};
 ghost use Rattle.batch_outcome.specs.Published.{outcome_of, HasOneRateEach};
 ghost use Rattle.batch_engine.specs.Certified.{IsCertified};
 ghost use Rattle.batch_engine.specs.Private.{IsClearedAt, IsClearedFrom, IsOutcomeFrom};
 
-use batch_certificate::certify;
-use batch_outcome::{Cleared, Outcome, PriceList, RateList, Skipped, Trace};
+use batch_certificate::certify_quoted;
+use batch_outcome::{Cleared, Outcome, PriceList, RateList, ResidualList, Skipped, Trace};
 use coordinate_search::{Found, search, settle_single};
 use dual_value::dual_floor;
-use excess_bounds::Workspace;
+use excess_bounds::{Quoted, Workspace};
 use flow_orders::Order;
-use rate_rounding::chosen_rates;
+use rate_rounding::choose_rates;
 use std::alloc::{AllocError, Global};
 
 /// There is no memory for the outcome.
@@ -37,12 +37,6 @@ impl From<excess_bounds::Memory> for Memory {
 
 impl From<rate_rounding::Memory> for Memory {
     fn from(_error: rate_rounding::Memory) -> Memory {
-        Memory
-    }
-}
-
-impl From<batch_certificate::Memory> for Memory {
-    fn from(_error: batch_certificate::Memory) -> Memory {
         Memory
     }
 }
@@ -99,7 +93,7 @@ fn clear_single(alloc: Global, orders: &[Order], start: &[i64]) -> Result<Cleare
 {
     let mut work = Workspace::new(alloc, orders, start)?;
     settle_single(&mut work);
-    clear_at(alloc, orders, work.prices())
+    clear_at(alloc, orders, work.into_quoted())
 }
 
 // The outcome of a book in which some order names two assets or more.
@@ -120,7 +114,10 @@ fn clear_wide(
     let mut trace = Vec::with_capacity(alloc, budget as usize)?;
     let mut work = Workspace::new(alloc, orders, start)?;
     match search(&mut work, budget, &mut trace) {
-        Found::Settled => Ok(Outcome::Cleared(clear_at(alloc, orders, work.prices())?)),
+        Found::Settled => {
+            let cleared = clear_at(alloc, orders, work.into_quoted())?;
+            Ok(Outcome::Cleared(cleared))
+        }
         Found::Spent => Ok(Outcome::Skipped(Skipped {
             trace: Trace::new(trace),
             start_dual: dual_floor(orders, start),
@@ -129,16 +126,17 @@ fn clear_wide(
     }
 }
 
-// The clearing at these prices.
-fn clear_at(alloc: Global, orders: &[Order], prices: &[i64]) -> Result<Cleared, Memory>
-    requires few { length orders.now ≤ most_orders }
-    requires assets { length prices.now ≤ most_prices }
-    requires range { All IsPrice prices.now }
-    requires priced { All (λ o. IsPricedBy o.row prices.now) orders.now }
-    requires each { All IsOrder orders.now }
-    ensures { IfOk result (IsClearedAt orders.now prices.now) }
+// The clearing at the prices that the orders are quoted at.
+fn clear_at(alloc: Global, orders: &[Order], quoted: Quoted) -> Result<Cleared, Memory>
+    requires { AreQuoted orders.now quoted.prices.items quoted.quotes.items }
+    ensures { IfOk result (IsClearedAt orders.now quoted.prices.items) }
 {
-    let prices = PriceList::new(Vec::from_slice(alloc, prices)?);
-    let rates = RateList::new(chosen_rates(alloc, orders, prices.as_slice())?);
-    Ok(certify(alloc, orders, prices, rates)?)
+    let chosen = choose_rates(alloc, orders, &quoted)?;
+    Ok(certify_quoted(
+        orders,
+        quoted.quotes.as_slice(),
+        PriceList::new(quoted.prices),
+        RateList::new(chosen.rates),
+        ResidualList::new(chosen.residuals),
+    ))
 }

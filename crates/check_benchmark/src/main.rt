@@ -1,9 +1,9 @@
 //! A benchmark of what a clearing costs: `check_benchmark KIND PASSES`.
 //!
 //! Over a fixed book of 16,384 orders with 16 entries each it does one thing as often as PASSES says. KIND is `check`,
-//! for the check of a published clearing, `floors`, for all demands rounded down, or `chosen`, for the chosen rates. It
-//! prints how often the clearing was found right, or how many units all orders trade together. `tools/benchmark` times
-//! it.
+//! for the check of a published clearing, `clear`, for a batch that clears where it starts, `floors`, for all demands
+//! rounded down, or `chosen`, for the chosen rates. It prints how often the clearing was found right, how often the batch
+//! cleared, or how many units all orders trade together. `tools/benchmark` times it.
 #![tactic(auto)]
 
 ghost use Rattle.std.specs.Prelude.{IsTrue};
@@ -14,6 +14,8 @@ mod published;
 mod rates;
 
 use batch_certificate::{Verdict, check_cleared};
+use batch_engine::clear;
+use batch_outcome::Outcome;
 use book::ORDERS;
 use flow_orders::Order;
 use published::Published;
@@ -73,10 +75,26 @@ fn rights(orders: &[Order], fills: &[(u64, u32)], passes: u32) -> u32 {
     rights
 }
 
+// How often a batch of the book from prices of 0 clears, or None where there is no memory for it.
+fn clearings(alloc: Global, orders: &[Order], passes: u32) -> Option<u32> {
+    let start = [0; ASSETS];
+    if orders.len() > 16_384 || !orders.iter().all(|order| is_priced(order, &start)) {
+        return None;
+    }
+    let mut clearings = 0u32;
+    for _ in 0..passes {
+        if let Outcome::Cleared(_) = clear(alloc, orders, &start, 1).ok()? {
+            clearings = clearings.wrapping_add(1);
+        }
+    }
+    Some(clearings)
+}
+
 // What is done in each pass.
 #[derive(Clone, Copy)]
 enum Kind {
     Check,
+    Clear,
     Round(Rounding),
 }
 
@@ -85,6 +103,7 @@ fn task(words: &[String]) -> Option<(Kind, u32)> {
     let [kind, passes] = words else { return None };
     let kind = match kind.as_str() {
         "check" => Kind::Check,
+        "clear" => Kind::Clear,
         "floors" => Kind::Round(Rounding::Floors),
         "chosen" => Kind::Round(Rounding::Chosen),
         _ => return None,
@@ -95,7 +114,7 @@ fn task(words: &[String]) -> Option<(Kind, u32)> {
 fn run(rt: &HostRuntime) -> io::Result<ExitCode> {
     let words: Vec<String> = env::args(rt)?.skip(1).collect(rt.alloc())?;
     let Some((kind, passes)) = task(words.as_slice()) else {
-        eprintln!(rt; "usage: check_benchmark check|floors|chosen PASSES")?;
+        eprintln!(rt; "usage: check_benchmark check|clear|floors|chosen PASSES")?;
         return Ok(ExitCode::FAILURE);
     };
     let orders = book::fixed(rt.alloc())?;
@@ -103,6 +122,12 @@ fn run(rt: &HostRuntime) -> io::Result<ExitCode> {
         Kind::Check => {
             let fills = fills(rt.alloc())?;
             println!(rt; "{}", rights(orders.as_slice(), fills.as_slice(), passes))?;
+        }
+        Kind::Clear => {
+            let Some(clearings) = clearings(rt.alloc(), orders.as_slice(), passes) else {
+                return Ok(ExitCode::FAILURE);
+            };
+            println!(rt; "{clearings}")?;
         }
         Kind::Round(rounding) => {
             let Some(units) = traded(rt.alloc(), orders.as_slice(), rounding, passes) else {

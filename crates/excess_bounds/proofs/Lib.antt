@@ -8,3 +8,4 @@ pub mod StepFacts
 pub mod Moves
 pub mod Settled
 pub mod ExcessLaws
+pub mod Quoting

@@ -1,12 +1,12 @@
 -- Rates that are chosen order by order, from residuals that are kept in a list.
-use Rattle.std.proofs.Common.{◌≡◌, ℕ, zero, suc, ◌+◌, ◌*◌, ◌^◌, ◌<◌, ◌≤◌, Bool, true, false, ltb, ℤ, pos, ◌+ℤ◌, ◌*ℤ◌, List, [], ◌∷◌, ◌++◌, length, Result, Ok, Err, take, drop, get_or, set, refl, sym, ap, ◌∙◌, subst, ⊎_elim, append_assoc, append-nil, arith}
+use Rattle.std.proofs.Common.{◌≡◌, ℕ, zero, suc, ◌+◌, ◌*◌, ◌^◌, ◌<◌, ◌≤◌, Bool, true, false, ltb, ℤ, pos, ◌+ℤ◌, ◌*ℤ◌, List, [], ◌∷◌, ◌++◌, map, length, Result, Ok, Err, take, drop, get_or, set, refl, sym, ap, ◌∙◌, subst, ⊎_elim, append_assoc, append-nil, arith}
 use Rattle.std.specs.Prelude.{unsigned_abs, All, ◌↔◌, IfOk}
 use Rattle.std.specs.List.{range_with_len, sum_by}
 use Rattle.std.proofs.lemmas.Int.{ints}
 use Rattle.std.proofs.lemmas.Bool.{cases_Bool, cases_lt, ltb-true, lt-ltb, false≢true, false_from_ne_true, and_right}
-use Rattle.std.proofs.lemmas.List.{take_all, take_more_set, drop_all, drop_more, drop-set-lt, get_or-drop, get_or-map, get_or_past, length-map, length-set}
+use Rattle.std.proofs.lemmas.List.{drop_all, drop_more, get_or_past, ext_get_or}
+use Rattle.std.proofs.lemmas.List.FromFn.{length-map-range_with_len, get_or-map-range_with_len}
 use Rattle.std.proofs.lemmas.List.Sums.{sum_by-cons}
-use Rattle.std.proofs.lemmas.Grind.{drop_more_same}
 use Rattle.list_sums.proofs.Products.{unsigned_abs-add}
 use Rattle.weight_rows.specs.declared.entries.Entry.{Entry}
 use Rattle.weight_rows.specs.Rows.{IsLawfulRow, IsPricedBy, weight_in, price_of}
@@ -15,13 +15,16 @@ use Rattle.demand_curve.specs.Demand.{IsRounding}
 use Rattle.flow_orders.specs.Orders.{Order, IsOrder, terms_of}
 use Rattle.flow_orders.specs.Excess.{price_for}
 use Rattle.flow_orders.specs.Trades.{trades, residual}
-use Rattle.flow_orders.specs.Choice.{absolute_sum, raised, is_raised, chosen_from}
+use Rattle.flow_orders.specs.Outcomes.{residuals_of}
+use Rattle.flow_orders.proofs.Raised.{residuals_after}
+use Rattle.flow_orders.proofs.Choice.{residuals_follow}
+use Rattle.flow_orders.specs.Choice.{absolute_sum, left_by, raised, is_raised, chosen_from}
 use Rattle.flow_orders.specs.Residuals.{residual_in, AreNear, HasEach, IsTradeAdded}
 use Rattle.flow_orders.specs.Own.{floor_at, is_fraction_at, floor_rates, rates_by_choice}
 use Rattle.flow_orders.proofs.ChoiceByEntries.{absolute_sum_by_entries}
 use Rattle.flow_orders.proofs.OwnIsRight.{choices_are_roundings}
 use Rattle.flow_orders.proofs.OwnLaws.{chosen_rates_are_no_worse}
-use Rattle.rate_rounding.specs.Private.{left_by_floors, is_raised_at, IsChosenBy, IsChosen}
+use Rattle.rate_rounding.specs.Private.{ceil_at, left_by_floors, is_raised_at, IsChosenBy, IsChosen}
 
 -- ---- residuals that agree on n assets lead to the same choices
 
@@ -53,6 +56,15 @@ module _ {X : Type 0} (n : ℕ) (weight : X → ℕ → ℤ) (floor : X → ℕ)
       (λ (down : is_raised n weight floor is_fraction s x ≡ false). rw (one, down) (ap (λ l. floor x ∷ l) (choices_agree r s xs same)))
       (cases_Bool (is_raised n weight floor is_fraction s x))
 
+  after_agrees : (r s : ℕ → ℤ) (xs : List X) → Agree n r s → Agree n (residuals_after n weight floor is_fraction r xs) (residuals_after n weight floor is_fraction s xs)
+  after_agrees r s [] same = same
+  after_agrees r s (x ∷ xs) same =
+      let one = choice_agrees r s x same in
+      ⊎_elim
+      (λ (up : is_raised n weight floor is_fraction s x ≡ true). rw (one, up) (after_agrees (raised weight r x) (raised weight s x) xs (raised_agree r s x same)))
+      (λ (down : is_raised n weight floor is_fraction s x ≡ false). rw (one, down) (after_agrees r s xs same))
+      (cases_Bool (is_raised n weight floor is_fraction s x))
+
 -- ---- one order
 
 -- one unit more of a row leaves less over where its entries do
@@ -65,29 +77,29 @@ lessens_where n residuals row lawful there =
       λ test. let less = ltb-true (absolute_sum n (λ asset. residual_in residuals asset +ℤ weight_in row asset)) (absolute_sum n (residual_in residuals)) test in omega (arith, by, less),
     )
 
--- the rule by its two tests, where the first holds and where it doesn't
-module _ (prices residuals : List ℤ) (o : Order) (less : Bool) (order : IsOrder o) (priced : IsPricedBy o.row prices)
-    (tests : (less ≡ true) ↔ (sum_by (λ (e : Entry). unsigned_abs (residual_in residuals e.asset +ℤ e.weight)) o.row < sum_by (λ (e : Entry). unsigned_abs (residual_in residuals e.asset)) o.row)) where
-  after : ℕ
-  after = absolute_sum (length prices) (λ asset. residual_in residuals asset +ℤ weight_in o.row asset)
+-- each asset of a row has a place among as many
+pub priced_alike : (row : List Entry) (a b : List ℤ) → length a ≡ length b → IsPricedBy row a → IsPricedBy row b
+priced_alike row a b same priced k d inside = omega (arith, same, priced k d inside)
 
-  before : ℕ
-  before = absolute_sum (length prices) (residual_in residuals)
+-- the rule by its two tests, where the demand isn't whole and where it is
+module _ (prices residuals : List ℤ) (o : Order) (floor ceil : ℕ) (floor_is : floor ≡ floor_at prices o) (ceil_is : ceil ≡ ceil_at prices o) where
+  pub raised_where : (less : Bool) → IsOrder o → IsPricedBy o.row prices → floor < ceil
+      → (less ≡ true) ↔ (sum_by (λ (e : Entry). unsigned_abs (residual_in residuals e.asset +ℤ e.weight)) o.row < sum_by (λ (e : Entry). unsigned_abs (residual_in residuals e.asset)) o.row)
+      → less ≡ is_raised_at prices residuals o
+  raised_where less order priced fraction tests =
+      let by = lessens_where (length prices) residuals o.row order.row priced in
+      let is : is_fraction_at prices o ≡ true = rw (← floor_is, ← ceil_is) (lt-ltb floor ceil fraction) in
+      rw is
+      (⊎_elim
+      (λ (yes : less ≡ true). yes ∙ sym (by.0 (tests.0 yes)))
+      (λ (no : less ≡ false). no ∙ sym (false_from_ne_true _ (λ test. false≢true (sym no ∙ tests.1 (by.1 test)))))
+      (cases_Bool less))
 
-  pub raised_where : (fraction : Bool) → less ≡ true → (fraction ≡ true) ↔ (is_fraction_at prices o ≡ true) → fraction ≡ is_raised_at prices residuals o
-  unfolding after before
-  raised_where fraction holds is =
-      let smaller : ltb after before ≡ true = (lessens_where (length prices) residuals o.row order.row priced).0 (tests.0 holds) in
-      ⊎_elim
-      (λ (yes : is_fraction_at prices o ≡ true). rw (yes, smaller) (is.1 yes))
-      (λ (no : is_fraction_at prices o ≡ false). rw no (false_from_ne_true fraction (λ yes. false≢true (sym no ∙ is.0 yes))))
-      (cases_Bool (is_fraction_at prices o))
-
-  pub stays_where : less ≡ false → less ≡ is_raised_at prices residuals o
-  unfolding after before
-  stays_where fails =
-      let larger : ltb after before ≡ false = false_from_ne_true (ltb after before) (λ test. false≢true (sym fails ∙ tests.1 ((lessens_where (length prices) residuals o.row order.row priced).1 test))) in
-      fails ∙ sym (and_right (is_fraction_at prices o) (ltb after before) larger)
+  pub stays_where : ceil ≤ floor → ltb floor ceil ≡ is_raised_at prices residuals o
+  stays_where whole =
+      let fails : ltb floor ceil ≡ false = false_from_ne_true (ltb floor ceil) (λ test. absurd (omega (arith, ltb-true floor ceil test, whole))) in
+      let is : is_fraction_at prices o ≡ false = rw (← floor_is, ← ceil_is) fails in
+      rw (fails, is) refl
 
 -- ---- the loop over the orders
 
@@ -95,32 +107,27 @@ module _ (prices residuals : List ℤ) (o : Order) (less : Bool) (order : IsOrde
 abbrev chosen_on : List ℤ → List ℤ → List Order → List ℕ
 chosen_on prices residuals orders = chosen_from (length prices) (λ o asset. weight_in o.row asset) (floor_at prices) (is_fraction_at prices) (residual_in residuals) orders
 
--- the first i rates are chosen, all others rounded down yet
+-- what is left over after these choices
+abbrev left_after : List ℤ → (ℕ → ℤ) → List Order → ℕ → ℤ
+left_after prices residuals orders = residuals_after (length prices) (λ (o : Order) asset. weight_in o.row asset) (floor_at prices) (is_fraction_at prices) residuals orders
+
+-- the rates of the first i orders are chosen, and the residuals are those after these choices
 pub record AreChosen (prices : List ℤ) (orders : List Order) (i : ℕ) (rates : List ℕ) (residuals : List ℤ) : Type 0 where
-  pub chosen : rates_by_choice (length prices) orders prices ≡ take i rates ++ chosen_on prices residuals (drop i orders)
-  pub rest : drop i rates ≡ drop i (floor_rates orders prices)
-  pub each : length rates ≡ length orders
+  pub chosen : rates_by_choice (length prices) orders prices ≡ rates ++ chosen_on prices residuals (drop i orders)
+  pub after : Agree (length prices) (left_after prices (left_by_floors orders prices) orders) (left_after prices (residual_in residuals) (drop i orders))
   pub count : length residuals ≡ length prices
   pub near : AreNear (2 ^ 50 + i * 2 ^ 12) residuals
 
-pub none_chosen : (prices : List ℤ) (orders : List Order) (rates : List ℕ) (residuals : List ℤ) → rates ≡ floor_rates orders prices
+pub none_chosen : (prices : List ℤ) (orders : List Order) (rates : List ℕ) (residuals : List ℤ) → rates ≡ []
     → HasEach (length prices) (left_by_floors orders prices) residuals → AreNear (2 ^ 50) residuals → AreChosen prices orders 0 rates residuals
-none_chosen prices orders rates residuals floors left near = record {
-  chosen = choices_agree (length prices) (λ (o : Order) asset. weight_in o.row asset) (floor_at prices) (is_fraction_at prices) (left_by_floors orders prices) (residual_in residuals) orders (λ a inside. sym (left.each a inside));
-  rest = floors;
-  each = rw floors (length-map orders (floor_at prices));
-  count = left.count;
-  near = λ a. omega (arith, near a);
-}
-
--- the rate of the order whose turn it is
-pub floor_here : (prices : List ℤ) (orders : List Order) (i : ℕ) (o : Order) (rates : List ℕ) (residuals : List ℤ) → i < length orders → o ≡ get_or orders i o → AreChosen prices orders i rates residuals
-    → get_or rates i 0 ≡ floor_at prices o
-floor_here prices orders i o rates residuals inside here before =
-    let zero_more : i + 0 ≡ i = omega arith in
-    let first : get_or rates i 0 ≡ get_or (drop i rates) 0 0 = sym (get_or-drop i rates 0 0 ∙ ap (λ k. get_or rates k 0) zero_more) in
-    let floors : get_or (drop i (floor_rates orders prices)) 0 0 ≡ get_or (floor_rates orders prices) i 0 = get_or-drop i (floor_rates orders prices) 0 0 ∙ ap (λ k. get_or (floor_rates orders prices) k 0) zero_more in
-    first ∙ ap (λ l. get_or l 0 0) before.rest ∙ floors ∙ get_or-map (floor_at prices) orders i o 0 inside ∙ ap (floor_at prices) (sym here)
+none_chosen prices orders rates residuals none left near =
+    let agree : Agree (length prices) (left_by_floors orders prices) (residual_in residuals) = λ a inside. sym (left.each a inside) in
+    record {
+      chosen = rw none (choices_agree (length prices) (λ (o : Order) asset. weight_in o.row asset) (floor_at prices) (is_fraction_at prices) (left_by_floors orders prices) (residual_in residuals) orders agree);
+      after = after_agrees (length prices) (λ (o : Order) asset. weight_in o.row asset) (floor_at prices) (is_fraction_at prices) (left_by_floors orders prices) (residual_in residuals) orders agree;
+      count = left.count;
+      near = λ a. omega (arith, near a);
+    }
 
 weight_is_small : (o : Order) → IsOrder o → (asset : ℕ) → unsigned_abs (weight_in o.row asset) ≤ 4096
 weight_is_small o order asset = weights_are_small o.row asset order.row
@@ -129,14 +136,9 @@ module _ (prices : List ℤ) (orders : List Order) (i : ℕ) (o : Order) (rates 
   next_is : drop i orders ≡ o ∷ drop (i + 1) orders
   next_is = drop_more orders i o inside ∙ ap (λ x. x ∷ drop (i + 1) orders) (sym here)
 
-  rest_is : AreChosen prices orders i rates now → drop (i + 1) (set rates i rate) ≡ drop (i + 1) (floor_rates orders prices)
-  rest_is before = drop-set-lt (i + 1) rates i rate (omega arith) ∙ drop_more_same rates (floor_rates orders prices) i before.rest
-
   put : AreChosen prices orders i rates now → chosen_on prices now (drop i orders) ≡ rate ∷ chosen_on prices new (drop (i + 1) orders)
-      → rates_by_choice (length prices) orders prices ≡ take (i + 1) (set rates i rate) ++ chosen_on prices new (drop (i + 1) orders)
-  put before turn =
-      let grown = take_more_set rates i rate (omega (arith, inside, before.each)) in
-      before.chosen ∙ ap (λ l. take i rates ++ l) turn ∙ sym (ap (λ l. l ++ chosen_on prices new (drop (i + 1) orders)) grown ∙ append_assoc (take i rates) (rate ∷ []) (chosen_on prices new (drop (i + 1) orders)))
+      → rates_by_choice (length prices) orders prices ≡ (rates ++ rate ∷ []) ++ chosen_on prices new (drop (i + 1) orders)
+  put before turn = before.chosen ∙ ap (λ l. rates ++ l) turn ∙ sym (append_assoc rates (rate ∷ []) (chosen_on prices new (drop (i + 1) orders)))
 
   up_near : AreChosen prices orders i rates now → IsTradeAdded o.row 1 now new → AreNear (2 ^ 50 + (i + 1) * 2 ^ 12) new
   up_near before added a =
@@ -148,34 +150,57 @@ module _ (prices : List ℤ) (orders : List Order) (i : ℕ) (o : Order) (rates 
       (λ past. rw (get_or_past new a (pos 0) (omega (arith, past, added.count))) (omega arith))
       (cases_lt a (length now))
 
-  one_more : (b : Bool) → is_raised_at prices now o ≡ b → IsChosenBy b prices o rate now new → AreChosen prices orders i rates now → AreChosen prices orders (i + 1) (set rates i rate) new
+  one_more : (b : Bool) → is_raised_at prices now o ≡ b → IsChosenBy b prices o rate now new → AreChosen prices orders i rates now → AreChosen prices orders (i + 1) (rates ++ rate ∷ []) new
   one_more true up turn before =
       let agree : Agree (length prices) (λ asset. residual_in now asset +ℤ weight_in o.row asset) (residual_in new) =
       λ a there. let grown = turn.1.each a (omega (arith, there, before.count)) in omega (arith, ints, grown) in
-      let after = choices_agree (length prices) (λ (o : Order) asset. weight_in o.row asset) (floor_at prices) (is_fraction_at prices) (λ asset. residual_in now asset +ℤ weight_in o.row asset) (residual_in new) (drop (i + 1) orders) agree in
+      let next = choices_agree (length prices) (λ (o : Order) asset. weight_in o.row asset) (floor_at prices) (is_fraction_at prices) (λ asset. residual_in now asset +ℤ weight_in o.row asset) (residual_in new) (drop (i + 1) orders) agree in
+      let left = after_agrees (length prices) (λ (o : Order) asset. weight_in o.row asset) (floor_at prices) (is_fraction_at prices) (λ asset. residual_in now asset +ℤ weight_in o.row asset) (residual_in new) (drop (i + 1) orders) agree in
+      let after : left_after prices (residual_in now) (drop i orders) ≡ left_after prices (λ asset. residual_in now asset +ℤ weight_in o.row asset) (drop (i + 1) orders) = ap (left_after prices (residual_in now)) next_is ∙ rw up refl in
       record {
-        chosen = put before (ap (chosen_on prices now) next_is ∙ rw up (rw turn.0 (ap (λ l. (floor_at prices o + 1) ∷ l) after)));
-        rest = rest_is before;
-        each = length-set rates i rate ∙ before.each;
+        chosen = put before (ap (chosen_on prices now) next_is ∙ rw up (rw turn.0 (ap (λ l. (floor_at prices o + 1) ∷ l) next)));
+        after = λ a there. before.after a there ∙ ap (λ (f : ℕ → ℤ). f a) after ∙ left a there;
         count = turn.1.count ∙ before.count;
         near = up_near before turn.1;
       }
-  one_more false down turn before = record {
-    chosen = put before (ap (chosen_on prices now) next_is ∙ rw (down, turn.0, turn.1) refl);
-    rest = rest_is before;
-    each = length-set rates i rate ∙ before.each;
-    count = ap length turn.1 ∙ before.count;
-    near = λ a. rw turn.1 (omega (arith, before.near a));
-  }
+  one_more false down turn before =
+      let after : left_after prices (residual_in now) (drop i orders) ≡ left_after prices (residual_in now) (drop (i + 1) orders) = ap (left_after prices (residual_in now)) next_is ∙ rw down refl in
+      record {
+        chosen = put before (ap (chosen_on prices now) next_is ∙ rw (down, turn.0, turn.1) refl);
+        after = λ a there. before.after a there ∙ ap (λ (f : ℕ → ℤ). f a) after ∙ ap (λ l. left_after prices (residual_in l) (drop (i + 1) orders) a) (sym turn.1);
+        count = ap length turn.1 ∙ before.count;
+        near = λ a. rw turn.1 (omega (arith, before.near a));
+      }
 
-  pub one_more_chosen : IsChosen prices o rate now new → AreChosen prices orders i rates now → AreChosen prices orders (i + 1) (set rates i rate) new
+  pub one_more_chosen : IsChosen prices o rate now new → AreChosen prices orders i rates now → AreChosen prices orders (i + 1) (rates ++ rate ∷ []) new
   one_more_chosen turn before = one_more (is_raised_at prices now o) refl turn before
 
-pub all_chosen : (prices : List ℤ) (orders : List Order) (i : ℕ) (rates : List ℕ) (residuals : List ℤ) → length orders ≤ i → AreChosen prices orders i rates residuals → rates ≡ rates_by_choice (length prices) orders prices
-all_chosen prices orders i rates residuals all before =
-    let none : drop i orders ≡ [] = drop_all i orders all in
-    let whole : take i rates ≡ rates = take_all i rates (omega (arith, all, before.each)) in
-    sym (before.chosen ∙ ap (λ l. take i rates ++ chosen_on prices residuals l) none ∙ append-nil (take i rates) ∙ whole)
+-- what orders and rates leave over is what their trades do
+residuals_are : (orders : List Order) (rates : List ℕ) (asset : ℕ) → left_by (λ o asset. weight_in o.row asset) orders rates asset ≡ residual (trades orders rates) asset
+residuals_are [] rates asset = refl
+residuals_are (o ∷ orders) [] asset = refl
+residuals_are (o ∷ orders) (x ∷ rates) asset = ap (λ y. weight_in o.row asset *ℤ pos x +ℤ y) (residuals_are orders rates asset)
+
+module _ (prices : List ℤ) (orders : List Order) (i : ℕ) (rates : List ℕ) (residuals : List ℤ) (all : length orders ≤ i) (before : AreChosen prices orders i rates residuals) where
+  none_left : drop i orders ≡ []
+  none_left = drop_all i orders all
+
+  pub all_chosen : rates ≡ rates_by_choice (length prices) orders prices
+  all_chosen = sym (before.chosen ∙ ap (λ l. rates ++ chosen_on prices residuals l) none_left ∙ append-nil rates)
+
+  left_is : (asset : ℕ) → asset < length prices → residual_in residuals asset ≡ residual (trades orders rates) asset
+  left_is asset there =
+      let follow = residuals_follow (length prices) (λ (o : Order) asset. weight_in o.row asset) (floor_at prices) (is_fraction_at prices) (left_by_floors orders prices) orders asset in
+      let chosen : left_by (λ (o : Order) asset. weight_in o.row asset) orders (rates_by_choice (length prices) orders prices) asset ≡ residual (trades orders rates) asset =
+      ap (λ l. left_by (λ (o : Order) asset. weight_in o.row asset) orders l asset) (sym all_chosen) ∙ residuals_are orders rates asset in
+      let end : left_after prices (residual_in residuals) (drop i orders) asset ≡ residual_in residuals asset = ap (λ l. left_after prices (residual_in residuals) l asset) none_left in
+      omega (arith, ints, before.after asset there, follow, chosen, end)
+
+  pub left_over : residuals ≡ residuals_of (length prices) (trades orders rates)
+  left_over =
+      let n = length prices in
+      ext_get_or (pos 0) residuals (map (residual (trades orders rates)) (range_with_len 0 n)) (before.count ∙ sym (length-map-range_with_len (residual (trades orders rates)) 0 n))
+      (λ k inside. let within : k < n = omega (arith, inside, before.count) in left_is k within ∙ sym (get_or-map-range_with_len (residual (trades orders rates)) 0 n k k (pos 0) within (omega arith)))
 
 -- ---- what holds of chosen rates
 

@@ -2,7 +2,7 @@
 use Rattle.std.proofs.Common.{◌≡◌, ℕ, ◌+◌, ◌*◌, ◌^◌, ◌<◌, ◌≤◌, true, ℤ, pos, ◌+ℤ◌, ◌*ℤ◌, List, [], ◌∷◌, length, take, get_or, refl, sym, ap, ◌∙◌, inr, ⊎_elim, arith}
 use Rattle.std.specs.Prelude.{unsigned_abs, ◌↔◌}
 use Rattle.std.proofs.lemmas.Bool.{cases_lt, lt-ltb}
-use Rattle.std.proofs.lemmas.List.{take_all, get_or_past}
+use Rattle.std.proofs.lemmas.List.{take_all, get_or_past, get_or-map, length-map}
 use Rattle.list_sums.specs.Sums.{int_sum_by}
 use Rattle.list_sums.proofs.Products.{unsigned_abs-add, unsigned_abs-mul_le}
 use Rattle.list_sums.proofs.SumLemmas.{int_sum_by_more}
@@ -14,7 +14,7 @@ use Rattle.flow_orders.specs.Orders.{Order, IsOrder, most_orders, terms_of}
 use Rattle.flow_orders.specs.Excess.{price_for}
 use Rattle.flow_orders.specs.Residuals.{AreNear, HasEach, AreZeros, IsTradeAdded}
 use Rattle.flow_orders.specs.Own.{floor_at, is_fraction_at}
-use Rattle.flow_orders.proofs.ChoiceByEntries.{choice_is_rounding}
+use Rattle.excess_bounds.specs.Quotes.{Quote, quote_at, quotes_at}
 use Rattle.rate_rounding.specs.Private.{left_by_floors}
 
 -- a demand rounded down is within the highest rate
@@ -79,20 +79,4 @@ all_left n prices orders i residuals few all most before =
     let whole : take i orders ≡ orders = take_all i orders all in (
       record { count = before.left.count; each = λ a there. before.left.each a there ∙ rw whole (rw (left_is_sum prices a orders) refl) },
       λ a. omega (arith, before.near a, few, most),
-    )
-
--- one unit more than the demand rounded down is a rounding exactly where the demand isn't whole
-next_is_rounding : (t : Terms) → IsWithinLimits t → (price : ℤ) → IsRounding t (floor_rate t price + 1) price → floor_rate t price < ceil_rate t price
-next_is_rounding t h price rounding =
-    ⊎_elim
-    (λ down. absurd (omega (arith, down)))
-    (λ up. omega (arith, up))
-    ((roundings_are_floor_and_ceil t h price (floor_rate t price + 1)).0 rounding)
-
-pub fraction_where : (prices : List ℤ) (o : Order) → IsOrder o → IsRounding (terms_of o) (floor_at prices o + 1) (price_for prices o) ↔ (is_fraction_at prices o ≡ true)
-fraction_where prices o order =
-    let t = terms_of o in
-    let price = price_for prices o in (
-      λ rounding. lt-ltb (floor_rate t price) (ceil_rate t price) (next_is_rounding t order.terms price rounding),
-      λ fraction. choice_is_rounding t order.terms price (floor_rate t price + 1) (inr (fraction, refl)),
     )

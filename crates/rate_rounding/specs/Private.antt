@@ -1,10 +1,16 @@
 -- Words that only private functions use.
 use Rattle.std.specs.Prelude.{◌≡◌, ℕ, ◌+◌, Bool, true, false, ℤ, List, length}
 use Rattle.weight_rows.specs.Rows.{weight_in}
-use Rattle.flow_orders.specs.Orders.{Order}
+use Rattle.demand_curve.specs.Demand.{ceil_rate}
+use Rattle.flow_orders.specs.Orders.{Order, terms_of}
+use Rattle.flow_orders.specs.Excess.{price_for}
 use Rattle.flow_orders.specs.Choice.{left_by, is_raised}
 use Rattle.flow_orders.specs.Residuals.{residual_in, IsTradeAdded}
 use Rattle.flow_orders.specs.Own.{floor_at, is_fraction_at, floor_rates}
+
+-- the demand of an order at prices, rounded up
+abbrev pub ceil_at : List ℤ → Order → ℕ
+ceil_at prices o = ceil_rate (terms_of o) (price_for prices o)
 
 -- what all demands rounded down leave over of an asset
 abbrev pub left_by_floors : List Order → List ℤ → ℕ → ℤ

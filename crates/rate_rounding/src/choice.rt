@@ -1,38 +1,41 @@
 //! Rates that are chosen order by order, so that little is left over.
-ghost use Rattle.std.specs.Prelude.{◌≡◌, ◌+◌, ◌^◌, ◌<◌, ◌≤◌, ◌↔◌, ◌+ℤ◌, unsigned_abs, IsTrue, true, IfOk, length, All};
+ghost use Rattle.std.specs.Prelude.{◌≡◌, ◌+◌, ◌^◌, ◌<◌, ◌≤◌, ◌↔◌, ◌+ℤ◌, ℤ, List, [], unsigned_abs, IsTrue, IfOk, length, vec_capacity, All};
 ghost use Rattle.std.specs.List.{sum_by};
 ghost use Rattle.weight_rows.specs.Rows.{most_weight, IsPrice, IsPricedBy};
 ghost use Rattle.demand_curve.specs.Demand.{IsRounding};
-ghost use Rattle.flow_orders.specs.Orders.{most_orders, IsOrder, terms_of};
+ghost use Rattle.flow_orders.specs.Orders.{most_orders, terms_of};
 ghost use Rattle.flow_orders.specs.Excess.{price_for};
 ghost use Rattle.flow_orders.specs.Choice.{absolute_sum};
 ghost use Rattle.flow_orders.specs.Trades.{trades, residual};
+ghost use Rattle.flow_orders.specs.Outcomes.{residuals_of};
 ghost use Rattle.flow_orders.specs.Residuals.{most_prices, residual_in, AreNear, AreZeros, HasEach};
-ghost use Rattle.flow_orders.specs.Own.{floor_at, is_fraction_at, floor_rates, rates_by_choice};
-ghost use Rattle.rate_rounding.specs.Private.{left_by_floors, is_raised_at, IsChosen};
+ghost use Rattle.flow_orders.specs.Own.{floor_at, floor_rates, rates_by_choice};
+ghost use Rattle.excess_bounds.specs.Quotes.{quote_at};
+ghost use Rattle.excess_bounds.specs.Workspace.{AreQuoted};
+ghost use Rattle.rate_rounding.specs.Private.{ceil_at, left_by_floors, is_raised_at, IsChosen};
 
-use crate::{Memory, floor_rate};
+use crate::Memory;
+use demand_curve::Roundings;
+use excess_bounds::{Quote, Quoted, quotes_of};
 use flow_orders::{Order, add_residuals};
 use std::alloc::Global;
 use weight_rows::{Entry, WeightRow};
 
-// No more assets have a price.
-const PLACES: usize = 64;
+/// Chosen rates, and what they leave over.
+#[derive(Drop)]
+pub struct Chosen {
+    /// One rate for each order, in whole units per batch, in their order.
+    pub rates: Vec<u32>,
+    /// What the rates leave over of each asset, bought less sold, in units, by the assets' numbers.
+    pub residuals: Vec<i64>,
+}
 
 /// Each order's demand at these prices, rounded down or up so that little is left over: one rate for each order, in
-/// their order.
-///
-/// At first all demands are rounded down. Then the orders have their turn, one after the other: an order whose demand
-/// isn't whole gets 1 more exactly where that makes the sum of the absolute residuals of all assets strictly smaller,
-/// a residual being what the rates leave over of an asset, bought less sold, in units. So no more is left over in all
-/// than by [`floor_rates`](crate::floor_rates). The rule is this project's own.
+/// their order, as [`choose_rates`] says.
 ///
 /// There are at most 16,384 orders, in the order of their numbers, and at most 64 prices, in grains and within 2^62 of
-/// 0, one for each asset that an order names.
-///
-/// It costs two passes over the orders: one to round down, which goes twice over each row and divides at most once an
-/// order, and one to choose, which goes over each row once, and up to twice more where a unit more leaves less over,
-/// and divides nowhere. It takes memory once, 4 bytes for each order, before it rounds anything.
+/// 0, one for each asset that an order names. It costs a pass more than `choose_rates`, which prices the orders, and
+/// memory for their quotes.
 pub fn chosen_rates(alloc: Global, orders: &[Order], prices: &[i64]) -> Result<Vec<u32>, Memory>
     requires few { length orders.now ≤ most_orders }
     requires assets { length prices.now ≤ most_prices }
@@ -47,105 +50,101 @@ pub fn chosen_rates(alloc: Global, orders: &[Order], prices: &[i64]) -> Result<V
         absolute_sum (length prices.now) (residual (trades orders.now rates.items))
         ≤ absolute_sum (length prices.now) (residual (trades orders.now (floor_rates orders.now prices.now)))) }
 {
-    let mut residuals = no_units();
-    round(alloc, orders, prices, &mut residuals[..prices.len()])
+    let quoted = Quoted {
+        quotes: quotes_of(alloc, orders, prices)?,
+        prices: Vec::from_slice(alloc, prices)?,
+    };
+    Ok(choose_rates(alloc, orders, &quoted)?.rates)
 }
 
-// No units of each asset that there may be.
-fn no_units() -> [i64; PLACES]
-    ensures { AreZeros 64 result }
-{
-    [0; PLACES]
-}
-
-// The chosen rates, by residuals of which each is 0 yet.
-fn round(
-    alloc: Global,
-    orders: &[Order],
-    prices: &[i64],
-    residuals: &mut [i64],
-) -> Result<Vec<u32>, Memory>
-    requires few { length orders.now ≤ most_orders }
-    requires range { All IsPrice prices.now }
-    requires priced { All (λ o. IsPricedBy o.row prices.now) orders.now }
-    requires zeros { AreZeros (length prices.now) residuals.old }
-    ensures chosen { IfOk result (λ rates. rates.items ≡ rates_by_choice (length prices.now) orders.now prices.now) }
-    ensures orders { IfOk result (λ rates. All IsOrder orders.now) }
-{
-    let mut rates = round_down(alloc, orders, prices, residuals)?;
-    choose(orders, prices, rates.as_mut_slice(), residuals);
-    Ok(rates)
-}
-
-// All demands, rounded down. Makes zeros what they leave over.
-fn round_down(
-    alloc: Global,
-    orders: &[Order],
-    prices: &[i64],
-    residuals: &mut [i64],
-) -> Result<Vec<u32>, Memory>
-    requires few { length orders.now ≤ most_orders }
-    requires range { All IsPrice prices.now }
-    requires priced { All (λ o. IsPricedBy o.row prices.now) orders.now }
-    requires zeros { AreZeros (length prices.now) residuals.old }
-    ensures floors { IfOk result (λ rates. rates.items ≡ floor_rates orders.now prices.now) }
-    ensures left { IfOk result (λ rates. HasEach (length prices.now) (left_by_floors orders.now prices.now) residuals.new) }
-    ensures near { IfOk result (λ rates. AreNear (2 ^ 50) residuals.new) }
-    ensures orders { IfOk result (λ rates. All IsOrder orders.now) }
+/// Each order's demand at the prices that it is quoted at, rounded down or up so that little is left over, and what is.
+///
+/// At first all demands are rounded down. Then the orders have their turn, one after the other: an order whose demand
+/// isn't whole gets 1 more exactly where that makes the sum of the absolute residuals of all assets strictly smaller,
+/// a residual being what the rates leave over of an asset, bought less sold, in units. So no more is left over in all
+/// than by [`floor_rates`](crate::floor_rates). The rule is this project's own.
+///
+/// It costs two passes over the entries of all orders: one adds what the demands rounded down leave over, and one
+/// chooses, and goes once more over the row of an order that gets 1 more. It computes neither price nor demand, and takes
+/// memory twice, 4 bytes for each order and 8 for each price, before it rounds anything.
+pub fn choose_rates(alloc: Global, orders: &[Order], quoted: &Quoted) -> Result<Chosen, Memory>
+    requires { AreQuoted orders.now quoted.now.prices.items quoted.now.quotes.items }
+    ensures chosen { IfOk result (λ c. c.rates.items
+        ≡ rates_by_choice (length quoted.now.prices.items) orders.now quoted.now.prices.items) }
+    ensures left { IfOk result (λ c. c.residuals.items
+        ≡ residuals_of (length quoted.now.prices.items) (trades orders.now c.rates.items)) }
+    ensures one_each { IfOk result (λ c. length c.rates.items ≡ length orders.now) }
+    ensures roundings { IfOk result (λ c. All
+        (λ t. IsRounding (terms_of t.order) t.traded (price_for quoted.now.prices.items t.order))
+        (trades orders.now c.rates.items)) }
+    ensures no_worse { IfOk result (λ c.
+        absolute_sum (length quoted.now.prices.items) (residual (trades orders.now c.rates.items))
+        ≤ absolute_sum (length quoted.now.prices.items)
+        (residual (trades orders.now (floor_rates orders.now quoted.now.prices.items)))) }
 {
     let mut rates = Vec::with_capacity(alloc, orders.len())?;
-    for order in orders {
-        let rate = floor_rate(order, prices);
-        add_residuals(order.row(), rate, residuals);
-        rates.push_reserved(rate);
-    }
-    Ok(rates)
+    let mut residuals = vec![in alloc; 0; quoted.prices.len()]?;
+    add_floors(orders, quoted, residuals.as_mut_slice());
+    choose(orders, quoted, &mut rates, residuals.as_mut_slice());
+    Ok(Chosen { rates, residuals })
 }
 
-// Chooses among the demands rounded down, which leave these residuals over.
-fn choose(orders: &[Order], prices: &[i64], rates: &mut [u32], residuals: &mut [i64])
-    requires few { length orders.now ≤ most_orders }
-    requires range { All IsPrice prices.now }
-    requires priced { All (λ o. IsPricedBy o.row prices.now) orders.now }
-    requires orders { All IsOrder orders.now }
-    requires floors { rates.old ≡ floor_rates orders.now prices.now }
-    requires left { HasEach (length prices.now) (left_by_floors orders.now prices.now) residuals.old }
-    requires near { AreNear (2 ^ 50) residuals.old }
-    ensures { rates.new ≡ rates_by_choice (length prices.now) orders.now prices.now }
+// Makes zeros what all demands rounded down leave over.
+fn add_floors(orders: &[Order], quoted: &Quoted, residuals: &mut [i64])
+    requires quoted { AreQuoted orders.now quoted.now.prices.items quoted.now.quotes.items }
+    requires zeros { AreZeros (length quoted.now.prices.items) residuals.old }
+    ensures left { HasEach (length quoted.now.prices.items)
+        (left_by_floors orders.now quoted.now.prices.items) residuals.new }
+    ensures near { AreNear (2 ^ 50) residuals.new }
 {
     for (place, order) in orders.iter().enumerate() {
-        rates[place] = choose_one(order, rates[place], prices, residuals);
+        let demand = quoted.quotes[place].demand();
+        add_residuals(order.row(), demand.floor, residuals);
     }
 }
 
-// The chosen rate of an order whose demand rounded down is `floor`.
-fn choose_one(order: &Order, floor: u32, prices: &[i64], residuals: &mut [i64]) -> u32
-    requires range { All IsPrice prices.now }
-    requires priced { IsPricedBy order.now.row prices.now }
-    requires floor { floor ≡ floor_at prices.now order.now }
-    requires places { length residuals.old ≡ length prices.now }
+// Chooses the rates, from what all demands rounded down leave over. Makes of it what the chosen rates leave over.
+fn choose(orders: &[Order], quoted: &Quoted, rates: &mut Vec<u32>, residuals: &mut [i64])
+    requires quoted { AreQuoted orders.now quoted.now.prices.items quoted.now.quotes.items }
+    requires none { rates.old.items ≡ [] }
+    requires room { length orders.now ≤ vec_capacity rates.old }
+    requires left { HasEach (length quoted.now.prices.items)
+        (left_by_floors orders.now quoted.now.prices.items) residuals.old }
+    requires near { AreNear (2 ^ 50) residuals.old }
+    ensures chosen { rates.new.items
+        ≡ rates_by_choice (length quoted.now.prices.items) orders.now quoted.now.prices.items }
+    ensures left { residuals.new
+        ≡ residuals_of (length quoted.now.prices.items) (trades orders.now rates.new.items) }
+{
+    for (place, order) in orders.iter().enumerate() {
+        rates.push_reserved(choose_one(order, &quoted.quotes[place], residuals));
+    }
+}
+
+// The chosen rate of an order.
+fn choose_one(order: &Order, quote: &Quote, residuals: &mut [i64]) -> u32
+    requires priced { IsPricedBy order.now.row residuals.old }
     requires near { AreNear (2 ^ 52) residuals.old }
-    ensures { IsChosen prices.now order.now result residuals.old residuals.new }
+    ensures { (prices : List ℤ) → quote.now ≡ quote_at prices order.now → length residuals.old ≡ length prices
+        → IsChosen prices order.now result residuals.old residuals.new }
 {
-    if is_raised(order, floor, prices, residuals) {
+    let demand = quote.demand();
+    if is_raised(order, demand, residuals) {
         add_residuals(order.row(), 1, residuals);
-        floor + 1
+        demand.floor + 1
     } else {
-        floor
+        demand.floor
     }
 }
 
-// Whether the order is rounded up: its demand isn't whole, and so less is left over.
-fn is_raised(order: &Order, floor: u32, prices: &[i64], residuals: &[i64]) -> bool
-    requires range { All IsPrice prices.now }
-    requires priced { IsPricedBy order.now.row prices.now }
-    requires floor { floor ≡ floor_at prices.now order.now }
-    requires places { length residuals.now ≡ length prices.now }
+// Whether an order of this demand is rounded up: its demand isn't whole, and so less is left over.
+fn is_raised(order: &Order, demand: Roundings, residuals: &[i64]) -> bool
+    requires priced { IsPricedBy order.now.row residuals.now }
     requires near { AreNear (2 ^ 52) residuals.now }
-    ensures raised { result ≡ is_raised_at prices.now residuals.now order.now }
-    ensures small { floor ≤ 2 ^ 24 }
+    ensures { (prices : List ℤ) → demand.floor ≡ floor_at prices order.now → demand.ceil ≡ ceil_at prices order.now
+        → length residuals.now ≡ length prices → result ≡ is_raised_at prices residuals.now order.now }
 {
-    lessens(order.row(), residuals) && is_fraction(order, floor, prices)
+    demand.floor < demand.ceil && lessens(order.row(), residuals)
 }
 
 // Whether one unit more of a row's portfolio leaves less over.
@@ -183,16 +182,4 @@ fn left_with_one_more(entry: &Entry, residuals: &[i64]) -> u64
     ensures small { result ≤ 2 ^ 53 }
 {
     (residuals[usize::from(entry.asset)] + i64::from(entry.weight)).unsigned_abs()
-}
-
-// Whether the order's demand isn't whole: then one unit more than the demand rounded down is a rounding too.
-fn is_fraction(order: &Order, floor: u32, prices: &[i64]) -> bool
-    requires range { All IsPrice prices.now }
-    requires priced { IsPricedBy order.now.row prices.now }
-    requires floor { floor ≡ floor_at prices.now order.now }
-    ensures { IsTrue result ↔ (is_fraction_at prices.now order.now ≡ true) }
-{
-    order
-        .curve()
-        .is_rounded(floor + 1, order.row().price(prices))
 }

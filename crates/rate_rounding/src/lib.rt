@@ -1,29 +1,30 @@
 //! The rates at which the orders of a batch trade: what each asks for at the prices, in whole units.
 //!
 //! An order's demand is a fraction, and trades are whole, so a demand is rounded, and what rounding leaves over of an
-//! asset the exchange takes. [`chosen_rates`] are those that the program publishes: some demands are rounded up, order
-//! by order, so that less is left over. [`floor_rates`] rounds all demands down, so an order never trades more than it
-//! asks for.
+//! asset the exchange takes. [`choose_rates`] are those that the program publishes, with what they leave over: some demands
+//! are rounded up, order by order, so that less is left over. It takes orders that are quoted, so it computes no price and no
+//! demand; [`chosen_rates`] are the same of orders and prices alone. [`floor_rates`] rounds all demands down, so an order
+//! never trades more than it asks for.
 //!
 //! Prices are in grains, and 2^32 grains are a tick; there is one for each asset, by its number. Rates are in whole
 //! units of an order's portfolio per batch.
 //!
 //! # Costs
 //!
-//! [`floor_rates`] goes once over the orders, and [`chosen_rates`] twice. Each divides at most once an order, and takes
-//! memory once, 4 bytes for each order, before it rounds anything.
+//! [`choose_rates`] goes twice over the entries of all orders, and divides nowhere. [`floor_rates`] goes once over them, and
+//! divides at most once an order. Memory is taken before anything is rounded.
 #![tactic(auto)]
 
 ghost use Rattle.std.specs.Prelude.{◌≡◌, ◌≤◌, IfOk, length, All};
 ghost use Rattle.weight_rows.specs.Rows.{IsPrice, IsPricedBy};
 ghost use Rattle.demand_curve.specs.Demand.{most_rate};
-ghost use Rattle.flow_orders.specs.Orders.{most_orders, IsOrder};
+ghost use Rattle.flow_orders.specs.Orders.{most_orders};
 ghost use Rattle.flow_orders.specs.Own.{floor_at, floor_rates};
 
 mod choice;
 pub mod laws;
 
-pub use choice::chosen_rates;
+pub use choice::{Chosen, choose_rates, chosen_rates};
 use flow_orders::Order;
 use std::alloc::{AllocError, Global};
 
@@ -54,12 +55,11 @@ pub fn floor_rates(alloc: Global, orders: &[Order], prices: &[i64]) -> Result<Ve
 }
 
 // One order's demand, rounded down.
-pub(crate) fn floor_rate(order: &Order, prices: &[i64]) -> u32
+fn floor_rate(order: &Order, prices: &[i64]) -> u32
     requires range { All IsPrice prices.now }
     requires priced { IsPricedBy order.now.row prices.now }
     ensures value { result ≡ floor_at prices.now order.now }
     ensures small { result ≤ most_rate }
-    ensures order { IsOrder order.now }
 {
     order.curve().floor_rate(order.row().price(prices))
 }

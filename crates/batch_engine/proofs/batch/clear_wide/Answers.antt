@@ -2,25 +2,29 @@ use Rattle.std.proofs.Common.{◌∙◌, sym, subst}
 use Rattle.std.specs.Prelude.{All}
 use Rattle.flow_orders.specs.Orders.{IsOrder}
 use Rattle.flow_orders.specs.Own.{ArePricesOf}
+use Rattle.excess_bounds.specs.Workspace.{AreQuoted}
 use Rattle.batch_engine.proofs.OwnClearing.{cleared_is_own, skipped_is_own}
 use Rattle.batch_engine.proofs.batch.clear_wide.Goals as goal
 
-pub returns-in_ok-clear_at-in-Settled : goal.returns-in_ok-clear_at-in-Settled
-returns-in_ok-clear_at-in-Settled c =
+pub clear_at-cleared-requires : goal.clear_at-cleared-requires
+clear_at-cleared-requires c = subst (λ orders. AreQuoted orders c.into_quoted.result.prices.items c.into_quoted.result.quotes.items) (c.in-Settled.ensures.orders ∙ c.in_ok-work.ensures.orders) c.into_quoted.ensures.quoted
+
+pub returns-in_ok-clear_at-cleared : goal.returns-in_ok-clear_at-cleared
+returns-in_ok-clear_at-cleared c =
     let same = c.in-Settled.ensures.orders ∙ c.in_ok-work.ensures.orders in
     let found = rw (c.in_ok-work.ensures.orders, c.in_ok-work.ensures.prices) at c.in-Settled.ensures.found in
-    let ends = c.prices.ensures.value ∙ rw (c.in_ok-work.ensures.orders, c.in_ok-work.ensures.prices) at c.in-Settled.ensures.prices in
+    let ends = c.into_quoted.ensures.prices ∙ rw (c.in_ok-work.ensures.orders, c.in_ok-work.ensures.prices) at c.in-Settled.ensures.prices in
     record {
-      own = cleared_is_own c.args.orders.now c.args.start.now c.prices.result.now c.args.budget c.in_ok-clear_at-in-Settled.field-0 (subst (All IsOrder) same c.prices.ensures.priced.each) c.requires.range c.requires.budget.1
-          (subst (λ s. ArePricesOf s c.args.orders.now c.args.start.now c.args.budget c.prices.result.now) (sym c.requires.wide) (_, found, ends)) c.in_ok-clear_at-in-Settled.ensures;
+      own = cleared_is_own c.args.orders.now c.args.start.now c.into_quoted.result.prices.items c.args.budget c.in_ok-clear_at-cleared.field-0 (subst (All IsOrder) same c.into_quoted.ensures.quoted.priced.each) c.requires.range c.requires.budget.1
+          (subst (λ s. ArePricesOf s c.args.orders.now c.args.start.now c.args.budget c.into_quoted.result.prices.items) (sym c.requires.wide) (_, found, ends)) c.in_ok-clear_at-cleared.ensures;
     }
 
 pub returns-in-Spent : goal.returns-in-Spent
 returns-in-Spent c =
     let same = c.in-Spent.ensures.orders ∙ c.in_ok-work.ensures.orders in
     let found = rw (c.in_ok-work.ensures.orders, c.in_ok-work.ensures.prices) at c.in-Spent.ensures.found in
-    let ends = c.prices-in-Spent.ensures.value ∙ rw (c.in_ok-work.ensures.orders, c.in_ok-work.ensures.prices) at c.in-Spent.ensures.prices in
+    let ends = c.prices.ensures.value ∙ rw (c.in_ok-work.ensures.orders, c.in_ok-work.ensures.prices) at c.in-Spent.ensures.prices in
     record {
-      own = skipped_is_own c.args.orders.now c.args.start.now c.prices-in-Spent.result.now c.args.budget _ c.new-in-Spent.result c.dual_floor.result c.dual_floor-in-Spent.result
-          (subst (All IsOrder) same c.prices-in-Spent.ensures.priced.each) c.requires.wide found.0 c.new-in-Spent.ensures ends c.dual_floor.ensures.value c.dual_floor-in-Spent.ensures.value c.dual_floor.ensures.most c.dual_floor-in-Spent.ensures.most;
+      own = skipped_is_own c.args.orders.now c.args.start.now c.prices.result.now c.args.budget _ c.new-in-Spent.result c.dual_floor.result c.dual_floor-in-Spent.result
+          (subst (All IsOrder) same c.prices.ensures.priced.each) c.requires.wide found.0 c.new-in-Spent.ensures ends c.dual_floor.ensures.value c.dual_floor-in-Spent.ensures.value c.dual_floor.ensures.most c.dual_floor-in-Spent.ensures.most;
     }
