@@ -42,13 +42,6 @@ wide_where orders test tests fails = ⊎_elim (λ single. absurd (false≢true (
 
 -- ---- clearings and skips
 
--- what holds of rates and prices as they were made holds of them as they are kept
-pub rates_are_roundings : (orders : List Order) (at prices : List ℤ) (made rates : List ℕ) → rates ≡ made → at ≡ prices
-    → All (λ t. IsRounding (terms_of t.order) t.traded (price_for at t.order)) (trades orders made) → All (λ t. IsRounding (terms_of t.order) t.traded (price_for prices t.order)) (trades orders rates)
-rates_are_roundings orders at prices made rates rates_are prices_are each =
-    subst (λ p. All (λ t. IsRounding (terms_of t.order) t.traded (price_for p t.order)) (trades orders rates)) prices_are
-    (subst (λ xs. All (λ t. IsRounding (terms_of t.order) t.traded (price_for at t.order)) (trades orders xs)) (sym rates_are) each)
-
 -- where the prices are those of the own rule, the clearing at them is the own outcome
 pub cleared_is_own : (orders : List Order) (start prices : List ℤ) (budget : ℕ) (c : Cleared) → All IsOrder orders → All (IsWithin (2 ^ 60)) start → budget ≤ most_budget
     → ArePricesOf (are_single orders) orders start budget prices → IsClearedAt orders prices c → IsClearedFrom orders start budget c

@@ -132,10 +132,11 @@ fn clear_at(alloc: Global, orders: &[Order], quoted: Quoted) -> Result<Cleared, 
     ensures { IfOk result (IsClearedAt orders.now quoted.prices.items) }
 {
     let chosen = choose_rates(alloc, orders, &quoted)?;
+    let Quoted { prices, quotes } = quoted;
     Ok(certify_quoted(
         orders,
-        quoted.quotes.as_slice(),
-        PriceList::new(quoted.prices),
+        quotes.as_slice(),
+        PriceList::new(prices),
         RateList::new(chosen.rates),
         ResidualList::new(chosen.residuals),
     ))

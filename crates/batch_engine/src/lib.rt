@@ -6,10 +6,12 @@
 //!
 //! # Costs
 //!
-//! Where each order names one asset: for each asset two passes over the entries of all orders, and at most 65 more for one
-//! that isn't settled. Other books: before each move, and at the end, at most two passes for each asset, and at most 65 for the
-//! move. Then three passes more in all, two of which divide once an order. Memory is taken for three lists of one number for
-//! each asset, one list of one number for each order, and a byte for each move of the budget, and nothing in between.
+//! First a pass over the entries of all orders, for the workspace, and the moves of the prices, each over the orders that name
+//! its asset. Then, where the batch clears, two passes over the entries of all orders, for the rates and what they leave
+//! over, and one over the orders alone, with a division each, for the gap. The price of an order's portfolio and its demand
+//! are those that the workspace has, and its list of prices is the one that is published: neither is computed or copied
+//! again. Memory is taken for the workspace, for one number for each asset and one for each order, and, where some order
+//! names two assets or more, for a byte for each move of the budget; nothing in between.
 #![tactic(auto)]
 
 mod batch;

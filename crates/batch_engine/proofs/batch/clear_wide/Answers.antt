@@ -6,17 +6,17 @@ use Rattle.excess_bounds.specs.Workspace.{AreQuoted}
 use Rattle.batch_engine.proofs.OwnClearing.{cleared_is_own, skipped_is_own}
 use Rattle.batch_engine.proofs.batch.clear_wide.Goals as goal
 
-pub clear_at-cleared-requires : goal.clear_at-cleared-requires
-clear_at-cleared-requires c = subst (λ orders. AreQuoted orders c.into_quoted.result.prices.items c.into_quoted.result.quotes.items) (c.in-Settled.ensures.orders ∙ c.in_ok-work.ensures.orders) c.into_quoted.ensures.quoted
+pub clear_at-requires : goal.clear_at-requires
+clear_at-requires c = subst (λ orders. AreQuoted orders c.into_quoted.result.prices.items c.into_quoted.result.quotes.items) (c.in-Settled.ensures.orders ∙ c.in_ok-work.ensures.orders) c.into_quoted.ensures.quoted
 
-pub returns-in_ok-clear_at-cleared : goal.returns-in_ok-clear_at-cleared
-returns-in_ok-clear_at-cleared c =
+pub returns-in_ok-cleared-in-Settled : goal.returns-in_ok-cleared-in-Settled
+returns-in_ok-cleared-in-Settled c =
     let same = c.in-Settled.ensures.orders ∙ c.in_ok-work.ensures.orders in
     let found = rw (c.in_ok-work.ensures.orders, c.in_ok-work.ensures.prices) at c.in-Settled.ensures.found in
     let ends = c.into_quoted.ensures.prices ∙ rw (c.in_ok-work.ensures.orders, c.in_ok-work.ensures.prices) at c.in-Settled.ensures.prices in
     record {
-      own = cleared_is_own c.args.orders.now c.args.start.now c.into_quoted.result.prices.items c.args.budget c.in_ok-clear_at-cleared.field-0 (subst (All IsOrder) same c.into_quoted.ensures.quoted.priced.each) c.requires.range c.requires.budget.1
-          (subst (λ s. ArePricesOf s c.args.orders.now c.args.start.now c.args.budget c.into_quoted.result.prices.items) (sym c.requires.wide) (_, found, ends)) c.in_ok-clear_at-cleared.ensures;
+      own = cleared_is_own c.args.orders.now c.args.start.now c.into_quoted.result.prices.items c.args.budget c.in_ok-cleared-in-Settled.cleared (subst (All IsOrder) same c.into_quoted.ensures.quoted.priced.each) c.requires.range c.requires.budget.1
+          (subst (λ s. ArePricesOf s c.args.orders.now c.args.start.now c.args.budget c.into_quoted.result.prices.items) (sym c.requires.wide) (_, found, ends)) c.in_ok-cleared-in-Settled.ensures;
     }
 
 pub returns-in-Spent : goal.returns-in-Spent
