@@ -31,7 +31,7 @@ asked_more : (new : Pairs) (pair : Pair Record Outcome) → asked_of new ++ pair
 asked_more new pair = sym (map-append (λ (p : Pair Record Outcome). p.asked) new (pair ∷ []))
 
 -- all of the pairs, and all but the last
-take_every : (new : Pairs) → take (length new) (new ++ []) ≡ new
+pub take_every : (new : Pairs) → take (length new) (new ++ []) ≡ new
 take_every new = ap (λ (l : Pairs). take (length new) l) (append-nil new) ∙ take_all (length new) new (omega arith)
 
 take_first : (new : Pairs) (pair : Pair Record Outcome) → take (length new) (new ++ pair ∷ []) ≡ new

@@ -1,10 +1,8 @@
 -- What the bytes of a disk and of a source come to.
-use Rattle.std.specs.Prelude.{◌≡◌, ◌≢◌, ℕ, ◌+◌, List, [], ◌++◌, length, map, Option, IfSome}
-use Rattle.std.specs.List.{flat_map}
-use Rattle.flow_io.specs.Streams.{Grows}
-use Rattle.journal_records.specs.Pairs.{pair_spelling}
+use Rattle.std.specs.Prelude.{◌≡◌, ℕ, ◌+◌, List, [], ◌++◌, length, map, take}
 use Rattle.wire_records.specs.Records.{Record}
 use Rattle.wire_records.specs.Commands.{Pair}
+use Rattle.wire_records.specs.Grammars.{BeginsWith}
 use Rattle.wire_records.specs.Reading.{Ending, Reading, NotFlow, File, Reads}
 use Rattle.wire_records.specs.Formats.{commands}
 use Rattle.wire_records.specs.declared.version.Version.{Version}
@@ -16,7 +14,7 @@ use Rattle.journal_disk.specs.Pairs.{RecordPair}
 use Rattle.journal_disk.specs.Entries.{entries}
 use Rattle.journal_disk.specs.Recovering.{IsForeign, opened}
 use Rattle.journal_disk.specs.Stepping.{HasEntryAt, IsDamagedAt}
-use Rattle.journal_keeping.specs.Keeping.{kept_version, IsKeptJournal, Keeps, GoesOn}
+use Rattle.journal_keeping.specs.Keeping.{kept_version, IsKeptJournal, Keeps}
 
 -- What a disk is when it is opened: no journal's, damaged at the gate at this place, one whose pair of this number is the first that
 -- isn't legal, or one that keeps the pairs of a legal journal.
@@ -43,28 +41,12 @@ IsOpening bytes (Rejected number) =
     × (bad : RecordPair) × (rest : List ℕ) × HasEntryAt place bad rest (opened bytes) × IsIllegalPair market bad × (number ≡ length legal + 1)
 IsOpening bytes (Legal pairs market) = (¬ IsForeign bytes) × IsKeptJournal pairs market × Keeps pairs bytes
 
--- what stands in the first limit bytes of the source: nothing that is kept, or records, and an ending
+-- what stands in the first limit bytes of the source: nothing that begins as a command file of that version, or records, and an ending
 abbrev pub ReadsKept : ℕ → List ℕ → Reading Version Record → Type 0
-ReadsKept limit bytes NotFlow = (reading : Reading Version Record) × Reads commands limit bytes reading
-    × ((version : Version) (records : List Record) (ending : Ending) → reading ≡ File version records ending → version ≢ kept_version)
+ReadsKept limit bytes NotFlow = (body : List ℕ) → ¬ BeginsWith commands.magics (take limit bytes) kept_version body
 ReadsKept limit bytes (File version records ending) = (version ≡ kept_version) × Reads commands limit bytes (File version records ending)
 
 -- the records of a reading
 abbrev pub records_in : Reading Version Record → List Record
 records_in NotFlow = []
 records_in (File version records ending) = records
-
--- What the disk's bytes and the source's come to, where no call fails.
-pub record ComesTo (limit : ℕ) (held bytes : List ℕ) (opening : Opening) (reading : Reading Version Record) : Type 0 where
-  pub opens : IsOpening held opening
-  pub reads : ReadsKept limit bytes reading
-
--- What then stands on the disk and in out. A disk that is refused gets no pair. Else all records are served, the disk keeps
--- their pairs behind the old ones, and out gained just their bytes.
-abbrev pub KeepsAll : Opening → Reading Version Record → Option (List ℕ) → Option (List ℕ) → Option (List ℕ) → Type 0
-KeepsAll Foreign reading content before after = Grows before after []
-KeepsAll (Damaged place) reading content before after = Grows before after []
-KeepsAll (Rejected number) reading content before after = Grows before after []
-KeepsAll (Legal old market) reading content before after =
-    (new : List (Pair Record Outcome)) × (now : Market) × GoesOn old market (records_in reading) new now
-    × IfSome content (Keeps (old ++ new)) × Grows before after (flat_map pair_spelling new)

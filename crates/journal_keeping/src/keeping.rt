@@ -1,0 +1,62 @@
+//! A journal that is kept on a disk while the records of a source are served.
+ghost use Rattle.std.specs.Prelude.{◌≡◌, ◌≤◌, ◌^◌, ℕ, List, length, Err, IfSome};
+ghost use Rattle.flow_io.specs.Faults.{Blames};
+ghost use Rattle.wire_records.specs.Records.{Record};
+ghost use Rattle.wire_records.specs.Commands.{Pair};
+ghost use Rattle.flow_orders.specs.Outcomes.{Outcome};
+ghost use Rattle.market_rules.specs.Market.{Market};
+ghost use Rattle.journal_keeping.specs.Keeping.{HoldsLegal, KeepsOn};
+ghost use Rattle.journal_keeping.specs.Ended.{ComesTo, IsRefusal, MayBeginAgain};
+
+use crate::fault::KeepFault;
+use crate::opening::{open_disk, open_source};
+use crate::taking::serve_on;
+use disk_edge::Disk;
+use flow_io::{Sink, Source};
+use std::alloc::Global;
+
+/// Serves the records of a command file of version Two, each behind the pairs that a disk keeps: its pair is kept on the disk,
+/// and then written to out, before the source is asked for more. A crash at any moment leaves on the disk the pairs that were
+/// kept before, each new one that was written to out, and at most one more; on what it leaves a later call goes on.
+///
+/// First the disk is opened and its pairs are audited, then the source's magic is looked at: so `NotDisk`, `Damaged` and `Rejected`
+/// come where the source wasn't asked yet and nothing was written, and leave what the disk holds. `Damaged` has the place
+/// of the first gate that isn't one, `Rejected` the number of the first kept pair that isn't legal, counted from 1. `NotFlow` leaves
+/// the pairs that are kept. At `Ok`, `Torn` and `TooLong` all whole records of the first `limit` bytes of the source are served,
+/// kept and written. `Disk`, `Read` and `Write` come only where the count of faults of the disk, the source or out rose, which
+/// stands still in every other case; `Memory` is free.
+///
+/// It costs the audit of the kept pairs, and of each record what serving it costs, two writes of the disk with a sync each, and one
+/// write of out. A window of the longest command record is held, and a buffer of the longest entry of a disk; the limit is at most 2^32 bytes.
+pub fn keep<S: Source, D: Disk, K: Sink>(
+    alloc: Global,
+    limit: u64,
+    source: &mut S,
+    disk: &mut D,
+    out: &mut K,
+) -> Result<(), KeepFault>
+    requires few { limit ≤ 2 ^ 32 }
+    ensures keeps { (old : List (Pair Record Outcome)) (market : Market) → HoldsLegal (D.state disk.old) old market →
+        KeepsOn limit (S.rest source.old) (result ≡ Err KeepFault.Write) (D.state disk.old) (D.state disk.new) old market
+        (K.held out.old) (K.held out.new) }
+    ensures again { (old : List (Pair Record Outcome)) (market : Market) → HoldsLegal (D.state disk.old) old market →
+        MayBeginAgain (D.state disk.old) (D.state disk.new) }
+    ensures comes { IfSome (D.state disk.old).content
+        (λ held. ComesTo limit held (S.rest source.old) (D.state disk.new) (K.held out.old) (K.held out.new) result) }
+    ensures legal { (old : List (Pair Record Outcome)) (market : Market) → HoldsLegal (D.state disk.old) old market →
+        IfSome (D.state disk.old).content (λ held. length held ≤ 2 ^ 60) → ¬ IsRefusal result }
+    ensures unasked { IsRefusal result → (source.new ≡ source.old) × (out.new ≡ out.old) }
+    ensures disk_cause { Blames (result ≡ Err KeepFault.Disk) (D.state disk.old).faults (D.state disk.new).faults }
+    ensures source_cause { Blames (result ≡ Err KeepFault.Read) (S.faults source.old) (S.faults source.new) }
+    ensures out_cause { Blames (result ≡ Err KeepFault.Write) (K.faults out.old) (K.faults out.new) }
+{
+    let mut keeper = match open_disk(alloc, disk) {
+        Ok(keeper) => keeper,
+        Err(fault) => return Err(fault),
+    };
+    let mut window = match open_source(alloc, limit, source) {
+        Ok(window) => window,
+        Err(fault) => return Err(fault),
+    };
+    serve_on(&mut window, source, &mut keeper, disk, out)
+}
