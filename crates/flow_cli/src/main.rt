@@ -6,6 +6,8 @@ use flow_exchange::{Status, flow};
 use flow_io::{StdSink, StdSource};
 use kept_exchange::{flow_disk, kept_file};
 use std::env;
+use std::fs::File;
+use std::io;
 use std::io::ErrorKind;
 use std::process::ExitCode;
 
@@ -21,6 +23,12 @@ fn words(rt: &HostRuntime) -> Result<Vec<String>, Status> {
     }
 }
 
+// Folders in the places of standard streams that are closed, so that no file which is opened then comes there, and is read or written
+// as that stream. A folder can't be: such a read or write still fails.
+fn hold_places(rt: &HostRuntime) -> [io::Result<File>; 3] {
+    [File::open(rt, "/"), File::open(rt, "/"), File::open(rt, "/")]
+}
+
 fn main(rt: HostRuntime) -> ExitCode {
     let alloc = rt.alloc();
     let mut source = StdSource::new(rt.stdin());
@@ -29,6 +37,7 @@ fn main(rt: HostRuntime) -> ExitCode {
     let status = match words(&rt) {
         Ok(words) => match kept_file(&words) {
             Some(path) => {
+                let _held = hold_places(&rt);
                 let mut disk = FileDisk::open(&rt, path);
                 flow_disk(alloc, &mut source, &mut disk, &mut out, &mut notes)
             }
