@@ -1,7 +1,8 @@
-"""A reader of the files that `flow keep` writes, by the formats alone."""
+"""A reader of the files that `flow keep` writes, and files that it may write, by the formats alone."""
+import struct
 
 MAGIC = b"FLOWDSK2"
-OPEN = b"\x01"
+OPEN, CLOSED = b"\x01", b"\0"
 
 # A file of at most so many bytes is a new one, whatever it holds.
 MOST_NEW = 9
@@ -56,3 +57,19 @@ def kept_pairs(file):
             raise Damaged(place)
         yield pair
         place += 1 + 4 + length
+
+
+def pairs_of(journal):
+    """The pairs of a journal, behind its magic."""
+    pairs, at = [], len(MAGIC)
+    while at < len(journal):
+        asked = at + HEAD + int.from_bytes(journal[at + 1:at + HEAD], "big")
+        behind = asked + HEAD + int.from_bytes(journal[asked + 1:asked + HEAD], "big")
+        pairs.append(journal[at:behind])
+        at = behind
+    return pairs
+
+
+def file_of(pairs, behind=CLOSED):
+    """The bytes of a file that keeps these pairs, and what stands behind them."""
+    return MAGIC + b"".join(OPEN + struct.pack(">I", len(pair)) + pair for pair in pairs) + behind
