@@ -1,2 +1,4 @@
 mod OneStatus
 mod Ending
+mod Serving
+mod TwoWords
