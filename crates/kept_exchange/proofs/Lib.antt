@@ -1,4 +1,4 @@
 mod OneStatus
-mod Ending
+mod AsStatus
 mod Serving
 mod TwoWords

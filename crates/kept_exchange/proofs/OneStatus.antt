@@ -15,9 +15,9 @@ use Rattle.kept_exchange.specs.Laws.{OneStatus}
 
 one_reading : (limit : ℕ) (bytes : List ℕ) (x y : Reading Version Record) → ReadsKept limit bytes x → ReadsKept limit bytes y → x ≡ y
 one_reading limit bytes NotFlow NotFlow a b = refl
-one_reading limit bytes NotFlow (File v r e) a b = absurd (a b.1 (rw b.0 at b.2))
-one_reading limit bytes (File v r e) NotFlow a b = absurd (b a.1 (rw a.0 at a.2))
-one_reading limit bytes (File v r e) (File w q f) a b = reads_one commands commands_readable limit bytes (File v r e) (File w q f) (a.1, a.2, a.3) (b.1, b.2, b.3)
+one_reading limit bytes NotFlow (File v r e) a b = absurd (a b.1.0 (rw b.0 at b.1.1))
+one_reading limit bytes (File v r e) NotFlow a b = absurd (b a.1.0 (rw a.0 at a.1.1))
+one_reading limit bytes (File v r e) (File w q f) a b = reads_one commands commands_readable limit bytes (File v r e) (File w q f) a.1 b.1
 
 opens_one : (limit : ℕ) (bytes : List ℕ) (opening : Opening) (a b : Status) → OpensTo limit bytes opening a → OpensTo limit bytes opening b → a ≡ b
 opens_one limit bytes Foreign a b x y = x ∙ sym y

@@ -18,7 +18,7 @@ use Rattle.flow_exchange.specs.declared.status.Status.TheVariants as status
 use Rattle.flow_exchange.specs.Statuses.{line_of}
 use Rattle.kept_exchange.specs.Statuses.{kept_status}
 use Rattle.kept_exchange.specs.Keeping.{EndsAs, Determines, ServesKeep}
-use Rattle.kept_exchange.proofs.Ending.{Kept, blames_as, read_back, write_back, disk_back, refusal_back, keeps_as, determines}
+use Rattle.kept_exchange.proofs.AsStatus.{Kept, blames_as, read_back, write_back, disk_back, refusal_back, keeps_as, determines}
 
 -- a line that no write failed of was written
 written : (result : Result (Unit {0}) WriteFailed) (before after : Option (List ℕ)) (line : List ℕ) (faults now : ℕ) → OnOk result (Grows before after line) → Blames (IsErr result) faults now → (¬ Rose faults now) → Grows before after line

@@ -1,5 +1,5 @@
 //! The words that ask for a kept journal.
-ghost use Rattle.std.specs.Prelude.{ℕ, List, map, string_bytes, IfSome, IfNone, ¬◌};
+ghost use Rattle.std.specs.Prelude.{ℕ, List, map, string_bytes, IfSome, IfNone};
 ghost use Rattle.kept_exchange.specs.Words.{AskKeep};
 
 /// The file that the words `keep FILE` name, which may be the empty word. `None` comes exactly where the words are any others.
