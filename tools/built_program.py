@@ -1,5 +1,6 @@
-"""The built program, for tools beside it: where it stands, and journals that it finds legal."""
+"""The built program, for tools beside it: where it stands, journals that it finds legal, and what is put before it."""
 import os
+import shutil
 import subprocess
 import sys
 
@@ -27,3 +28,18 @@ def legal_journal(place):
     if ran.returncode:
         sys.exit(ran.returncode)
     return journal
+
+
+def compiled(source, folder, *options):
+    """What a C compiler makes of a source in tools, or nothing where there is none that makes it."""
+    made = f"{folder}/{os.path.splitext(source)[0]}"
+    for compiler in filter(None, [os.environ.get("CC"), "cc", "gcc", "clang"]):
+        if shutil.which(compiler):
+            if subprocess.run([compiler, "-O1", *options, "-o", made, f"{TOP}/tools/{source}", "-ldl"]).returncode == 0:
+                return made
+    return None
+
+
+def library_of(source, folder):
+    """A library of it, for the loader to put before the C library."""
+    return compiled(source, folder, "-shared", "-fPIC")

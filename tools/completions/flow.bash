@@ -1,4 +1,4 @@
-# Completes the words of flow in bash, and files behind a redirection, since each word reads standard input.
+# Completes the words of flow in bash, and files behind a redirection, since each word reads standard input, and behind keep.
 #
 #     source tools/completions/flow.bash
 
@@ -7,13 +7,13 @@ _flow() {
     COMPREPLY=()
     case $word in '<' | '>' | '>>') word= before='<' ;; esac
     case $before in
-    '<' | '>' | '>>')
+    '<' | '>' | '>>' | keep)
         compopt -o filenames 2>/dev/null
         mapfile -t COMPREPLY < <(compgen -f -- "$word")
         return
         ;;
     esac
-    [ "$COMP_CWORD" -ne 1 ] || words="run audit explain report encode sample"
+    [ "$COMP_CWORD" -ne 1 ] || words="run audit explain report encode sample keep"
     [ "$COMP_CWORD" -ne 2 ] || [ "$before" != encode ] || words=2
     mapfile -t COMPREPLY < <(compgen -W "$words" -- "$word")
 }

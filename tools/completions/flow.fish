@@ -9,4 +9,6 @@ complete -c flow -n 'test (count (commandline -opc)) -eq 1' -a explain -d 'a jou
 complete -c flow -n 'test (count (commandline -opc)) -eq 1' -a report -d 'a journal: show it as text'
 complete -c flow -n 'test (count (commandline -opc)) -eq 1' -a encode -d 'lines of JSON: write a command file'
 complete -c flow -n 'test (count (commandline -opc)) -eq 1' -a sample -d 'write a command file by a number, with so many orders'
+complete -c flow -n 'test (count (commandline -opc)) -eq 1' -a keep -d 'a command file: keep its journal in a file'
+complete -c flow -n 'test (count (commandline -opc)) -eq 2; and test (commandline -opc)[2] = keep' -F
 complete -c flow -n 'test (count (commandline -opc)) -eq 2; and test (commandline -opc)[2] = encode' -a 2 -d 'of version 2'

@@ -1,9 +1,13 @@
-//! The program `flow`: its words, standard input, output and error, given to the exchange.
+//! The program `flow`: its words, standard input, output and error, given to the exchange, and for the words `keep FILE` that file.
 #![tactic(auto)]
 
+use disk_edge::FileDisk;
 use flow_exchange::{Status, flow};
 use flow_io::{StdSink, StdSource};
+use kept_exchange::{flow_disk, kept_file};
 use std::env;
+use std::fs::File;
+use std::io;
 use std::io::ErrorKind;
 use std::process::ExitCode;
 
@@ -19,12 +23,26 @@ fn words(rt: &HostRuntime) -> Result<Vec<String>, Status> {
     }
 }
 
+// Folders in the places of standard streams that are closed, so that no file which is opened then comes there, and is read or written
+// as that stream. A folder can't be: such a read or write still fails.
+fn hold_places(rt: &HostRuntime) -> [io::Result<File>; 3] {
+    [File::open(rt, "/"), File::open(rt, "/"), File::open(rt, "/")]
+}
+
 fn main(rt: HostRuntime) -> ExitCode {
+    let alloc = rt.alloc();
     let mut source = StdSource::new(rt.stdin());
     let mut out = StdSink::new(rt.stdout());
     let mut notes = StdSink::new(rt.stderr());
     let status = match words(&rt) {
-        Ok(words) => flow(rt.alloc(), &words, &mut source, &mut out, &mut notes),
+        Ok(words) => match kept_file(&words) {
+            Some(path) => {
+                let _held = hold_places(&rt);
+                let mut disk = FileDisk::open(&rt, path);
+                flow_disk(alloc, &mut source, &mut disk, &mut out, &mut notes)
+            }
+            None => flow(alloc, &words, &mut source, &mut out, &mut notes),
+        },
         Err(status) => {
             let _ = status.write_line(&mut notes);
             status

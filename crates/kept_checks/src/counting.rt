@@ -1,0 +1,54 @@
+//! How often calls ended in which way.
+use std::alloc::Global;
+
+// A number of an exit and the bytes in out, and how often they came.
+#[derive(Drop)]
+struct Count {
+    exit: u8,
+    out: Vec<u8>,
+    times: u32,
+}
+
+// What came so far, in the order in which it first came.
+#[derive(Drop)]
+pub(crate) struct Counts {
+    counts: Vec<Count>,
+}
+
+impl Counts {
+    // Nothing so far.
+    pub(crate) fn new(alloc: Global) -> Counts {
+        Counts {
+            counts: Vec::new(alloc),
+        }
+    }
+
+    // Counts one more.
+    pub(crate) fn add(&mut self, alloc: Global, exit: u8, out: &[u8]) -> Option<()> {
+        for count in &mut self.counts {
+            if count.exit == exit && count.out.as_slice() == out {
+                count.times = count.times.saturating_add(1);
+                return Some(());
+            }
+        }
+        let out = out.to_vec(alloc).ok()?;
+        self.counts
+            .push(Count {
+                exit,
+                out,
+                times: 1,
+            })
+            .ok()
+    }
+
+    // Appends a row for each.
+    pub(crate) fn put(&self, alloc: Global, rows: &mut String) -> Option<()> {
+        rows.push('\n').ok()?;
+        for count in &self.counts {
+            let (times, exit) = (count.times, count.exit);
+            let digits = hex::encode(alloc, &count.out).ok()?;
+            write!(rows, "  {times} times {exit}, {digits}\n").ok()?;
+        }
+        Some(())
+    }
+}

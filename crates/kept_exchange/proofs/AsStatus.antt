@@ -1,0 +1,153 @@
+-- How keeping a journal ended, as a status.
+use Rattle.std.proofs.Common.{◌≡◌, ◌≢◌, ◌⊎◌, inl, inr, ℕ, List, Option, Some, None, IfSome, Result, Ok, Err, refl, sym, ap}
+use Rattle.flow_io.specs.Faults.{Rose, Blames}
+use Rattle.wire_records.specs.Records.{Record}
+use Rattle.wire_records.specs.Commands.{Pair}
+use Rattle.wire_records.specs.Reading as reading
+use Rattle.flow_orders.specs.Outcomes.{Outcome}
+use Rattle.market_rules.specs.Market.{Market}
+use Rattle.disk_edge.specs.Disks.{DiskState}
+use Rattle.journal_keeping.specs.Keeping.{StandIn, KeepsOn}
+use Rattle.journal_keeping.specs.Openings as opening
+use Rattle.journal_keeping.specs.Ended.{ComesTo, HasKeptAll, file_of}
+use Rattle.journal_keeping.specs.Ended as kept
+use Rattle.journal_keeping.specs.declared.fault.KeepFault.{KeepFault}
+use Rattle.journal_keeping.specs.declared.fault.KeepFault.TheVariants.{Read, Write, Disk, Memory, NotDisk, Damaged, Rejected, NotFlow, Torn, TooLong}
+use Rattle.flow_exchange.specs.declared.status.Status.{Status}
+use Rattle.flow_exchange.specs.Statuses.{reading_status}
+use Rattle.flow_exchange.specs.declared.status.Status.TheVariants as status
+use Rattle.kept_exchange.specs.Statuses.{kept_status, AsksStatus}
+use Rattle.kept_exchange.specs.Keeping.{Determines, IsRefusal}
+use Rattle.kept_exchange.proofs.OneStatus.{one_status}
+
+-- how it ended
+abbrev pub Kept : Type 0
+Kept = Result (Unit {0}) KeepFault
+
+-- the same, said of the status: who is to blame
+pub blames_as : (P Q : Type 0) (before now : ℕ) → (P → Q) → (Q → P) → Blames P before now → Blames Q before now
+blames_as P Q before now to back blames = record {
+  later = blames.later;
+  rose = λ q. blames.rose (back q);
+  quiet = λ not. blames.quiet (λ p. not (to p));
+}
+
+pub read_back : (limit : ℕ) (result : Kept) → kept_status limit result ≡ status.ReadFault → ◌≡◌ {A = Kept} result (Err Read)
+read_back limit (Ok done) e = absurd cc
+read_back limit (Err Read) e = refl
+read_back limit (Err Write) e = absurd cc
+read_back limit (Err Disk) e = absurd cc
+read_back limit (Err Memory) e = absurd cc
+read_back limit (Err NotDisk) e = absurd cc
+read_back limit (Err (Damaged place)) e = absurd cc
+read_back limit (Err (Rejected number)) e = absurd cc
+read_back limit (Err NotFlow) e = absurd cc
+read_back limit (Err (Torn place)) e = absurd cc
+read_back limit (Err TooLong) e = absurd cc
+
+pub write_back : (limit : ℕ) (result : Kept) → kept_status limit result ≡ status.WriteFault → ◌≡◌ {A = Kept} result (Err Write)
+write_back limit (Ok done) e = absurd cc
+write_back limit (Err Read) e = absurd cc
+write_back limit (Err Write) e = refl
+write_back limit (Err Disk) e = absurd cc
+write_back limit (Err Memory) e = absurd cc
+write_back limit (Err NotDisk) e = absurd cc
+write_back limit (Err (Damaged place)) e = absurd cc
+write_back limit (Err (Rejected number)) e = absurd cc
+write_back limit (Err NotFlow) e = absurd cc
+write_back limit (Err (Torn place)) e = absurd cc
+write_back limit (Err TooLong) e = absurd cc
+
+pub disk_back : (limit : ℕ) (result : Kept) → kept_status limit result ≡ status.DiskFault → ◌≡◌ {A = Kept} result (Err Disk)
+disk_back limit (Ok done) e = absurd cc
+disk_back limit (Err Read) e = absurd cc
+disk_back limit (Err Write) e = absurd cc
+disk_back limit (Err Disk) e = refl
+disk_back limit (Err Memory) e = absurd cc
+disk_back limit (Err NotDisk) e = absurd cc
+disk_back limit (Err (Damaged place)) e = absurd cc
+disk_back limit (Err (Rejected number)) e = absurd cc
+disk_back limit (Err NotFlow) e = absurd cc
+disk_back limit (Err (Torn place)) e = absurd cc
+disk_back limit (Err TooLong) e = absurd cc
+
+-- the disk was refused by the one where it was by the other
+pub refusal_back : (limit : ℕ) (result : Kept) → IsRefusal (kept_status limit result) → kept.IsRefusal result
+refusal_back limit (Err NotDisk) r = tt
+refusal_back limit (Err (Damaged place)) r = tt
+refusal_back limit (Err (Rejected number)) r = tt
+refusal_back limit (Ok done) (inl e) = absurd cc
+refusal_back limit (Ok done) (inr (inl e)) = absurd cc
+refusal_back limit (Ok done) (inr (inr e)) = absurd cc
+refusal_back limit (Err Read) (inl e) = absurd cc
+refusal_back limit (Err Read) (inr (inl e)) = absurd cc
+refusal_back limit (Err Read) (inr (inr e)) = absurd cc
+refusal_back limit (Err Write) (inl e) = absurd cc
+refusal_back limit (Err Write) (inr (inl e)) = absurd cc
+refusal_back limit (Err Write) (inr (inr e)) = absurd cc
+refusal_back limit (Err Disk) (inl e) = absurd cc
+refusal_back limit (Err Disk) (inr (inl e)) = absurd cc
+refusal_back limit (Err Disk) (inr (inr e)) = absurd cc
+refusal_back limit (Err Memory) (inl e) = absurd cc
+refusal_back limit (Err Memory) (inr (inl e)) = absurd cc
+refusal_back limit (Err Memory) (inr (inr e)) = absurd cc
+refusal_back limit (Err NotFlow) (inl e) = absurd cc
+refusal_back limit (Err NotFlow) (inr (inl e)) = absurd cc
+refusal_back limit (Err NotFlow) (inr (inr e)) = absurd cc
+refusal_back limit (Err (Torn place)) (inl e) = absurd cc
+refusal_back limit (Err (Torn place)) (inr (inl e)) = absurd cc
+refusal_back limit (Err (Torn place)) (inr (inr e)) = absurd cc
+refusal_back limit (Err TooLong) (inl e) = absurd cc
+refusal_back limit (Err TooLong) (inr (inl e)) = absurd cc
+refusal_back limit (Err TooLong) (inr (inr e)) = absurd cc
+
+-- what out gained, where more writes may have been cut short
+wider : (P Q : Type 0) (before after : Option (List ℕ)) (pairs : List (Pair Record Outcome)) → (P → Q) → StandIn P before after pairs → StandIn Q before after pairs
+wider P Q before after pairs to stand = record {
+  whole = stand.whole;
+  last = stand.last;
+  parts = stand.parts;
+  one = stand.one;
+  none = λ not. stand.none (λ p. not (to p));
+  written = stand.written;
+}
+
+pub keeps_as : (P Q : Type 0) → (P → Q) → (limit : ℕ) (content : Option (List ℕ)) (start end : DiskState) (old : List (Pair Record Outcome)) (market : Market) (before after : Option (List ℕ))
+    → KeepsOn limit content P start end old market before after → KeepsOn limit content Q start end old market before after
+keeps_as P Q to limit content start end old market before after on = record {
+  records = on.records;
+  new = on.new;
+  acknowledged = on.acknowledged;
+  served = on.served;
+  runs = on.runs;
+  written = wider P Q before after _ to on.written;
+}
+
+module _ (limit : ℕ) (held : List ℕ) (end : DiskState) (before after : Option (List ℕ)) where
+  -- all was kept: the status is that of the reading
+  asks_all : (bytes : List ℕ) (all : reading.Reading _ Record) → HasKeptAll limit held (Some bytes) end before after all → AsksStatus limit held bytes (reading_status limit all)
+  asks_all bytes all has = (opening.Legal has.old has.market, has.opens, (all, has.reads, refl))
+
+  -- what it came to is what the bytes ask for, but for faults and want of memory
+  asks : (bytes : List ℕ) (result : Kept) → ComesTo limit held (Some bytes) end before after result
+      → ((◌≡◌ {A = Kept} result (Err Read)) → ⊥) → ((◌≡◌ {A = Kept} result (Err Write)) → ⊥) → ((◌≡◌ {A = Kept} result (Err Disk)) → ⊥) → kept_status limit result ≢ status.NoMemory
+      → AsksStatus limit held bytes (kept_status limit result)
+  asks bytes (Ok done) x r w d m = asks_all bytes (file_of x.0 reading.End) x.1
+  asks bytes (Err Read) x r w d m = absurd (r refl)
+  asks bytes (Err Write) x r w d m = absurd (w refl)
+  asks bytes (Err Disk) x r w d m = absurd (d refl)
+  asks bytes (Err Memory) x r w d m = absurd (m refl)
+  asks bytes (Err NotDisk) x r w d m = (opening.Foreign, x.is, refl)
+  asks bytes (Err (Damaged place)) x r w d m = (opening.Damaged place, x.is, refl)
+  asks bytes (Err (Rejected number)) x r w d m = (opening.Rejected number, x.is, refl)
+  asks bytes (Err NotFlow) x r w d m = asks_all bytes reading.NotFlow x
+  asks bytes (Err (Torn place)) x r w d m = asks_all bytes (file_of x.0 (reading.Torn place)) x.1
+  asks bytes (Err TooLong) x r w d m = asks_all bytes (file_of x.0 reading.TooLong) x.1
+
+  pub determines : (content : Option (List ℕ)) (result : Kept) → ComesTo limit held content end before after result
+      → ((◌≡◌ {A = Kept} result (Err Read)) → ⊥) → ((◌≡◌ {A = Kept} result (Err Write)) → ⊥) → ((◌≡◌ {A = Kept} result (Err Disk)) → ⊥) → kept_status limit result ≢ status.NoMemory
+      → IfSome content (λ bytes. Determines limit held bytes (kept_status limit result))
+  determines None result x r w d m = tt
+  determines (Some bytes) result x r w d m =
+      let asked = asks bytes result x r w d m in
+      (asked, λ other also. one_status limit held bytes other (kept_status limit result) also asked)

@@ -1,0 +1,4 @@
+mod OneStatus
+mod AsStatus
+mod Serving
+mod TwoWords

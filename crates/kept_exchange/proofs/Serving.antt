@@ -1,0 +1,70 @@
+-- A call that keeps a journal does what is promised of it.
+use Rattle.std.proofs.Common.{◌≡◌, ◌≢◌, ◌≤◌, ◌^◌, ℕ, List, length, Option, Some, None, IfSome, Result, Ok, Err, OnOk, OnErr, IsErr, refl, ap}
+use Rattle.flow_io.specs.Faults.{Rose, Blames}
+use Rattle.flow_io.specs.Streams.{Grows, GrowsByFront}
+use Rattle.flow_io.specs.Changes.{Change}
+use Rattle.flow_io.specs.declared.sink.WriteFailed.{WriteFailed}
+use Rattle.flow_io.proofs.Growth.{GrowsByFront-whole}
+use Rattle.wire_records.specs.Records.{Record}
+use Rattle.wire_records.specs.Commands.{Pair}
+use Rattle.flow_orders.specs.Outcomes.{Outcome}
+use Rattle.market_rules.specs.Market.{Market}
+use Rattle.disk_edge.specs.Disks.{DiskState}
+use Rattle.journal_keeping.specs.Keeping.{HoldsLegal, KeepsOn}
+use Rattle.journal_keeping.specs.Ended.{ComesTo, MayBeginAgain}
+use Rattle.journal_keeping.specs.Ended as kept
+use Rattle.journal_keeping.specs.declared.fault.KeepFault.TheVariants.{Read, Write, Disk}
+use Rattle.flow_exchange.specs.declared.status.Status.TheVariants as status
+use Rattle.flow_exchange.specs.Statuses.{line_of}
+use Rattle.kept_exchange.specs.Statuses.{kept_status}
+use Rattle.kept_exchange.specs.Keeping.{EndsAs, Determines, ServesKeep}
+use Rattle.kept_exchange.proofs.AsStatus.{Kept, blames_as, read_back, write_back, disk_back, refusal_back, keeps_as, determines}
+
+-- a line that no write failed of was written
+written : (result : Result (Unit {0}) WriteFailed) (before after : Option (List ℕ)) (line : List ℕ) (faults now : ℕ) → OnOk result (Grows before after line) → Blames (IsErr result) faults now → (¬ Rose faults now) → Grows before after line
+written (Ok x) before after line faults now grows cause still = grows
+written (Err e) before after line faults now grows cause still = absurd (still (cause.rose refl))
+
+-- and a front of it in any case
+cut_line : (result : Result (Unit {0}) WriteFailed) (before after : Option (List ℕ)) (line : List ℕ) → OnOk result (Grows before after line) → OnErr result (GrowsByFront before after line) → GrowsByFront before after line
+cut_line (Ok x) before after line grows front = GrowsByFront-whole before after line grows
+cut_line (Err e) before after line grows front = front
+
+module _ (limit : ℕ) (result : Kept) (start end : DiskState) (source out : Change) where
+  -- what it came to, as a status
+  ends_as : (content : Option (List ℕ)) → IfSome content (λ held. ComesTo limit held source.before end out.before out.after result)
+      → IfSome content (λ held. EndsAs limit held source.before end out.before out.after (kept_status limit result))
+  ends_as None comes = tt
+  ends_as (Some held) comes = (result, comes, refl)
+
+  -- where no count rose and memory was there, the bytes determine it
+  completes : (content : Option (List ℕ)) → IfSome content (λ held. ComesTo limit held source.before end out.before out.after result)
+      → ((◌≡◌ {A = Kept} result (Err Read)) → ⊥) → ((◌≡◌ {A = Kept} result (Err Write)) → ⊥) → ((◌≡◌ {A = Kept} result (Err Disk)) → ⊥) → kept_status limit result ≢ status.NoMemory
+      → IfSome content (λ held. IfSome source.before (λ bytes. Determines limit held bytes (kept_status limit result)))
+  completes None comes r w d m = tt
+  completes (Some held) comes r w d m = determines limit held end out.before out.after source.before result comes r w d m
+
+  pub serves : (notes : Change) (noting : Result (Unit {0}) WriteFailed)
+      → ((old : List (Pair Record Outcome)) (market : Market) → HoldsLegal start old market → KeepsOn limit source.before (◌≡◌ {A = Kept} result (Err Write)) start end old market out.before out.after)
+      → ((old : List (Pair Record Outcome)) (market : Market) → HoldsLegal start old market → MayBeginAgain start end)
+      → IfSome start.content (λ held. ComesTo limit held source.before end out.before out.after result)
+      → ((old : List (Pair Record Outcome)) (market : Market) → HoldsLegal start old market → IfSome start.content (λ held. length held ≤ 2 ^ 60) → ¬ kept.IsRefusal result)
+      → Blames (◌≡◌ {A = Kept} result (Err Disk)) start.faults end.faults
+      → Blames (◌≡◌ {A = Kept} result (Err Read)) source.faults source.faults_after
+      → Blames (◌≡◌ {A = Kept} result (Err Write)) out.faults out.faults_after
+      → OnOk noting (Grows notes.before notes.after (line_of (kept_status limit result)))
+      → OnErr noting (GrowsByFront notes.before notes.after (line_of (kept_status limit result)))
+      → Blames (IsErr noting) notes.faults notes.faults_after
+      → ServesKeep limit (kept_status limit result) start end source out notes
+  serves notes noting keeps again comes legal disk read write line front cause = record {
+    keeps = λ old market holds. keeps_as (◌≡◌ {A = Kept} result (Err Write)) (kept_status limit result ≡ status.WriteFault) (ap (kept_status limit)) limit source.before start end old market out.before out.after (keeps old market holds);
+    again = again;
+    opens = λ old market holds small refused. legal old market holds small (refusal_back limit result refused);
+    ends = ends_as start.content comes;
+    complete = λ no_disk no_read no_write memory. completes start.content comes (λ e. no_read (read.rose e)) (λ e. no_write (write.rose e)) (λ e. no_disk (disk.rose e)) memory;
+    disks = blames_as _ _ _ _ (ap (kept_status limit)) (disk_back limit result) disk;
+    reads = blames_as _ _ _ _ (ap (kept_status limit)) (read_back limit result) read;
+    writes = blames_as _ _ _ _ (ap (kept_status limit)) (write_back limit result) write;
+    noted = written noting notes.before notes.after (line_of (kept_status limit result)) notes.faults notes.faults_after line cause;
+    cut = cut_line noting notes.before notes.after (line_of (kept_status limit result)) line front;
+  }

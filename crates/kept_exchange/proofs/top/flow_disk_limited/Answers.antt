@@ -1,0 +1,14 @@
+use Rattle.flow_io.specs.Changes.{change}
+use Rattle.kept_exchange.proofs.Serving.{serves}
+use Rattle.kept_exchange.proofs.top.flow_disk_limited.Goals as goal
+
+pub returns-clause-serves : goal.returns-clause-serves
+returns-clause-serves g c =
+    let kept = c.keep-ended.ensures in
+    let line = rw c.status_of-status.ensures at c.write_line.ensures.written in
+    let front = rw c.status_of-status.ensures at c.write_line.ensures.cut in
+    rw c.status_of-status.ensures (serves c.args.limit c.keep-ended.result (g.D.Disk.state c.args.disk.now) (g.D.Disk.state c.keep-ended.new.disk)
+    (change g.S.Source.rest g.S.Source.faults c.args.source.now c.keep-ended.new.source)
+    (change g.K.Sink.held g.K.Sink.faults c.args.out.now c.keep-ended.new.out)
+    (change g.N.Sink.held g.N.Sink.faults c.args.notes.now c.write_line.new.notes) c.write_line.result
+    kept.keeps kept.again kept.comes kept.legal kept.disk_cause kept.source_cause kept.out_cause line front c.write_line.ensures.cause)

@@ -1,0 +1,15 @@
+use Rattle.std.proofs.Common.{◌≡◌, ℕ, List, [], ◌∷◌, sym, ap, ◌∙◌, arith}
+use Rattle.std.specs.Prelude.{string_bytes, codes}
+use Rattle.std.specs.Str.{bytes_eq}
+use Rattle.std.proofs.lemmas.Slice.Eq.{bytes_eq-Decides}
+use Rattle.kept_exchange.proofs.TwoWords.{two_words}
+use Rattle.kept_exchange.proofs.words.kept_file.Goals as goal
+
+pub returns-then-eq-clause-file : goal.returns-then-eq-clause-file
+returns-then-eq-clause-file c =
+    let a = c.index-words-0.result in
+    let b = c.index-words-1.result in
+    let two = two_words c.args.words.now a b (omega arith) c.index-words-0.is c.index-words-1.is in
+    let by_first : c.eq.result ≡ bytes_eq (string_bytes a) (codes "keep") = c.eq.ensures ∙ ap (λ xs. bytes_eq xs (codes "keep")) c.as_str.ensures.value in
+    let is_first = (bytes_eq-Decides (string_bytes a) (codes "keep")).0 (sym by_first ∙ c.if-eq.true) in
+    two ∙ ap (λ (xs : List ℕ). xs ∷ string_bytes b ∷ []) is_first ∙ ap (λ (xs : List ℕ). codes "keep" ∷ xs ∷ []) (sym c.as_str-then-eq.ensures.value)

@@ -1,0 +1,56 @@
+-- What the program does with the words `keep FILE`: what a crash may leave on the disk, what out gains, and which status comes.
+use Rattle.std.specs.Prelude.{◌≡◌, ◌≢◌, ◌⊎◌, ◌≤◌, ◌^◌, ℕ, List, length, Option, IfSome, Result}
+use Rattle.flow_io.specs.Faults.{Rose, Blames}
+use Rattle.flow_io.specs.Streams.{Grows, GrowsByFront}
+use Rattle.flow_io.specs.Changes.{Change}
+use Rattle.wire_records.specs.Records.{Record}
+use Rattle.wire_records.specs.Commands.{Pair}
+use Rattle.flow_orders.specs.Outcomes.{Outcome}
+use Rattle.market_rules.specs.Market.{Market}
+use Rattle.disk_edge.specs.Disks.{DiskState}
+use Rattle.journal_keeping.specs.Keeping.{HoldsLegal, KeepsOn}
+use Rattle.journal_keeping.specs.Ended.{ComesTo, MayBeginAgain}
+use Rattle.journal_keeping.specs.declared.fault.KeepFault.{KeepFault}
+use Rattle.flow_exchange.specs.declared.status.Status.{Status}
+use Rattle.flow_exchange.specs.declared.status.Status.TheVariants.{ReadFault, WriteFault, NoMemory, Rejected, DiskFault, NotDisk, Damaged}
+use Rattle.flow_exchange.specs.Statuses.{line_of}
+use Rattle.kept_exchange.specs.Statuses.{kept_status, AsksStatus}
+
+-- It ended so, and came to this: what was found on the disk and in the source, and what then stands on the disk and in out.
+abbrev pub EndsAs : ℕ → List ℕ → Option (List ℕ) → DiskState → Option (List ℕ) → Option (List ℕ) → Status → Type 0
+EndsAs limit held content end before after status =
+    (result : Result (Unit {0}) KeepFault) × ComesTo limit held content end before after result × (status ≡ kept_status limit result)
+
+-- the bytes of the disk and of the source ask for this status, and for no other
+abbrev pub Determines : ℕ → List ℕ → List ℕ → Status → Type 0
+Determines limit held bytes status =
+    AsksStatus limit held bytes status × ((other : Status) → AsksStatus limit held bytes other → other ≡ status)
+
+-- the disk was refused
+abbrev pub IsRefusal : Status → Type 0
+IsRefusal status = (status ≡ NotDisk) ⊎ ((place : ℕ) × (status ≡ Damaged place)) ⊎ ((number : ℕ) × (status ≡ Rejected number))
+
+-- What a call does that keeps a journal on a disk, with a limit of its input.
+pub record ServesKeep (limit : ℕ) (status : Status) (start end : DiskState) (source out notes : Change) : Type 0 where
+  -- Where a crash may leave legal journals alone as it begins, a crash at each moment leaves what it might have left then, or the old
+  -- pairs and the first of the new ones, which answer the first records of the source and are one legal journal with the old ones.
+  -- Afterwards it leaves each pair that was acknowledged, and at most one more; and these are what out gained.
+  pub keeps : (old : List (Pair Record Outcome)) (market : Market) → HoldsLegal start old market
+      → KeepsOn limit source.before (status ≡ WriteFault) start end old market out.before out.after
+  -- What a crash leaves is then a disk of which all this holds again.
+  pub again : (old : List (Pair Record Outcome)) (market : Market) → HoldsLegal start old market → MayBeginAgain start end
+  -- Such a disk isn't refused, where it has at most 2^60 bytes.
+  pub opens : (old : List (Pair Record Outcome)) (market : Market) → HoldsLegal start old market
+      → IfSome start.content (λ held. length held ≤ 2 ^ 60) → ¬ IsRefusal status
+  -- Which status comes, and what then stands on the disk and in out.
+  pub ends : IfSome start.content (λ held. EndsAs limit held source.before end out.before out.after status)
+  -- Where no count rose, the status is want of memory or the one that the bytes determine.
+  pub complete : (¬ Rose start.faults end.faults) → (¬ Rose source.faults source.faults_after) → (¬ Rose out.faults out.faults_after) → status ≢ NoMemory
+      → IfSome start.content (λ held. IfSome source.before (λ bytes. Determines limit held bytes status))
+  -- A fault is answered only where its count rose, and else the count stays.
+  pub disks : Blames (status ≡ DiskFault) start.faults end.faults
+  pub reads : Blames (status ≡ ReadFault) source.faults source.faults_after
+  pub writes : Blames (status ≡ WriteFault) out.faults out.faults_after
+  -- Notes grew by the line of the status, or by a front of it where a write of it failed. That changes nothing else.
+  pub noted : (¬ Rose notes.faults notes.faults_after) → Grows notes.before notes.after (line_of status)
+  pub cut : GrowsByFront notes.before notes.after (line_of status)

@@ -1,0 +1,36 @@
+-- Which status keeping a journal comes to.
+use Rattle.std.specs.Prelude.{◌≡◌, ℕ, List, Result, Ok, Err}
+use Rattle.wire_records.specs.Records.{Record}
+use Rattle.wire_records.specs.Reading.{Reading}
+use Rattle.wire_records.specs.declared.version.Version.{Version}
+use Rattle.journal_keeping.specs.declared.fault.KeepFault.{KeepFault}
+use Rattle.journal_keeping.specs.declared.fault.KeepFault.TheVariants as kept
+use Rattle.journal_keeping.specs.Openings.{Opening, Foreign, Damaged, Rejected, Legal, IsOpening, ReadsKept}
+use Rattle.flow_exchange.specs.declared.status.Status.{Status}
+use Rattle.flow_exchange.specs.declared.status.Status.TheVariants as status
+use Rattle.flow_exchange.specs.Statuses.{reading_status}
+
+-- the status of how it ended
+abbrev pub kept_status : ℕ → Result (Unit {0}) KeepFault → Status
+kept_status limit (Ok done) = status.Done
+kept_status limit (Err kept.Read) = status.ReadFault
+kept_status limit (Err kept.Write) = status.WriteFault
+kept_status limit (Err kept.Disk) = status.DiskFault
+kept_status limit (Err kept.Memory) = status.NoMemory
+kept_status limit (Err kept.NotDisk) = status.NotDisk
+kept_status limit (Err (kept.Damaged place)) = status.Damaged place
+kept_status limit (Err (kept.Rejected number)) = status.Rejected number
+kept_status limit (Err kept.NotFlow) = status.NotFlow
+kept_status limit (Err (kept.Torn place)) = status.Torn place
+kept_status limit (Err kept.TooLong) = status.TooLong limit
+
+-- Of a disk that was opened so: one that is refused has a status of its own, and else it is that of the source, as a run has it.
+abbrev pub OpensTo : ℕ → List ℕ → Opening → Status → Type 0
+OpensTo limit bytes Foreign ends = ends ≡ status.NotDisk
+OpensTo limit bytes (Damaged place) ends = ends ≡ status.Damaged place
+OpensTo limit bytes (Rejected number) ends = ends ≡ status.Rejected number
+OpensTo limit bytes (Legal pairs market) ends = (reading : Reading Version Record) × ReadsKept limit bytes reading × (ends ≡ reading_status limit reading)
+
+-- the status that the bytes of a disk and of a source ask for, where no call fails and there is memory
+abbrev pub AsksStatus : ℕ → List ℕ → List ℕ → Status → Type 0
+AsksStatus limit held bytes ends = (opening : Opening) × IsOpening held opening × OpensTo limit bytes opening ends

@@ -1,0 +1,25 @@
+//! The status of how keeping a journal ended.
+ghost use Rattle.std.specs.Prelude.{◌≡◌};
+ghost use Rattle.kept_exchange.specs.Statuses.{kept_status};
+
+use flow_exchange::Status;
+use journal_keeping::KeepFault;
+
+// Of a run that keeps a journal.
+pub(crate) fn status_of(ended: Result<(), KeepFault>, limit: u64) -> Status
+    ensures { result ≡ kept_status limit ended }
+{
+    match ended {
+        Ok(()) => Status::Done,
+        Err(KeepFault::Read) => Status::ReadFault,
+        Err(KeepFault::Write) => Status::WriteFault,
+        Err(KeepFault::Disk) => Status::DiskFault,
+        Err(KeepFault::Memory) => Status::NoMemory,
+        Err(KeepFault::NotDisk) => Status::NotDisk,
+        Err(KeepFault::Damaged(place)) => Status::Damaged(place),
+        Err(KeepFault::Rejected(number)) => Status::Rejected(number),
+        Err(KeepFault::NotFlow) => Status::NotFlow,
+        Err(KeepFault::Torn(place)) => Status::Torn(place),
+        Err(KeepFault::TooLong) => Status::TooLong(limit),
+    }
+}

@@ -1,0 +1,7 @@
+//! What holds of keeping a journal, whatever code there is. Each law is the contract of a function that does nothing.
+ghost use Rattle.kept_exchange.specs.Laws.{OneStatus};
+
+/// The bytes of a disk and of a source ask for one status: the answers exclude one another.
+pub fn one_status()
+    ensures { OneStatus }
+{}

@@ -1,0 +1,75 @@
+"""A reader of the files that `flow keep` writes, and files that it may write, by the formats alone."""
+import struct
+
+MAGIC = b"FLOWDSK2"
+OPEN, CLOSED = b"\x01", b"\0"
+
+# A file of at most so many bytes is a new one, whatever it holds.
+MOST_NEW = 9
+
+# The longest bodies of a command's record and of a reply's, and the head of either.
+MOST_ASKED, MOST_ANSWERED, HEAD = 1_024, 262_144, 5
+LONGEST = MOST_ASKED + MOST_ANSWERED + 2 * HEAD
+
+
+class Foreign(Exception):
+    """The file holds something else."""
+
+
+class Damaged(Exception):
+    """The file has no whole entry where one should begin, at this byte."""
+
+
+def is_pair(pair):
+    """Whether these bytes are just two records, each within its limit."""
+    place = 0
+    for most in (MOST_ASKED, MOST_ANSWERED):
+        length = int.from_bytes(pair[place + 1:place + HEAD], "big")
+        if len(pair) < place + HEAD + length or length > most:
+            return False
+        place += HEAD + length
+    return place == len(pair)
+
+
+def begin(file):
+    """Looks at the front of an open file: whether entries may follow, and not where it is a new one."""
+    front = file.read(MOST_NEW + 1)
+    if len(front) > MOST_NEW and not front.startswith(MAGIC):
+        raise Foreign
+    file.seek(len(MAGIC))
+    return len(front) > MOST_NEW
+
+
+def kept_pairs(file):
+    """The pairs that an open file keeps, one after the other."""
+    if not begin(file):
+        return
+    place = len(MAGIC)
+    while True:
+        gate = file.read(1)
+        if not gate:
+            raise Damaged(place)
+        if gate != OPEN:
+            return
+        length = int.from_bytes(file.read(4), "big")
+        pair = file.read(length) if length <= LONGEST else b""
+        if len(pair) < length or not is_pair(pair):
+            raise Damaged(place)
+        yield pair
+        place += 1 + 4 + length
+
+
+def pairs_of(journal):
+    """The pairs of a journal, behind its magic."""
+    pairs, at = [], len(MAGIC)
+    while at < len(journal):
+        asked = at + HEAD + int.from_bytes(journal[at + 1:at + HEAD], "big")
+        behind = asked + HEAD + int.from_bytes(journal[asked + 1:asked + HEAD], "big")
+        pairs.append(journal[at:behind])
+        at = behind
+    return pairs
+
+
+def file_of(pairs, behind=CLOSED):
+    """The bytes of a file that keeps these pairs, and what stands behind them."""
+    return MAGIC + b"".join(OPEN + struct.pack(">I", len(pair)) + pair for pair in pairs) + behind
