@@ -1,5 +1,5 @@
 -- What keeping a journal comes to, from what its parts did.
-use Rattle.std.proofs.Common.{◌≡◌, ◌⊎◌, ⊎_elim, inl, inr, ℕ, ◌+◌, ◌-◌, ◌≤◌, ◌<◌, ◌^◌, List, [], ◌∷◌, ◌++◌, Option, Some, None, IfSome, Result, Ok, Err, length, map, take, flat_map, refl, sym, ap, subst, ◌∙◌, arith, append_assoc, length-append}
+use Rattle.std.proofs.Common.{◌≡◌, ◌⊎◌, ⊎_elim, inl, inr, ℕ, ◌+◌, ◌-◌, ◌≤◌, ◌<◌, ◌^◌, List, [], ◌∷◌, ◌++◌, Option, Some, None, IfSome, Result, Ok, Err, length, map, take, flat_map, refl, sym, ap, subst, ◌∙◌, arith, rules, append_assoc, length-append}
 use Rattle.std.proofs.lemmas.List.{append-nil}
 use Rattle.std.proofs.Math.Seq.{take-append-add}
 use Rattle.flow_io.specs.Streams.{Takes, Grows}
@@ -94,11 +94,11 @@ may_begin_again limit content Cut start end old market held holds legal is_disk 
 -- ---- a source that was read on behind its magic
 
 -- what stands in it
-reads_kept : (limit : ℕ) (bytes first held taken : List ℕ) (mid left : Option (List ℕ)) (units : List Record) (ends : reading.Ending) → Takes (Some bytes) mid first → BeginsWith commands.magics first kept_version held → length first ≤ limit → Takes mid left taken
-    → ReadsOn commands 8 (limit - 8 < length (held ++ known taken left)) (take (limit - 8) (held ++ known taken left)) units ends → ReadsKept limit bytes (file_of units ends)
-reads_kept limit bytes first held taken None left units ends opens magic few takes reads = absurd opens
-reads_kept limit bytes first held taken (Some m) None units ends opens magic few takes reads = absurd takes
-reads_kept limit bytes first held taken (Some m) (Some l) units ends opens magic few takes reads =
+reads_kept : (limit : ℕ) (bytes first held taken : List ℕ) (mid left : Option (List ℕ)) (units : List Record) (how : reading.Ending) → Takes (Some bytes) mid first → BeginsWith commands.magics first kept_version held → length first ≤ limit → Takes mid left taken
+    → ReadsOn commands 8 (limit - 8 < length (held ++ known taken left)) (take (limit - 8) (held ++ known taken left)) units how → ReadsKept limit bytes (file_of units how)
+reads_kept limit bytes first held taken None left units how opens magic few takes reads = absurd opens
+reads_kept limit bytes first held taken (Some m) None units how opens magic few takes reads = absurd takes
+reads_kept limit bytes first held taken (Some m) (Some l) units how opens magic few takes reads =
     let behind = held ++ (taken ++ l) in
     let whole : bytes ≡ command_magic_2 ++ behind = opens ∙ ap (λ (xs : List ℕ). xs ++ m) magic.1 ∙ append_assoc command_magic_2 held m ∙ ap (λ (xs : List ℕ). command_magic_2 ++ (held ++ xs)) takes in
     let eight : length command_magic_2 ≡ 8 = refl in
@@ -106,15 +106,17 @@ reads_kept limit bytes first held taken (Some m) (Some l) units ends opens magic
     let parts : limit ≡ length command_magic_2 + (limit - 8) = omega (arith, within, eight) in
     let size : length bytes ≡ 8 + length behind = ap length whole ∙ length-append command_magic_2 behind ∙ ap (λ (n : ℕ). n + length behind) eight in (
       refl,
-      take (limit - 8) behind,
-      (tt, ap (take limit) whole ∙ ap (λ (n : ℕ). take n (command_magic_2 ++ behind)) parts ∙ take-append-add command_magic_2 behind (limit - 8)),
-      reads_alike commands (limit - 8 < length behind) (limit < length bytes) 8 (take (limit - 8) behind) units ends ((λ p. omega (arith, p, size, within)), (λ q. omega (arith, q, size, within))) reads,
+      (
+        take (limit - 8) behind,
+        (tt, ap (take limit) whole ∙ ap (λ (n : ℕ). take n (command_magic_2 ++ behind)) parts ∙ take-append-add command_magic_2 behind (limit - 8)),
+        reads_alike commands (limit - 8 < length behind) (limit < length bytes) 8 (take (limit - 8) behind) units how ((λ p. omega (arith, p, size, within)), (λ q. omega (arith, q, size, within))) reads,
+      ),
     )
 
-reads_where : (limit : ℕ) (content : Option (List ℕ)) (first held taken : List ℕ) (mid left : Option (List ℕ)) (units : List Record) (ends : reading.Ending) → Takes content mid first → BeginsWith commands.magics first kept_version held → length first ≤ limit → Takes mid left taken
-    → ReadsOn commands 8 (limit - 8 < length (held ++ known taken left)) (take (limit - 8) (held ++ known taken left)) units ends → IfSome content (λ bytes. ReadsKept limit bytes (file_of units ends))
-reads_where limit None first held taken mid left units ends opens magic few takes reads = tt
-reads_where limit (Some bytes) first held taken mid left units ends opens magic few takes reads = reads_kept limit bytes first held taken mid left units ends opens magic few takes reads
+reads_where : (limit : ℕ) (content : Option (List ℕ)) (first held taken : List ℕ) (mid left : Option (List ℕ)) (units : List Record) (how : reading.Ending) → Takes content mid first → BeginsWith commands.magics first kept_version held → length first ≤ limit → Takes mid left taken
+    → ReadsOn commands 8 (limit - 8 < length (held ++ known taken left)) (take (limit - 8) (held ++ known taken left)) units how → IfSome content (λ bytes. ReadsKept limit bytes (file_of units how))
+reads_where limit None first held taken mid left units how opens magic few takes reads = tt
+reads_where limit (Some bytes) first held taken mid left units how opens magic few takes reads = reads_kept limit bytes first held taken mid left units how opens magic few takes reads
 
 -- ---- what out gained
 
