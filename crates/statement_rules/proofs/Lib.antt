@@ -1,8 +1,8 @@
-mod Alike
-mod Lists
-mod OwnParts
-mod Told
-mod ViewLaws
+pub mod Alike
+pub mod Lists
+pub mod OwnParts
+pub mod Told
+pub mod ViewLaws
 mod WorkedRows
-mod Texts
-mod OwnRates
+pub mod Texts
+pub mod OwnRates
