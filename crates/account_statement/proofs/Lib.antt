@@ -1,7 +1,6 @@
-mod Lists
-mod OwnParts
-mod Told
-mod ViewLaws
-mod WorkedRows
-mod Texts
+mod Agreeing
+mod Costs
+mod Keeping
+mod May
 mod OwnRates
+mod Settled

@@ -1,0 +1,8 @@
+pub mod Alike
+pub mod Lists
+pub mod OwnParts
+pub mod Told
+pub mod ViewLaws
+mod WorkedRows
+pub mod Texts
+pub mod OwnRates
