@@ -1,5 +1,5 @@
 -- Counts of faults over several calls, and what a result hands on.
-use Rattle.std.proofs.Common.{◌≡◌, ℕ, Option, Some, None, IfSome, Result, Ok, Err, IfOk, IfErr, refl, subst, arith}
+use Rattle.std.proofs.Common.{ℕ, Option, Some, None, IfSome, Result, Ok, Err, IfOk, IfErr, refl, subst, arith}
 use Rattle.flow_io.specs.Faults.{Blames}
 
 -- where nothing was called

@@ -1,6 +1,5 @@
-use Rattle.std.proofs.Common.{◌≡◌, Option, Some, refl, ap}
-use Rattle.wire_records.specs.declared.version.Version.{Version}
-use Rattle.wire_records.specs.declared.version.Version.TheVariants.{One, Two}
+use Rattle.std.proofs.Common.{Some, refl, ap}
+use Rattle.wire_records.specs.declared.version.Version.TheVariants.{Two}
 use Rattle.file_units.proofs.Gone.{went_well}
 use Rattle.journal_keeping.proofs.Magic.{one_is_other}
 use Rattle.journal_keeping.proofs.opening.is_kept_file.Goals as goal

@@ -1,7 +1,5 @@
-use Rattle.std.proofs.Common.{ℕ, IfSome, Err, ap, sym, subst, ◌∙◌}
+use Rattle.std.proofs.Common.{IfSome, Err, ap, sym, subst, ◌∙◌}
 use Rattle.market_rules.specs.Market.{Market}
-use Rattle.journal_disk.specs.declared.fault.DiskFault.{DiskFault}
-use Rattle.journal_keeping.specs.declared.fault.KeepFault.{KeepFault}
 use Rattle.journal_keeping.specs.Faults.{kept_fault}
 use Rattle.journal_keeping.specs.Beginning.{IsBegun}
 use Rattle.journal_keeping.proofs.Counts.{went_on, later_call, blames_alike}

@@ -1,8 +1,7 @@
-use Rattle.std.proofs.Common.{ℕ, ap, sym, subst, ◌∙◌}
+use Rattle.std.proofs.Common.{ap, sym, subst, ◌∙◌}
 use Rattle.flow_io.specs.Windows.{WindowState, Fills}
 use Rattle.file_units.proofs.Gone.{went_well}
 use Rattle.journal_keeping.specs.declared.fault.KeepFault.{KeepFault}
-use Rattle.journal_keeping.specs.declared.fault.KeepFault.TheVariants.{NotFlow}
 use Rattle.journal_keeping.specs.Beginning.{IsOfSource}
 use Rattle.journal_keeping.proofs.Counts.{went_on, on_ok, on_err}
 use Rattle.journal_keeping.proofs.Magic.{behind_magic, ended_before, limit_before, other_magic}

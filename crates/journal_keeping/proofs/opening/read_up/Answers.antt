@@ -1,4 +1,3 @@
-use Rattle.std.proofs.Common.{ℕ}
 use Rattle.journal_keeping.proofs.Begun.{recovers, looks_on, read_known, stops_known}
 use Rattle.journal_keeping.proofs.opening.read_up.Goals as goal
 
