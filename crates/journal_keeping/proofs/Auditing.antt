@@ -1,5 +1,5 @@
 -- The pairs that a disk keeps, audited one after the other: none yet, one more, and one that isn't legal.
-use Rattle.std.proofs.Common.{◌≡◌, ◌⊎◌, ⊎_elim, ℕ, ◌+◌, length-append, List, [], ◌∷◌, ◌++◌, Option, Some, IfSome, Ok, Err, length, drop, map, refl, sym, ap, subst, ◌∙◌, arith}
+use Rattle.std.proofs.Common.{◌≡◌, ◌⊎◌, ⊎_elim, ℕ, ◌+◌, length-append, List, [], ◌∷◌, ◌++◌, Option, Some, IfSome, Ok, Err, length, drop, map, sym, ap, subst, ◌∙◌, arith}
 use Rattle.std.proofs.lemmas.List.{map-append, append-nil}
 use Rattle.std.proofs.lemmas.List.Elements.{All-append, All-cons, All-nil}
 use Rattle.wire_records.specs.Records.{Record}

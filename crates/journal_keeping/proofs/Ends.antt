@@ -1,14 +1,14 @@
 -- How serving records onto a disk ends.
-use Rattle.std.proofs.Common.{◌≡◌, ◌⊎◌, inl, inr, ℕ, ◌+◌, ◌≤◌, List, [], ◌∷◌, ◌++◌, Option, Result, Err, length, map, take, flat_map, refl, sym, ap, subst, ◌∙◌, arith}
+use Rattle.std.proofs.Common.{◌≡◌, inl, inr, ℕ, ◌+◌, ◌≤◌, List, [], ◌∷◌, ◌++◌, Option, Result, Err, length, map, take, flat_map, refl, sym, ap, subst, ◌∙◌, arith}
 use Rattle.std.proofs.lemmas.List.{append-nil, map-append, take_all, take-append-le}
-use Rattle.flow_io.specs.Streams.{Grows, GrowsByFront}
+use Rattle.flow_io.specs.Streams.{GrowsByFront}
 use Rattle.flow_io.specs.Windows.{WindowState}
 use Rattle.flow_io.proofs.Growth.{Grows-more}
 use Rattle.wire_records.specs.Records.{Record}
 use Rattle.wire_records.specs.Commands.{Pair}
 use Rattle.wire_records.specs.Formats.{commands}
 use Rattle.flow_orders.specs.Outcomes.{Outcome}
-use Rattle.journal_records.specs.Pairs.{IsPair, pair_spelling}
+use Rattle.journal_records.specs.Pairs.{pair_spelling}
 use Rattle.journal_records.specs.Formats.{records_of}
 use Rattle.market_rules.specs.Market.{Market}
 use Rattle.file_units.specs.Units.{BreaksOff}
@@ -21,8 +21,7 @@ use Rattle.journal_disk.specs.Entries.{WithOrWithout}
 use Rattle.journal_disk.specs.Entries.{Keeps as KeepsAt}
 use Rattle.journal_keeping.specs.declared.fault.KeepFault.{KeepFault}
 use Rattle.journal_keeping.specs.declared.fault.KeepFault.TheVariants.{Read, Write, Disk, Memory, NotDisk, Damaged, Rejected, NotFlow, Torn, TooLong}
-use Rattle.journal_keeping.specs.Keeping.{IsKeptJournal, Runs, StandIn}
-use Rattle.journal_keeping.specs.Serving.{HasKept, IsNext}
+use Rattle.journal_keeping.specs.Keeping.{Runs, StandIn}
 use Rattle.journal_keeping.specs.Private.{KeepsOneMore, IsServed, BreaksNext, Adds, asked_of, SoFar, as_going, Names, IfEnded, ServesOn}
 use Rattle.journal_keeping.proofs.Serving.{ended, failed, stand_whole}
 use Rattle.journal_keeping.proofs.Turns.{Pairs, own_is_right, kept_one_more}
@@ -31,7 +30,7 @@ asked_more : (new : Pairs) (pair : Pair Record Outcome) → asked_of new ++ pair
 asked_more new pair = sym (map-append (λ (p : Pair Record Outcome). p.asked) new (pair ∷ []))
 
 -- all of the pairs, and all but the last
-take_every : (new : Pairs) → take (length new) (new ++ []) ≡ new
+pub take_every : (new : Pairs) → take (length new) (new ++ []) ≡ new
 take_every new = ap (λ (l : Pairs). take (length new) l) (append-nil new) ∙ take_all (length new) new (omega arith)
 
 take_first : (new : Pairs) (pair : Pair Record Outcome) → take (length new) (new ++ pair ∷ []) ≡ new

@@ -1,6 +1,6 @@
 -- What stands at the front of the rest of a command file.
 use Rattle.std.proofs.Common.{◌≡◌, ◌<◌, ◌≤◌, ℕ, List, [], ◌++◌, length, drop, ap, length-append, arith}
-use Rattle.wire_records.specs.Records.{Record, IsRecord, StatesLength, HasNoFront, spelling}
+use Rattle.wire_records.specs.Records.{Record, StatesLength, HasNoFront, spelling}
 use Rattle.wire_records.specs.Formats.{StatesOver}
 use Rattle.wire_records.proofs.Fronts.{no_front-from_few, states_none-from_few, no_front-from_overlong}
 use Rattle.wire_records.proofs.Spelled.{length-spelling}

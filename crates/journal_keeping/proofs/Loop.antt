@@ -1,5 +1,5 @@
 -- One turn of the loop that serves and keeps.
-use Rattle.std.proofs.Common.{◌≡◌, ℕ, List, [], ◌∷◌, ◌++◌, Option, refl, ap, ◌∙◌}
+use Rattle.std.proofs.Common.{ℕ, List, [], ◌∷◌, ◌++◌, Option, refl, ap, ◌∙◌}
 use Rattle.wire_records.specs.Formats.{commands}
 use Rattle.market_rules.specs.Market.{Market}
 use Rattle.file_units.specs.Units.{TakesOne}

@@ -41,7 +41,7 @@ right_more old [] mid pair new follows next = (new, subst (λ (m : Market). Step
 right_more old (p ∷ pairs) mid pair new follows next = (follows.0, follows.1, right_more follows.0 pairs mid pair new follows.2 next)
 
 -- no record yet
-goes_none : (old : Pairs) (before : Market) → IsKeptJournal old before → GoesOn old before [] [] before
+pub goes_none : (old : Pairs) (before : Market) → IsKeptJournal old before → GoesOn old before [] [] before
 goes_none old before is = record { answers = record { asked = refl; steps = refl }; journal = subst (λ (l : Pairs). IsKeptJournal l before) (sym (append-nil old)) is }
 
 -- one more: its pair fits, and its step by the own rule is legal

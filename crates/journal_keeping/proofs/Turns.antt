@@ -1,12 +1,12 @@
 -- One record more that is served, kept and written.
-use Rattle.std.proofs.Common.{◌≡◌, ◌⊎◌, inl, inr, ℕ, ◌+◌, ◌≤◌, ◌<◌, ◌^◌, List, [], ◌∷◌, ◌++◌, Option, IsSome, length, map, drop, refl, sym, ap, subst, ◌∙◌, arith, append_assoc}
+use Rattle.std.proofs.Common.{◌≡◌, inl, ℕ, List, [], ◌∷◌, ◌++◌, Option, IsSome, map, refl, sym, ap, subst, ◌∙◌}
 use Rattle.std.proofs.lemmas.List.{append-nil, map-append}
 use Rattle.std.proofs.lemmas.Grind.{flat_map-append}
 use Rattle.std.specs.List.{flat_map}
 use Rattle.flow_io.specs.Streams.{Grows}
 use Rattle.flow_io.proofs.Growth.{Grows-nothing, Grows-more}
 use Rattle.wire_records.specs.Records.{Record}
-use Rattle.wire_records.specs.Commands.{Pair, Answer}
+use Rattle.wire_records.specs.Commands.{Pair}
 use Rattle.wire_records.specs.Versions.{IsReadAs}
 use Rattle.wire_records.proofs.Readings.{read_own}
 use Rattle.flow_orders.specs.Outcomes.{Outcome, IsRightOutcome}
@@ -19,7 +19,7 @@ use Rattle.market_rules.proofs.OwnIsLegal.{own_follows_are_right}
 use Rattle.market_rules.proofs.LawProofs.{journals_hold_deposits, steps_keep_soundness}
 use Rattle.disk_edge.specs.Disks.{DiskState, IsDisk}
 use Rattle.disk_edge.proofs.Moments.{no_call}
-use Rattle.journal_disk.specs.Pairs.{RecordPair, IsRecordPair, pair_bytes, IsWholePair}
+use Rattle.journal_disk.specs.Pairs.{IsRecordPair, pair_bytes, IsWholePair}
 use Rattle.journal_disk.specs.Entries.{Keeps as KeepsAt}
 use Rattle.journal_keeping.specs.Keeping.{kept_version, IsKeptJournal}
 use Rattle.journal_keeping.specs.Serving.{HasKept}

@@ -1,5 +1,5 @@
 -- Words that only private functions use: what opening a disk and a source comes to.
-use Rattle.std.specs.Prelude.{◌≡◌, ◌≤◌, ◌+◌, ◌*◌, ◌^◌, ℕ, List, length, map, Option, None, IfSome, ⊤}
+use Rattle.std.specs.Prelude.{◌≡◌, ◌≤◌, ℕ, List, length, map, Option, None, IfSome, ⊤}
 use Rattle.flow_io.specs.Streams.{Takes}
 use Rattle.flow_io.specs.Windows.{WindowState}
 use Rattle.wire_records.specs.Records.{Record}

@@ -45,7 +45,7 @@ file_of records ending = reading.File kept_version records ending
 -- what it comes to where the disk tells these bytes
 abbrev pub ComesTo : (limit : ℕ) → List ℕ → Option (List ℕ) → DiskState → Option (List ℕ) → Option (List ℕ) → Result (Unit {0}) KeepFault → Type 0
 ComesTo limit held content end before after (Ok done) = (records : List Record) × HasKeptAll limit held content end before after (file_of records reading.End)
-ComesTo limit held content end before after (Err (Torn place)) = (records : List Record) × HasKeptAll limit held content end before after (file records (reading.Torn place))
+ComesTo limit held content end before after (Err (Torn place)) = (records : List Record) × HasKeptAll limit held content end before after (file_of records (reading.Torn place))
 ComesTo limit held content end before after (Err TooLong) = (records : List Record) × HasKeptAll limit held content end before after (file_of records reading.TooLong)
 ComesTo limit held content end before after (Err NotFlow) = HasKeptAll limit held content end before after reading.NotFlow
 ComesTo limit held content end before after (Err NotDisk) = IsRefused held opening.Foreign end

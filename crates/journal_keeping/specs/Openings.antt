@@ -3,7 +3,7 @@ use Rattle.std.specs.Prelude.{◌≡◌, ℕ, ◌+◌, List, [], ◌++◌, lengt
 use Rattle.wire_records.specs.Records.{Record}
 use Rattle.wire_records.specs.Commands.{Pair}
 use Rattle.wire_records.specs.Grammars.{BeginsWith}
-use Rattle.wire_records.specs.Reading.{Ending, Reading, NotFlow, File, Reads}
+use Rattle.wire_records.specs.Reading.{Reading, NotFlow, File, Reads}
 use Rattle.wire_records.specs.Formats.{commands}
 use Rattle.wire_records.specs.declared.version.Version.{Version}
 use Rattle.flow_orders.specs.Outcomes.{Outcome}

@@ -23,7 +23,8 @@ use std::alloc::Global;
 /// come where the source wasn't asked yet and nothing was written, and leave what the disk holds. `Damaged` has the place
 /// of the first gate that isn't one, `Rejected` the number of the first kept pair that isn't legal, counted from 1. `NotFlow` leaves
 /// the pairs that are kept. At `Ok`, `Torn` and `TooLong` all whole records of the first `limit` bytes of the source are served,
-/// kept and written. `Disk`, `Read` and `Write` come exactly where the count of faults rose, and `Memory` is free.
+/// kept and written. `Disk`, `Read` and `Write` come only where the count of faults of the disk, the source or out rose, which
+/// stands still in every other case; `Memory` is free.
 ///
 /// It costs the audit of the kept pairs, and of each record what serving it costs, two writes of the disk with a sync each, and one
 /// write of out. A window of the longest command record is held, and a buffer of the longest entry of a disk; the limit is at most 2^32 bytes.
@@ -49,7 +50,13 @@ pub fn keep<S: Source, D: Disk, K: Sink>(
     ensures source_cause { Blames (result ≡ Err KeepFault.Read) (S.faults source.old) (S.faults source.new) }
     ensures out_cause { Blames (result ≡ Err KeepFault.Write) (K.faults out.old) (K.faults out.new) }
 {
-    let mut keeper = open_disk(alloc, disk)?;
-    let mut window = open_source(alloc, limit, source)?;
+    let mut keeper = match open_disk(alloc, disk) {
+        Ok(keeper) => keeper,
+        Err(fault) => return Err(fault),
+    };
+    let mut window = match open_source(alloc, limit, source) {
+        Ok(window) => window,
+        Err(fault) => return Err(fault),
+    };
     serve_on(&mut window, source, &mut keeper, disk, out)
 }

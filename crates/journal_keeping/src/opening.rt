@@ -1,5 +1,5 @@
 //! A disk and a source that are opened: the kept pairs are audited, and the magic is looked at.
-ghost use Rattle.std.specs.Prelude.{◌≡◌, ◌≤◌, ◌+◌, ◌^◌, ◌⊎◌, ◌↔◌, ℕ, List, IsTrue, Err, IfSome, IsSome, IfOk, IfErr, OnOk};
+ghost use Rattle.std.specs.Prelude.{◌≡◌, ◌≤◌, ◌+◌, ◌^◌, ◌⊎◌, ◌↔◌, ℕ, List, IsTrue, Err, IfSome, IsSome, IfOk, IfErr, OnOk, length, drop};
 ghost use Rattle.flow_io.specs.Faults.{Blames};
 ghost use Rattle.wire_records.specs.Records.{Record};
 ghost use Rattle.wire_records.specs.Commands.{Pair};
@@ -46,9 +46,14 @@ fn read_up<D: Disk>(
     ensures next { IfOk result (λ journal. audit.new.next_order ≤ journal) }
     ensures cause { Blames (result ≡ Err KeepFault.Disk) (D.state disk.old).faults (D.state disk.new).faults }
 {
-    let mut journal = DiskJournal::recover(disk)?;
-    audit_kept(alloc, &mut journal, disk, audit)?;
-    Ok(journal)
+    let mut journal = match DiskJournal::recover(disk) {
+        Ok(journal) => journal,
+        Err(fault) => return Err(KeepFault::from(fault)),
+    };
+    match audit_kept(alloc, &mut journal, disk, audit) {
+        Ok(()) => Ok(journal),
+        Err(fault) => Err(fault),
+    }
 }
 
 // Opens a disk so that records can be served behind the pairs that it keeps.
@@ -64,13 +69,18 @@ pub(crate) fn open_disk<D: Disk>(alloc: Global, disk: &mut D) -> Result<Keeper, 
     ensures cause { Blames (result ≡ Err KeepFault.Disk) (D.state disk.old).faults (D.state disk.new).faults }
 {
     let mut audit = Audit::over(Market::new_in(alloc, Version::Two));
-    let journal = read_up(alloc, disk, &mut audit)?;
-    let appender = journal.begin(alloc, disk)?;
-    Ok(Keeper {
-        session: Session::over(audit.into_market()),
-        appender,
-        pair: Vec::new(alloc),
-    })
+    let journal = match read_up(alloc, disk, &mut audit) {
+        Ok(journal) => journal,
+        Err(fault) => return Err(fault),
+    };
+    match journal.begin(alloc, disk) {
+        Ok(appender) => Ok(Keeper {
+            session: Session::over(audit.into_market()),
+            appender,
+            pair: Vec::new(alloc),
+        }),
+        Err(fault) => Err(KeepFault::from(fault)),
+    }
 }
 
 // Whether the bytes begin as a command file of version Two.
@@ -84,6 +94,22 @@ fn is_kept_file(bytes: &[u8]) -> bool
     }
 }
 
+// A window behind the magic that it holds, where it is that of version Two.
+fn behind_magic(window: Window) -> Result<Window, KeepFault>
+    requires some { 8 ≤ length window.held }
+    ensures behind { IfOk result (λ behind. ((body : List ℕ) × BeginsWith commands.magics window.held kept_version body)
+        × (behind ≡ record window { held = drop 8 window.held; place = window.place + 8 })) }
+    ensures other { IfErr result (λ fault. (fault ≡ KeepFault.NotFlow)
+        × ((body : List ℕ) → ¬ BeginsWith commands.magics window.held kept_version body)) }
+{
+    let mut window = window;
+    if !is_kept_file(window.held()) {
+        return Err(KeepFault::NotFlow);
+    }
+    window.advance(MAGIC);
+    Ok(window)
+}
+
 // Opens a source behind its magic.
 pub(crate) fn open_source<S: Source>(
     alloc: Global,
@@ -94,15 +120,14 @@ pub(crate) fn open_source<S: Source>(
     ensures of_source { IfErr result (IsOfSource limit (S.rest source.old)) }
     ensures cause { Blames (result ≡ Err KeepFault.Read) (S.faults source.old) (S.faults source.new) }
 {
-    let mut window = Window::new(alloc, MOST_RECORD, limit)?;
-    match window.fill(source, MAGIC)? {
-        Filled::Enough => {}
-        Filled::Ended => return Err(KeepFault::NotFlow),
-        Filled::Limited => return Err(KeepFault::NotFlow),
+    let mut window = match Window::new(alloc, MOST_RECORD, limit) {
+        Ok(window) => window,
+        Err(_) => return Err(KeepFault::Memory),
+    };
+    match window.fill(source, MAGIC) {
+        Ok(Filled::Enough) => behind_magic(window),
+        Ok(Filled::Ended) => Err(KeepFault::NotFlow),
+        Ok(Filled::Limited) => Err(KeepFault::NotFlow),
+        Err(_) => Err(KeepFault::Read),
     }
-    if !is_kept_file(window.held()) {
-        return Err(KeepFault::NotFlow);
-    }
-    window.advance(MAGIC);
-    Ok(window)
 }

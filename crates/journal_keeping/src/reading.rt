@@ -11,6 +11,7 @@ ghost use Rattle.journal_disk.specs.Entries.{Holds, EndsAt};
 ghost use Rattle.journal_disk.specs.Looking.{OnlyLooks};
 ghost use Rattle.journal_keeping.specs.Keeping.{kept_version, IsKeptJournal};
 ghost use Rattle.journal_keeping.specs.Auditing.{StopsAs, AreLegalBytes, AreIllegalBytes};
+ghost use Rattle.journal_keeping.specs.Beginning.{IsOfDisk};
 
 use crate::fault::KeepFault;
 use batch_audit::{Audit, Legality};
@@ -57,6 +58,7 @@ pub fn audit_kept<D: Disk>(
         (legal : List (Pair Record Outcome)) × IsKeptJournal legal audit.new × EndsAt (map records_of legal) journal.new (D.state disk.new)) }
     ensures stops { IfErr result (λ fault. (rest bytes : List ℕ) → Holds [] journal.old rest (D.state disk.old) →
         (D.state disk.old).content ≡ Some bytes → StopsAs fault bytes) }
+    ensures of_disk { IfErr result IsOfDisk }
     ensures next { OnOk result (audit.new.next_order ≤ journal.new) }
     ensures looks { OnlyLooks (D.state disk.old) (D.state disk.new) }
     ensures cause { Blames (result ≡ Err KeepFault.Disk) (D.state disk.old).faults (D.state disk.new).faults }

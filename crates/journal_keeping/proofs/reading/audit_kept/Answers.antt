@@ -1,4 +1,4 @@
-use Rattle.std.proofs.Common.{Ok, Err, ◌≡◌, ◌+◌, ℕ, List, [], ◌∷◌, ◌++◌, map, refl, sym, ap, subst, ◌∙◌, arith, IfSome}
+use Rattle.std.proofs.Common.{Ok, Err, ◌≡◌, ◌+◌, List, [], map, refl, ap, subst, ◌∙◌, arith, IfSome}
 use Rattle.std.proofs.lemmas.Result.{err_from_is_err_and}
 use Rattle.batch_audit.specs.Legal.{IsLegalPair}
 use Rattle.journal_records.specs.Formats.{records_of}

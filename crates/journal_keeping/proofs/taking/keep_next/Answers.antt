@@ -1,4 +1,4 @@
-use Rattle.std.proofs.Common.{◌≡◌, ℕ, List, [], Err, refl, sym, ap, subst, ◌∙◌, arith}
+use Rattle.std.proofs.Common.{◌≡◌, Err, ap, ◌∙◌}
 use Rattle.journal_records.specs.Formats.{records_of}
 use Rattle.journal_keeping.proofs.Next.{pair_of, whole, two_records, their_bytes, takes, still_ready, breaks}
 use Rattle.journal_keeping.proofs.taking.keep_next.Goals as goal

@@ -1,7 +1,7 @@
-use Rattle.std.proofs.Common.{◌≡◌, ◌≤◌, ◌-◌, ℕ, List, [], ◌∷◌, ◌++◌, Ok, Err, length, refl, sym, ap, subst, ◌∙◌, arith}
+use Rattle.std.proofs.Common.{◌≤◌, ◌-◌, [], ◌∷◌, ◌++◌, Ok, Err, length, refl, ap, ◌∙◌, arith}
 use Rattle.flow_io.specs.Windows.{WindowState}
 use Rattle.wire_records.specs.Formats.{commands}
-use Rattle.file_units.proofs.Gone.{went_well, fewer_than_room, within_limit, falls, none_gone, one_more_gone, read_gone, gone_overlong, gone_broken, gone_unread, gone_limited, gone_to_end, gone_torn, limit_reached}
+use Rattle.file_units.proofs.Gone.{went_well, fewer_than_room, within_limit, falls, none_gone, one_more_gone, read_gone, gone_overlong, gone_unread, gone_limited, gone_to_end, gone_torn, limit_reached}
 use Rattle.journal_keeping.specs.declared.fault.KeepFault.TheVariants.{Torn, TooLong, Read}
 use Rattle.journal_keeping.specs.Private.{IsReady, Adds, Names}
 use Rattle.journal_keeping.proofs.Turns.{so_none, so_more}

@@ -1,0 +1,109 @@
+-- A source that is opened behind its magic.
+use Rattle.std.proofs.Common.{◌≡◌, ℕ, ◌+◌, ◌-◌, ◌≤◌, ◌<◌, List, [], ◌++◌, Option, Some, None, IfSome, length, take, drop, refl, sym, ap, subst, ◌∙◌, arith, append-nil, length-append, length-take, take-append-drop}
+use Rattle.std.proofs.lemmas.List.{take_at, drop_at, take-append-le}
+use Rattle.flow_io.specs.Streams.{Takes}
+use Rattle.flow_io.specs.Windows.{WindowState, Fills, IsPast, IsWithin, empty_window}
+use Rattle.flow_io.specs.declared.window.InputEnd.{InputEnd}
+use Rattle.flow_io.specs.declared.window.InputEnd.TheVariants.{Source, Limit}
+use Rattle.wire_records.specs.Records.{command_magic_2}
+use Rattle.wire_records.specs.Grammars.{BeginsWith}
+use Rattle.wire_records.specs.Reading as reading
+use Rattle.wire_records.specs.Formats.{commands}
+use Rattle.wire_records.specs.declared.version.Version.{Version}
+use Rattle.wire_records.specs.declared.version.Version.TheVariants.{One, Two}
+use Rattle.file_units.proofs.Gone.{considered, within_limit}
+use Rattle.journal_keeping.specs.Keeping.{kept_version}
+use Rattle.journal_keeping.specs.Openings.{ReadsKept}
+use Rattle.journal_keeping.specs.Beginning.{IsBehindMagic}
+
+pub one_is_other : (v : Version) → v ≡ One → ◌≡◌ {A = Option Version} (Some v) (Some Two) → ⊥
+one_is_other v one two = absurd cc
+
+-- fewer than eight bytes have no magic
+short_has_none : (bytes body : List ℕ) → length bytes < 8 → ¬ BeginsWith commands.magics bytes kept_version body
+short_has_none bytes body few begins =
+    let eight : length command_magic_2 ≡ 8 = refl in
+    omega (arith, few, eight, ap length begins.1, length-append command_magic_2 body)
+
+-- what begins with the magic has it in its first eight bytes
+front_has : (held more body : List ℕ) → 8 ≤ length held → held ++ more ≡ command_magic_2 ++ body → BeginsWith commands.magics held kept_version (drop 8 held)
+front_has held more body some is =
+    let front : take 8 held ≡ command_magic_2 = sym (take-append-le 8 held more some) ∙ ap (take 8) is ∙ take_at command_magic_2 body 8 refl in
+    (tt, sym (take-append-drop 8 held) ∙ ap (λ (l : List ℕ). l ++ drop 8 held) front)
+
+not_limit : ◌≡◌ {A = Option InputEnd} None (Some Limit) → ⊥
+not_limit e = absurd cc
+
+source_no_limit : ◌≡◌ {A = Option InputEnd} (Some Source) (Some Limit) → ⊥
+source_no_limit e = absurd cc
+
+-- ---- a new window was filled
+
+module _ (limit : ℕ) (filled : WindowState) (before after : Option (List ℕ)) (fills : Fills (empty_window 1029 limit) filled before after) (inside : IsWithin filled.place (length filled.held) filled.limit filled.over) where
+  place : filled.place ≡ 0
+  place = ap (λ (w : WindowState). w.place) fills.holds
+
+  limited : filled.limit ≡ limit
+  limited = ap (λ (w : WindowState). w.limit) fills.holds
+
+  held : filled.held ≡ fills.joined
+  held = ap (λ (w : WindowState). w.held) fills.holds
+
+  within : length filled.held ≤ limit
+  within = omega (arith, place, limited, within_limit filled.place (length filled.held) filled.limit filled.over inside)
+
+  past_none : (over : Option InputEnd) → filled.over ≡ over → (¬ (over ≡ Some Limit)) → fills.past ≡ []
+  past_none None is other = subst (λ (o : Option InputEnd). IsPast None o fills.past) is fills.beyond
+  past_none (Some Source) is other = subst (λ (o : Option InputEnd). IsPast None o fills.past) is fills.beyond
+  past_none (Some Limit) is other = absurd (other refl)
+
+  takes_held : (¬ (filled.over ≡ Some Limit)) → Takes before after filled.held
+  takes_held other = subst (Takes before after) (ap (λ (l : List ℕ). fills.joined ++ l) (past_none filled.over refl other) ∙ append-nil fills.joined ∙ sym held) fills.taken
+
+  -- the magic stands there
+  pub behind_magic : (window : WindowState) (body : List ℕ) → filled.over ≡ None → 8 ≤ length filled.held → BeginsWith commands.magics filled.held kept_version body
+      → window ≡ record filled { held = drop 8 filled.held; place = filled.place + 8 } → IsBehindMagic limit window before after
+  behind_magic window body open_still some magic advanced = record {
+    limited = ap (λ (w : WindowState). w.limit) advanced ∙ limited;
+    place = ap (λ (w : WindowState). w.place) advanced ∙ ap (λ (n : ℕ). n + 8) place;
+    room = ap (λ (w : WindowState). w.room) advanced ∙ ap (λ (w : WindowState). w.room) fills.holds;
+    over = ap (λ (w : WindowState). w.over) advanced ∙ open_still;
+    first = filled.held;
+    takes = takes_held (λ is. not_limit (sym open_still ∙ is));
+    magic = (tt, magic.1 ∙ ap (λ (l : List ℕ). command_magic_2 ++ l) (sym (ap (λ (w : WindowState). w.held) advanced ∙ ap (drop 8) magic.1 ∙ drop_at command_magic_2 body 8 refl)));
+    few = within;
+  }
+
+  -- the source ended before eight bytes
+  ended_short : length filled.held < 8 → filled.over ≡ Some Source → IfSome after (λ left. left ≡ []) → (told left : Option (List ℕ)) → told ≡ before → left ≡ after → IfSome told (λ bytes. ReadsKept limit bytes reading.NotFlow)
+  ended_short few over all None left is also = tt
+  ended_short few over all (Some bytes) None is also =
+      absurd (subst (λ (o : Option (List ℕ)). Takes o None filled.held) (sym is) (subst (λ (o : Option (List ℕ)). Takes before o filled.held) (sym also) (takes_held (λ e. source_no_limit (sym over ∙ e)))))
+  ended_short few over all (Some bytes) (Some left) is also =
+      let taken : bytes ≡ filled.held ++ left = subst (λ (o : Option (List ℕ)). Takes o (Some left) filled.held) (sym is) (subst (λ (o : Option (List ℕ)). Takes before o filled.held) (sym also) (takes_held (λ e. source_no_limit (sym over ∙ e)))) in
+      let none : left ≡ [] = subst (λ (o : Option (List ℕ)). IfSome o (λ (l : List ℕ). l ≡ [])) (sym also) all in
+      λ body begins. short_has_none (take limit bytes) body (omega (arith, few, ap length taken, ap length none, length-append filled.held left, length-take limit bytes)) begins
+
+  pub ended_before : length filled.held < 8 → filled.over ≡ Some Source → IfSome after (λ left. left ≡ []) → IfSome before (λ bytes. ReadsKept limit bytes reading.NotFlow)
+  ended_before few over all = ended_short few over all before after refl refl
+
+  -- the limit was reached before eight bytes
+  limit_short : limit < 8 → (told : Option (List ℕ)) → IfSome told (λ bytes. ReadsKept limit bytes reading.NotFlow)
+  limit_short few None = tt
+  limit_short few (Some bytes) = λ body begins. short_has_none (take limit bytes) body (omega (arith, few, length-take limit bytes)) begins
+
+  pub limit_before : length filled.held < 8 → filled.over ≡ Some Limit → IfSome before (λ bytes. ReadsKept limit bytes reading.NotFlow)
+  limit_before few over =
+      let full : filled.place + length filled.held ≡ filled.limit = subst (λ (o : Option InputEnd). IsWithin filled.place (length filled.held) filled.limit o) over inside in
+      limit_short (omega (arith, full, few, place, limited)) before
+
+  -- another magic, or none
+  other : 8 ≤ length filled.held → ((body : List ℕ) → ¬ BeginsWith commands.magics filled.held kept_version body) → (told left : Option (List ℕ)) → Takes told left filled.held → IfSome told (λ bytes. ReadsKept limit bytes reading.NotFlow)
+  other some none None left takes = tt
+  other some none (Some bytes) None takes = absurd takes
+  other some none (Some bytes) (Some left) takes = λ body begins.
+      let whole : filled.held ++ take (limit - length filled.held) left ≡ command_magic_2 ++ body = sym (considered limit filled.held left within) ∙ ap (take limit) (sym takes) ∙ begins.1 in
+      none (drop 8 filled.held) (front_has filled.held (take (limit - length filled.held) left) body some whole)
+
+  pub other_magic : filled.over ≡ None → 8 ≤ length filled.held → ((body : List ℕ) → ¬ BeginsWith commands.magics filled.held kept_version body) → IfSome before (λ bytes. ReadsKept limit bytes reading.NotFlow)
+  other_magic open_still some none = other some none before after (takes_held (λ is. not_limit (sym open_still ∙ is)))
