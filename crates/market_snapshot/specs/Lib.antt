@@ -1,0 +1,3 @@
+pub mod Checkpoints
+pub mod Laws
+pub mod Answers
