@@ -5,6 +5,7 @@ pub mod Credits
 pub mod Holdings
 pub mod Grown
 pub mod Moves
+pub mod Restoring
 pub mod Standing
 pub mod ListLemmas
 pub mod SumsKept

@@ -4,5 +4,6 @@ pub mod Changes
 pub mod Fits
 pub mod Lawful
 pub mod Laws
+pub mod Parts
 pub mod Places
 pub mod Sums

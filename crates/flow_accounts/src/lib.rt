@@ -24,7 +24,9 @@
 //! account sometimes moves all of them to a larger block. An account takes 1,056 bytes, with the
 //! places for all 64 assets in it. The block doubles as it grows, so it has up to twice the bytes
 //! of its accounts, and 66 MiB for 65,536 of them; while it is moved, the smaller one is there too.
-//! Nothing but [`Accounts::add_account`] takes memory.
+//! Nothing but [`Accounts::add_account`] and [`Accounts::restore`] takes memory.
+//!
+//! [`Accounts::restore`] makes accounts with all their balances at once, read through [`AccountParts`].
 #![tactic(auto)]
 
 ghost use Rattle.std.specs.Prelude.{◌≡◌, SomeIff};
@@ -34,11 +36,15 @@ mod deposits;
 mod fault;
 mod growth;
 pub mod laws;
+mod parts;
 mod places;
+mod restore;
 mod settlement;
 mod withdrawals;
 
 pub use fault::AccountFault;
+pub use parts::AccountParts;
+pub use restore::Memory;
 use std::alloc::Global;
 use std::marker::Model;
 use std::mem::size_of;

@@ -1,5 +1,5 @@
 //! An order as it is kept.
-ghost use Rattle.std.specs.Prelude.{◌≡◌, ◌+◌, ◌≤◌, ◌↔◌, IsTrue, if◌then◌else◌};
+ghost use Rattle.std.specs.Prelude.{◌≡◌, ◌+◌, ◌<◌, ◌≤◌, ◌↔◌, IsTrue, if◌then◌else◌};
 ghost use Rattle.demand_curve.specs.Demand.{most_rate};
 ghost use Rattle.demand_curve.specs.Curve.{terms};
 ghost use Rattle.flow_orders.specs.Orders.{price_of_ticks};
@@ -125,6 +125,50 @@ impl Order {
         let mut order = Order::new(number, account, low, high, rate, cap, row);
         order.last = last;
         order
+    }
+
+    /// An order as it stood: of its cap `filled` units are filled, less than the cap, and `last` is the number of the
+    /// last batch in which it trades, 0 where it has none. The limits are in ticks; [`order_fault`](crate::order_fault)
+    /// finds no fault in the numbers.
+    pub fn restore(
+        number: u64,
+        account: u32,
+        low: i64,
+        high: i64,
+        rate: u32,
+        cap: u64,
+        filled: u64,
+        last: u32,
+        row: WeightRow,
+    ) -> Order
+        requires limits { AreLimits low high }
+        requires rate { IsFrom1To most_rate rate }
+        requires cap { IsFrom1To most_cap cap }
+        requires left { filled < cap }
+        ensures value { result ≡ record {
+          number = number;
+          account = account;
+          low = price_of_ticks low;
+          high = price_of_ticks high;
+          rate = rate;
+          cap = cap;
+          filled = filled;
+          row = row;
+          last = last;
+        } }
+        ensures order { IsOrder result }
+    {
+        Order {
+            number,
+            cap,
+            filled,
+            account,
+            rate,
+            low: low as i32,
+            high: high as i32,
+            last,
+            row,
+        }
     }
 
     /// The order's number.

@@ -1,0 +1,5 @@
+use Rattle.flow_accounts.specs.Parts.{AreHoldingsOf}
+use Rattle.flow_accounts.proofs.restore.holdings_of.Given as goal
+
+abbrev pub invariant-loop-place : goal.invariant-loop-place
+invariant-loop-place g l = AreHoldingsOf (g.P.AccountParts.balances l.parts) l.place l.holdings.items
