@@ -1,7 +1,8 @@
 //! The program's market: what it keeps from one command to the next, and what each command makes of it.
 //!
 //! What a market is and does is said in `market_rules`. Each call of [`Market`] that changes it is one step of these
-//! definitions, and `Expected` in `specs` says which reply a command gets.
+//! definitions, and `Expected` in `specs` says which reply a command gets. [`Market::restore`] makes a market of its parts,
+//! where they are those of a sound one.
 #![tactic(auto)]
 
 mod batches;
@@ -9,5 +10,7 @@ mod expected;
 mod market;
 mod orders;
 mod prices;
+mod restore;
 
 pub use market::Market;
+pub use market_parts::{MarketParts, OrderParts, RestoreFault};

@@ -1,5 +1,5 @@
 //! The market of a run, and what a command makes of it.
-ghost use Rattle.std.specs.Prelude.{◌≡◌, ◌≢◌, ℕ, ◌+◌, ◌<◌, ◌^◌, IfOk, OnErr, MatchResult, None, length};
+ghost use Rattle.std.specs.Prelude.{◌≡◌, ◌≢◌, ℕ, ◌+◌, ◌<◌, ◌^◌, IfOk, OnErr, MatchResult, None, SomeIff, length};
 ghost use Rattle.std.specs.Borrow.{sem};
 ghost use Rattle.std.specs.Result.{ForErr};
 ghost use Rattle.wire_records.specs.Commands.{AddAsset, OpenAccount, DepositMoney, DepositAsset, WithdrawMoney, WithdrawAsset, PlaceOrder, CancelOrder, RunBatch, SetMoneyCredit, SetUnitCredit, Plain};
@@ -90,6 +90,8 @@ pub(crate) fn reply_to<T: Copy>(outcome: Result<T, AccountFault>) -> Reply
 }
 
 impl Market {
+    ghost use Rattle.weight_rows.specs.Rows.{price_of};
+    ghost use Rattle.flow_accounts.specs.Balances.{IsAsset};
     ghost use Rattle.flow_orders.specs.Own.{IsOwnOutcome};
     ghost use Rattle.market_rules.specs.Market.{empty_market, IsSound};
     ghost use Rattle.market_rules.specs.Step.{FirstRefusal, Serves};
@@ -234,6 +236,15 @@ impl Market {
         ensures sound { IsSound self.now }
     {
         self.next_order
+    }
+
+    /// The last cleared price of an asset, in grains, 0 where it was never priced, or `None` exactly where the asset isn't
+    /// there.
+    pub fn last_price(&self, asset: u16) -> Option<i64>
+        ensures value { SomeIff result (IsAsset self.now.balances asset) (price_of self.now.last_prices asset) }
+        ensures sound { IsSound self.now }
+    {
+        self.last_prices.as_slice().get(usize::from(asset)).copied()
     }
 
     fn add_asset(&mut self, ticker: &[u8]) -> Result<Reply, Memory>

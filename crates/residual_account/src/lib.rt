@@ -67,6 +67,17 @@ impl ResidualAccount {
         }
     }
 
+    /// The account of an exchange without assets that holds this money, in grains. It may be negative.
+    pub fn with_money(money: i128) -> ResidualAccount
+        ensures { result ≡ record (empty_account 0) { money = money } }
+    {
+        ResidualAccount {
+            money,
+            units: no_units(),
+            assets: 0,
+        }
+    }
+
     /// Adds an asset, of which the exchange holds no unit. Its number is the count of assets before.
     pub fn add_asset(&mut self)
         requires { length self.old.units < most_assets }
