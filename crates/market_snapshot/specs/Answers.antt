@@ -11,3 +11,13 @@ abbrev pub IsMarketRead : List ℕ → Result (Market × ℕ) SnapshotFault → 
 IsMarketRead bytes (Ok found) = IsCheckpoint found.0 (take found.1 bytes) × (found.1 ≤ length bytes)
 IsMarketRead bytes (Err NotSound) = BeginsWithNoCheckpoint bytes
 IsMarketRead bytes (Err Memory) = Unit {0}
+
+-- this holds where a fault says that there is no sound market
+abbrev pub WhereNotSound : SnapshotFault → Type 0 → Type 0
+WhereNotSound NotSound P = P
+WhereNotSound Memory P = Unit {0}
+
+-- this holds where that is answered
+abbrev pub IfNotSound : {T : Type 0} → Result T SnapshotFault → Type 0 → Type 0
+IfNotSound (Ok found) P = Unit {0}
+IfNotSound (Err fault) P = WhereNotSound fault P

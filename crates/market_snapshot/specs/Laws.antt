@@ -1,5 +1,5 @@
 -- What holds of checkpoints.
-use Rattle.std.specs.Prelude.{◌≡◌, ◌<◌, ℕ, List, ◌++◌, All}
+use Rattle.std.specs.Prelude.{◌≡◌, ℕ, List, ◌++◌}
 use Rattle.market_rules.specs.Market.{Market}
 use Rattle.market_snapshot.specs.Checkpoints.{IsCheckpoint}
 
@@ -7,7 +7,3 @@ use Rattle.market_snapshot.specs.Checkpoints.{IsCheckpoint}
 abbrev pub OneMarket : Type 0
 OneMarket =
     (m n : Market) (p q x y : List ℕ) → IsCheckpoint m p → IsCheckpoint n q → p ++ x ≡ q ++ y → (m ≡ n) × (x ≡ y)
-
--- a checkpoint is made of bytes
-abbrev pub CheckpointIsBytes : Type 0
-CheckpointIsBytes = (m : Market) (p : List ℕ) → IsCheckpoint m p → All (λ b. b < 256) p

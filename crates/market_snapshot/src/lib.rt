@@ -11,8 +11,14 @@
 //! 53 and 6 for each entry of its row for each live order: 62 MiB with 60,000 accounts, 64 assets and 16,384 orders.
 #![tactic(auto)]
 
+mod balances;
 pub mod laws;
+mod layout;
+mod orders;
+mod places;
+mod readers;
 mod reading;
+mod view;
 mod writing;
 
 pub use reading::{SnapshotFault, read_market};
