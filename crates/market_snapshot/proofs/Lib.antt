@@ -1,0 +1,9 @@
+mod Laid
+pub mod OneMarket
+mod OneParts
+mod ReadThere
+mod SoundFits
+mod Ticks
+mod Viewing
+mod Walking
+mod Written

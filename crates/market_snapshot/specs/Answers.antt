@@ -1,0 +1,23 @@
+-- What reading a checkpoint answers.
+use Rattle.std.specs.Prelude.{◌≤◌, ℕ, List, length, take, Result, Ok, Err}
+use Rattle.market_rules.specs.Market.{Market}
+use Rattle.market_snapshot.specs.declared.reading.SnapshotFault.{SnapshotFault}
+use Rattle.market_snapshot.specs.declared.reading.SnapshotFault.TheVariants.{NotSound, Memory}
+use Rattle.market_snapshot.specs.Checkpoints.{IsCheckpoint, BeginsWithNoCheckpoint}
+
+-- a market and how many bytes it takes: these first bytes are its checkpoint; or that the bytes begin with no checkpoint; or that
+-- memory is wanted
+abbrev pub IsMarketRead : List ℕ → Result (Market × ℕ) SnapshotFault → Type 0
+IsMarketRead bytes (Ok found) = IsCheckpoint found.0 (take found.1 bytes) × (found.1 ≤ length bytes)
+IsMarketRead bytes (Err NotSound) = BeginsWithNoCheckpoint bytes
+IsMarketRead bytes (Err Memory) = Unit {0}
+
+-- this holds where a fault says that there is no sound market
+abbrev pub WhereNotSound : SnapshotFault → Type 0 → Type 0
+WhereNotSound NotSound P = P
+WhereNotSound Memory P = Unit {0}
+
+-- this holds where that is answered
+abbrev pub IfNotSound : {T : Type 0} → Result T SnapshotFault → Type 0 → Type 0
+IfNotSound (Ok found) P = Unit {0}
+IfNotSound (Err fault) P = WhereNotSound fault P

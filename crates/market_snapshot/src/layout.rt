@@ -1,0 +1,66 @@
+//! Where the parts of a checkpoint stand.
+ghost use Rattle.std.specs.Prelude.{◌≡◌, ◌+◌, ◌*◌, IfSome, IfNone};
+ghost use Rattle.market_snapshot.specs.Layout.{IsLayout, BeginsWithNoParts};
+
+use byte_places::{u16_at, u32_at};
+
+/// What each checkpoint begins with.
+pub(crate) const MAGIC: &[u8; 8] = b"FLOWSNP1";
+
+// An account takes so many bytes beside those for assets.
+const ACCOUNT: usize = 24;
+
+// The units of an asset in an account, and the credit in it.
+pub(crate) const UNITS: usize = 16;
+
+// A number with a sign, and a ticker.
+pub(crate) const NUMBER: usize = 8;
+
+// An order takes so many bytes beside those of its entries.
+pub(crate) const ORDER: usize = 53;
+
+// An entry.
+pub(crate) const ENTRY: usize = 6;
+
+// How many assets and accounts there are, and the place behind the accounts, at which the total of money stands.
+#[derive(Clone, Copy)]
+pub(crate) struct Layout {
+    pub(crate) assets: u16,
+    pub(crate) accounts: u32,
+    pub(crate) totals: usize,
+}
+
+// How many bytes an account takes, with its credit line.
+pub(crate) fn account_size(assets: u16) -> usize
+    ensures { result ≡ 24 + 16 * assets }
+{
+    ACCOUNT + UNITS * usize::from(assets)
+}
+
+// The layout of a checkpoint, if all is there that stands before its orders.
+pub(crate) fn layout_of(bytes: &[u8]) -> Option<Layout>
+    ensures found { IfSome result (IsLayout bytes.now) }
+    ensures none { IfNone result (BeginsWithNoParts bytes.now) }
+{
+    if bytes.len() < 11 {
+        return None;
+    }
+    if !bytes.starts_with(MAGIC) {
+        return None;
+    }
+    let assets = u16_at(bytes, 9);
+    let count = 11 + NUMBER * usize::from(assets);
+    if bytes.len() < count + 4 {
+        return None;
+    }
+    let accounts = u32_at(bytes, count);
+    let totals = count + 4 + account_size(assets) * accounts as usize;
+    if bytes.len() < totals + 48 + 24 * usize::from(assets) {
+        return None;
+    }
+    Some(Layout {
+        assets,
+        accounts,
+        totals,
+    })
+}

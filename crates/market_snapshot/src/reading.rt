@@ -1,0 +1,46 @@
+//! How a market is read.
+ghost use Rattle.market_snapshot.specs.Answers.{IsMarketRead};
+
+use crate::view::view_of;
+use market_core::Market;
+use market_parts::RestoreFault;
+use std::alloc::{AllocError, Global};
+
+/// Why no market was read.
+#[derive(Clone, Copy, PartialEq, Eq)]
+pub enum SnapshotFault {
+    /// The bytes don't begin with a checkpoint: they are too few, or of another form, or spell no sound market, or one whose
+    /// next order would get a number of 2^63 or more.
+    NotSound,
+    /// There is no memory for the market.
+    Memory,
+}
+
+impl From<AllocError> for SnapshotFault {
+    ghost use Rattle.std.specs.Prelude.{◌≡◌};
+    ghost use Rattle.market_snapshot.specs.declared.reading.SnapshotFault.TheVariants.{Memory};
+
+    ghost from_gives = { λ _ fault. fault ≡ Memory };
+
+    fn from(_error: AllocError) -> SnapshotFault {
+        SnapshotFault::Memory
+    }
+}
+
+/// The market whose checkpoint the bytes begin with, and how many bytes it takes; what follows it isn't looked at. `alloc` is
+/// for the market's collections. It takes no memory besides these, but eight bytes for each order while it reads.
+///
+/// It costs one pass over the checkpoint's bytes, which are read where they lie, and the test of soundness.
+pub fn read_market(alloc: Global, bytes: &[u8]) -> Result<(Market, usize), SnapshotFault>
+    ensures { IsMarketRead bytes.now result }
+{
+    let view = match view_of(alloc, bytes) {
+        Err(fault) => return Err(fault),
+        Ok(view) => view,
+    };
+    match Market::restore(alloc, &view) {
+        Err(RestoreFault::Unsound) => Err(SnapshotFault::NotSound),
+        Err(RestoreFault::Memory) => Err(SnapshotFault::Memory),
+        Ok(market) => Ok((market, view.len())),
+    }
+}

@@ -1,0 +1,99 @@
+//! How a market is written.
+ghost use Rattle.std.specs.Prelude.{◌≡◌, ◌+◌, ◌*◌, ◌^◌, ◌<◌, ◌≤◌, ◌++◌, length, map, vec_len, vec_capacity, OnOk, OnErr};
+ghost use Rattle.std.specs.List.{flat_map};
+ghost use Rattle.market_snapshot.specs.Layout.{account_size};
+ghost use Rattle.market_snapshot.specs.Checkpoints.{IsCheckpoint, checkpoint_bytes, order_spelling, read_order, tickers_spelling, batches_spelling};
+ghost use Rattle.market_snapshot.specs.Fields.{fields_spelling};
+ghost use Rattle.market_parts.specs.Parts.{number_of};
+ghost use Rattle.market_rules.specs.Market.{IsSound};
+ghost use Rattle.flow_accounts.specs.Balances.{account_count};
+
+use crate::balances::{put_accounts, put_exchange, put_totals};
+use crate::layout::{MAGIC, account_size};
+use crate::orders::{orders_size, put_orders};
+use market_core::Market;
+use ticker_table::TickerTable;
+use wire_fields::{put_bytes, put_i64, put_u8, put_u16, put_u32, put_u64};
+use wire_records::{Memory, Version};
+
+// The number of a version.
+fn number_of(version: Version) -> u8
+    ensures { result ≡ number_of version }
+{
+    match version {
+        Version::One => 1,
+        Version::Two => 2,
+    }
+}
+
+// The magic, the version, and the tickers.
+fn put_tickers(out: &mut Vec<u8>, version: Version, tickers: &TickerTable)
+    requires { vec_len out.old + (11 + 8 * length tickers.now) ≤ vec_capacity out.old }
+    ensures written { out.new.items ≡ out.old.items ++ tickers_spelling (number_of version) tickers.now }
+    ensures len { vec_len out.new ≡ vec_len out.old + (11 + 8 * length tickers.now) }
+    ensures capacity { vec_capacity out.new ≡ vec_capacity out.old }
+{
+    put_bytes(out, MAGIC);
+    put_u8(out, number_of(version));
+    put_u16(out, tickers.len());
+    for asset in 0..tickers.len() {
+        put_bytes(out, &tickers.ticker(asset).unwrap());
+    }
+}
+
+// The next number, how many batches were held, and the last prices.
+fn put_batches(out: &mut Vec<u8>, market: &Market)
+    requires { vec_len out.old + (12 + 8 * length market.now.last_prices) ≤ vec_capacity out.old }
+    ensures written { out.new.items ≡ out.old.items
+        ++ batches_spelling market.now.next_order market.now.batches market.now.last_prices }
+    ensures len { vec_len out.new ≡ vec_len out.old + (12 + 8 * length market.now.last_prices) }
+    ensures capacity { vec_capacity out.new ≡ vec_capacity out.old }
+{
+    put_u64(out, market.next_number());
+    put_u32(out, market.batches());
+    for asset in 0..market.tickers().len() {
+        put_i64(out, market.last_price(asset).unwrap());
+    }
+}
+
+// How many bytes all takes that stands before the orders.
+fn fields_size(market: &Market) -> usize
+    ensures { result ≡ 59 + 32 * length market.now.tickers + account_size (length market.now.tickers) * account_count market.now.balances }
+{
+    let assets = market.tickers().len();
+    59 + 32 * usize::from(assets) + account_size(assets) * market.accounts().count() as usize
+}
+
+// All that stands before the orders.
+fn put_fields(out: &mut Vec<u8>, market: &Market)
+    requires { vec_len out.old + (59 + 32 * length market.now.tickers + account_size (length market.now.tickers) * account_count market.now.balances)
+        ≤ vec_capacity out.old }
+    ensures written { out.new.items ≡ out.old.items ++ fields_spelling market.now }
+    ensures len { vec_len out.new ≡ vec_len out.old
+        + (59 + 32 * length market.now.tickers + account_size (length market.now.tickers) * account_count market.now.balances) }
+    ensures capacity { vec_capacity out.new ≡ vec_capacity out.old }
+{
+    put_tickers(out, market.version(), market.tickers());
+    put_accounts(out, market.accounts());
+    put_totals(out, market.accounts());
+    put_exchange(out, market.exchange());
+    put_batches(out, market);
+}
+
+/// Appends the checkpoint of a market whose next order gets a number below 2^63. The market is as before; where orders
+/// were cancelled since its orders were last asked for, the gaps that these left are closed. Memory is taken once, for all
+/// of the bytes, before any is written.
+pub fn write_market(market: &mut Market, out: &mut Vec<u8>) -> Result<(), Memory>
+    requires next { market.old.next_order < 2 ^ 63 }
+    ensures written { OnOk result (out.new.items ≡ out.old.items ++ checkpoint_bytes market.old) }
+    ensures checkpoint { OnOk result (IsCheckpoint market.old (checkpoint_bytes market.old)) }
+    ensures unwritten { OnErr result (out.new.items ≡ out.old.items) }
+    ensures market { market.new ≡ market.old }
+{
+    let fields = fields_size(market);
+    let orders = orders_size(market.orders());
+    out.reserve(fields + 4 + orders)?;
+    put_fields(out, market);
+    put_orders(out, market.orders());
+    Ok(())
+}
