@@ -1,5 +1,5 @@
 -- What a pair is judged to be, by its reply and by what its record is read as.
-use Rattle.std.proofs.Common.{◌≡◌, ◌↔◌, ℕ, Bool, true, false, IsTrue, if◌then◌else◌, Result, Ok, Err, Option, Some, None, refl, sym, ap, subst, ◌∙◌}
+use Rattle.std.proofs.Common.{◌≡◌, ◌↔◌, ◌<◌, ℕ, Bool, true, false, IsTrue, if◌then◌else◌, Result, Ok, Err, Option, Some, None, refl, sym, ap, subst, ◌∙◌}
 use Rattle.std.specs.Prelude.{IfOk}
 use Rattle.std.proofs.lemmas.Bool.{false≢true}
 use Rattle.wire_records.specs.Records.{Record}
@@ -14,18 +14,19 @@ use Rattle.flow_orders.specs.Outcomes.{Outcome, IsRightOutcome}
 use Rattle.flow_orders.specs.Own.{IsOwnOutcome}
 use Rattle.journal_records.specs.Replies.{SpellsAnswer}
 use Rattle.journal_records.proofs.Spelled.{answer_unique}
-use Rattle.market_rules.specs.Market.{Market}
+use Rattle.market_rules.specs.Market.{Market, most_batches}
 use Rattle.market_rules.specs.Step.{FirstRefusal, Answers, Serves, ServesRead, refusal_of, after_batch}
 use Rattle.market_rules.specs.Journal.{Step}
 use Rattle.market_core.specs.Expected.{IsExpected}
 use Rattle.market_rules.proofs.LawProofs.{plain_commands_have_one_answer, plain_commands_need_no_rule, one_refusal}
 use Rattle.market_rules.proofs.OneStep.{one_first}
-use Rattle.batch_audit.specs.Judging.{IsJudged}
-use Rattle.batch_audit.specs.Private.{IsServed, IsAnswerJudged, IsOutcomeFor}
+use Rattle.batch_audit.specs.Legal.{IsLegalPair}
+use Rattle.batch_audit.specs.Judging.{IsAcceptedPlain, IsChangeOf, IsWeighed}
+use Rattle.batch_audit.specs.Private.{IsReadWeighed, IsAnswerWeighed, IsOutcomeFor}
 use Rattle.batch_outcome.specs.declared.outcome.Outcome as parts
 use Rattle.batch_outcome.specs.Published.{outcome_of}
-use Rattle.batch_audit.specs.declared.audit.Legality.{Legality}
-use Rattle.batch_audit.specs.declared.audit.Legality.TheVariants.{Legal, Illegal}
+use Rattle.batch_audit.specs.declared.change.Change.{Change}
+use Rattle.batch_audit.specs.declared.change.Change.TheVariants as change
 
 -- ---- commands that hold no batch
 
@@ -45,86 +46,106 @@ module _ (m : Market) (c : Command) (none : (budget : ℕ) → ¬ (c ≡ RunBatc
   answer_is a n serves = (plain_commands_have_one_answer m c a (Plain reply) n expected.0 none serves ((plain_commands_need_no_rule m c (Plain reply) expected.0 none).0 expected.1)).0
 
   -- any other is none
-  pub other_answer : (a : Answer Outcome) → ¬ (a ≡ Plain reply) → IsServed Illegal m (Ok c) a m
-  other_answer a other = (λ n serves. other (answer_is a n serves), refl)
+  pub other_answer : (a : Answer Outcome) → ¬ (a ≡ Plain reply) → IsReadWeighed m (Ok c) a None
+  other_answer a other = λ n serves. other (answer_is a n serves)
 
-  -- where it is no refusal, none stops the command
-  pub accepted : ((refusal : Refusal) → ¬ (reply ≡ Refused refusal)) → FirstRefusal m c None
-  accepted = no_first m expected.0 c reply expected.1.first expected.1.refused expected.1.answered
+  -- the expected answer is got by any rule
+  right_answer : (a : Answer Outcome) → a ≡ Plain reply → Serves IsRightOutcome m c a expected.0
+  right_answer a is = subst (λ x. Serves IsRightOutcome m c x expected.0) (sym is) ((plain_commands_need_no_rule m c (Plain reply) expected.0 none).0 expected.1)
+
+  -- where it is no refusal, the command makes its market
+  pub accepted_answer : (a : Answer Outcome) → a ≡ Plain reply → ((refusal : Refusal) → ¬ (reply ≡ Refused refusal)) → IsReadWeighed m (Ok c) a (Some change.Command)
+  accepted_answer a is accepts = (expected.0, right_answer a is, (none, no_first m expected.0 c reply expected.1.first expected.1.refused expected.1.answered accepts))
 
   -- a refusal changes nothing
-  pub refused_answer : (a : Answer Outcome) (refusal : Refusal) → a ≡ Plain reply → reply ≡ Refused refusal → IsServed Legal m (Ok c) a m
+  pub refused_answer : (a : Answer Outcome) (refusal : Refusal) → a ≡ Plain reply → reply ≡ Refused refusal → IsReadWeighed m (Ok c) a (Some change.Nothing)
   refused_answer a refusal is refuses =
-      let right = (plain_commands_need_no_rule m c (Plain reply) expected.0 none).0 expected.1 in
-      let here = subst (λ r. Serves IsRightOutcome m c (Plain r) expected.0) refuses right in
-      let same = (one_refusal m c refusal (Plain (Refused refusal)) expected.0 expected.0 here here).1 in
-      subst (λ x. Serves IsRightOutcome m c x m) (sym is) (subst (Serves IsRightOutcome m c (Plain reply)) same right)
-
-  -- what is served gets it
-  pub expected_answer : (a : Answer Outcome) (told : Reply) (n : Market) → a ≡ Plain reply → Serves IsOwnOutcome m c (Plain told) n → IsServed Legal m (Ok c) a n
-  expected_answer a told n is serves =
-      let right = (plain_commands_need_no_rule m c (Plain told) n none).0 serves in
-      subst (λ x. Serves IsRightOutcome m c x n) (answer_is (Plain told) n right ∙ sym is) right
+      let here = right_answer (Plain (Refused refusal)) (ap (λ r. Plain r) (sym refuses)) in
+      (expected.0, right_answer a is, (one_refusal m c refusal (Plain (Refused refusal)) expected.0 expected.0 here here).1)
 
 -- ---- records and pairs
 
--- what a record is read as judges the record
-pub record_judged : (legality : Legality) (old : Market) (asked : Record) (read : Result Command BodyFault) (a : Answer Outcome) (new : Market) → IsReadAs old.version asked read
-    → IsServed legality old read a new → IsAnswerJudged legality old asked a new
-record_judged Legal old asked read a new spelled served = record { read = read; spelled = spelled; served = served }
-record_judged Illegal old asked read a new spelled served = (
-  λ made step. served.0 made (subst (λ r. ServesRead IsRightOutcome old r a made) (reading_unique old.version asked step.read read step.spelled spelled) step.served),
-  served.1,
-)
+-- what a record is read as tells what the record makes
+pub record_weighed : (found : Option Change) (old : Market) (asked : Record) (read : Result Command BodyFault) (a : Answer Outcome) → IsReadAs old.version asked read
+    → IsReadWeighed old read a found → IsAnswerWeighed old asked a found
+record_weighed (Some x) old asked read a spelled weighed = (weighed.0, record { read = read; spelled = spelled; served = weighed.1 }, weighed.2)
+record_weighed None old asked read a spelled none = λ made step.
+    none made (subst (λ r. ServesRead IsRightOutcome old r a made) (reading_unique old.version asked step.read read step.spelled spelled) step.served)
 
--- and the answer that the other record spells judges the pair
-pub pair_judged : (legality : Legality) (old : Market) (pair : Record × Record) (a : Answer Outcome) (new : Market) → SpellsAnswer pair.1 a
-    → IsAnswerJudged legality old pair.0 a new → IsJudged legality old pair new
-pair_judged Legal old pair a new spelled step = record { answer = a; spelled = spelled; step = step }
-pair_judged Illegal old pair a new spelled judged = (
-  λ made legal.
-      let same = answer_unique legal.answer a legal.spelled.fits spelled.fits (sym legal.spelled.spelled ∙ spelled.spelled) in
-      judged.0 made (subst (λ x. Step IsReadAs IsRightOutcome old pair.0 x made) same legal.step),
-  judged.1,
-)
+-- and the answer that the other record spells what the pair makes
+pub pair_weighed : (found : Option Change) (old : Market) (pair : Record × Record) (a : Answer Outcome) → SpellsAnswer pair.1 a
+    → IsAnswerWeighed old pair.0 a found → IsWeighed old pair found
+pair_weighed (Some x) old pair a spelled weighed = record {
+  new = weighed.0;
+  legal = record { answer = a; spelled = spelled; step = weighed.1 };
+  changes = weighed.2;
+}
+pair_weighed None old pair a spelled none = λ made legal.
+    let same = answer_unique legal.answer a legal.spelled.fits spelled.fits (sym legal.spelled.spelled ∙ spelled.spelled) in
+    none made (subst (λ x. Step IsReadAs IsRightOutcome old pair.0 x made) same legal.step)
 
 -- a record that spells no answer makes no legal pair
-pub no_answer : (old : Market) (pair : Record × Record) → ((a : Answer Outcome) → ¬ SpellsAnswer pair.1 a) → IsJudged Illegal old pair old
-no_answer old pair none = (λ made legal. none legal.answer legal.spelled, refl)
+pub no_answer : (old : Market) (pair : Record × Record) → ((a : Answer Outcome) → ¬ SpellsAnswer pair.1 a) → IsWeighed old pair None
+no_answer old pair none = λ made legal. none legal.answer legal.spelled
 
 -- ---- refusals
 
 -- a record that can't be served gets its refusal
-pub fault_served : (test : Bool) (old : Market) (why : BodyFault) (a : Answer Outcome) (refusal : Refusal) → refusal ≡ refusal_of why
-    → IsTrue test ↔ (a ≡ Plain (Refused refusal)) → IsServed (if test then Legal else Illegal) old (Err why) a old
-fault_served true old why a refusal is tests = (tests.0 refl ∙ ap (λ r. Plain (Refused r)) is, refl)
-fault_served false old why a refusal is tests = (λ made gives. false≢true (tests.1 (gives.0 ∙ ap (λ r. Plain (Refused r)) (sym is))), refl)
+pub fault_weighed : (test : Bool) (old : Market) (why : BodyFault) (a : Answer Outcome) (refusal : Refusal) → refusal ≡ refusal_of why
+    → IsTrue test ↔ (a ≡ Plain (Refused refusal)) → IsReadWeighed old (Err why) a (if test then Some change.Nothing else None)
+fault_weighed true old why a refusal is tests = (old, (tests.0 refl ∙ ap (λ r. Plain (Refused r)) is, refl), refl)
+fault_weighed false old why a refusal is tests = λ made gives. false≢true (tests.1 (gives.0 ∙ ap (λ r. Plain (Refused r)) (sym is)))
 
 -- a batch that is refused gets its refusal
-pub refused_served : (test : Bool) (old : Market) (budget : ℕ) (a : Answer Outcome) (refusal : Refusal) → FirstRefusal old (RunBatch budget) (Some refusal)
-    → IsTrue test ↔ (a ≡ Plain (Refused refusal)) → IsServed (if test then Legal else Illegal) old (Ok (RunBatch budget)) a old
-refused_served true old budget a refusal first tests = record { first = Some refusal; refused = first; answered = (tests.0 refl, refl) }
-refused_served false old budget a refusal first tests = (
-  λ made serves.
-      let refuses : Serves IsRightOutcome old (RunBatch budget) (Plain (Refused refusal)) old = record { first = Some refusal; refused = first; answered = (refl, refl) } in
-      false≢true (tests.1 (one_refusal old (RunBatch budget) refusal a old made refuses serves).0),
-  refl,
-)
+pub refused_weighed : (test : Bool) (old : Market) (budget : ℕ) (a : Answer Outcome) (refusal : Refusal) → FirstRefusal old (RunBatch budget) (Some refusal)
+    → IsTrue test ↔ (a ≡ Plain (Refused refusal)) → IsReadWeighed old (Ok (RunBatch budget)) a (if test then Some change.Nothing else None)
+refused_weighed true old budget a refusal first tests = (old, record { first = Some refusal; refused = first; answered = (tests.0 refl, refl) }, refl)
+refused_weighed false old budget a refusal first tests = λ made serves.
+    let refuses : Serves IsRightOutcome old (RunBatch budget) (Plain (Refused refusal)) old = record { first = Some refusal; refused = first; answered = (refl, refl) } in
+    false≢true (tests.1 (one_refusal old (RunBatch budget) refusal a old made refuses serves).0)
 
--- ---- batches that are held
+-- ---- batches that are due
 
 -- what is settled for the answer
-pub batch_served : (old : Market) (budget : ℕ) (a : Answer Outcome) (o : parts.Outcome) → FirstRefusal old (RunBatch budget) None → IsOutcomeFor old budget a (Some o)
-    → IsServed Legal old (Ok (RunBatch budget)) a (after_batch old (outcome_of old.orders o))
-batch_served old budget a o first found = record { first = None; refused = first; answered = found.1 }
+pub batch_weighed : (old : Market) (budget : ℕ) (a : Answer Outcome) (o : parts.Outcome) → FirstRefusal old (RunBatch budget) None → old.batches < most_batches
+    → IsOutcomeFor old budget a (Some o) → IsReadWeighed old (Ok (RunBatch budget)) a (Some (change.Batch o))
+batch_weighed old budget a o first more found = (
+  after_batch old (outcome_of old.orders o),
+  record { first = None; refused = first; answered = found.1 },
+  record { right = found.0; more = more; made = refl },
+)
 
 -- and where there is nothing to settle the answer is none
-pub batch_not_served : (old : Market) (budget : ℕ) (a : Answer Outcome) → FirstRefusal old (RunBatch budget) None → IsOutcomeFor old budget a None
-    → IsServed Illegal old (Ok (RunBatch budget)) a old
-batch_not_served old budget a first none = (
-  λ made serves. none made (subst (λ f. Answers IsRightOutcome old (RunBatch budget) f a made) (one_first old (RunBatch budget) serves.first None serves.refused first) serves.answered),
-  refl,
-)
+pub batch_not_due : (old : Market) (budget : ℕ) (a : Answer Outcome) → FirstRefusal old (RunBatch budget) None → IsOutcomeFor old budget a None
+    → IsReadWeighed old (Ok (RunBatch budget)) a None
+batch_not_due old budget a first none = λ made serves.
+    none made (subst (λ f. Answers IsRightOutcome old (RunBatch budget) f a made) (one_first old (RunBatch budget) serves.first None serves.refused first) serves.answered)
+
+-- ---- steps that are made
+
+module _ (old : Market) (pair : Record × Record) where
+  -- nothing is changed
+  pub nothing_made : IsChangeOf old pair change.Nothing → IsLegalPair old pair old
+  nothing_made is = subst (IsLegalPair old pair) is.changes is.legal
+
+  -- a batch is settled
+  pub batch_made : (o : parts.Outcome) → IsChangeOf old pair (change.Batch o) → IsLegalPair old pair (after_batch old (outcome_of old.orders o))
+  batch_made o is = subst (IsLegalPair old pair) is.changes.made is.legal
+
+  module _ (is : IsChangeOf old pair change.Command) where
+    -- the command of the pair is accepted, and there is one
+    pub command_accepted : (read : Result Command BodyFault) → IsReadAs old.version pair.0 read → IsAcceptedPlain old read
+    command_accepted read spelled = subst (IsAcceptedPlain old) (reading_unique old.version pair.0 is.legal.step.read read is.legal.step.spelled spelled) is.changes
+
+    -- where it is served, the step is made
+    pub command_made : (c : Command) (told : Reply) (new : Market) → IsReadAs old.version pair.0 (Ok c) → Serves IsOwnOutcome old c (Plain told) new
+        → IsLegalPair old pair new
+    command_made c told new spelled serves =
+        let none = (command_accepted (Ok c) spelled).0 in
+        let same = reading_unique old.version pair.0 is.legal.step.read (Ok c) is.legal.step.spelled spelled in
+        let there = subst (λ r. ServesRead IsRightOutcome old r is.legal.answer is.new) same is.legal.step.served in
+        let here = (plain_commands_need_no_rule old c (Plain told) new none).0 serves in
+        subst (IsLegalPair old pair) (plain_commands_have_one_answer old c is.legal.answer (Plain told) is.new new none there here).1 is.legal
 
 -- ---- answers of the code
 

@@ -1,12 +1,49 @@
 -- What the audit of one pair answers, and what it makes of the audit's market.
-use Rattle.std.specs.Prelude.{◌≡◌}
+use Rattle.std.specs.Prelude.{◌≡◌, ◌<◌, ℕ, Option, Some, None, Result, Ok, Err}
 use Rattle.wire_records.specs.Records.{Record}
-use Rattle.market_rules.specs.Market.{Market}
+use Rattle.wire_records.specs.Commands.{RunBatch}
+use Rattle.wire_records.specs.Commands as commands
+use Rattle.wire_records.specs.declared.command.BodyFault.{BodyFault}
+use Rattle.batch_outcome.specs.declared.outcome.Outcome.{Outcome}
+use Rattle.batch_outcome.specs.Published.{outcome_of}
+use Rattle.market_rules.specs.Market.{Market, most_batches}
+use Rattle.market_rules.specs.Step.{FirstRefusal, after_batch}
+use Rattle.market_rules.specs.Settling.{MaySettle}
 use Rattle.batch_audit.specs.Legal.{IsLegalPair, IsIllegalPair}
 use Rattle.batch_audit.specs.declared.audit.Legality.{Legality}
 use Rattle.batch_audit.specs.declared.audit.Legality.TheVariants.{Legal, Illegal}
+use Rattle.batch_audit.specs.declared.change.Change.{Change}
+use Rattle.batch_audit.specs.declared.change.Change.TheVariants.{Nothing, Command, Batch}
 
 -- a legal pair makes the new market, and an illegal one leaves the old
 abbrev pub IsJudged : Legality → Market → Record × Record → Market → Type 0
 IsJudged Legal old pair new = IsLegalPair old pair new
 IsJudged Illegal old pair new = IsIllegalPair old pair × (new ≡ old)
+
+-- what a record is read as is a command that holds no batch, and that no refusal stops
+abbrev pub IsAcceptedPlain : Market → Result commands.Command BodyFault → Type 0
+IsAcceptedPlain m (Ok command) = ((budget : ℕ) → ¬ (command ≡ RunBatch budget)) × FirstRefusal m command None
+IsAcceptedPlain m (Err why) = ⊥
+
+-- settling an outcome, which the market may do, makes the new market
+pub record IsSettling (old : Market) (outcome : Outcome) (new : Market) : Type 0 where
+  pub right : MaySettle old outcome
+  pub more : old.batches < most_batches
+  pub made : new ≡ after_batch old (outcome_of old.orders outcome)
+
+-- a change of the old market, by what a record is read as, that makes the new one: none, that of its command, or that of a batch
+abbrev pub Changes : Market → Result commands.Command BodyFault → Change → Market → Type 0
+Changes old read Nothing new = new ≡ old
+Changes old read Command new = IsAcceptedPlain old read
+Changes old read (Batch outcome) new = IsSettling old outcome new
+
+-- a pair is legal, and this is what it changes
+pub record IsChangeOf (old : Market) (pair : Record × Record) (change : Change) : Type 0 where
+  pub new : Market
+  pub legal : IsLegalPair old pair new
+  pub changes : Changes old legal.step.read change new
+
+-- what is made of a pair before its step: what a legal one changes, or that it is illegal
+abbrev pub IsWeighed : Market → Record × Record → Option Change → Type 0
+IsWeighed old pair (Some change) = IsChangeOf old pair change
+IsWeighed old pair None = IsIllegalPair old pair

@@ -17,21 +17,22 @@ use Rattle.market_rules.specs.Market.{Market}
 use Rattle.market_rules.specs.Step.{ServesRead, holds_batch, after_batch}
 use Rattle.market_rules.specs.Journal.{Step}
 use Rattle.market_rules.specs.Settling.{MaySettle}
-use Rattle.batch_audit.specs.declared.audit.Legality.{Legality}
-use Rattle.batch_audit.specs.declared.audit.Legality.TheVariants.{Legal, Illegal}
+use Rattle.batch_audit.specs.Judging.{Changes}
+use Rattle.batch_audit.specs.declared.change.Change.{Change}
 use Rattle.batch_audit.specs.declared.finding.Finding.{Finding}
 use Rattle.batch_audit.specs.declared.finding.Finding.TheVariants as finding
 use Rattle.batch_audit.specs.Findings.{HasWholeTrace, HasLegalTrace, EndsUnsettled, HasStartDual, IsOtherDual, IsFinding}
 
--- what a record is read as gets this answer, and makes the new market; or it gets another one, and the market is as before
-abbrev pub IsServed : Legality → Market → Result Command BodyFault → Answer Outcome → Market → Type 0
-IsServed Legal old read answer new = ServesRead IsRightOutcome old read answer new
-IsServed Illegal old read answer new = ((made : Market) → ¬ ServesRead IsRightOutcome old read answer made) × (new ≡ old)
+-- what a record is read as gets this answer, which makes this change; or it gets another one
+abbrev pub IsReadWeighed : Market → Result Command BodyFault → Answer Outcome → Option Change → Type 0
+IsReadWeighed old read answer (Some change) = (new : Market) × ServesRead IsRightOutcome old read answer new × Changes old read change new
+IsReadWeighed old read answer None = (new : Market) → ¬ ServesRead IsRightOutcome old read answer new
 
 -- the same of a record
-abbrev pub IsAnswerJudged : Legality → Market → Record → Answer Outcome → Market → Type 0
-IsAnswerJudged Legal old asked answer new = Step IsReadAs IsRightOutcome old asked answer new
-IsAnswerJudged Illegal old asked answer new = ((made : Market) → ¬ Step IsReadAs IsRightOutcome old asked answer made) × (new ≡ old)
+abbrev pub IsAnswerWeighed : Market → Record → Answer Outcome → Option Change → Type 0
+IsAnswerWeighed old asked answer (Some change) =
+    (new : Market) × (made : Step IsReadAs IsRightOutcome old asked answer new) × Changes old made.read change new
+IsAnswerWeighed old asked answer None = (new : Market) → ¬ Step IsReadAs IsRightOutcome old asked answer new
 
 -- the market settles this for a batch that is allowed, as the answer tells a right outcome; or it tells none
 abbrev pub IsOutcomeFor : Market → ℕ → Answer Outcome → Option parts.Outcome → Type 0

@@ -1,23 +1,17 @@
 //! One pair, and whether it is legal.
-ghost use Rattle.std.specs.Prelude.{◌≡◌, ◌+◌, ◌^◌, ◌<◌, ◌↔◌, ℕ, IsTrue, if◌then◌else◌, Ok, IfOk, IfSome, IfNone, OnErr};
-ghost use Rattle.wire_records.specs.Commands.{RunBatch, Plain};
-ghost use Rattle.wire_records.specs.CommandRecords.{IsCommand};
-ghost use Rattle.wire_records.specs.Versions.{IsOfVersion};
-ghost use Rattle.wire_records.specs.Views.{command_of};
-ghost use Rattle.wire_records.specs.declared.reply.Refusal.{Refusal as refusal_type};
-ghost use Rattle.journal_records.specs.Views.{answer_of};
-ghost use Rattle.market_rules.specs.Wanting.{MayWant, RecordMayWant};
-ghost use Rattle.batch_audit.specs.declared.audit.Legality.TheVariants.{Legal, Illegal};
-ghost use Rattle.batch_audit.specs.Private.{IsServed, IsAnswerJudged};
+ghost use Rattle.std.specs.Prelude.{◌≡◌, ◌+◌, ◌^◌, ◌<◌, IfOk, OnOk, OnErr};
+ghost use Rattle.market_rules.specs.Wanting.{RecordMayWant};
 
-use crate::explaining::{finding_of, is_plain};
+use crate::change::Change;
+use crate::explaining::finding_of;
 use crate::finding::Finding;
-use crate::outcomes::outcome_for;
-use journal_records::{PairView, ReplyView, reply};
+use crate::judging::judge_record;
+use crate::making::make_command;
+use journal_records::{PairView, reply};
 use market_core::Market;
 use std::alloc::Global;
 use std::marker::Model;
-use wire_records::{CommandView, Memory, RecordView, Refusal, Reply};
+use wire_records::Memory;
 
 /// Whether a pair is legal.
 #[derive(Clone, Copy, PartialEq, Eq)]
@@ -43,104 +37,11 @@ impl Model for Audit {
     ghost view = { λ audit. audit.market };
 }
 
-// The judgement by a test.
-fn legal_where(test: bool) -> Legality
-    ensures { result ≡ (if test then Legal else Illegal) }
-{
-    if test {
-        Legality::Legal
-    } else {
-        Legality::Illegal
-    }
-}
-
-// The refusal that a reply is, if it is one.
-fn refusal_in(reply: Reply) -> Option<Refusal>
-    ensures some { IfSome result (λ refusal. reply ≡ Reply.Refused refusal) }
-    ensures none { IfNone result ((refusal : refusal_type) → ¬ (reply ≡ Reply.Refused refusal)) }
-{
-    match reply {
-        Reply::Refused(refusal) => Some(refusal),
-        Reply::Done => None,
-        Reply::Asset(_) => None,
-        Reply::Account(_) => None,
-        Reply::Order(_) => None,
-    }
-}
-
-// Serves a command that holds no batch, where this is the reply to it.
-fn serve_plain(
-    market: &mut Market,
-    command: &CommandView<'_>,
-    seen: &ReplyView<'_>,
-) -> Result<Legality, Memory>
-    requires command { IsCommand (command_of command.now) }
-    requires version { IsOfVersion market.old.version (command_of command.now) }
-    requires no_batch { (budget : ℕ) → ¬ (command_of command.now ≡ RunBatch budget) }
-    requires next { market.old.next_order + 1 < 2 ^ 64 }
-    ensures served { IfOk result (λ legality. IsServed legality market.old (Ok (command_of command.now))
-        (answer_of seen.now) market.new) }
-    ensures stays { OnErr result (market.new ≡ market.old) }
-    ensures wanted { OnErr result (MayWant market.old (command_of command.now)) }
-{
-    let expected = market.expected(command);
-    if !is_plain(seen, expected) {
-        return Ok(Legality::Illegal);
-    }
-    if let Some(_refusal) = refusal_in(expected) {
-        return Ok(Legality::Legal);
-    }
-    market.make(command)?;
-    Ok(Legality::Legal)
-}
-
-// Holds a batch with this budget, where the reply tells a right outcome of it, or why it is refused.
-fn serve_batch(
-    alloc: Global,
-    market: &mut Market,
-    budget: u32,
-    seen: &ReplyView<'_>,
-) -> Result<Legality, Memory>
-    ensures served { IfOk result (λ legality. IsServed legality market.old (Ok (RunBatch budget))
-        (answer_of seen.now) market.new) }
-    ensures stays { OnErr result (market.new ≡ market.old) }
-    ensures wanted { OnErr result (MayWant market.old (RunBatch budget)) }
-{
-    if let Err(refusal) = market.batch_allowed(budget) {
-        return Ok(legal_where(is_plain(seen, Reply::Refused(refusal))));
-    }
-    match outcome_for(alloc, market, budget, seen)? {
-        None => Ok(Legality::Illegal),
-        Some(outcome) => {
-            market.settle(&outcome);
-            Ok(Legality::Legal)
-        }
-    }
-}
-
-// Serves what a record is read as, where this is the answer to it.
-fn serve(
-    alloc: Global,
-    market: &mut Market,
-    asked: &RecordView<'_>,
-    seen: &ReplyView<'_>,
-) -> Result<Legality, Memory>
-    requires next { market.old.next_order + 1 < 2 ^ 64 }
-    ensures served { IfOk result (λ legality. IsAnswerJudged legality market.old asked.now (answer_of seen.now) market.new) }
-    ensures stays { OnErr result (market.new ≡ market.old) }
-    ensures wanted { OnErr result (RecordMayWant market.old asked.now) }
-{
-    match market.read(asked) {
-        Ok(CommandView::RunBatch { budget }) => Ok(serve_batch(alloc, market, budget, seen)?),
-        Ok(command) => Ok(serve_plain(market, &command, seen)?),
-        Err(refusal) => Ok(legal_where(is_plain(seen, Reply::Refused(refusal)))),
-    }
-}
-
 impl Audit {
     ghost use Rattle.wire_records.specs.declared.version.Version.TheVariants.{One};
     ghost use Rattle.market_rules.specs.Market.{empty_market, IsSound};
-    ghost use Rattle.batch_audit.specs.Judging.{IsJudged};
+    ghost use Rattle.batch_audit.specs.Legal.{IsLegalPair};
+    ghost use Rattle.batch_audit.specs.Judging.{IsJudged, IsChangeOf, IsWeighed};
     ghost use Rattle.batch_audit.specs.Findings.{IsFinding};
 
     /// An audit of a journal of version One from its first pair on. Takes no memory.
@@ -193,11 +94,53 @@ impl Audit {
         // Memory is wanted only by a new asset, account or order, or by a batch, and only where no refusal holds.
         ensures wanted { OnErr result (RecordMayWant self.old pair.now.0) }
     {
-        match reply(&pair.answered()) {
+        match self.judge(pair)? {
             None => Ok(Legality::Illegal),
+            Some(change) => {
+                self.make(pair, change)?;
+                Ok(Legality::Legal)
+            }
+        }
+    }
+
+    /// What the pair makes of the market, which stays as it is: `None` exactly where the pair is no step of it, so where
+    /// [`Audit::pair`] answers `Illegal`. The number that the next order gets is below 2^64 - 1.
+    ///
+    /// It costs what the audit of the pair costs without the step. Memory is taken for the start prices of a batch, for the
+    /// prices, rates and residuals of a clearing that is right, and for a walk what a search takes but for its trace.
+    pub fn judge(&mut self, pair: &PairView<'_>) -> Result<Option<Change>, Memory>
+        requires next { self.old.next_order + 1 < 2 ^ 64 }
+        ensures weighed { IfOk result (IsWeighed self.old pair.now) }
+        ensures stays { self.new ≡ self.old }
+        // Memory is wanted only by a record that the audit of the pair may want it for.
+        ensures wanted { OnErr result (RecordMayWant self.old pair.now.0) }
+    {
+        match reply(&pair.answered()) {
+            None => Ok(None),
             Some(seen) => {
                 let asked = pair.asked();
-                Ok(serve(self.alloc, &mut self.market, &asked, &seen)?)
+                Ok(judge_record(self.alloc, &mut self.market, &asked, &seen)?)
+            }
+        }
+    }
+
+    /// Makes the step of a pair that was judged over this market: what [`Audit::judge`] answered of it is the change. The number
+    /// that the next order gets is below 2^64 - 1. After `Memory` the market is as before.
+    ///
+    /// It costs what the step costs. Memory is taken for what the market keeps of a command; a batch takes none.
+    pub fn make(&mut self, pair: &PairView<'_>, change: Change) -> Result<(), Memory>
+        requires change { IsChangeOf self.old pair.now change }
+        requires next { self.old.next_order + 1 < 2 ^ 64 }
+        ensures legal { OnOk result (IsLegalPair self.old pair.now self.new) }
+        ensures stays { OnErr result (self.new ≡ self.old) }
+        ensures wanted { OnErr result (RecordMayWant self.old pair.now.0) }
+    {
+        match change {
+            Change::Nothing => Ok(()),
+            Change::Command => Ok(make_command(&mut self.market, pair)?),
+            Change::Batch(outcome) => {
+                self.market.settle(&outcome);
+                Ok(())
             }
         }
     }

@@ -1,8 +1,9 @@
 //! The audit of a journal: whether a pair is a step of the market, whoever wrote it.
 //!
 //! An [`Audit`] holds the market from pair to pair. A pair is legal where its reply is the one that the market gives to its
-//! command, or, for a batch, tells any right outcome: the prices needn't be this program's own. What holds of legal pairs
-//! and journals stands in [`laws`].
+//! command, or, for a batch, tells any right outcome: the prices needn't be this program's own. [`Audit::pair`] judges a pair
+//! and makes its step; [`Audit::judge`] and [`Audit::make`] are its two halves, for whoever looks at the market in between.
+//! What holds of legal pairs and journals stands in [`laws`].
 //!
 //! # Costs
 //!
@@ -13,10 +14,14 @@
 #![tactic(auto)]
 
 mod audit;
+mod change;
 mod explaining;
 mod finding;
+mod judging;
 pub mod laws;
+mod making;
 mod outcomes;
 
 pub use audit::{Audit, Legality};
+pub use change::Change;
 pub use finding::Finding;

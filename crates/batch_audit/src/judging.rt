@@ -1,0 +1,96 @@
+//! What a pair would make of a market, by its reply and by what its record is read as. Nothing is changed.
+ghost use Rattle.std.specs.Prelude.{◌≡◌, ◌+◌, ◌^◌, ◌<◌, ℕ, if◌then◌else◌, Some, None, Ok, IfOk, IfSome, IfNone, OnErr};
+ghost use Rattle.wire_records.specs.Commands.{RunBatch};
+ghost use Rattle.wire_records.specs.CommandRecords.{IsCommand};
+ghost use Rattle.wire_records.specs.Versions.{IsOfVersion};
+ghost use Rattle.wire_records.specs.Views.{command_of};
+ghost use Rattle.wire_records.specs.declared.reply.Refusal.{Refusal as refusal_type};
+ghost use Rattle.journal_records.specs.Views.{answer_of};
+ghost use Rattle.market_rules.specs.Wanting.{MayWant, RecordMayWant};
+ghost use Rattle.batch_audit.specs.Private.{IsReadWeighed, IsAnswerWeighed};
+
+use crate::change::Change;
+use crate::explaining::is_plain;
+use crate::outcomes::outcome_for;
+use journal_records::ReplyView;
+use market_core::Market;
+use std::alloc::Global;
+use wire_records::{CommandView, Memory, RecordView, Refusal, Reply};
+
+// Nothing is changed where a test holds, and else there is no step.
+fn nothing_where(test: bool) -> Option<Change>
+    ensures { result ≡ (if test then Some Change.Nothing else None) }
+{
+    if test { Some(Change::Nothing) } else { None }
+}
+
+// The refusal that a reply is, if it is one.
+fn refusal_in(reply: Reply) -> Option<Refusal>
+    ensures some { IfSome result (λ refusal. reply ≡ Reply.Refused refusal) }
+    ensures none { IfNone result ((refusal : refusal_type) → ¬ (reply ≡ Reply.Refused refusal)) }
+{
+    match reply {
+        Reply::Refused(refusal) => Some(refusal),
+        Reply::Done => None,
+        Reply::Asset(_) => None,
+        Reply::Account(_) => None,
+        Reply::Order(_) => None,
+    }
+}
+
+// What a command that holds no batch makes of the market, where this is the reply to it.
+fn judge_plain(market: &Market, command: &CommandView<'_>, seen: &ReplyView<'_>) -> Option<Change>
+    requires command { IsCommand (command_of command.now) }
+    requires version { IsOfVersion market.now.version (command_of command.now) }
+    requires no_batch { (budget : ℕ) → ¬ (command_of command.now ≡ RunBatch budget) }
+    requires next { market.now.next_order + 1 < 2 ^ 64 }
+    ensures { IsReadWeighed market.now (Ok (command_of command.now)) (answer_of seen.now) result }
+{
+    let expected = market.expected(command);
+    if !is_plain(seen, expected) {
+        return None;
+    }
+    match refusal_in(expected) {
+        Some(_refusal) => Some(Change::Nothing),
+        None => Some(Change::Command),
+    }
+}
+
+// What a batch with this budget makes of the market, where the reply tells a right outcome of it, or why it is refused.
+fn judge_batch(
+    alloc: Global,
+    market: &mut Market,
+    budget: u32,
+    seen: &ReplyView<'_>,
+) -> Result<Option<Change>, Memory>
+    ensures weighed { IfOk result (IsReadWeighed market.old (Ok (RunBatch budget)) (answer_of seen.now)) }
+    ensures stays { market.new ≡ market.old }
+    ensures wanted { OnErr result (MayWant market.old (RunBatch budget)) }
+{
+    if let Err(refusal) = market.batch_allowed(budget) {
+        return Ok(nothing_where(is_plain(seen, Reply::Refused(refusal))));
+    }
+    match outcome_for(alloc, market, budget, seen)? {
+        None => Ok(None),
+        Some(outcome) => Ok(Some(Change::Batch(outcome))),
+    }
+}
+
+// What a record makes of the market, where this is the answer to it.
+pub(crate) fn judge_record(
+    alloc: Global,
+    market: &mut Market,
+    asked: &RecordView<'_>,
+    seen: &ReplyView<'_>,
+) -> Result<Option<Change>, Memory>
+    requires next { market.old.next_order + 1 < 2 ^ 64 }
+    ensures weighed { IfOk result (IsAnswerWeighed market.old asked.now (answer_of seen.now)) }
+    ensures stays { market.new ≡ market.old }
+    ensures wanted { OnErr result (RecordMayWant market.old asked.now) }
+{
+    match market.read(asked) {
+        Ok(CommandView::RunBatch { budget }) => Ok(judge_batch(alloc, market, budget, seen)?),
+        Ok(command) => Ok(judge_plain(market, &command, seen)),
+        Err(refusal) => Ok(nothing_where(is_plain(seen, Reply::Refused(refusal)))),
+    }
+}
