@@ -1,7 +1,7 @@
 mod Lists
 mod OwnParts
-mod Told
-mod ViewLaws
+pub mod Told
+pub mod ViewLaws
 mod WorkedRows
-mod Texts
+pub mod Texts
 mod OwnRates

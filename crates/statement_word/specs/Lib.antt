@@ -1,0 +1,3 @@
+pub mod Stating
+pub mod Laws
+pub mod Private
