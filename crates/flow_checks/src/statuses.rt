@@ -4,7 +4,7 @@ use flow_exchange::Status;
 use flow_io::SteadySink;
 use std::alloc::Global;
 
-const STATUSES: [Status; 10] = [
+const STATUSES: [Status; 15] = [
     Status::Done,
     Status::Usage,
     Status::NotFlow,
@@ -15,6 +15,11 @@ const STATUSES: [Status; 10] = [
     Status::Rejected(1),
     Status::TooLong(1),
     Status::BadText(1),
+    Status::BadCheckpoint,
+    Status::NoAccount(1),
+    Status::DiskFault,
+    Status::NotDisk,
+    Status::Damaged(1),
 ];
 
 // Appends the number and the line of a status.

@@ -232,6 +232,11 @@ determined form limit bytes left (answer.Torn n) before after meets r w m = meet
 determined form limit bytes left (answer.Rejected n) before after meets r w m = meets
 determined form limit bytes left (answer.TooLong n) before after meets r w m = meets
 determined form limit bytes left (answer.BadText n) before after meets r w m = meets
+determined form limit bytes left answer.BadCheckpoint before after meets r w m = meets
+determined form limit bytes left (answer.NoAccount n) before after meets r w m = meets
+determined form limit bytes left answer.DiskFault before after meets r w m = meets
+determined form limit bytes left answer.NotDisk before after meets r w m = meets
+determined form limit bytes left (answer.Damaged n) before after meets r w m = meets
 
 -- over what a source tells
 pub completes : (told left : Option (List ℕ)) (form : Form) (limit : ℕ) (status : Status) (before after : Option (List ℕ)) → IfSome told (λ bytes. Meets form limit bytes left status before after)

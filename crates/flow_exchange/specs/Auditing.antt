@@ -16,7 +16,7 @@ use Rattle.batch_audit.specs.Legal.{IsLegalJournal}
 use Rattle.journal_replay.specs.Audits.{Audits, cleared_in, skipped_in}
 use Rattle.journal_words.specs.Line.{counted_line}
 use Rattle.flow_exchange.specs.declared.status.Status.{Status}
-use Rattle.flow_exchange.specs.declared.status.Status.TheVariants.{Done, Usage, NotFlow, Torn, ReadFault, WriteFault, NoMemory, Rejected, TooLong, BadText}
+use Rattle.flow_exchange.specs.declared.status.Status.TheVariants.{Done, Usage, NotFlow, Torn, ReadFault, WriteFault, NoMemory, Rejected, TooLong, BadText, BadCheckpoint, NoAccount, DiskFault, NotDisk, Damaged}
 use Rattle.flow_exchange.specs.Statuses.{ending_status}
 
 -- the line on a legal journal
@@ -40,6 +40,11 @@ audit_text NoMemory legal = []
 audit_text (Rejected number) legal = []
 audit_text (TooLong most) legal = []
 audit_text (BadText number) legal = []
+audit_text BadCheckpoint legal = []
+audit_text (NoAccount number) legal = []
+audit_text DiskFault legal = []
+audit_text NotDisk legal = []
+audit_text (Damaged place) legal = []
 
 -- The bytes are a journal, whose pairs are these legal ones and those behind them. The legal ones keep the promises of the
 -- exchange, and lead to this market, which holds the accepted deposits less the accepted withdrawals.

@@ -8,7 +8,7 @@ use Rattle.line_records.specs.Encoding.{EncodesTo, EncodesInto, EncodesShort}
 use Rattle.flow_exchange.specs.declared.form.Form.{Form}
 use Rattle.flow_exchange.specs.declared.form.Form.TheVariants.{Run, Audit, Explain, Report, Encode, Sample}
 use Rattle.flow_exchange.specs.declared.status.Status.{Status}
-use Rattle.flow_exchange.specs.declared.status.Status.TheVariants.{Done, Usage, NotFlow, Torn, ReadFault, WriteFault, NoMemory, Rejected, TooLong, BadText}
+use Rattle.flow_exchange.specs.declared.status.Status.TheVariants.{Done, Usage, NotFlow, Torn, ReadFault, WriteFault, NoMemory, Rejected, TooLong, BadText, BadCheckpoint, NoAccount, DiskFault, NotDisk, Damaged}
 use Rattle.flow_exchange.specs.Forms.{Asks, AsksNothing}
 use Rattle.flow_exchange.specs.Statuses.{line_of, ended_status, bad_text}
 use Rattle.flow_exchange.specs.Running.{RunsTo, RunsInto, RunsShort, KeepsPace}
@@ -100,6 +100,11 @@ Meets form limit bytes left (Torn place) before after = Determines form limit by
 Meets form limit bytes left (Rejected number) before after = Determines form limit bytes (Rejected number) before after
 Meets form limit bytes left (TooLong most) before after = Determines form limit bytes (TooLong most) before after
 Meets form limit bytes left (BadText number) before after = Determines form limit bytes (BadText number) before after
+Meets form limit bytes left BadCheckpoint before after = Determines form limit bytes BadCheckpoint before after
+Meets form limit bytes left (NoAccount number) before after = Determines form limit bytes (NoAccount number) before after
+Meets form limit bytes left DiskFault before after = Determines form limit bytes DiskFault before after
+Meets form limit bytes left NotDisk before after = Determines form limit bytes NotDisk before after
+Meets form limit bytes left (Damaged place) before after = Determines form limit bytes (Damaged place) before after
 
 -- What a form does to source and out.
 pub record Does (form : Form) (limit : ℕ) (status : Status) (source out : Change) : Type 0 where

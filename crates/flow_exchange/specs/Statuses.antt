@@ -18,6 +18,11 @@ exit_of status.NoMemory = 6
 exit_of (status.Rejected number) = 7
 exit_of (status.TooLong limit) = 8
 exit_of (status.BadText number) = 9
+exit_of status.BadCheckpoint = 10
+exit_of (status.NoAccount number) = 11
+exit_of status.DiskFault = 12
+exit_of status.NotDisk = 13
+exit_of (status.Damaged place) = 14
 
 -- the line on notes, with its line feed
 abbrev pub line_of : Status → List ℕ
@@ -31,6 +36,11 @@ line_of status.NoMemory = codes "flow: no memory\n"
 line_of (status.Rejected number) = codes "flow: pair " ++ decimal number ++ codes " is not legal\n"
 line_of (status.TooLong limit) = codes "flow: more than " ++ decimal limit ++ codes " bytes\n"
 line_of (status.BadText number) = codes "flow: line " ++ decimal number ++ codes " is no command\n"
+line_of status.BadCheckpoint = codes "flow: checkpoint is not sound\n"
+line_of (status.NoAccount number) = codes "flow: no account " ++ decimal number ++ codes "\n"
+line_of status.DiskFault = codes "flow: disk failed\n"
+line_of status.NotDisk = codes "flow: not a flow disk\n"
+line_of (status.Damaged place) = codes "flow: disk damaged at byte " ++ decimal place ++ codes "\n"
 
 -- the status of an ending
 abbrev pub ending_status : ℕ → Ending → Status

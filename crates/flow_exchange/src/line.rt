@@ -55,6 +55,13 @@ impl Status {
                 number,
                 b" is no command\n",
             ),
+            Status::BadCheckpoint => notes.write(b"flow: checkpoint is not sound\n"),
+            Status::NoAccount(number) => write_number(notes, b"flow: no account ", number, b"\n"),
+            Status::DiskFault => notes.write(b"flow: disk failed\n"),
+            Status::NotDisk => notes.write(b"flow: not a flow disk\n"),
+            Status::Damaged(place) => {
+                write_number(notes, b"flow: disk damaged at byte ", place, b"\n")
+            }
         }
     }
 }

@@ -25,6 +25,16 @@ pub enum Status {
     TooLong(u64),
     /// The line of this number, counted from 1, is neither blank nor a command.
     BadText(u64),
+    /// The input begins as a checkpoint, and is none of a sound market.
+    BadCheckpoint,
+    /// The journal's market has no account of this number.
+    NoAccount(u64),
+    /// A call of the disk failed.
+    DiskFault,
+    /// The file holds something, and is no journal on a disk.
+    NotDisk,
+    /// At this byte of the file, from 0, an entry should stand and none does.
+    Damaged(u64),
 }
 
 impl Status {
@@ -45,6 +55,11 @@ impl Status {
             Status::Rejected(_) => 7,
             Status::TooLong(_) => 8,
             Status::BadText(_) => 9,
+            Status::BadCheckpoint => 10,
+            Status::NoAccount(_) => 11,
+            Status::DiskFault => 12,
+            Status::NotDisk => 13,
+            Status::Damaged(_) => 14,
         }
     }
 }
