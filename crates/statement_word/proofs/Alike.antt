@@ -11,9 +11,9 @@ use Rattle.flow_accounts.specs.Balances.{IsAccount}
 use Rattle.flow_orders.specs.Orders.{Order, money_need, unit_need}
 use Rattle.flow_orders.specs.Outcomes.{Outcome, Cleared, Skipped, trades_of}
 use Rattle.market_rules.specs.Market.{Market, IsSound}
-use Rattle.account_statement.specs.Views.{Event, Adds, Opens, Asks, Clears, Skips, is_there, event_if, seen_plain, seen}
-use Rattle.account_statement.specs.Holdings.{Holding, IsHeld}
-use Rattle.account_statement.specs.Statements.{asset_name, asked_line, cost_line, event_lines, lines_from, asset_line, end_lines}
+use Rattle.statement_rules.specs.Views.{Event, Adds, Opens, Asks, Clears, Skips, is_there, event_if, seen_plain, seen}
+use Rattle.statement_rules.specs.Holdings.{Holding, IsHeld}
+use Rattle.statement_rules.specs.Statements.{asset_name, asked_line, cost_line, event_lines, lines_from, asset_line, end_lines}
 use Rattle.statement_word.specs.Stating.{held_in}
 
 -- ---- the lines of what is seen of a pair

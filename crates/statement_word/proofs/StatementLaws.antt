@@ -15,11 +15,11 @@ use Rattle.market_rules.proofs.LawProofs.{steps_keep_soundness}
 use Rattle.market_rules.proofs.Soundness.{sound-empty}
 use Rattle.market_rules.proofs.Versions.{step_version}
 use Rattle.batch_audit.specs.Legal.{IsLegalPair, IsIllegalPair}
-use Rattle.account_statement.specs.Views.{is_there, seen}
-use Rattle.account_statement.specs.Holdings.{after_all, IsHeld}
-use Rattle.account_statement.specs.Statements.{lines_from, end_lines}
-use Rattle.account_statement.proofs.Told.{told, there_is, is_account}
-use Rattle.account_statement.proofs.Texts.{quiet}
+use Rattle.statement_rules.specs.Views.{is_there, seen}
+use Rattle.statement_rules.specs.Holdings.{after_all, IsHeld}
+use Rattle.statement_rules.specs.Statements.{lines_from, end_lines}
+use Rattle.statement_rules.proofs.Told.{told, there_is, is_account}
+use Rattle.statement_rules.proofs.Texts.{quiet}
 use Rattle.word_driver.specs.Laws.{IsExact, IsKept, HasNext}
 use Rattle.word_driver.proofs.Denying.{not_denied}
 use Rattle.journal_words.proofs.JournalLaws.{IsExactWatch, HasSight, over_pairs_is_exact, over_pairs_is_kept, over_pairs_has_next}

@@ -1,3 +1,2 @@
 pub mod Stating
-pub mod Laws
 pub mod Private

@@ -9,9 +9,9 @@ use Rattle.flow_accounts.specs.Balances.{IsAccount, money_of, units_of}
 use Rattle.flow_orders.specs.Outcomes.{Outcome}
 use Rattle.journal_records.specs.Replies.{SpellsAnswer}
 use Rattle.market_rules.specs.Market.{Market, empty_market}
-use Rattle.account_statement.specs.Views.{seen, is_there}
-use Rattle.account_statement.specs.Holdings.{Holding, own_orders}
-use Rattle.account_statement.specs.Statements.{lines_from, end_lines}
+use Rattle.statement_rules.specs.Views.{seen, is_there}
+use Rattle.statement_rules.specs.Holdings.{Holding, own_orders}
+use Rattle.statement_rules.specs.Statements.{lines_from, end_lines}
 use Rattle.word_driver.specs.Word.{Word}
 use Rattle.journal_words.specs.Watching.{Sight, Legal, Illegal, End, Watch, Watched, over_pairs}
 use Rattle.statement_word.specs.declared.no_statement.NoStatement.{NoStatement}
