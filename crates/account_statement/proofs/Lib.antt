@@ -1,7 +1,7 @@
 mod Lists
 mod OwnParts
-pub mod Told
-pub mod ViewLaws
+mod Told
+mod ViewLaws
 mod WorkedRows
-pub mod Texts
+mod Texts
 mod OwnRates

@@ -18,7 +18,7 @@ use Rattle.account_statement.specs.Laws.{TextsGoOn, AbsentAccountsHaveNoText}
 use Rattle.account_statement.proofs.Told.{told, is_account}
 use Rattle.account_statement.proofs.ViewLaws.{empty_held, after_both, sound_after, told_all}
 
-pub lines_both : (v : List Event) (h : Holding) (w : List Event) → lines_from h (v ++ w) ≡ lines_from h v ++ lines_from (after_all h v) w
+lines_both : (v : List Event) (h : Holding) (w : List Event) → lines_from h (v ++ w) ≡ lines_from h v ++ lines_from (after_all h v) w
 lines_both [] h w = refl
 lines_both (event ∷ v) h w = ap (λ l. event_lines h event ++ l) (lines_both v (after h event) w) ∙ sym (append_assoc (event_lines h event) (lines_from (after h event) v) (lines_from (after_all (after h event) v) w))
 
@@ -105,7 +105,7 @@ no_lines account h there (PlaceUntil last r) reply not_there closed = not_seen h
 no_lines account h there (SetMoneyCredit named ticks) reply not_there closed = not_seen h (there && (named == account)) (Asks (SetMoneyCredit named ticks) reply) (not_own there (named == account) not_there)
 no_lines account h there (SetUnitCredit named asset units) reply not_there closed = not_seen h (there && (named == account)) (Asks (SetUnitCredit named asset units) reply) (not_own there (named == account) not_there)
 
-pub quiet : (account : ℕ) (m : Market) (h : Holding) (read : Result Command BodyFault) (a : Answer Outcome) → is_there m account ≡ false → (after_all h (seen account m read a)).is_open ≡ false → lines_from h (seen account m read a) ≡ []
+quiet : (account : ℕ) (m : Market) (h : Holding) (read : Result Command BodyFault) (a : Answer Outcome) → is_there m account ≡ false → (after_all h (seen account m read a)).is_open ≡ false → lines_from h (seen account m read a) ≡ []
 quiet account m h (Ok c) (Plain reply) not_there closed = no_lines account h (is_there m account) c reply not_there closed
 quiet account m h (Ok c) (Batch batch (Cleared k)) not_there closed = not_seen h (is_there m account) _ not_there
 quiet account m h (Ok c) (Batch batch (Skipped s)) not_there closed = not_seen h (is_there m account) _ not_there
