@@ -1,4 +1,3 @@
-pub mod Views
-pub mod Holdings
-pub mod Statements
-pub mod Laws
+pub mod Telling
+pub mod Kept
+pub mod Private

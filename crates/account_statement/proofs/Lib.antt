@@ -1,7 +1,0 @@
-mod Lists
-mod OwnParts
-mod Told
-mod ViewLaws
-mod WorkedRows
-mod Texts
-mod OwnRates

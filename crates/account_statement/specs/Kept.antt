@@ -1,0 +1,24 @@
+-- What the fields of a statement stand for.
+use Rattle.std.specs.Prelude.{◌≡◌, ℤ, pos, List, length, vec_len, All, slice_index_or}
+use Rattle.flow_orders.specs.Orders.{Order}
+use Rattle.statement_rules.specs.Holdings.{Holding}
+use Rattle.account_statement.specs.Telling.{Statement}
+use Rattle.account_statement.specs.declared.statement.Statement.TheInside.{Inside}
+
+-- what the fields say that the account has
+abbrev pub statement_in : Inside → Statement
+statement_in s = record {
+  account = s.account;
+  holding = record {
+    tickers = s.tickers;
+    is_open = s.is_open;
+    money = s.money;
+    units = λ asset. slice_index_or s.units.items asset (pos 0);
+    orders = s.book.orders;
+  };
+}
+
+-- a balance for each ticker, and own orders alone
+pub record IsKept (s : Inside) : Type 0 where
+  pub one_each : vec_len s.units ≡ length s.tickers
+  pub own : All (λ (o : Order). o.account ≡ s.account) s.book.orders

@@ -1,0 +1,179 @@
+-- Words that only private functions use.
+use Rattle.std.specs.Prelude.{◌≡◌, ℕ, ◌<◌, ◌≤◌, Bool, ◌&&◌, ◌==◌, if◌then◌else◌, true, ℤ, pos, neg_ℤ, ◌+ℤ◌, ◌-ℤ◌, List, [], ◌∷◌, ◌++◌, map, length, All, AllPairs, Contains, slice_index_or, ⊤}
+use Rattle.list_sums.specs.Sums.{int_sum_by}
+use Rattle.weight_rows.specs.Rows.{IsLawfulRow, IsPrice, IsPricedBy}
+use Rattle.demand_curve.specs.Demand.{most_rate}
+use Rattle.ticker_table.specs.Adding.{IsAddable}
+use Rattle.wire_records.specs.Commands.{Request, Command, AddAsset, OpenAccount, DepositMoney, DepositAsset, WithdrawMoney, WithdrawAsset, PlaceOrder, CancelOrder, RunBatch, PlaceUntil, SetMoneyCredit, SetUnitCredit, Answer, Plain, Batch}
+use Rattle.wire_records.specs.declared.reply.Reply.{Reply}
+use Rattle.wire_records.specs.declared.reply.Reply.TheVariants as reply
+use Rattle.flow_accounts.specs.Balances.{grains}
+use Rattle.flow_accounts.specs.Lawful.{IsMoneyBalance, IsUnitBalance}
+use Rattle.flow_orders.specs.Orders.{Order, IsOrder, AreLimits, IsFrom1To, most_cap, most_orders, terms_of}
+use Rattle.flow_orders.specs.Outcomes.{Fill, Clearing, Outcome, Cleared, Skipped, IsRightOutcome}
+use Rattle.flow_orders.specs.Trades.{Trade, trades, paid, received}
+use Rattle.order_book.specs.Book.{HasOrder}
+use Rattle.batch_outcome.specs.Parts.{numbers_in}
+use Rattle.market_rules.specs.Market.{Market, IsSound}
+use Rattle.market_rules.specs.Step.{Serves}
+use Rattle.statement_rules.specs.Views.{Event, Asks, Clears, Skips, event_if, seen_plain}
+use Rattle.statement_rules.specs.Holdings.{Holding, after_all}
+use Rattle.statement_rules.specs.Statements.{lines_from}
+use Rattle.account_statement.specs.Telling.{Statement, Agrees}
+
+-- the same holding, asset by asset
+pub record AreAlike (one other : Holding) : Type 0 where
+  pub tickers : one.tickers ≡ other.tickers
+  pub is_open : one.is_open ≡ other.is_open
+  pub money : one.money ≡ other.money
+  pub units : (asset : ℕ) → one.units asset ≡ other.units asset
+  pub orders : one.orders ≡ other.orders
+
+-- ---- which account a command names
+
+-- what an account sees of a command that names one: the command with its answer, where it is there and the one
+abbrev pub Names : ℕ → Command → Type 0
+Names named command = (account : ℕ) (there : Bool) (answer : Reply)
+    → seen_plain account there command answer ≡ event_if (there && (named == account)) (Asks command answer)
+
+-- a command that names no account
+abbrev pub NamesNone : Command → Type 0
+NamesNone (AddAsset ticker) = ⊤
+NamesNone OpenAccount = ⊤
+NamesNone (DepositMoney account ticks) = ⊥
+NamesNone (DepositAsset account asset units) = ⊥
+NamesNone (WithdrawMoney account ticks) = ⊥
+NamesNone (WithdrawAsset account asset units) = ⊥
+NamesNone (PlaceOrder request) = ⊥
+NamesNone (CancelOrder account number) = ⊥
+NamesNone (RunBatch budget) = ⊤
+NamesNone (PlaceUntil last request) = ⊥
+NamesNone (SetMoneyCredit account ticks) = ⊥
+NamesNone (SetUnitCredit account asset units) = ⊥
+
+-- ---- the rates of own orders
+
+-- the rate that is listed under a number
+unfoldable pub rate_in : List Fill → ℕ → ℕ
+rate_in [] number = 0
+rate_in (f ∷ fills) number = if f.order == number then f.rate else rate_in fills number
+
+-- the rates of these orders
+abbrev pub rates_for : List Fill → List Order → List ℕ
+rates_for fills orders = map (λ (o : Order). rate_in fills o.number) orders
+
+-- the same, as they are published
+abbrev pub fills_for : List Fill → List Order → List Fill
+fills_for fills orders = map (λ (o : Order). record { order = o.number; rate = rate_in fills o.number }) orders
+
+-- what the orders trade by them
+abbrev pub trades_for : List Fill → List Order → List Trade
+trades_for fills orders = trades orders (rates_for fills orders)
+
+-- the fill at a place that has one
+abbrev pub fill_at : List Fill → ℕ → Fill
+fill_at fills place = slice_index_or fills place (record { order = 0; rate = 0 })
+
+-- ascending numbers
+abbrev pub AreAscending : List Fill → Type 0
+AreAscending fills = AllPairs (λ (f : Fill) (later : Fill). f.order < later.order) fills
+
+-- the number is listed
+abbrev pub IsListed : List Fill → ℕ → Type 0
+IsListed fills number = (place : ℕ) × (place < length fills) × ((fill_at fills place).order ≡ number)
+
+-- ---- what is seen, by what is held
+
+-- what the account sees of an answered command
+abbrev pub seen_by : Statement → Command → Answer Outcome → List Event
+seen_by s command (Plain answer) = seen_plain s.account s.holding.is_open command answer
+seen_by s command (Batch batch (Cleared c)) = event_if s.holding.is_open (Clears batch c.prices (fills_for c.fills s.holding.orders))
+seen_by s command (Batch batch (Skipped k)) = event_if s.holding.is_open (Skips batch)
+
+-- some market with which the statement agrees answers a command so
+pub record IsServed (s : Statement) (command : Command) (answer : Answer Outcome) : Type 0 where
+  pub market : Market
+  pub next : Market
+  pub sound : IsSound market
+  pub agrees : Agrees market s
+  pub served : Serves IsRightOutcome market command answer next
+
+-- Events were told: what is held is what it is after them, and their lines stand behind what stood there before.
+pub record Tells (events : List Event) (old new : Statement) (before now : List ℕ) : Type 0 where
+  pub account : new.account ≡ old.account
+  pub after : AreAlike new.holding (after_all old.holding events)
+  pub text : now ≡ before ++ lines_from old.holding events
+
+-- ---- what may be done with what is held
+
+-- what a new order is like: within the limits, and behind the others
+pub record MayPlace (account : ℕ) (h : Holding) (number : ℕ) (r : Request) : Type 0 where
+  pub own : r.account ≡ account
+  pub limits : AreLimits r.low r.high
+  pub rate : IsFrom1To most_rate r.rate
+  pub cap : IsFrom1To most_cap r.cap
+  pub row : IsLawfulRow r.row
+  pub few : length h.orders < most_orders
+  pub above : All (λ (o : Order). o.number < number) h.orders
+
+-- the amounts of a command that is done fit, its asset is there, and the order that it cancels
+abbrev pub MayDo : Holding → Command → Type 0
+MayDo h (DepositMoney account ticks) = IsMoneyBalance (h.money +ℤ grains ticks)
+MayDo h (DepositAsset account asset units) = (asset < length h.tickers) × IsUnitBalance (h.units asset +ℤ pos units)
+MayDo h (WithdrawMoney account ticks) = IsMoneyBalance (h.money +ℤ neg_ℤ (grains ticks))
+MayDo h (WithdrawAsset account asset units) = (asset < length h.tickers) × IsUnitBalance (h.units asset +ℤ neg_ℤ (pos units))
+MayDo h (CancelOrder account number) = HasOrder h.orders account number
+MayDo h (AddAsset ticker) = ⊤
+MayDo h OpenAccount = ⊤
+MayDo h (PlaceOrder request) = ⊤
+MayDo h (RunBatch budget) = ⊤
+MayDo h (PlaceUntil last request) = ⊤
+MayDo h (SetMoneyCredit account ticks) = ⊤
+MayDo h (SetUnitCredit account asset units) = ⊤
+
+-- the order of a command is like a new one
+abbrev pub MayOrder : ℕ → Holding → ℕ → Command → Type 0
+MayOrder account h number (PlaceOrder r) = MayPlace account h number r
+MayOrder account h number (PlaceUntil last r) = MayPlace account h number r × (1 ≤ last)
+MayOrder account h number (AddAsset ticker) = ⊤
+MayOrder account h number OpenAccount = ⊤
+MayOrder account h number (DepositMoney named ticks) = ⊤
+MayOrder account h number (DepositAsset named asset units) = ⊤
+MayOrder account h number (WithdrawMoney named ticks) = ⊤
+MayOrder account h number (WithdrawAsset named asset units) = ⊤
+MayOrder account h number (CancelOrder named order) = ⊤
+MayOrder account h number (RunBatch budget) = ⊤
+MayOrder account h number (SetMoneyCredit named ticks) = ⊤
+MayOrder account h number (SetUnitCredit named asset units) = ⊤
+
+-- what an answer does to what is held may be done
+abbrev pub MayMake : ℕ → Holding → Command → Reply → Type 0
+MayMake account h command reply.Done = MayDo h command
+MayMake account h command (reply.Order number) = MayOrder account h number command
+MayMake account h command (reply.Asset asset) = ⊤
+MayMake account h command (reply.Account number) = ⊤
+MayMake account h command (reply.Refused refusal) = ⊤
+
+-- the ticker of a new asset isn't there yet
+abbrev pub MayAdd : Holding → List ℕ → Reply → Type 0
+MayAdd h ticker (reply.Asset asset) = IsAddable h.tickers ticker
+MayAdd h ticker reply.Done = ⊤
+MayAdd h ticker (reply.Account number) = ⊤
+MayAdd h ticker (reply.Order number) = ⊤
+MayAdd h ticker (reply.Refused refusal) = ⊤
+
+-- a clearing has a rate of each own order, which is within its room, and a price of each asset
+pub record HasOwn (orders : List Order) (c : Clearing) : Type 0 where
+  pub few : length orders ≤ most_orders
+  pub ascending : AreAscending c.fills
+  pub listed : All (λ (o : Order). IsListed c.fills o.number) orders
+  pub small : All IsPrice c.prices
+  pub priced : All (λ (o : Order). IsPricedBy o.row c.prices) orders
+  pub within : All (λ (t : Trade). t.traded ≤ (terms_of t.order).room) (trades_for c.fills orders)
+
+-- and what they come to fits the balances
+pub record MayClear (h : Holding) (c : Clearing) : Type 0 where
+  pub own : HasOwn h.orders c
+  pub assets : length h.tickers ≡ length c.prices
+  pub money : IsMoneyBalance (h.money -ℤ int_sum_by (paid c.prices) (trades_for c.fills h.orders))
+  pub units : (asset : ℕ) → asset < length h.tickers → IsUnitBalance (h.units asset +ℤ int_sum_by (received asset) (trades_for c.fills h.orders))

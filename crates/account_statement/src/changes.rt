@@ -1,0 +1,215 @@
+//! What pairs make of what a statement holds.
+ghost use Rattle.std.specs.Prelude.{◌≡◌, ◌<◌, ◌≤◌, ◌+ℤ◌, [], ◌∷◌, length, OnOk, OnErr};
+ghost use Rattle.list_sums.specs.Sums.{int_sum_by};
+ghost use Rattle.ticker_table.specs.Adding.{IsAddable};
+ghost use Rattle.wire_records.specs.Commands.{PlaceOrder, PlaceUntil};
+ghost use Rattle.wire_records.specs.Views.{command_of};
+ghost use Rattle.flow_accounts.specs.Balances.{grains};
+ghost use Rattle.flow_accounts.specs.Lawful.{IsMoneyBalance, IsUnitBalance};
+ghost use Rattle.flow_orders.specs.Outcomes.{residuals_of};
+ghost use Rattle.flow_orders.specs.Trades.{paid};
+ghost use Rattle.statement_rules.specs.Views.{Adds, Clears};
+ghost use Rattle.statement_rules.specs.Holdings.{units_changed, after, after_done, after_placing, after_asked};
+ghost use Rattle.account_statement.specs.Private.{AreAlike, Tells, MayPlace, MayDo, MayOrder, MayMake, MayClear, rates_for, fills_for, trades_for};
+
+use crate::Statement;
+use crate::batch::{OwnPart, add_brought};
+use flow_orders::Order;
+use journal_records::ClearedView;
+use weight_rows::WeightRow;
+use wire_records::{CommandView, Memory, PlaceView, Reply};
+
+// One tick in grains.
+const GRAINS_PER_TICK: i128 = 1 << 32;
+
+// Ticks in grains.
+fn grains_of(ticks: u64) -> i128
+    ensures { result ≡ grains ticks }
+{
+    i128::from(ticks) * GRAINS_PER_TICK
+}
+
+// The bytes of a ticker.
+fn ticker_of(bytes: &[u8]) -> [u8; 8]
+    requires { length bytes.now ≡ 8 }
+    ensures { result ≡ bytes.now }
+{
+    let mut ticker = [b' '; 8];
+    ticker.copy_from_slice(bytes);
+    ticker
+}
+
+impl Statement {
+    // What an answered command of the account's own makes of what is held.
+    pub(crate) fn make(&mut self, command: &CommandView<'_>, answer: Reply) -> Result<(), Memory>
+        requires { MayMake self.old.account self.old.holding (command_of command.now) answer }
+        ensures account { self.new.account ≡ self.old.account }
+        ensures after { OnOk result (AreAlike self.new.holding (after_asked self.old.holding (command_of command.now) answer)) }
+        ensures stays { OnErr result (self.new ≡ self.old) }
+    {
+        match answer {
+            Reply::Done => {
+                self.make_done(command);
+                Ok(())
+            }
+            Reply::Order(number) => self.make_order(number, command),
+            Reply::Asset(_) => Ok(()),
+            Reply::Account(_) => Ok(()),
+            Reply::Refused(_) => Ok(()),
+        }
+    }
+
+    // Of one that was done.
+    fn make_done(&mut self, command: &CommandView<'_>)
+        requires { MayDo self.old.holding (command_of command.now) }
+        ensures account { self.new.account ≡ self.old.account }
+        ensures after { AreAlike self.new.holding (after_done self.old.holding (command_of command.now)) }
+    {
+        match *command {
+            CommandView::DepositMoney { ticks, .. } => self.add_money(grains_of(ticks)),
+            CommandView::WithdrawMoney { ticks, .. } => self.add_money(-grains_of(ticks)),
+            CommandView::DepositAsset { asset, units, .. } => {
+                self.add_units(asset, i128::from(units))
+            }
+            CommandView::WithdrawAsset { asset, units, .. } => {
+                self.add_units(asset, -i128::from(units))
+            }
+            CommandView::CancelOrder { account, order } => {
+                let _there = self.book.cancel(account, order);
+            }
+            CommandView::AddAsset(_) => {}
+            CommandView::OpenAccount => {}
+            CommandView::PlaceOrder(_) => {}
+            CommandView::RunBatch { .. } => {}
+            CommandView::PlaceUntil { .. } => {}
+            CommandView::SetMoneyCredit { .. } => {}
+            CommandView::SetUnitCredit { .. } => {}
+        }
+    }
+
+    // Changes the money by an amount in grains.
+    fn add_money(&mut self, amount: i128)
+        requires { IsMoneyBalance (self.old.holding.money +ℤ amount) }
+        ensures { self.new ≡ record (self.old) { holding = record (self.old.holding) { money = self.old.holding.money +ℤ amount } } }
+    {
+        self.money += amount;
+    }
+
+    // Changes the units of an asset that is there.
+    fn add_units(&mut self, asset: u16, amount: i128)
+        requires there { asset < length self.old.holding.tickers }
+        requires fits { IsUnitBalance (self.old.holding.units asset +ℤ amount) }
+        ensures account { self.new.account ≡ self.old.account }
+        ensures after { AreAlike self.new.holding (record (self.old.holding) { units = units_changed self.old.holding.units asset amount }) }
+    {
+        let place = usize::from(asset);
+        let units = i128::from(self.units[place]) + amount;
+        self.units[place] = units as i64;
+    }
+
+    // Of one that placed the order of a number.
+    fn make_order(&mut self, number: u64, command: &CommandView<'_>) -> Result<(), Memory>
+        requires { MayOrder self.old.account self.old.holding number (command_of command.now) }
+        ensures account { self.new.account ≡ self.old.account }
+        ensures after { OnOk result (AreAlike self.new.holding (after_placing self.old.holding number (command_of command.now))) }
+        ensures stays { OnErr result (self.new ≡ self.old) }
+    {
+        match *command {
+            CommandView::PlaceOrder(ref place) => self.place(number, place),
+            CommandView::PlaceUntil { last, ref place } => self.place_until(number, last, place),
+            CommandView::AddAsset(_) => Ok(()),
+            CommandView::OpenAccount => Ok(()),
+            CommandView::DepositMoney { .. } => Ok(()),
+            CommandView::DepositAsset { .. } => Ok(()),
+            CommandView::WithdrawMoney { .. } => Ok(()),
+            CommandView::WithdrawAsset { .. } => Ok(()),
+            CommandView::CancelOrder { .. } => Ok(()),
+            CommandView::RunBatch { .. } => Ok(()),
+            CommandView::SetMoneyCredit { .. } => Ok(()),
+            CommandView::SetUnitCredit { .. } => Ok(()),
+        }
+    }
+
+    // Adds the order that was placed under a number.
+    fn place(&mut self, number: u64, place: &PlaceView<'_>) -> Result<(), Memory>
+        requires { MayPlace self.old.account self.old.holding number place.now }
+        ensures after { OnOk result (self.new ≡ record (self.old) { holding = after_placing self.old.holding number (PlaceOrder place.now) }) }
+        ensures stays { OnErr result (self.new ≡ self.old) }
+    {
+        match self.book.reserve_one() {
+            Ok(()) => {}
+            Err(_) => return Err(Memory),
+        }
+        let row = WeightRow::new(place.row().to_list(self.alloc)?);
+        self.book.add(Order::new(
+            number,
+            place.account(),
+            place.low(),
+            place.high(),
+            place.rate(),
+            place.cap(),
+            row,
+        ));
+        Ok(())
+    }
+
+    // The same of one with a last batch.
+    fn place_until(&mut self, number: u64, last: u32, place: &PlaceView<'_>) -> Result<(), Memory>
+        requires may { MayPlace self.old.account self.old.holding number place.now }
+        requires last { 1 ≤ last }
+        ensures after { OnOk result (self.new ≡ record (self.old) { holding = after_placing self.old.holding number (PlaceUntil last place.now) }) }
+        ensures stays { OnErr result (self.new ≡ self.old) }
+    {
+        match self.book.reserve_one() {
+            Ok(()) => {}
+            Err(_) => return Err(Memory),
+        }
+        let row = WeightRow::new(place.row().to_list(self.alloc)?);
+        self.book.add(Order::until(
+            number,
+            place.account(),
+            place.low(),
+            place.high(),
+            place.rate(),
+            place.cap(),
+            last,
+            row,
+        ));
+        Ok(())
+    }
+
+    // Adds an asset, of which the account has nothing.
+    pub(crate) fn add_asset(&mut self, ticker: &[u8]) -> Result<(), Memory>
+        requires ticker { length ticker.now ≡ 8 }
+        requires may { IsAddable self.old.holding.tickers ticker.now }
+        ensures told { OnOk result (Tells (Adds ticker.now ∷ []) self.old self.new [] []) }
+        ensures stays { OnErr result (self.new ≡ self.old) }
+    {
+        self.units.reserve(1)?;
+        match self.tickers.add(ticker_of(ticker)) {
+            Ok(_) => {
+                self.units.push_reserved(0);
+                Ok(())
+            }
+            Err(_) => Err(Memory),
+        }
+    }
+
+    // What a batch that cleared makes of what is held.
+    pub(crate) fn settle(&mut self, view: &ClearedView<'_>, part: &OwnPart)
+        requires may { MayClear self.old.holding view.now.clearing }
+        requires rates { part.now.rates.items ≡ rates_for view.now.clearing.fills self.old.holding.orders }
+        requires brought { part.now.brought.items
+            ≡ residuals_of (length view.now.clearing.prices) (trades_for view.now.clearing.fills self.old.holding.orders) }
+        requires cost { part.now.cost
+            ≡ int_sum_by (paid view.now.clearing.prices) (trades_for view.now.clearing.fills self.old.holding.orders) }
+        ensures account { self.new.account ≡ self.old.account }
+        ensures after { AreAlike self.new.holding (after self.old.holding (Clears view.now.batch view.now.clearing.prices
+            (fills_for view.now.clearing.fills self.old.holding.orders))) }
+    {
+        self.money -= part.cost;
+        add_brought(self.units.as_mut_slice(), part.brought.as_slice());
+        self.book.fill(part.rates.as_slice());
+        self.book.end(view.batch());
+    }
+}

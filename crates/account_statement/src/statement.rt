@@ -1,0 +1,158 @@
+//! A statement, and its public calls.
+ghost use Rattle.std.specs.Prelude.{◌≡◌, ◌≤◌, ◌<◌, ◌++◌, length, true, OnOk, OnErr, vec_capacity};
+ghost use Rattle.wire_records.specs.declared.version.Version.{Version};
+ghost use Rattle.market_rules.specs.Market.{Market as market_value, empty_market};
+ghost use Rattle.batch_audit.specs.Legal.{IsLegalPair};
+ghost use Rattle.statement_rules.specs.Holdings.{nothing};
+ghost use Rattle.statement_rules.specs.Statements.{end_lines, asset_line};
+ghost use Rattle.account_statement.specs.Telling.{Agrees, IsTold};
+
+use journal_records::PairView;
+use market_core::Market;
+use order_book::Book;
+use pair_text::Text;
+use statement_lines::{put_asset, put_money};
+use std::alloc::Global;
+use std::marker::Model;
+use ticker_table::TickerTable;
+use wire_records::Memory;
+
+/// What an account has by the pairs that were told of a journal: its own money, units and live orders, the assets that there are, and
+/// whether it is there yet. Credits and the count of batches change no line, and aren't kept. Contracts see whose
+/// statement it is, and these as a holding; it agrees with a market where they are what the account has there (`Agrees`).
+#[derive(Drop)]
+pub struct Statement {
+    pub(crate) alloc: Global,
+    pub(crate) account: u32,
+    pub(crate) is_open: bool,
+    pub(crate) tickers: TickerTable,
+    // In grains.
+    pub(crate) money: i128,
+    // A balance for each ticker.
+    pub(crate) units: Vec<i64>,
+    // The live orders of the account alone.
+    pub(crate) book: Book,
+}
+
+impl Model for Statement {
+    ghost use Rattle.account_statement.specs.Telling.{Statement as statement_value};
+    ghost use Rattle.account_statement.specs.Kept.{statement_in, IsKept};
+
+    ghost Value = { statement_value };
+
+    ghost view = { statement_in };
+
+    ghost invariant = { IsKept };
+}
+
+impl Statement {
+    /// The statement of an account before the first pair of a journal. There needn't be an account of this number. Takes no memory.
+    pub fn new(alloc: Global, account: u32) -> Statement
+        ensures account { result.account ≡ account }
+        ensures nothing { result.holding ≡ nothing }
+        ensures agrees { (version : Version) → Agrees (empty_market version) result }
+    {
+        Statement {
+            alloc,
+            account,
+            is_open: false,
+            tickers: TickerTable::new(alloc),
+            money: 0,
+            units: Vec::new(alloc),
+            book: Book::new(alloc),
+        }
+    }
+
+    /// Whether the pair that opened the account was told: exactly where there is an account of this number in a market with which the
+    /// statement agrees. Constant cost.
+    pub fn is_open(&self) -> bool
+        ensures { result ≡ self.now.holding.is_open }
+    {
+        self.is_open
+    }
+
+    /// Tells a pair of a journal: appends the lines of what the account sees of it. The statement agrees with the market before the pair,
+    /// and the pair is a step of this market, as [`Audit::explain`](batch_audit::Audit::explain) finds; afterwards the statement
+    /// agrees with the market that the step makes.
+    ///
+    /// Of a pair before the one that opened the account, of commands that name another account or none, and of records that spell no
+    /// command nothing is appended. `Memory` comes where there was none for the lines, or for what the statement keeps of the pair; then it and
+    /// `out` are as before. Costs are those of the [crate](crate).
+    pub fn pair(
+        &mut self,
+        market: &Market,
+        pair: &PairView<'_>,
+        out: &mut Vec<u8>,
+    ) -> Result<(), Memory>
+        requires agrees { Agrees market.now self.old }
+        requires legal { (next : market_value) × IsLegalPair market.now pair.now next }
+        ensures account { self.new.account ≡ self.old.account }
+        ensures told { OnOk result ((next : market_value) (legal : IsLegalPair market.now pair.now next)
+            → IsTold market.now pair.now self.old self.new out.old.items out.new.items next legal) }
+        ensures stays { OnErr result (self.new ≡ self.old) }
+        ensures text_stays { OnErr result (out.new.items ≡ out.old.items) }
+        ensures room { vec_capacity out.old ≤ vec_capacity out.new }
+    {
+        let mut text = Text::behind(out);
+        match self.tell(market, pair, &mut text) {
+            Ok(()) => {
+                *out = text.whole();
+                Ok(())
+            }
+            Err(memory) => {
+                *out = text.taken_back();
+                Err(memory)
+            }
+        }
+    }
+
+    /// Appends the last lines of the statement: the account's money, in grains, and its units of each asset, each with what its
+    /// live orders need. The account is there. After `Memory` `out` is as before. It costs two look-ups for each asset.
+    pub fn finish(&self, out: &mut Vec<u8>) -> Result<(), Memory>
+        requires open { self.now.holding.is_open ≡ true }
+        ensures told { OnOk result (out.new.items ≡ out.old.items ++ end_lines self.now.holding) }
+        ensures text_stays { OnErr result (out.new.items ≡ out.old.items) }
+        ensures room { vec_capacity out.old ≤ vec_capacity out.new }
+    {
+        let mut text = Text::behind(out);
+        match self.put_end(&mut text) {
+            Ok(()) => {
+                *out = text.whole();
+                Ok(())
+            }
+            Err(memory) => {
+                *out = text.taken_back();
+                Err(memory)
+            }
+        }
+    }
+
+    // The last lines.
+    fn put_end(&self, out: &mut Text) -> Result<(), Memory>
+        ensures before { out.new.before ≡ out.old.before }
+        ensures put { OnOk result (out.new.text ≡ out.old.text ++ end_lines self.now.holding) }
+    {
+        let reserved = self.book.money_needed(self.account).unsigned_abs();
+        put_money(self.money, reserved, out)?;
+        for asset in 0..self.tickers.len() {
+            self.put_asset(asset, out)?;
+        }
+        Ok(())
+    }
+
+    // The line of an asset that there is.
+    fn put_asset(&self, asset: u16, out: &mut Text) -> Result<(), Memory>
+        requires { asset < length self.now.holding.tickers }
+        ensures before { out.new.before ≡ out.old.before }
+        ensures put { OnOk result (out.new.text ≡ out.old.text ++ asset_line self.now.holding asset) }
+    {
+        let reserved = self.book.units_needed(self.account, asset).unsigned_abs();
+        put_asset(
+            &self.tickers,
+            asset,
+            self.units[usize::from(asset)],
+            reserved,
+            out,
+        )
+    }
+}

@@ -1,0 +1,22 @@
+-- The words that texts of pairs are made of.
+use Rattle.std.specs.Prelude.{ℕ, List, [], ◌∷◌, ◌++◌, codes, get_or, ◌==◌, if◌then◌else◌}
+use Rattle.std.specs.Fmt.{signed_decimal}
+use Rattle.weight_rows.specs.declared.entries.Entry.{Entry}
+
+infixr 5 ◌then◌
+-- one text, and then another
+abbrev pub ◌then◌ : List ℕ → List ℕ → List ℕ
+◌then◌ one other = one ++ other
+
+-- the name of a ticker: its bytes before the first space
+unfoldable pub name_of : List ℕ → List ℕ
+name_of [] = []
+name_of (byte ∷ more) = if byte == 32 then [] else byte ∷ name_of more
+
+-- the name of an asset's ticker
+abbrev pub asset_name : List (List ℕ) → ℕ → List ℕ
+asset_name tickers asset = name_of (get_or tickers asset [])
+
+-- an entry of an order: its asset's ticker and its weight
+abbrev pub entry_text : List (List ℕ) → Entry → List ℕ
+entry_text tickers e = codes " " then asset_name tickers e.asset then codes ":" then signed_decimal e.weight

@@ -1,0 +1,8 @@
+mod Alike
+mod Lists
+mod OwnParts
+mod Told
+mod ViewLaws
+mod WorkedRows
+mod Texts
+mod OwnRates

@@ -1,0 +1,130 @@
+-- Texts that go on, accounts that aren't there, and the rates of own orders.
+use Rattle.std.proofs.Common.{◌≡◌, ℕ, Bool, true, false, ◌&&◌, List, [], ◌∷◌, ◌++◌, Result, Ok, Err, refl, sym, ap, ◌∙◌}
+use Rattle.std.specs.Prelude.{◌==◌}
+use Rattle.std.proofs.lemmas.Bool.{true≢false, false_from_ne_true}
+use Rattle.std.proofs.lemmas.List.{append_assoc}
+use Rattle.wire_records.specs.Records.{Record}
+use Rattle.wire_records.specs.Commands.{Command, AddAsset, OpenAccount, DepositMoney, DepositAsset, WithdrawMoney, WithdrawAsset, PlaceOrder, CancelOrder, RunBatch, PlaceUntil, SetMoneyCredit, SetUnitCredit, Answer, Plain, Batch, Pair}
+use Rattle.wire_records.specs.declared.command.BodyFault.{BodyFault}
+use Rattle.wire_records.specs.declared.reply.Reply.{Reply}
+use Rattle.wire_records.specs.declared.reply.Reply.TheVariants.{Done, Asset, Account, Order, Refused}
+use Rattle.flow_orders.specs.Outcomes.{Outcome, Cleared, Skipped}
+use Rattle.market_rules.specs.Market.{Market, IsSound, empty_market}
+use Rattle.market_rules.proofs.Soundness.{sound-empty}
+use Rattle.statement_rules.specs.Views.{Sees, Event, Adds, Opens, Asks, Clears, Skips, is_there, event_if, seen, seen_plain}
+use Rattle.statement_rules.specs.Holdings.{Holding, nothing, after, after_done, after_placing, after_all, IsHeld}
+use Rattle.statement_rules.specs.Statements.{event_lines, lines_from}
+use Rattle.statement_rules.specs.Laws.{TextsGoOn, AbsentAccountsHaveNoText}
+use Rattle.statement_rules.proofs.Told.{told, is_account}
+use Rattle.statement_rules.proofs.ViewLaws.{empty_held, after_both, sound_after, told_all}
+
+lines_both : (v : List Event) (h : Holding) (w : List Event) → lines_from h (v ++ w) ≡ lines_from h v ++ lines_from (after_all h v) w
+lines_both [] h w = refl
+lines_both (event ∷ v) h w = ap (λ l. event_lines h event ++ l) (lines_both v (after h event) w) ∙ sym (append_assoc (event_lines h event) (lines_from (after h event) v) (lines_from (after_all (after h event) v) w))
+
+pub texts_go_on : TextsGoOn
+texts_go_on v w = lines_both v nothing w
+
+-- ---- an account that was opened stays there
+
+done_stays : (h : Holding) (c : Command) → (after_done h c).is_open ≡ h.is_open
+done_stays h (AddAsset ticker) = refl
+done_stays h OpenAccount = refl
+done_stays h (DepositMoney named ticks) = refl
+done_stays h (DepositAsset named asset units) = refl
+done_stays h (WithdrawMoney named ticks) = refl
+done_stays h (WithdrawAsset named asset units) = refl
+done_stays h (PlaceOrder r) = refl
+done_stays h (CancelOrder named number) = refl
+done_stays h (RunBatch budget) = refl
+done_stays h (PlaceUntil last r) = refl
+done_stays h (SetMoneyCredit named ticks) = refl
+done_stays h (SetUnitCredit named asset units) = refl
+
+placing_stays : (h : Holding) (n : ℕ) (c : Command) → (after_placing h n c).is_open ≡ h.is_open
+placing_stays h n (AddAsset ticker) = refl
+placing_stays h n OpenAccount = refl
+placing_stays h n (DepositMoney named ticks) = refl
+placing_stays h n (DepositAsset named asset units) = refl
+placing_stays h n (WithdrawMoney named ticks) = refl
+placing_stays h n (WithdrawAsset named asset units) = refl
+placing_stays h n (PlaceOrder r) = refl
+placing_stays h n (CancelOrder named number) = refl
+placing_stays h n (RunBatch budget) = refl
+placing_stays h n (PlaceUntil last r) = refl
+placing_stays h n (SetMoneyCredit named ticks) = refl
+placing_stays h n (SetUnitCredit named asset units) = refl
+
+stays : (h : Holding) (event : Event) → (after h event).is_open ≡ false → h.is_open ≡ false
+stays h (Adds ticker) closed = closed
+stays h (Opens account) closed = absurd (true≢false closed)
+stays h (Asks c Done) closed = sym (done_stays h c) ∙ closed
+stays h (Asks c (Order n)) closed = sym (placing_stays h n c) ∙ closed
+stays h (Asks c (Asset n)) closed = closed
+stays h (Asks c (Account n)) closed = closed
+stays h (Asks c (Refused r)) closed = closed
+stays h (Clears batch prices fills) closed = closed
+stays h (Skips batch) closed = closed
+
+all_stay : (v : List Event) (h : Holding) → (after_all h v).is_open ≡ false → h.is_open ≡ false
+all_stay [] h closed = closed
+all_stay (event ∷ v) h closed = stays h event (all_stay v (after h event) closed)
+
+-- ---- what is seen where the account isn't there has no lines
+
+not_seen : (h : Holding) (b : Bool) (event : Event) → b ≡ false → lines_from h (event_if b event) ≡ []
+not_seen h true event closed = absurd (true≢false closed)
+not_seen h false event closed = refl
+
+not_own : (there own : Bool) → there ≡ false → (there && own) ≡ false
+not_own there own closed = ap (λ b. b && own) closed
+
+no_opening : (h : Holding) (b : Bool) (account : ℕ) → (after_all h (event_if b (Opens account))).is_open ≡ false → lines_from h (event_if b (Opens account)) ≡ []
+no_opening h true account closed = absurd (true≢false closed)
+no_opening h false account closed = refl
+
+no_lines : (account : ℕ) (h : Holding) (there : Bool) (c : Command) (reply : Reply) → there ≡ false → (after_all h (seen_plain account there c reply)).is_open ≡ false → lines_from h (seen_plain account there c reply) ≡ []
+no_lines account h there (AddAsset ticker) Done not_there closed = refl
+no_lines account h there (AddAsset ticker) (Asset n) not_there closed = refl
+no_lines account h there (AddAsset ticker) (Account n) not_there closed = refl
+no_lines account h there (AddAsset ticker) (Order n) not_there closed = refl
+no_lines account h there (AddAsset ticker) (Refused refusal) not_there closed = refl
+no_lines account h there OpenAccount Done not_there closed = refl
+no_lines account h there OpenAccount (Asset n) not_there closed = refl
+no_lines account h there OpenAccount (Account n) not_there closed = no_opening h (n == account) account closed
+no_lines account h there OpenAccount (Order n) not_there closed = refl
+no_lines account h there OpenAccount (Refused refusal) not_there closed = refl
+no_lines account h there (DepositMoney named ticks) reply not_there closed = not_seen h (there && (named == account)) (Asks (DepositMoney named ticks) reply) (not_own there (named == account) not_there)
+no_lines account h there (DepositAsset named asset units) reply not_there closed = not_seen h (there && (named == account)) (Asks (DepositAsset named asset units) reply) (not_own there (named == account) not_there)
+no_lines account h there (WithdrawMoney named ticks) reply not_there closed = not_seen h (there && (named == account)) (Asks (WithdrawMoney named ticks) reply) (not_own there (named == account) not_there)
+no_lines account h there (WithdrawAsset named asset units) reply not_there closed = not_seen h (there && (named == account)) (Asks (WithdrawAsset named asset units) reply) (not_own there (named == account) not_there)
+no_lines account h there (PlaceOrder r) reply not_there closed = not_seen h (there && (r.account == account)) (Asks (PlaceOrder r) reply) (not_own there (r.account == account) not_there)
+no_lines account h there (CancelOrder named number) reply not_there closed = not_seen h (there && (named == account)) (Asks (CancelOrder named number) reply) (not_own there (named == account) not_there)
+no_lines account h there (RunBatch budget) reply not_there closed = refl
+no_lines account h there (PlaceUntil last r) reply not_there closed = not_seen h (there && (r.account == account)) (Asks (PlaceUntil last r) reply) (not_own there (r.account == account) not_there)
+no_lines account h there (SetMoneyCredit named ticks) reply not_there closed = not_seen h (there && (named == account)) (Asks (SetMoneyCredit named ticks) reply) (not_own there (named == account) not_there)
+no_lines account h there (SetUnitCredit named asset units) reply not_there closed = not_seen h (there && (named == account)) (Asks (SetUnitCredit named asset units) reply) (not_own there (named == account) not_there)
+
+quiet : (account : ℕ) (m : Market) (h : Holding) (read : Result Command BodyFault) (a : Answer Outcome) → is_there m account ≡ false → (after_all h (seen account m read a)).is_open ≡ false → lines_from h (seen account m read a) ≡ []
+quiet account m h (Ok c) (Plain reply) not_there closed = no_lines account h (is_there m account) c reply not_there closed
+quiet account m h (Ok c) (Batch batch (Cleared k)) not_there closed = not_seen h (is_there m account) _ not_there
+quiet account m h (Ok c) (Batch batch (Skipped s)) not_there closed = not_seen h (is_there m account) _ not_there
+quiet account m h (Err why) a not_there closed = refl
+
+no_text : (account : ℕ) (old : Market) (pairs : List (Pair Record Outcome)) (view : List Event) (new : Market) (h : Holding) → IsSound old → IsHeld account old h → Sees account old pairs view new
+    → (after_all h view).is_open ≡ false → lines_from h view ≡ []
+no_text account old [] view new h sound held sees closed = ap (lines_from h) sees.0
+no_text account old (pair ∷ pairs) view new h sound held (next, read, rest, reads, serves, more, is) closed =
+    let first = seen account old read pair.answer in
+    let here = told account old h sound held read pair.answer next serves in
+    let all : (after_all (after_all h first) rest).is_open ≡ false = ap (λ (x : Holding). x.is_open) (sym (ap (after_all h) is ∙ after_both first h rest)) ∙ closed in
+    let behind = no_text account next pairs rest new (after_all h first) (sound_after old pair.asked pair.answer next read sound reads serves) here more all in
+    let closed_here = all_stay rest (after_all h first) all in
+    let not_there : is_there old account ≡ false = sym held.opened ∙ all_stay first h closed_here in
+    ap (lines_from h) is ∙ lines_both first h rest ∙ ap (λ l. l ++ lines_from (after_all h first) rest) (quiet account old h read pair.answer not_there closed_here) ∙ behind
+
+pub absent_accounts_have_no_text : AbsentAccountsHaveNoText
+absent_accounts_have_no_text account version pairs view m sees absent =
+    let held = told_all account version pairs view m sees in
+    no_text account (empty_market version) pairs view m nothing (sound-empty version) (empty_held account version) sees
+    (held.opened ∙ false_from_ne_true (is_there m account) (λ there. absent (is_account m account there)))

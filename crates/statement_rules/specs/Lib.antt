@@ -1,0 +1,4 @@
+pub mod Views
+pub mod Holdings
+pub mod Statements
+pub mod Laws

@@ -1,0 +1,126 @@
+-- The statement of an account: the text of its view, and its last lines. Money is in grains but where it is given in ticks, limits
+-- are in ticks, all other amounts in whole units; numbers are plain decimal.
+use Rattle.std.specs.Prelude.{◌≡◌, ℕ, ℤ, List, [], ◌∷◌, ◌++◌, length, codes, decimal}
+use Rattle.std.specs.Fmt.{signed_decimal}
+use Rattle.std.specs.List.{flat_map, range_with_len, sum_by}
+use Rattle.wire_records.specs.Commands.{Request, Command, AddAsset, OpenAccount, DepositMoney, DepositAsset, WithdrawMoney, WithdrawAsset, PlaceOrder, CancelOrder, RunBatch, PlaceUntil, SetMoneyCredit, SetUnitCredit, Pair}
+use Rattle.wire_records.specs.Records.{Record}
+use Rattle.wire_records.specs.declared.version.Version.{Version}
+use Rattle.wire_records.specs.Refusals.{code_of}
+use Rattle.wire_records.specs.declared.reply.Reply.{Reply}
+use Rattle.wire_records.specs.declared.reply.Reply.TheVariants as reply
+use Rattle.flow_orders.specs.Orders.{money_need, unit_need}
+use Rattle.flow_accounts.specs.Balances.{IsAccount}
+use Rattle.flow_orders.specs.Outcomes.{Outcome, trades_of}
+use Rattle.flow_orders.specs.Trades.{Trade, paid}
+use Rattle.market_rules.specs.Market.{Market, empty_market}
+use Rattle.pair_text.specs.Texts.{◌then◌, asset_name, entry_text}
+use Rattle.statement_rules.specs.Views.{Event, Adds, Opens, Asks, Clears, Skips, Sees}
+use Rattle.statement_rules.specs.Holdings.{Holding, nothing, after, after_all}
+
+-- a deposit, a withdrawal or a credit in money, with the end of its line
+abbrev pub money_line : List ℕ → ℕ → List ℕ
+money_line word ticks = word then codes " ticks " then decimal ticks then codes "\n"
+
+-- and one in units of an asset
+abbrev pub units_line : List ℕ → List (List ℕ) → ℕ → ℕ → List ℕ
+units_line word tickers asset units = word then codes " " then asset_name tickers asset then codes " units " then decimal units then codes "\n"
+
+-- the line of a command that was done
+abbrev pub done_line : List (List ℕ) → Command → List ℕ
+done_line tickers (DepositMoney account ticks) = money_line (codes "deposit") ticks
+done_line tickers (DepositAsset account asset units) = units_line (codes "deposit") tickers asset units
+done_line tickers (WithdrawMoney account ticks) = money_line (codes "withdraw") ticks
+done_line tickers (WithdrawAsset account asset units) = units_line (codes "withdraw") tickers asset units
+done_line tickers (CancelOrder account number) = codes "cancel " then decimal number then codes "\n"
+done_line tickers (SetMoneyCredit account ticks) = money_line (codes "credit") ticks
+done_line tickers (SetUnitCredit account asset units) = units_line (codes "credit") tickers asset units
+done_line tickers (AddAsset ticker) = []
+done_line tickers OpenAccount = []
+done_line tickers (PlaceOrder request) = []
+done_line tickers (RunBatch budget) = []
+done_line tickers (PlaceUntil last request) = []
+
+-- an order's number, and the numbers of its request
+abbrev pub order_numbers : ℕ → Request → List ℕ
+order_numbers number r =
+    codes "order " then decimal number then codes " low " then signed_decimal r.low then codes " high " then signed_decimal r.high
+    then codes " rate " then decimal r.rate then codes " cap " then decimal r.cap
+
+-- the line of a command that placed the order of a number
+abbrev pub placing_line : List (List ℕ) → ℕ → Command → List ℕ
+placing_line tickers number (PlaceOrder r) = order_numbers number r then flat_map (entry_text tickers) r.row then codes "\n"
+placing_line tickers number (PlaceUntil last r) = order_numbers number r then codes " last " then decimal last then flat_map (entry_text tickers) r.row then codes "\n"
+placing_line tickers number (AddAsset ticker) = []
+placing_line tickers number OpenAccount = []
+placing_line tickers number (DepositMoney account ticks) = []
+placing_line tickers number (DepositAsset account asset units) = []
+placing_line tickers number (WithdrawMoney account ticks) = []
+placing_line tickers number (WithdrawAsset account asset units) = []
+placing_line tickers number (CancelOrder account order) = []
+placing_line tickers number (RunBatch budget) = []
+placing_line tickers number (SetMoneyCredit account ticks) = []
+placing_line tickers number (SetUnitCredit account asset units) = []
+
+-- the line of a command of the account's own, with its answer
+abbrev pub asked_line : List (List ℕ) → Command → Reply → List ℕ
+asked_line tickers command reply.Done = done_line tickers command
+asked_line tickers command (reply.Order number) = placing_line tickers number command
+asked_line tickers command (reply.Refused refusal) = codes "refused " then decimal (code_of refusal) then codes "\n"
+asked_line tickers command (reply.Asset asset) = []
+asked_line tickers command (reply.Account number) = []
+
+-- the line of an order of its own in a batch that cleared: its rate, and what that costs at the prices
+abbrev pub cost_line : List ℤ → Trade → List ℕ
+cost_line prices t =
+    codes "  order " then decimal t.order.number then codes " rate " then decimal t.traded
+    then codes " cost " then signed_decimal (paid prices t) then codes "\n"
+
+-- the lines of an event, with what the account has before it
+abbrev pub event_lines : Holding → Event → List ℕ
+event_lines h (Adds ticker) = []
+event_lines h (Opens account) = codes "account " then decimal account then codes "\n"
+event_lines h (Asks command answered) = asked_line h.tickers command answered
+event_lines h (Clears batch prices fills) = codes "batch " then decimal batch then codes " cleared\n" then flat_map (cost_line prices) (trades_of h.orders fills)
+event_lines h (Skips batch) = codes "batch " then decimal batch then codes " skipped\n"
+
+-- the lines of all events, one after the other
+abbrev pub lines_from : Holding → List Event → List ℕ
+lines_from h [] = []
+lines_from h (event ∷ view) = event_lines h event ++ lines_from (after h event) view
+
+-- the text of a view
+abbrev pub view_text : List Event → List ℕ
+view_text view = lines_from nothing view
+
+-- the money that the account's live orders need, in grains
+abbrev pub money_reserved : Holding → ℕ
+money_reserved h = sum_by money_need h.orders
+
+-- the units of an asset that they need
+abbrev pub units_reserved : Holding → ℕ → ℕ
+units_reserved h asset = sum_by (unit_need asset) h.orders
+
+-- the line of an asset
+abbrev pub asset_line : Holding → ℕ → List ℕ
+asset_line h asset =
+    asset_name h.tickers asset then codes " units " then signed_decimal (h.units asset)
+    then codes " reserved " then decimal (units_reserved h asset) then codes "\n"
+
+-- the last lines: money, and each asset
+abbrev pub end_lines : Holding → List ℕ
+end_lines h =
+    codes "money " then signed_decimal h.money then codes " reserved " then decimal (money_reserved h) then codes "\n"
+    then flat_map (asset_line h) (range_with_len 0 (length h.tickers))
+
+-- the statement of a view
+abbrev pub statement : List Event → List ℕ
+statement view = view_text view then end_lines (after_all nothing view)
+
+-- The statement of an account after a legal journal of a version, in whose market the account is there.
+pub record IsStatement (account : ℕ) (version : Version) (pairs : List (Pair Record Outcome)) (text : List ℕ) : Type 0 where
+  pub view : List Event
+  pub market : Market
+  pub sees : Sees account (empty_market version) pairs view market
+  pub there : IsAccount market.balances account
+  pub text_is : text ≡ statement view
