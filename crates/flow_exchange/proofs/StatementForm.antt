@@ -37,7 +37,7 @@ use Rattle.journal_words.specs.Watching.{Watched}
 use Rattle.statement_word.specs.declared.no_statement.NoStatement.{NoStatement}
 use Rattle.statement_word.specs.declared.no_statement.NoStatement.TheVariants as why
 use Rattle.statement_word.specs.Stating.{Stated, TellsOwn, held_in, statement, statement_start}
-use Rattle.statement_word.proofs.Alike.{lines_are, ends_are}
+use Rattle.statement_word.proofs.Held.{lines_are, ends_are}
 use Rattle.flow_exchange.specs.declared.form.Form.TheVariants.{Statement}
 use Rattle.flow_exchange.specs.declared.status.Status.{Status}
 use Rattle.flow_exchange.specs.declared.status.Status.TheVariants as answer

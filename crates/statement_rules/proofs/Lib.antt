@@ -1,8 +1,8 @@
-mod Alike
+pub mod Alike
 mod Lists
 mod OwnParts
-mod Told
-mod ViewLaws
+pub mod Told
+pub mod ViewLaws
 mod WorkedRows
-mod Texts
+pub mod Texts
 mod OwnRates

@@ -26,7 +26,7 @@ use Rattle.journal_words.proofs.JournalLaws.{IsExactWatch, HasSight, over_pairs_
 use Rattle.statement_word.specs.declared.no_statement.NoStatement.{NoStatement}
 use Rattle.statement_word.specs.declared.no_statement.NoStatement.TheVariants.{Rejected, NoAccount}
 use Rattle.statement_word.specs.Stating.{Stated, TellsOwn, held_in, stating, statement, statement_start}
-use Rattle.statement_word.proofs.Alike.{held_there}
+use Rattle.statement_word.proofs.Held.{held_there}
 
 -- a pair has one text
 one_text : (account : ℕ) (version : Version) (old : Market) (pair : Record × Record) (x y : List ℕ) → TellsOwn account version old pair x → TellsOwn account version old pair y → x ≡ y
