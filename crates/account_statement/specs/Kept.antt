@@ -1,7 +1,6 @@
 -- What the fields of a statement stand for.
-use Rattle.std.specs.Prelude.{◌≡◌, ℤ, pos, List, length, vec_len, All, slice_index_or}
+use Rattle.std.specs.Prelude.{◌≡◌, length, vec_len, All}
 use Rattle.flow_orders.specs.Orders.{Order}
-use Rattle.statement_rules.specs.Holdings.{Holding}
 use Rattle.account_statement.specs.Telling.{Statement}
 use Rattle.account_statement.specs.declared.statement.Statement.TheInside.{Inside}
 
@@ -9,13 +8,11 @@ use Rattle.account_statement.specs.declared.statement.Statement.TheInside.{Insid
 abbrev pub statement_in : Inside → Statement
 statement_in s = record {
   account = s.account;
-  holding = record {
-    tickers = s.tickers;
-    is_open = s.is_open;
-    money = s.money;
-    units = λ asset. slice_index_or s.units.items asset (pos 0);
-    orders = s.book.orders;
-  };
+  tickers = s.tickers;
+  is_open = s.is_open;
+  money = s.money;
+  units = s.units.items;
+  orders = s.book.orders;
 }
 
 -- a balance for each ticker, and own orders alone

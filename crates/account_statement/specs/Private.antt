@@ -19,7 +19,7 @@ use Rattle.market_rules.specs.Step.{Serves}
 use Rattle.statement_rules.specs.Views.{Event, Asks, Clears, Skips, event_if, seen_plain}
 use Rattle.statement_rules.specs.Holdings.{Holding, after_all}
 use Rattle.statement_rules.specs.Statements.{lines_from}
-use Rattle.account_statement.specs.Telling.{Statement, Agrees}
+use Rattle.account_statement.specs.Telling.{Statement, holding_of, Agrees}
 
 -- the same holding, asset by asset
 pub record AreAlike (one other : Holding) : Type 0 where
@@ -31,10 +31,20 @@ pub record AreAlike (one other : Holding) : Type 0 where
 
 -- ---- which account a command names
 
--- what an account sees of a command that names one: the command with its answer, where it is there and the one
+-- a command names this account
 abbrev pub Names : ℕ → Command → Type 0
-Names named command = (account : ℕ) (there : Bool) (answer : Reply)
-    → seen_plain account there command answer ≡ event_if (there && (named == account)) (Asks command answer)
+Names named (AddAsset ticker) = ⊥
+Names named OpenAccount = ⊥
+Names named (DepositMoney account ticks) = named ≡ account
+Names named (DepositAsset account asset units) = named ≡ account
+Names named (WithdrawMoney account ticks) = named ≡ account
+Names named (WithdrawAsset account asset units) = named ≡ account
+Names named (PlaceOrder request) = named ≡ request.account
+Names named (CancelOrder account number) = named ≡ account
+Names named (RunBatch budget) = ⊥
+Names named (PlaceUntil last request) = named ≡ request.account
+Names named (SetMoneyCredit account ticks) = named ≡ account
+Names named (SetUnitCredit account asset units) = named ≡ account
 
 -- a command that names no account
 abbrev pub NamesNone : Command → Type 0
@@ -70,9 +80,13 @@ fills_for fills orders = map (λ (o : Order). record { order = o.number; rate = 
 abbrev pub trades_for : List Fill → List Order → List Trade
 trades_for fills orders = trades orders (rates_for fills orders)
 
+-- what stands where there is no fill
+abbrev pub no_fill : Fill
+no_fill = record { order = 0; rate = 0 }
+
 -- the fill at a place that has one
 abbrev pub fill_at : List Fill → ℕ → Fill
-fill_at fills place = slice_index_or fills place (record { order = 0; rate = 0 })
+fill_at fills place = slice_index_or fills place no_fill
 
 -- ascending numbers
 abbrev pub AreAscending : List Fill → Type 0
@@ -86,23 +100,24 @@ IsListed fills number = (place : ℕ) × (place < length fills) × ((fill_at fil
 
 -- what the account sees of an answered command
 abbrev pub seen_by : Statement → Command → Answer Outcome → List Event
-seen_by s command (Plain answer) = seen_plain s.account s.holding.is_open command answer
-seen_by s command (Batch batch (Cleared c)) = event_if s.holding.is_open (Clears batch c.prices (fills_for c.fills s.holding.orders))
-seen_by s command (Batch batch (Skipped k)) = event_if s.holding.is_open (Skips batch)
+seen_by s command (Plain answer) = seen_plain s.account s.is_open command answer
+seen_by s command (Batch batch (Cleared c)) = event_if s.is_open (Clears batch c.prices (fills_for c.fills s.orders))
+seen_by s command (Batch batch (Skipped k)) = event_if s.is_open (Skips batch)
 
 -- some market with which the statement agrees answers a command so
 pub record IsServed (s : Statement) (command : Command) (answer : Answer Outcome) : Type 0 where
   pub market : Market
   pub next : Market
   pub sound : IsSound market
+  pub sound_next : IsSound next
   pub agrees : Agrees market s
   pub served : Serves IsRightOutcome market command answer next
 
 -- Events were told: what is held is what it is after them, and their lines stand behind what stood there before.
 pub record Tells (events : List Event) (old new : Statement) (before now : List ℕ) : Type 0 where
   pub account : new.account ≡ old.account
-  pub after : AreAlike new.holding (after_all old.holding events)
-  pub text : now ≡ before ++ lines_from old.holding events
+  pub after : AreAlike (holding_of new) (after_all (holding_of old) events)
+  pub text : now ≡ before ++ lines_from (holding_of old) events
 
 -- ---- what may be done with what is held
 

@@ -1,23 +1,39 @@
 -- What contracts see of a statement, and what telling it a pair does.
-use Rattle.std.specs.Prelude.{◌≡◌, ℕ, List, ◌++◌}
+use Rattle.std.specs.Prelude.{◌≡◌, ℕ, Bool, ℤ, pos, List, ◌++◌, slice_index_or}
 use Rattle.wire_records.specs.Records.{Record}
+use Rattle.flow_orders.specs.Orders.{Order}
 use Rattle.market_rules.specs.Market.{Market}
 use Rattle.batch_audit.specs.Legal.{IsLegalPair}
 use Rattle.statement_rules.specs.Views.{seen}
 use Rattle.statement_rules.specs.Holdings.{Holding, IsHeld}
 use Rattle.statement_rules.specs.Statements.{lines_from}
 
--- whose statement it is, and what the account has by the pairs that were told
+-- whose statement it is, and what the account has by the pairs that were told: the tickers that were added, whether it was opened, its
+-- money in grains, its units of each asset by the assets' numbers, and its live orders
 pub record Statement : Type 0 where
   pub account : ℕ
-  pub holding : Holding
+  pub tickers : List (List ℕ)
+  pub is_open : Bool
+  pub money : ℤ
+  pub units : List ℤ
+  pub orders : List Order
 
--- a statement agrees with a market: what it holds is what the account has there
+-- what the account has, as a holding
+abbrev pub holding_of : Statement → Holding
+holding_of s = record {
+  tickers = s.tickers;
+  is_open = s.is_open;
+  money = s.money;
+  units = λ asset. slice_index_or s.units asset (pos 0);
+  orders = s.orders;
+}
+
+-- a statement agrees with a market: it holds what the account has there
 abbrev pub Agrees : Market → Statement → Type 0
-Agrees m s = IsHeld s.account m s.holding
+Agrees m s = IsHeld s.account m (holding_of s)
 
 -- A legal pair of a market was told: the statement agrees with the market after it, and behind what stood there before are the lines
 -- of what the account sees of the pair.
 pub record IsTold (m : Market) (pair : Record × Record) (old new : Statement) (before now : List ℕ) (next : Market) (legal : IsLegalPair m pair next) : Type 0 where
   pub agrees : Agrees next new
-  pub text : now ≡ before ++ lines_from old.holding (seen old.account m legal.step.read legal.answer)
+  pub text : now ≡ before ++ lines_from (holding_of old) (seen old.account m legal.step.read legal.answer)

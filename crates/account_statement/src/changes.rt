@@ -1,15 +1,15 @@
 //! What pairs make of what a statement holds.
-ghost use Rattle.std.specs.Prelude.{◌≡◌, ◌<◌, ◌≤◌, ◌+ℤ◌, [], ◌∷◌, length, OnOk, OnErr};
+ghost use Rattle.std.specs.Prelude.{◌≡◌, ◌<◌, ◌≤◌, ◌++◌, ◌+ℤ◌, [], ◌∷◌, length, OnOk, OnErr};
 ghost use Rattle.list_sums.specs.Sums.{int_sum_by};
 ghost use Rattle.ticker_table.specs.Adding.{IsAddable};
-ghost use Rattle.wire_records.specs.Commands.{PlaceOrder, PlaceUntil};
 ghost use Rattle.wire_records.specs.Views.{command_of};
 ghost use Rattle.flow_accounts.specs.Balances.{grains};
 ghost use Rattle.flow_accounts.specs.Lawful.{IsMoneyBalance, IsUnitBalance};
 ghost use Rattle.flow_orders.specs.Outcomes.{residuals_of};
 ghost use Rattle.flow_orders.specs.Trades.{paid};
 ghost use Rattle.statement_rules.specs.Views.{Adds, Clears};
-ghost use Rattle.statement_rules.specs.Holdings.{units_changed, after, after_done, after_placing, after_asked};
+ghost use Rattle.statement_rules.specs.Holdings.{units_changed, ordered, after, after_done, after_placing, after_asked};
+ghost use Rattle.account_statement.specs.Telling.{holding_of};
 ghost use Rattle.account_statement.specs.Private.{AreAlike, Tells, MayPlace, MayDo, MayOrder, MayMake, MayClear, rates_for, fills_for, trades_for};
 
 use crate::Statement;
@@ -42,9 +42,9 @@ fn ticker_of(bytes: &[u8]) -> [u8; 8]
 impl Statement {
     // What an answered command of the account's own makes of what is held.
     pub(crate) fn make(&mut self, command: &CommandView<'_>, answer: Reply) -> Result<(), Memory>
-        requires { MayMake self.old.account self.old.holding (command_of command.now) answer }
+        requires { MayMake self.old.account (holding_of self.old) (command_of command.now) answer }
         ensures account { self.new.account ≡ self.old.account }
-        ensures after { OnOk result (AreAlike self.new.holding (after_asked self.old.holding (command_of command.now) answer)) }
+        ensures after { OnOk result (AreAlike (holding_of self.new) (after_asked (holding_of self.old) (command_of command.now) answer)) }
         ensures stays { OnErr result (self.new ≡ self.old) }
     {
         match answer {
@@ -61,9 +61,9 @@ impl Statement {
 
     // Of one that was done.
     fn make_done(&mut self, command: &CommandView<'_>)
-        requires { MayDo self.old.holding (command_of command.now) }
+        requires { MayDo (holding_of self.old) (command_of command.now) }
         ensures account { self.new.account ≡ self.old.account }
-        ensures after { AreAlike self.new.holding (after_done self.old.holding (command_of command.now)) }
+        ensures after { AreAlike (holding_of self.new) (after_done (holding_of self.old) (command_of command.now)) }
     {
         match *command {
             CommandView::DepositMoney { ticks, .. } => self.add_money(grains_of(ticks)),
@@ -89,18 +89,18 @@ impl Statement {
 
     // Changes the money by an amount in grains.
     fn add_money(&mut self, amount: i128)
-        requires { IsMoneyBalance (self.old.holding.money +ℤ amount) }
-        ensures { self.new ≡ record (self.old) { holding = record (self.old.holding) { money = self.old.holding.money +ℤ amount } } }
+        requires { IsMoneyBalance (self.old.money +ℤ amount) }
+        ensures { self.new ≡ record (self.old) { money = self.old.money +ℤ amount } }
     {
         self.money += amount;
     }
 
     // Changes the units of an asset that is there.
     fn add_units(&mut self, asset: u16, amount: i128)
-        requires there { asset < length self.old.holding.tickers }
-        requires fits { IsUnitBalance (self.old.holding.units asset +ℤ amount) }
+        requires there { asset < length self.old.tickers }
+        requires fits { IsUnitBalance ((holding_of self.old).units asset +ℤ amount) }
         ensures account { self.new.account ≡ self.old.account }
-        ensures after { AreAlike self.new.holding (record (self.old.holding) { units = units_changed self.old.holding.units asset amount }) }
+        ensures after { AreAlike (holding_of self.new) (record (holding_of self.old) { units = units_changed (holding_of self.old).units asset amount }) }
     {
         let place = usize::from(asset);
         let units = i128::from(self.units[place]) + amount;
@@ -109,9 +109,9 @@ impl Statement {
 
     // Of one that placed the order of a number.
     fn make_order(&mut self, number: u64, command: &CommandView<'_>) -> Result<(), Memory>
-        requires { MayOrder self.old.account self.old.holding number (command_of command.now) }
+        requires { MayOrder self.old.account (holding_of self.old) number (command_of command.now) }
         ensures account { self.new.account ≡ self.old.account }
-        ensures after { OnOk result (AreAlike self.new.holding (after_placing self.old.holding number (command_of command.now))) }
+        ensures after { OnOk result (AreAlike (holding_of self.new) (after_placing (holding_of self.old) number (command_of command.now))) }
         ensures stays { OnErr result (self.new ≡ self.old) }
     {
         match *command {
@@ -132,8 +132,8 @@ impl Statement {
 
     // Adds the order that was placed under a number.
     fn place(&mut self, number: u64, place: &PlaceView<'_>) -> Result<(), Memory>
-        requires { MayPlace self.old.account self.old.holding number place.now }
-        ensures after { OnOk result (self.new ≡ record (self.old) { holding = after_placing self.old.holding number (PlaceOrder place.now) }) }
+        requires { MayPlace self.old.account (holding_of self.old) number place.now }
+        ensures after { OnOk result (self.new ≡ record (self.old) { orders = self.old.orders ++ ordered number 0 place.now ∷ [] }) }
         ensures stays { OnErr result (self.new ≡ self.old) }
     {
         match self.book.reserve_one() {
@@ -155,9 +155,9 @@ impl Statement {
 
     // The same of one with a last batch.
     fn place_until(&mut self, number: u64, last: u32, place: &PlaceView<'_>) -> Result<(), Memory>
-        requires may { MayPlace self.old.account self.old.holding number place.now }
+        requires may { MayPlace self.old.account (holding_of self.old) number place.now }
         requires last { 1 ≤ last }
-        ensures after { OnOk result (self.new ≡ record (self.old) { holding = after_placing self.old.holding number (PlaceUntil last place.now) }) }
+        ensures after { OnOk result (self.new ≡ record (self.old) { orders = self.old.orders ++ ordered number last place.now ∷ [] }) }
         ensures stays { OnErr result (self.new ≡ self.old) }
     {
         match self.book.reserve_one() {
@@ -181,7 +181,7 @@ impl Statement {
     // Adds an asset, of which the account has nothing.
     pub(crate) fn add_asset(&mut self, ticker: &[u8]) -> Result<(), Memory>
         requires ticker { length ticker.now ≡ 8 }
-        requires may { IsAddable self.old.holding.tickers ticker.now }
+        requires may { IsAddable self.old.tickers ticker.now }
         ensures told { OnOk result (Tells (Adds ticker.now ∷ []) self.old self.new [] []) }
         ensures stays { OnErr result (self.new ≡ self.old) }
     {
@@ -197,15 +197,15 @@ impl Statement {
 
     // What a batch that cleared makes of what is held.
     pub(crate) fn settle(&mut self, view: &ClearedView<'_>, part: &OwnPart)
-        requires may { MayClear self.old.holding view.now.clearing }
-        requires rates { part.now.rates.items ≡ rates_for view.now.clearing.fills self.old.holding.orders }
+        requires may { MayClear (holding_of self.old) view.now.clearing }
+        requires rates { part.now.rates.items ≡ rates_for view.now.clearing.fills self.old.orders }
         requires brought { part.now.brought.items
-            ≡ residuals_of (length view.now.clearing.prices) (trades_for view.now.clearing.fills self.old.holding.orders) }
+            ≡ residuals_of (length view.now.clearing.prices) (trades_for view.now.clearing.fills self.old.orders) }
         requires cost { part.now.cost
-            ≡ int_sum_by (paid view.now.clearing.prices) (trades_for view.now.clearing.fills self.old.holding.orders) }
+            ≡ int_sum_by (paid view.now.clearing.prices) (trades_for view.now.clearing.fills self.old.orders) }
         ensures account { self.new.account ≡ self.old.account }
-        ensures after { AreAlike self.new.holding (after self.old.holding (Clears view.now.batch view.now.clearing.prices
-            (fills_for view.now.clearing.fills self.old.holding.orders))) }
+        ensures after { AreAlike (holding_of self.new) (after (holding_of self.old) (Clears view.now.batch view.now.clearing.prices
+            (fills_for view.now.clearing.fills self.old.orders))) }
     {
         self.money -= part.cost;
         add_brought(self.units.as_mut_slice(), part.brought.as_slice());

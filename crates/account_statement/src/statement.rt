@@ -5,7 +5,7 @@ ghost use Rattle.market_rules.specs.Market.{Market as market_value, empty_market
 ghost use Rattle.batch_audit.specs.Legal.{IsLegalPair};
 ghost use Rattle.statement_rules.specs.Holdings.{nothing};
 ghost use Rattle.statement_rules.specs.Statements.{end_lines, asset_line};
-ghost use Rattle.account_statement.specs.Telling.{Agrees, IsTold};
+ghost use Rattle.account_statement.specs.Telling.{holding_of, Agrees, IsTold};
 
 use journal_records::PairView;
 use market_core::Market;
@@ -49,7 +49,7 @@ impl Statement {
     /// The statement of an account before the first pair of a journal. There needn't be an account of this number. Takes no memory.
     pub fn new(alloc: Global, account: u32) -> Statement
         ensures account { result.account ≡ account }
-        ensures nothing { result.holding ≡ nothing }
+        ensures nothing { (holding_of result) ≡ nothing }
         ensures agrees { (version : Version) → Agrees (empty_market version) result }
     {
         Statement {
@@ -66,7 +66,7 @@ impl Statement {
     /// Whether the pair that opened the account was told: exactly where there is an account of this number in a market with which the
     /// statement agrees. Constant cost.
     pub fn is_open(&self) -> bool
-        ensures { result ≡ self.now.holding.is_open }
+        ensures { result ≡ self.now.is_open }
     {
         self.is_open
     }
@@ -109,8 +109,8 @@ impl Statement {
     /// Appends the last lines of the statement: the account's money, in grains, and its units of each asset, each with what its
     /// live orders need. The account is there. After `Memory` `out` is as before. It costs two look-ups for each asset.
     pub fn finish(&self, out: &mut Vec<u8>) -> Result<(), Memory>
-        requires open { self.now.holding.is_open ≡ true }
-        ensures told { OnOk result (out.new.items ≡ out.old.items ++ end_lines self.now.holding) }
+        requires open { self.now.is_open ≡ true }
+        ensures told { OnOk result (out.new.items ≡ out.old.items ++ end_lines (holding_of self.now)) }
         ensures text_stays { OnErr result (out.new.items ≡ out.old.items) }
         ensures room { vec_capacity out.old ≤ vec_capacity out.new }
     {
@@ -130,7 +130,7 @@ impl Statement {
     // The last lines.
     fn put_end(&self, out: &mut Text) -> Result<(), Memory>
         ensures before { out.new.before ≡ out.old.before }
-        ensures put { OnOk result (out.new.text ≡ out.old.text ++ end_lines self.now.holding) }
+        ensures put { OnOk result (out.new.text ≡ out.old.text ++ end_lines (holding_of self.now)) }
     {
         let reserved = self.book.money_needed(self.account).unsigned_abs();
         put_money(self.money, reserved, out)?;
@@ -142,9 +142,9 @@ impl Statement {
 
     // The line of an asset that there is.
     fn put_asset(&self, asset: u16, out: &mut Text) -> Result<(), Memory>
-        requires { asset < length self.now.holding.tickers }
+        requires { asset < length self.now.tickers }
         ensures before { out.new.before ≡ out.old.before }
-        ensures put { OnOk result (out.new.text ≡ out.old.text ++ asset_line self.now.holding asset) }
+        ensures put { OnOk result (out.new.text ≡ out.old.text ++ asset_line (holding_of self.now) asset) }
     {
         let reserved = self.book.units_needed(self.account, asset).unsigned_abs();
         put_asset(

@@ -6,7 +6,7 @@ ghost use Rattle.journal_records.specs.Views.{answer_of};
 ghost use Rattle.market_rules.specs.Market.{Market as market_value};
 ghost use Rattle.batch_audit.specs.Legal.{IsLegalPair};
 ghost use Rattle.statement_rules.specs.Views.{Asks, Clears, Skips, event_if, seen_asset, seen_opening};
-ghost use Rattle.account_statement.specs.Telling.{Agrees, IsTold};
+ghost use Rattle.account_statement.specs.Telling.{holding_of, Agrees, IsTold};
 ghost use Rattle.account_statement.specs.Private.{NamesNone, seen_by, IsServed, Tells, MayMake, MayAdd, MayClear, fills_for};
 
 use crate::Statement;
@@ -117,7 +117,7 @@ impl Statement {
     // Tells an asset that is added, which has no line.
     fn tell_asset(&mut self, ticker: &[u8], answer: Reply) -> Result<(), Memory>
         requires ticker { length ticker.now ≡ 8 }
-        requires may { MayAdd self.old.holding ticker.now answer }
+        requires may { MayAdd (holding_of self.old) ticker.now answer }
         ensures told { OnOk result (Tells (seen_asset ticker.now answer) self.old self.new [] []) }
         ensures stays { OnErr result (self.new ≡ self.old) }
     {
@@ -157,7 +157,7 @@ impl Statement {
         answer: Reply,
         out: &mut Text,
     ) -> Result<(), Memory>
-        requires { MayMake self.old.account self.old.holding (command_of command.now) answer }
+        requires { MayMake self.old.account (holding_of self.old) (command_of command.now) answer }
         ensures told { OnOk result (Tells (Asks (command_of command.now) answer ∷ []) self.old self.new out.old.text out.new.text) }
         ensures stays { OnErr result (self.new ≡ self.old) }
         ensures before { out.new.before ≡ out.old.before }
@@ -168,9 +168,9 @@ impl Statement {
 
     // Tells a batch that cleared: first its lines, and then what it makes of what is held.
     fn tell_cleared(&mut self, view: &ClearedView<'_>, out: &mut Text) -> Result<(), Memory>
-        requires { self.old.holding.is_open ≡ true → MayClear self.old.holding view.now.clearing }
-        ensures told { OnOk result (Tells (event_if self.old.holding.is_open (Clears view.now.batch view.now.clearing.prices
-            (fills_for view.now.clearing.fills self.old.holding.orders))) self.old self.new out.old.text out.new.text) }
+        requires { self.old.is_open ≡ true → MayClear (holding_of self.old) view.now.clearing }
+        ensures told { OnOk result (Tells (event_if self.old.is_open (Clears view.now.batch view.now.clearing.prices
+            (fills_for view.now.clearing.fills self.old.orders))) self.old self.new out.old.text out.new.text) }
         ensures stays { OnErr result (self.new ≡ self.old) }
         ensures before { out.new.before ≡ out.old.before }
     {
@@ -185,7 +185,7 @@ impl Statement {
 
     // Tells a batch that was skipped.
     fn tell_skipped(&mut self, view: &SkippedView<'_>, out: &mut Text) -> Result<(), Memory>
-        ensures told { OnOk result (Tells (event_if self.old.holding.is_open (Skips view.now.batch)) self.old self.new out.old.text out.new.text) }
+        ensures told { OnOk result (Tells (event_if self.old.is_open (Skips view.now.batch)) self.old self.new out.old.text out.new.text) }
         ensures stays { OnErr result (self.new ≡ self.old) }
         ensures before { out.new.before ≡ out.old.before }
     {

@@ -15,8 +15,9 @@ use Rattle.journal_records.proofs.Spelled.{answer_unique}
 use Rattle.market_rules.specs.Journal.{Step}
 use Rattle.market_rules.proofs.Versions.{step_version}
 use Rattle.batch_audit.specs.Legal.{IsLegalPair}
-use Rattle.batch_report.specs.Reports.{◌then◌, Tells, IsReport}
-use Rattle.batch_report.proofs.Joining.{joined}
+use Rattle.pair_text.specs.Texts.{◌then◌}
+use Rattle.batch_report.specs.Reports.{Tells, IsReport}
+use Rattle.pair_text.proofs.Joining.{joined}
 use Rattle.batch_report.specs.Private.{IsAnswered, IsDone, IsPlacing}
 
 -- the answer Done, and the number of an order

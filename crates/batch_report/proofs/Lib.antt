@@ -1,4 +1,2 @@
-pub mod Joining
-pub mod Names
 pub mod Answered
 pub mod OneReport

@@ -1,6 +1,5 @@
 -- Words that only private functions of the report use.
-use Rattle.std.specs.Prelude.{ℕ, List, pos, slice_index_or, ⊤}
-use Rattle.weight_rows.specs.declared.entries.Entry.{Entry}
+use Rattle.std.specs.Prelude.{ℕ, List, slice_index_or, ⊤}
 use Rattle.wire_records.specs.Records.{Record}
 use Rattle.wire_records.specs.Commands.{Command, AddAsset, OpenAccount, DepositMoney, DepositAsset, WithdrawMoney, WithdrawAsset, PlaceOrder, CancelOrder, RunBatch, PlaceUntil, SetMoneyCredit, SetUnitCredit, Answer}
 use Rattle.wire_records.specs.Versions.{IsReadAs}
@@ -8,23 +7,9 @@ use Rattle.flow_orders.specs.Outcomes.{Fill, Outcome, IsRightOutcome}
 use Rattle.market_rules.specs.Market.{Market}
 use Rattle.market_rules.specs.Journal.{Step}
 
--- a list as it was before a text: what stood there, and for how much there was room
-pub record Before : Type 0 where
-  pub items : List ℕ
-  pub room : ℕ
-
--- what is appended to a list, behind what stood there before
-pub record Appended : Type 0 where
-  pub before : Before
-  pub text : List ℕ
-
 -- the fill at a place that has one
 abbrev pub fill_at : List Fill → ℕ → Fill
 fill_at fills place = slice_index_or fills place (record { order = 0; rate = 0 })
-
--- what stands where a row has no entry
-abbrev pub no_entry : Entry
-no_entry = record { asset = 0; weight = pos 0 }
 
 -- some market answers a record so, and is this one then
 abbrev pub IsAnswered : Market → Record → Answer Outcome → Type 0

@@ -1,8 +1,7 @@
 -- The text of a pair of a journal. Numbers are plain decimal; prices, gaps and duals are in grains, limits in ticks.
-use Rattle.std.specs.Prelude.{◌≡◌, ℕ, List, [], ◌∷◌, ◌++◌, length, codes, decimal, get_or, Ok, ◌==◌, if◌then◌else◌}
+use Rattle.std.specs.Prelude.{◌≡◌, ℕ, List, length, codes, decimal, Ok}
 use Rattle.std.specs.Fmt.{signed_decimal}
 use Rattle.std.specs.List.{flat_map, range_with_len}
-use Rattle.weight_rows.specs.declared.entries.Entry.{Entry}
 use Rattle.wire_records.specs.Records.{Record}
 use Rattle.wire_records.specs.Commands.{Request, Command, AddAsset, OpenAccount, DepositMoney, DepositAsset, WithdrawMoney, WithdrawAsset, PlaceOrder, CancelOrder, RunBatch, PlaceUntil, SetMoneyCredit, SetUnitCredit, Answer, Plain, Batch}
 use Rattle.wire_records.specs.Versions.{IsReadAs}
@@ -13,20 +12,7 @@ use Rattle.weight_rows.specs.Rows.{price_of}
 use Rattle.flow_orders.specs.Residuals.{residual_in}
 use Rattle.journal_records.specs.Replies.{SpellsAnswer}
 use Rattle.market_rules.specs.Market.{Market}
-
--- the name of a ticker: its bytes before the first space
-unfoldable pub name_of : List ℕ → List ℕ
-name_of [] = []
-name_of (byte ∷ more) = if byte == 32 then [] else byte ∷ name_of more
-
--- the name of an asset's ticker
-abbrev pub asset_name : List (List ℕ) → ℕ → List ℕ
-asset_name tickers asset = name_of (get_or tickers asset [])
-
-infixr 5 ◌then◌
--- one text, and then another
-abbrev pub ◌then◌ : List ℕ → List ℕ → List ℕ
-◌then◌ one other = one ++ other
+use Rattle.pair_text.specs.Texts.{◌then◌, asset_name, entry_text}
 
 -- a deposit, a withdrawal or a credit in money
 abbrev pub money_text : List ℕ → ℕ → ℕ → List ℕ
@@ -36,10 +22,6 @@ money_text word account ticks = word then codes " account " then decimal account
 abbrev pub units_text : List ℕ → List (List ℕ) → ℕ → ℕ → ℕ → List ℕ
 units_text word tickers account asset units =
     word then codes " account " then decimal account then codes " " then asset_name tickers asset then codes " units " then decimal units
-
--- an entry of an order: its asset's ticker and its weight
-abbrev pub entry_text : List (List ℕ) → Entry → List ℕ
-entry_text tickers e = codes " " then asset_name tickers e.asset then codes ":" then signed_decimal e.weight
 
 -- an order's number, and the numbers of its request
 abbrev pub numbers_text : ℕ → Request → List ℕ

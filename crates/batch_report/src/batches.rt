@@ -6,9 +6,9 @@ ghost use Rattle.flow_orders.specs.Residuals.{residual_in};
 ghost use Rattle.batch_report.specs.Reports.{price_line, rate_line, cleared_lines, skipped_line};
 ghost use Rattle.batch_report.specs.Private.{fill_at};
 
-use crate::text::Text;
 use batch_outcome::ClearedParts;
 use journal_records::{ClearedView, SkippedView};
+use pair_text::Text;
 use ticker_table::TickerTable;
 use wire_records::Memory;
 

@@ -15,6 +15,5 @@ mod batches;
 pub mod laws;
 mod plain;
 mod report;
-mod text;
 
 pub use report::report_pair;

@@ -1,20 +1,18 @@
 //! The lines of commands that hold no batch.
-ghost use Rattle.std.specs.Prelude.{◌≡◌, ◌<◌, ◌++◌, ℕ, List, length, slice_index_or, Ok, OnOk, codes, decimal};
-ghost use Rattle.std.specs.List.{flat_map};
-ghost use Rattle.weight_rows.specs.declared.entries.Entry.{Entry};
+ghost use Rattle.std.specs.Prelude.{◌≡◌, ◌++◌, ℕ, List, Ok, OnOk, codes, decimal};
 ghost use Rattle.wire_records.specs.Commands.{Plain};
 ghost use Rattle.wire_records.specs.Refusals.{code_of};
 ghost use Rattle.wire_records.specs.declared.reply.Reply.TheVariants as reply;
 ghost use Rattle.wire_records.specs.Versions.{IsReadAs};
 ghost use Rattle.wire_records.specs.Views.{command_of};
-ghost use Rattle.batch_report.specs.Reports.{◌then◌, money_text, units_text, entry_text, numbers_text, order_text, until_text, asset_name, TellsDone, TellsPlacing, Tells};
-ghost use Rattle.batch_report.specs.Private.{IsAnswered, IsDone, IsPlacing, no_entry};
+ghost use Rattle.pair_text.specs.Texts.{◌then◌, asset_name};
+ghost use Rattle.batch_report.specs.Reports.{money_text, units_text, numbers_text, order_text, until_text, TellsDone, TellsPlacing, Tells};
+ghost use Rattle.batch_report.specs.Private.{IsAnswered, IsDone, IsPlacing};
 
-use crate::text::Text;
 use market_core::Market;
+use pair_text::Text;
 use ticker_table::TickerTable;
-use weight_rows::Entry;
-use wire_records::{CommandView, Memory, PlaceView, RecordView, Refusal, Reply, RowView};
+use wire_records::{CommandView, Memory, PlaceView, RecordView, Refusal, Reply};
 
 // A deposit, a withdrawal or a credit in money.
 fn put_money(word: &[u8], account: u32, ticks: u64, out: &mut Text) -> Result<(), Memory>
@@ -120,34 +118,6 @@ fn put_done(market: &Market, asked: &RecordView<'_>, out: &mut Text) -> Result<(
     out.put(b"\n")
 }
 
-// An entry of an order.
-fn put_entry(tickers: &TickerTable, entry: Entry, out: &mut Text) -> Result<(), Memory>
-    ensures before { out.new.before ≡ out.old.before }
-    ensures put { OnOk result (out.new.text ≡ out.old.text ++ entry_text tickers.now entry) }
-{
-    out.put_name(b" ", tickers, entry.asset)?;
-    out.put_number(b":", entry.weight)
-}
-
-// The entry at a place that has one.
-fn entry_at(row: &RowView<'_>, place: usize) -> Entry
-    requires { place < length row.now }
-    ensures { result ≡ slice_index_or row.now place no_entry }
-{
-    row.entry(place).unwrap()
-}
-
-// The entries of an order.
-fn put_entries(tickers: &TickerTable, row: &RowView<'_>, out: &mut Text) -> Result<(), Memory>
-    ensures before { out.new.before ≡ out.old.before }
-    ensures put { OnOk result (out.new.text ≡ out.old.text ++ flat_map (entry_text tickers.now) row.now) }
-{
-    for place in 0..row.len() {
-        put_entry(tickers, entry_at(row, place), out)?;
-    }
-    Ok(())
-}
-
 // An order's number, and the numbers of its request.
 fn put_numbers(place: &PlaceView<'_>, order: u64, out: &mut Text) -> Result<(), Memory>
     ensures before { out.new.before ≡ out.old.before }
@@ -172,7 +142,7 @@ fn put_order(
     ensures put { OnOk result (out.new.text ≡ out.old.text ++ order_text tickers.now order place.now) }
 {
     put_numbers(place, order, out)?;
-    put_entries(tickers, &place.row(), out)
+    out.put_entries(tickers, &place.row())
 }
 
 // An order with a last batch under its number.
@@ -188,7 +158,7 @@ fn put_until(
 {
     put_numbers(place, order, out)?;
     out.put_number(b" last ", last)?;
-    put_entries(tickers, &place.row(), out)
+    out.put_entries(tickers, &place.row())
 }
 
 // The order that a command places, under its number.

@@ -8,10 +8,10 @@ ghost use Rattle.batch_report.specs.Private.{IsAnswered};
 
 use crate::batches::{put_cleared, put_skipped};
 use crate::plain::put_plain;
-use crate::text::Text;
 use batch_audit::Audit;
 use journal_records::{PairView, ReplyView, reply};
 use market_core::Market;
+use pair_text::Text;
 use wire_records::{Memory, RecordView};
 
 // What is told of a record and its answer.

@@ -1,2 +1,2 @@
 pub mod Joining
-mod Names
+mod Passed

@@ -6,18 +6,107 @@ use Rattle.std.specs.Fmt.{signed_decimal}
 use Rattle.wire_records.specs.Commands.{Command, AddAsset, OpenAccount, DepositMoney, DepositAsset, WithdrawMoney, WithdrawAsset, PlaceOrder, CancelOrder, RunBatch, PlaceUntil, SetMoneyCredit, SetUnitCredit}
 use Rattle.wire_records.specs.declared.reply.Reply.{Reply}
 use Rattle.wire_records.specs.declared.reply.Reply.TheVariants.{Done, Asset, Account, Order, Refused}
-use Rattle.flow_orders.specs.Orders.{Order as order, money_need, unit_need}
+use Rattle.flow_orders.specs.Orders.{money_need, unit_need}
+use Rattle.order_book.specs.Book.{without}
 use Rattle.flow_orders.specs.Outcomes.{trades_of}
 use Rattle.flow_orders.specs.Trades.{staying, going_on}
 use Rattle.flow_accounts.specs.Balances.{IsAccount, IsAsset}
 use Rattle.market_rules.specs.Market.{Market, IsSound}
-use Rattle.pair_text.specs.Texts.{◌then◌}
+use Rattle.pair_text.specs.Texts.{◌then◌, asset_name}
 use Rattle.statement_rules.specs.Views.{Event, Adds, Opens, Asks, Clears, Skips}
-use Rattle.statement_rules.specs.Holdings.{Holding, after, after_done, after_placing, IsHeld}
-use Rattle.statement_rules.specs.Statements.{event_lines, lines_from, asset_line, asked_line, cost_line, end_lines}
+use Rattle.statement_rules.specs.Holdings.{Holding, ordered, after, after_done, after_placing, after_asked, IsHeld}
+use Rattle.statement_rules.specs.Statements.{event_lines, lines_from, asset_line, asked_line, cost_line, money_reserved, units_reserved, end_lines}
 use Rattle.statement_rules.specs.Laws.{HoldingsTellAlike}
 
 -- the same assets and the same orders
 record IsLike (h g : Holding) : Type 0 where
   tickers : h.tickers ≡ g.tickers
   orders : h.orders ≡ g.orders
+
+like_done : (h g : Holding) (c : Command) → IsLike h g → IsLike (after_done h c) (after_done g c)
+like_done h g (AddAsset ticker) like = record { tickers = like.tickers; orders = like.orders }
+like_done h g OpenAccount like = record { tickers = like.tickers; orders = like.orders }
+like_done h g (DepositMoney named ticks) like = record { tickers = like.tickers; orders = like.orders }
+like_done h g (DepositAsset named asset units) like = record { tickers = like.tickers; orders = like.orders }
+like_done h g (WithdrawMoney named ticks) like = record { tickers = like.tickers; orders = like.orders }
+like_done h g (WithdrawAsset named asset units) like = record { tickers = like.tickers; orders = like.orders }
+like_done h g (PlaceOrder r) like = record { tickers = like.tickers; orders = like.orders }
+like_done h g (CancelOrder named number) like = record { tickers = like.tickers; orders = ap (λ l. without l number) like.orders }
+like_done h g (RunBatch budget) like = record { tickers = like.tickers; orders = like.orders }
+like_done h g (PlaceUntil last r) like = record { tickers = like.tickers; orders = like.orders }
+like_done h g (SetMoneyCredit named ticks) like = record { tickers = like.tickers; orders = like.orders }
+like_done h g (SetUnitCredit named asset units) like = record { tickers = like.tickers; orders = like.orders }
+
+like_placing : (h g : Holding) (n : ℕ) (c : Command) → IsLike h g → IsLike (after_placing h n c) (after_placing g n c)
+like_placing h g n (AddAsset ticker) like = record { tickers = like.tickers; orders = like.orders }
+like_placing h g n OpenAccount like = record { tickers = like.tickers; orders = like.orders }
+like_placing h g n (DepositMoney named ticks) like = record { tickers = like.tickers; orders = like.orders }
+like_placing h g n (DepositAsset named asset units) like = record { tickers = like.tickers; orders = like.orders }
+like_placing h g n (WithdrawMoney named ticks) like = record { tickers = like.tickers; orders = like.orders }
+like_placing h g n (WithdrawAsset named asset units) like = record { tickers = like.tickers; orders = like.orders }
+like_placing h g n (PlaceOrder r) like = record { tickers = like.tickers; orders = ap (λ l. l ++ ordered n 0 r ∷ []) like.orders }
+like_placing h g n (CancelOrder named number) like = record { tickers = like.tickers; orders = like.orders }
+like_placing h g n (RunBatch budget) like = record { tickers = like.tickers; orders = like.orders }
+like_placing h g n (PlaceUntil last r) like = record { tickers = like.tickers; orders = ap (λ l. l ++ ordered n last r ∷ []) like.orders }
+like_placing h g n (SetMoneyCredit named ticks) like = record { tickers = like.tickers; orders = like.orders }
+like_placing h g n (SetUnitCredit named asset units) like = record { tickers = like.tickers; orders = like.orders }
+
+like_asked : (h g : Holding) (c : Command) (answer : Reply) → IsLike h g → IsLike (after_asked h c answer) (after_asked g c answer)
+like_asked h g c Done like = like_done h g c like
+like_asked h g c (Asset n) like = like
+like_asked h g c (Account n) like = like
+like_asked h g c (Order n) like = like_placing h g n c like
+like_asked h g c (Refused refusal) like = like
+
+like_after : (h g : Holding) (event : Event) → IsLike h g → IsLike (after h event) (after g event)
+like_after h g (Adds ticker) like = record { tickers = ap (λ l. l ++ ticker ∷ []) like.tickers; orders = like.orders }
+like_after h g (Opens account) like = record { tickers = like.tickers; orders = like.orders }
+like_after h g (Asks c answer) like = like_asked h g c answer like
+like_after h g (Clears batch prices fills) like = record { tickers = like.tickers; orders = ap (λ l. going_on batch (staying (trades_of l fills))) like.orders }
+like_after h g (Skips batch) like = record { tickers = like.tickers; orders = ap (going_on batch) like.orders }
+
+like_event : (h g : Holding) (event : Event) → IsLike h g → event_lines h event ≡ event_lines g event
+like_event h g (Adds ticker) like = refl
+like_event h g (Opens account) like = refl
+like_event h g (Asks c answer) like = ap (λ tickers. asked_line tickers c answer) like.tickers
+like_event h g (Clears batch prices fills) like = ap (λ l. codes "batch " then decimal batch then codes " cleared\n" then flat_map (cost_line prices) (trades_of l fills)) like.orders
+like_event h g (Skips batch) like = refl
+
+like_lines : (h g : Holding) (view : List Event) → IsLike h g → lines_from h view ≡ lines_from g view
+like_lines h g [] like = refl
+like_lines h g (event ∷ view) like =
+    ap (λ l. l ++ lines_from (after h event) view) (like_event h g event like) ∙ ap (λ l. event_lines g event ++ l) (like_lines (after h event) (after g event) view (like_after h g event like))
+
+-- functions that agree on these numbers give the same texts
+same_texts : (f g : ℕ → List ℕ) (start n : ℕ) → ((k : ℕ) → k < start + n → f k ≡ g k) → flat_map f (range_with_len start n) ≡ flat_map g (range_with_len start n)
+same_texts f g start zero same = refl
+same_texts f g start (suc n) same =
+    ap (λ l. l ++ flat_map f (range_with_len (start + 1) n)) (same start (omega arith))
+    ∙ ap (λ l. g start ++ l) (same_texts f g (start + 1) n (λ k inside. same k (omega (arith, inside))))
+
+like_asset : (h g : Holding) (asset : ℕ) → IsLike h g → h.units asset ≡ g.units asset → asset_line h asset ≡ asset_line g asset
+like_asset h g asset like units =
+    ap (λ tickers. asset_name tickers asset then codes " units " then signed_decimal (h.units asset) then codes " reserved " then decimal (units_reserved h asset) then codes "\n") like.tickers
+    ∙ ap (λ u. asset_name g.tickers asset then codes " units " then signed_decimal u then codes " reserved " then decimal (units_reserved h asset) then codes "\n") units
+    ∙ ap (λ l. asset_name g.tickers asset then codes " units " then signed_decimal (g.units asset) then codes " reserved " then decimal (sum_by (unit_need asset) l) then codes "\n") like.orders
+
+like_end : (h g : Holding) → IsLike h g → h.money ≡ g.money → ((asset : ℕ) → asset < length h.tickers → h.units asset ≡ g.units asset) → end_lines h ≡ end_lines g
+like_end h g like money units =
+    ap (λ m. codes "money " then signed_decimal m then codes " reserved " then decimal (money_reserved h) then codes "\n" then flat_map (asset_line h) (range_with_len 0 (length h.tickers))) money
+    ∙ ap (λ l. codes "money " then signed_decimal g.money then codes " reserved " then decimal (sum_by money_need l) then codes "\n" then flat_map (asset_line h) (range_with_len 0 (length h.tickers))) like.orders
+    ∙ ap (λ l. codes "money " then signed_decimal g.money then codes " reserved " then decimal (money_reserved g) then codes "\n" then l) (assets ∙ ap (λ l. flat_map (asset_line g) (range_with_len 0 (length l))) like.tickers)
+  where
+    assets : flat_map (asset_line h) (range_with_len 0 (length h.tickers)) ≡ flat_map (asset_line g) (range_with_len 0 (length h.tickers))
+    assets = same_texts (asset_line h) (asset_line g) 0 (length h.tickers) (λ k inside. like_asset h g k like (units k (omega (arith, inside))))
+
+like_held : (account : ℕ) (m : Market) (h g : Holding) → IsHeld account m h → IsHeld account m g → IsLike h g
+like_held account m h g one other = record { tickers = one.tickers ∙ sym other.tickers; orders = one.orders ∙ sym other.orders }
+
+pub holdings_tell_alike : HoldingsTellAlike
+holdings_tell_alike = record {
+  lines = λ account m h g view one other. like_lines h g view (like_held account m h g one other);
+  last = λ account m h g sound there one other.
+      like_end h g (like_held account m h g one other) (one.money there.0 ∙ sym (other.money there.0))
+      (λ asset inside. let is_asset : IsAsset m.balances asset = omega (arith, inside, ap length one.tickers, sound.one_each.tickers) in
+      one.units there.0 asset is_asset ∙ sym (other.units there.0 asset is_asset));
+}

@@ -1,8 +1,8 @@
 pub mod Alike
-mod Lists
-mod OwnParts
+pub mod Lists
+pub mod OwnParts
 pub mod Told
 pub mod ViewLaws
 mod WorkedRows
 pub mod Texts
-mod OwnRates
+pub mod OwnRates

@@ -4,7 +4,7 @@ use Rattle.std.specs.Int.{w64}
 use Rattle.std.proofs.lemmas.Int.{to_z-of_z}
 use Rattle.weight_rows.specs.Rows.{price_of}
 use Rattle.flow_orders.specs.Residuals.{residual_in}
-use Rattle.batch_report.proofs.Joining.{joined, on_ok}
+use Rattle.pair_text.proofs.Joining.{joined, on_ok}
 use Rattle.batch_report.proofs.batches.put_price.Goals as goal
 
 pub returns-clause-put : goal.returns-clause-put

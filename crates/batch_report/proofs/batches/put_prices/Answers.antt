@@ -1,6 +1,6 @@
 use Rattle.std.proofs.Common.{◌∙◌}
 use Rattle.batch_report.specs.Reports.{price_line}
-use Rattle.batch_report.proofs.Joining.{one_more_number}
+use Rattle.pair_text.proofs.Joining.{one_more_number}
 use Rattle.batch_report.proofs.batches.put_prices.Goals as goal
 
 pub loop-asset-preserved : goal.loop-asset-preserved

@@ -1,6 +1,6 @@
 use Rattle.std.proofs.Common.{◌∙◌, arith}
 use Rattle.batch_report.specs.Reports.{rate_line}
-use Rattle.batch_report.proofs.Joining.{one_more, all_done}
+use Rattle.pair_text.proofs.Joining.{one_more, all_done}
 use Rattle.batch_report.proofs.batches.put_rates.Goals as goal
 
 pub loop-place-preserved : goal.loop-place-preserved

@@ -2,7 +2,7 @@ use Rattle.std.proofs.Common.{◌≡◌, ◌++◌, codes, decimal}
 use Rattle.std.specs.Fmt.{signed_decimal}
 use Rattle.std.specs.Int.{w64}
 use Rattle.std.proofs.lemmas.Int.{to_z-of_z}
-use Rattle.batch_report.proofs.Joining.{joined, on_ok}
+use Rattle.pair_text.proofs.Joining.{joined, on_ok}
 use Rattle.batch_report.proofs.plain.put_numbers.Goals as goal
 
 pub returns-clause-put : goal.returns-clause-put

@@ -1,4 +1,4 @@
-use Rattle.batch_report.proofs.Joining.{joined, on_ok}
+use Rattle.pair_text.proofs.Joining.{joined, on_ok}
 use Rattle.batch_report.proofs.plain.put_until.Goals as goal
 
 pub returns-clause-put : goal.returns-clause-put

@@ -1,5 +1,5 @@
 use Rattle.std.proofs.Common.{subst, arith}
-use Rattle.pair_text.proofs.Names.{HasPassed, one_more, ended, whole}
+use Rattle.pair_text.proofs.Passed.{HasPassed, one_more, ended, whole}
 use Rattle.pair_text.proofs.names.name_len.Goals as goal
 
 pub returns-then-ticker-place-eq32-clause-name : goal.returns-then-ticker-place-eq32-clause-name

@@ -1,6 +1,6 @@
 use Rattle.std.proofs.Common.{◌++◌, ap, sym, ◌∙◌}
 use Rattle.std.proofs.lemmas.List.{append-nil}
-use Rattle.pair_text.proofs.Names.{no_name}
+use Rattle.pair_text.proofs.Passed.{no_name}
 use Rattle.pair_text.proofs.text.Text.put_name.Goals as goal
 
 pub returns-in-None-clause-put : goal.returns-in-None-clause-put

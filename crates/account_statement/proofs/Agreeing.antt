@@ -1,0 +1,130 @@
+-- What is told of a pair, by what is held, is what the account sees of it.
+use Rattle.std.proofs.Common.{◌≡◌, ℕ, ◌<◌, ◌≤◌, ◌+◌, Bool, true, false, ◌&&◌, ℤ, List, [], ◌∷◌, ◌++◌, map, length, Result, Ok, Err, refl, sym, ap, subst, ◌∙◌, arith}
+use Rattle.std.specs.Prelude.{All, ◌==◌}
+use Rattle.std.proofs.lemmas.List.{append-nil}
+use Rattle.wire_records.specs.Records.{Record}
+use Rattle.wire_records.specs.Versions.{IsReadAs}
+use Rattle.wire_records.specs.Commands.{Command, AddAsset, OpenAccount, DepositMoney, DepositAsset, WithdrawMoney, WithdrawAsset, PlaceOrder, CancelOrder, RunBatch, PlaceUntil, SetMoneyCredit, SetUnitCredit, Answer, Plain, Batch}
+use Rattle.wire_records.specs.declared.command.BodyFault.{BodyFault}
+use Rattle.wire_records.specs.declared.reply.Reply.{Reply}
+use Rattle.wire_records.proofs.Readings.{reading_unique}
+use Rattle.flow_orders.specs.Outcomes.{Fill, Clearing, Outcome, Cleared, Skipped, IsRightOutcome, IsRightClearing}
+use Rattle.journal_records.specs.Replies.{SpellsAnswer}
+use Rattle.journal_records.proofs.Spelled.{answer_unique}
+use Rattle.market_rules.specs.Market.{Market, IsSound, start_prices}
+use Rattle.market_rules.specs.Step.{Serves, ServesRead}
+use Rattle.market_rules.proofs.LawProofs.{batch_of}
+use Rattle.batch_audit.specs.Legal.{IsLegalPair}
+use Rattle.statement_rules.specs.Views.{Event, Asks, Clears, Skips, event_if, is_there, seen, seen_plain, own_fills}
+use Rattle.statement_rules.specs.Holdings.{Holding, after_all, IsHeld}
+use Rattle.statement_rules.specs.Statements.{lines_from}
+use Rattle.statement_rules.proofs.Told.{told}
+use Rattle.statement_rules.proofs.ViewLaws.{sound_after}
+use Rattle.account_statement.specs.Telling.{Statement, holding_of, Agrees, IsTold}
+use Rattle.account_statement.specs.Private.{AreAlike, Names, fills_for, seen_by, IsServed, Tells}
+use Rattle.account_statement.proofs.OwnRates.{rates_found, own_found, fills_ascend}
+
+-- what is alike agrees alike
+pub agrees_alike : (account : ℕ) (m : Market) (h g : Holding) → AreAlike g h → IsHeld account m h → IsHeld account m g
+agrees_alike account m h g like held = record {
+  tickers = like.tickers ∙ held.tickers;
+  opened = like.is_open ∙ held.opened;
+  money = λ some. like.money ∙ held.money some;
+  units = λ some asset is. like.units asset ∙ held.units some asset is;
+  orders = like.orders ∙ held.orders;
+}
+
+-- what a holding is like
+pub alike_same : (h g : Holding) → g ≡ h → AreAlike g h
+alike_same h g same = subst (λ (x : Holding). AreAlike x h) (sym same) (record { tickers = refl; is_open = refl; money = refl; units = λ asset. refl; orders = refl })
+
+-- what an account sees of a command that names one
+pub seen_named : (account named : ℕ) (there : Bool) (c : Command) (answer : Reply) → Names named c → seen_plain account there c answer ≡ event_if (there && (named == account)) (Asks c answer)
+seen_named account named there (AddAsset ticker) answer names = absurd names
+seen_named account named there OpenAccount answer names = absurd names
+seen_named account named there (RunBatch budget) answer names = absurd names
+seen_named account named there (DepositMoney other ticks) answer names = ap (λ k. event_if (there && (k == account)) (Asks (DepositMoney other ticks) answer)) (sym names)
+seen_named account named there (DepositAsset other asset units) answer names = ap (λ k. event_if (there && (k == account)) (Asks (DepositAsset other asset units) answer)) (sym names)
+seen_named account named there (WithdrawMoney other ticks) answer names = ap (λ k. event_if (there && (k == account)) (Asks (WithdrawMoney other ticks) answer)) (sym names)
+seen_named account named there (WithdrawAsset other asset units) answer names = ap (λ k. event_if (there && (k == account)) (Asks (WithdrawAsset other asset units) answer)) (sym names)
+seen_named account named there (PlaceOrder r) answer names = ap (λ k. event_if (there && (k == account)) (Asks (PlaceOrder r) answer)) (sym names)
+seen_named account named there (CancelOrder other number) answer names = ap (λ k. event_if (there && (k == account)) (Asks (CancelOrder other number) answer)) (sym names)
+seen_named account named there (PlaceUntil last r) answer names = ap (λ k. event_if (there && (k == account)) (Asks (PlaceUntil last r) answer)) (sym names)
+seen_named account named there (SetMoneyCredit other ticks) answer names = ap (λ k. event_if (there && (k == account)) (Asks (SetMoneyCredit other ticks) answer)) (sym names)
+seen_named account named there (SetUnitCredit other asset units) answer names = ap (λ k. event_if (there && (k == account)) (Asks (SetUnitCredit other asset units) answer)) (sym names)
+
+-- the own fills of a market are those that are found under the numbers of the own orders
+pub own_fills_are : (account : ℕ) (m : Market) (h : Holding) (c : Clearing) → IsSound m → IsHeld account m h → IsRightClearing m.orders (start_prices m) c → own_fills account m c ≡ fills_for c.fills h.orders
+own_fills_are account m h c sound held right =
+    own_found account c.fills m.orders c.fills right.numbers (rates_found c.fills (fills_ascend m.orders c.fills right.numbers sound.ascending))
+    ∙ ap (fills_for c.fills) (sym held.orders)
+
+-- so what an account sees of an answered command can be told by what is held
+pub seen_is : (s : Statement) (m : Market) (c : Command) (a : Answer Outcome) (n : Market) → IsSound m → Agrees m s → Serves IsRightOutcome m c a n → seen s.account m (Ok c) a ≡ seen_by s c a
+seen_is s m c (Plain answer) n sound held serves = ap (λ b. seen_plain s.account b c answer) (sym held.opened)
+seen_is s m c (Batch batch (Cleared k)) n sound held serves =
+    let right = (batch_of IsRightOutcome m c batch (Cleared k) n serves).ruled in
+    ap (λ fills. event_if (is_there m s.account) (Clears batch k.prices fills)) (own_fills_are s.account m (holding_of s) k sound held right)
+    ∙ ap (λ b. event_if b (Clears batch k.prices (fills_for k.fills s.orders))) (sym held.opened)
+seen_is s m c (Batch batch (Skipped k)) n sound held serves = ap (λ b. event_if b (Skips batch)) (sym held.opened)
+
+module _ (m : Market) (pair : Record × Record) (old : Statement) (sound : IsSound m) (agrees : Agrees m old) where
+  -- what a legal pair's records are read as is the step's
+  same_read : (read : Result Command BodyFault) (next : Market) (legal : IsLegalPair m pair next) → IsReadAs m.version pair.0 read → legal.step.read ≡ read
+  same_read read next legal reads = reading_unique m.version pair.0 legal.step.read read legal.step.spelled reads
+
+  same_answer : (a : Answer Outcome) (next : Market) (legal : IsLegalPair m pair next) → SpellsAnswer pair.1 a → legal.answer ≡ a
+  same_answer a next legal spells = answer_unique legal.answer a legal.spelled.fits spells.fits (sym legal.spelled.spelled ∙ spells.spelled)
+
+  pub served_as : (c : Command) (a : Answer Outcome) (next : Market) → IsLegalPair m pair next → IsReadAs m.version pair.0 (Ok c) → SpellsAnswer pair.1 a → Serves IsRightOutcome m c a next
+  served_as c a next legal reads spells =
+      subst (λ x. ServesRead IsRightOutcome m (Ok c) x next) (same_answer a next legal spells)
+      (subst (λ r. ServesRead IsRightOutcome m r legal.answer next) (same_read (Ok c) next legal reads) legal.step.served)
+
+  -- some market answers so
+  pub is_served : (c : Command) (a : Answer Outcome) → (next : Market) × IsLegalPair m pair next → IsReadAs m.version pair.0 (Ok c) → SpellsAnswer pair.1 a → IsServed old c a
+  is_served c a (next, legal) reads spells = record {
+    market = m;
+    next = next;
+    sound = sound;
+    sound_next = sound_after m pair.0 legal.answer next legal.step.read sound legal.step.spelled legal.step.served;
+    agrees = agrees;
+    served = served_as c a next legal reads spells;
+  }
+
+  -- a command that was told with its answer
+  pub is_told : (new : Statement) (before now : List ℕ) (c : Command) (a : Answer Outcome) → IsReadAs m.version pair.0 (Ok c) → SpellsAnswer pair.1 a → Tells (seen_by old c a) old new before now
+      → (next : Market) (legal : IsLegalPair m pair next) → IsTold m pair old new before now next legal
+  is_told new before now c a reads spells tells next legal = record {
+    agrees = subst (λ k. IsHeld k next (holding_of new)) (sym tells.account)
+        (agrees_alike old.account next (after_all (holding_of old) (seen_by old c a)) (holding_of new) tells.after
+        (subst (λ l. IsHeld old.account next (after_all (holding_of old) l)) seen_so (told old.account m (holding_of old) sound agrees (Ok c) a next serves)));
+    text = tells.text ∙ ap (λ l. before ++ lines_from (holding_of old) l) (sym (again ∙ seen_so));
+  }
+    where
+      serves : Serves IsRightOutcome m c a next
+      serves = served_as c a next legal reads spells
+
+      seen_so : seen old.account m (Ok c) a ≡ seen_by old c a
+      seen_so = seen_is old m c a next sound agrees serves
+
+      again : seen old.account m legal.step.read legal.answer ≡ seen old.account m (Ok c) a
+      again = ap (λ r. seen old.account m r legal.answer) (same_read (Ok c) next legal reads) ∙ ap (seen old.account m (Ok c)) (same_answer a next legal spells)
+
+  -- a record that is no command, of which nothing is told
+  pub is_not_told : (text : List ℕ) (why : BodyFault) → IsReadAs m.version pair.0 (Err why) → (next : Market) (legal : IsLegalPair m pair next) → IsTold m pair old old text text next legal
+  is_not_told text why reads next legal = record {
+    agrees = told old.account m (holding_of old) sound agrees (Err why) legal.answer next (subst (λ r. ServesRead IsRightOutcome m r legal.answer next) same legal.step.served);
+    text = sym (append-nil text) ∙ ap (λ r. text ++ lines_from (holding_of old) (seen old.account m r legal.answer)) (sym same);
+  }
+    where
+      same : legal.step.read ≡ Err why
+      same = same_read (Err why) next legal reads
+
+-- nothing is told, and nothing changes
+pub nothing_told : (events : List Event) (s : Statement) (text : List ℕ) → events ≡ [] → Tells events s s text text
+nothing_told events s text none = record {
+  account = refl;
+  after = alike_same (after_all (holding_of s) events) (holding_of s) (sym (ap (after_all (holding_of s)) none));
+  text = sym (ap (λ l. text ++ lines_from (holding_of s) l) none ∙ append-nil text);
+}
