@@ -97,7 +97,7 @@ statement_has_next account = over_pairs_has_next stating stating_has_sight (stat
 -- ---- accounts of numbers that no market has
 
 -- no sound market has so many accounts
-not_there : (account : ℕ) (m : Market) → IsSound m → 2 ^ 32 ≤ account → is_there m account ≡ false
+pub not_there : (account : ℕ) (m : Market) → IsSound m → 2 ^ 32 ≤ account → is_there m account ≡ false
 not_there account m sound far = false_from_ne_true (is_there m account) (λ there. let is = is_account m account there in omega (arith, is.1, sound.few_accounts, far))
 
 -- so such an account sees nothing of a legal pair that has a line

@@ -11,8 +11,7 @@ use Rattle.statement_word.specs.Stating.{Stated, held_in}
 
 -- it is the statement of the account of this number, and agrees with the market; there is none where no account can have the number
 abbrev pub IsOf : ℕ → Market → Option Statement → Type 0
-IsOf number m (Some s) = (s.account ≡ number) × Agrees m s
-IsOf number m None = 2 ^ 32 ≤ number
+IsOf number m kept = ((s : Statement) → kept ≡ Some s → (s.account ≡ number) × Agrees m s) × (kept ≡ None → 2 ^ 32 ≤ number)
 
 -- the pair is a step of the market, or isn't
 abbrev pub IsStep : Bool → Market → Record × Record → Type 0

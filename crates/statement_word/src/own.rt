@@ -1,5 +1,5 @@
 //! What is an account's own, by the number that was asked for.
-ghost use Rattle.std.specs.Prelude.{◌≡◌, ◌≤◌, ℕ, [], OnOk, vec_capacity};
+ghost use Rattle.std.specs.Prelude.{◌≡◌, ◌≤◌, ℕ, [], OnOk, OnErr, vec_capacity};
 ghost use Rattle.wire_records.specs.declared.version.Version.{Version};
 ghost use Rattle.market_rules.specs.Market.{Market as market_value, empty_market};
 ghost use Rattle.batch_audit.specs.Legal.{IsLegalPair};
@@ -35,7 +35,8 @@ impl Own {
         Own { number, statement }
     }
 
-    // Tells a legal pair: puts the lines of what the account sees of it into the buffer, which is empty.
+    // Tells a legal pair: puts the lines of what the account sees of it into the buffer, which is empty. After `Memory` what is kept is as
+    // before.
     pub(crate) fn tell(
         &mut self,
         market: &Market,
@@ -48,10 +49,14 @@ impl Own {
         ensures number { self.new.number ≡ self.old.number }
         ensures told { OnOk result ((next : market_value) (legal : IsLegalPair market.now pair.now next)
             → HasTold self.old.number market.now pair.now self.new.statement text.new.items next legal) }
+        ensures stays { OnErr result (self.new.statement ≡ self.old.statement) }
         ensures room { vec_capacity text.old ≤ vec_capacity text.new }
     {
         match &mut self.statement {
-            Some(statement) => statement.pair(market, pair, text).map_err(|_| Memory),
+            Some(statement) => match statement.pair(market, pair, text) {
+                Ok(()) => Ok(()),
+                Err(_) => Err(Memory),
+            },
             None => {
                 // What the market ensures: it is sound.
                 let _sound = market.version();

@@ -45,8 +45,10 @@ fn is_step(audit: &mut Audit, pair: &PairView<'_>) -> Result<bool, Memory>
     ensures stays { audit.new ≡ audit.old }
     ensures wanted { OnErr result (RecordMayWant audit.old pair.now.0) }
 {
-    let finding = audit.explain(pair).map_err(|_| Memory)?;
-    Ok(is_legal(finding))
+    match audit.explain(pair) {
+        Ok(finding) => Ok(is_legal(finding)),
+        Err(_) => Err(Memory),
+    }
 }
 
 /// The word `statement`: it audits the pairs of a journal one after the other, from the empty market of the journal's version, and
@@ -57,6 +59,7 @@ pub struct Stating {
     audit: Audit,
     pairs: u64,
     own: Own,
+    ghost is_of: { IsOf own.number audit own.statement },
 }
 
 impl Stating {
@@ -73,16 +76,15 @@ impl Stating {
         }
     }
 
-    // Audits a pair, and tells what the account sees of it. It is looked at before it is done, since the market before it says that.
+    // Audits a pair, and tells what the account sees of it. It is looked at before it is done, since the market before it says that. Where
+    // memory runs out behind that, what was told is a pair ahead of the market, so both are put back to their start.
     fn take_pair(&mut self, pair: &PairView<'_>, text: &mut Vec<u8>) -> Result<(), Halt<NoStatement>>
         requires next { self.old.audit.next_order + 1 < 2 ^ 64 }
         requires few { self.old.pairs + 1 < 2 ^ 64 }
-        requires is_of { IsOf self.old.own.number self.old.audit self.old.own.statement }
         requires empty { text.old.items ≡ [] }
         ensures room { vec_capacity text.old ≤ vec_capacity text.new }
         ensures seen { OnOk result (SeesOne stating (at_work self.old.own.number self.old.audit self.old.pairs) pair.now
             (at_work self.new.own.number self.new.audit self.new.pairs) text.new.items) }
-        ensures is_of { OnOk result (IsOf self.new.own.number self.new.audit self.new.own.statement) }
         ensures halted { IfErr result (λ halt. HaltsWith statement_word
             (at_work self.old.own.number self.old.audit self.old.pairs) (Some pair.now) halt text.new.items) }
     {
@@ -98,7 +100,11 @@ impl Stating {
         match self.audit.pair(pair) {
             Ok(Legality::Legal) => {}
             Ok(Legality::Illegal) => unreachable!(),
-            Err(_) => return Err(Halt::Memory),
+            Err(_) => {
+                self.audit = Audit::new(self.alloc);
+                self.own = Own::new(self.alloc, self.own.number);
+                return Err(Halt::Memory);
+            }
         }
         self.pairs += 1;
         Ok(())
@@ -134,7 +140,7 @@ impl ServesWord for Stating {
 
     ghost state = { λ s. at_work s.own.number s.audit s.pairs };
 
-    ghost is_ready = { λ s left. HasRoom s.audit s.pairs left × IsOf s.own.number s.audit s.own.statement };
+    ghost is_ready = { λ s left. HasRoom s.audit s.pairs left };
 
     fn open(&mut self, bytes: &[u8], _text: &mut Vec<u8>) -> bool {
         match journal_version(bytes) {
