@@ -25,18 +25,18 @@ use Rattle.account_statement.specs.Private.{AreAlike, Names, fills_for, seen_by,
 use Rattle.account_statement.proofs.OwnRates.{rates_found, own_found, fills_ascend}
 
 -- what is alike agrees alike
-pub agrees_alike : (account : ℕ) (m : Market) (h g : Holding) → AreAlike g h → IsHeld account m h → IsHeld account m g
-agrees_alike account m h g like held = record {
+pub agrees_alike : (account : ℕ) (m : Market) (h g : Holding) → IsSound m → AreAlike g h → IsHeld account m h → IsHeld account m g
+agrees_alike account m h g sound like held = record {
   tickers = like.tickers ∙ held.tickers;
   opened = like.is_open ∙ held.opened;
   money = λ some. like.money ∙ held.money some;
-  units = λ some asset is. like.units asset ∙ held.units some asset is;
+  units = λ some asset is. like.units asset (omega (arith, is, ap length held.tickers, sound.one_each.tickers)) ∙ held.units some asset is;
   orders = like.orders ∙ held.orders;
 }
 
--- what a holding is like
+-- a holding is like itself
 pub alike_same : (h g : Holding) → g ≡ h → AreAlike g h
-alike_same h g same = subst (λ (x : Holding). AreAlike x h) (sym same) (record { tickers = refl; is_open = refl; money = refl; units = λ asset. refl; orders = refl })
+alike_same h g same = subst (λ (x : Holding). AreAlike x h) (sym same) (record { tickers = refl; is_open = refl; money = refl; units = λ asset inside. refl; orders = refl })
 
 -- what an account sees of a command that names one
 pub seen_named : (account named : ℕ) (there : Bool) (c : Command) (answer : Reply) → Names named c → seen_plain account there c answer ≡ event_if (there && (named == account)) (Asks c answer)
@@ -97,11 +97,14 @@ module _ (m : Market) (pair : Record × Record) (old : Statement) (sound : IsSou
       → (next : Market) (legal : IsLegalPair m pair next) → IsTold m pair old new before now next legal
   is_told new before now c a reads spells tells next legal = record {
     agrees = subst (λ k. IsHeld k next (holding_of new)) (sym tells.account)
-        (agrees_alike old.account next (after_all (holding_of old) (seen_by old c a)) (holding_of new) tells.after
+        (agrees_alike old.account next (after_all (holding_of old) (seen_by old c a)) (holding_of new) sound_next tells.after
         (subst (λ l. IsHeld old.account next (after_all (holding_of old) l)) seen_so (told old.account m (holding_of old) sound agrees (Ok c) a next serves)));
     text = tells.text ∙ ap (λ l. before ++ lines_from (holding_of old) l) (sym (again ∙ seen_so));
   }
     where
+      sound_next : IsSound next
+      sound_next = sound_after m pair.0 legal.answer next legal.step.read sound legal.step.spelled legal.step.served
+
       serves : Serves IsRightOutcome m c a next
       serves = served_as c a next legal reads spells
 
@@ -128,3 +131,31 @@ nothing_told events s text none = record {
   after = alike_same (after_all (holding_of s) events) (holding_of s) (sym (ap (after_all (holding_of s)) none));
   text = sym (ap (λ l. text ++ lines_from (holding_of s) l) none ∙ append-nil text);
 }
+
+-- what has no lines leaves any text
+pub told_silently : (events : List Event) (old new : Statement) (text : List ℕ) → Tells events old new [] [] → Tells events old new text text
+told_silently events old new text tells = record {
+  account = tells.account;
+  after = tells.after;
+  text = sym (ap (λ l. text ++ l) (sym tells.text) ∙ append-nil text);
+}
+
+-- what was told behind an empty text is told behind whatever stood before
+pub told_behind : (m : Market) (pair : Record × Record) (old new : Statement) (before empty text now : List ℕ) (next : Market) (legal : IsLegalPair m pair next)
+    → empty ≡ [] → now ≡ before ++ text → IsTold m pair old new empty text next legal → IsTold m pair old new before now next legal
+told_behind m pair old new before empty text now next legal none whole told_so = record {
+  agrees = told_so.agrees;
+  text = whole ∙ ap (λ l. before ++ l) (told_so.text ∙ ap (λ l. l ++ lines_from (holding_of old) (seen old.account m legal.step.read legal.answer)) none);
+}
+
+-- what may be told of a command of the account's own is what is seen of it
+pub told_own : (s new : Statement) (c : Command) (answer : Reply) (named : ℕ) (before now : List ℕ) → Names named c → (s.is_open && (named == s.account)) ≡ true
+    → Tells (Asks c answer ∷ []) s new before now → Tells (seen_by s c (Plain answer)) s new before now
+told_own s new c answer named before now names own tells =
+    subst (λ l. Tells l s new before now) (sym (seen_named s.account named s.is_open c answer names ∙ ap (λ b. event_if b (Asks c answer)) own)) tells
+
+-- and of another account's command nothing is
+pub told_others : (s : Statement) (c : Command) (answer : Reply) (named : ℕ) (text : List ℕ) → Names named c → (s.is_open && (named == s.account)) ≡ false
+    → Tells (seen_by s c (Plain answer)) s s text text
+told_others s c answer named text names other =
+    nothing_told (seen_by s c (Plain answer)) s text (seen_named s.account named s.is_open c answer names ∙ ap (λ b. event_if b (Asks c answer)) other)

@@ -1,3 +1,6 @@
 mod Agreeing
+mod Costs
+mod Keeping
 mod May
 mod OwnRates
+mod Settled

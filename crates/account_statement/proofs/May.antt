@@ -2,7 +2,7 @@
 use Rattle.std.proofs.Common.{◌≡◌, ◌⊎◌, inl, inr, ℕ, zero, suc, ◌<◌, ◌≤◌, ◌+◌, Bool, true, false, not, if◌then◌else◌, ◌&&◌, ℤ, pos, neg_ℤ, ◌+ℤ◌, ◌-ℤ◌, List, [], ◌∷◌, ◌++◌, map, length, Option, Some, None, Ok, refl, sym, ap, subst, ◌∙◌, arith}
 use Rattle.std.specs.Prelude.{All, Contains, ◌==◌, slice_index_or}
 use Rattle.std.specs.List.{filter}
-use Rattle.std.proofs.lemmas.Bool.{cases_Bool, eq-eqb}
+use Rattle.std.proofs.lemmas.Bool.{cases_Bool, eq-eqb, eqb-true, and_parts}
 use Rattle.std.proofs.lemmas.List.{length-map}
 use Rattle.std.proofs.lemmas.List.Elements.{All-filter}
 use Rattle.std.proofs.lemmas.List.Filters.{length-filter_both}
@@ -32,7 +32,7 @@ use Rattle.statement_rules.specs.Views.{Event, Asks, Clears, event_if, is_there,
 use Rattle.statement_rules.specs.Holdings.{Holding, IsHeld, units_changed, after, after_done, after_placing, after_all, own_orders}
 use Rattle.statement_rules.proofs.Told.{told, is_account}
 use Rattle.statement_rules.proofs.OwnParts.{own_again}
-use Rattle.account_statement.specs.Telling.{Statement, Agrees}
+use Rattle.account_statement.specs.Telling.{Statement, holding_of, Agrees}
 use Rattle.account_statement.specs.Private.{Names, IsServed, fills_for, trades_for, MayPlace, MayDo, MayOrder, MayMake, MayAdd, HasOwn, MayClear, IsListed}
 use Rattle.account_statement.proofs.OwnRates.{fills_ascend, all_listed, trades_found}
 use Rattle.account_statement.proofs.Agreeing.{seen_named, own_fills_are}
@@ -168,16 +168,18 @@ module _ (account : ℕ) (m n : Market) (h : Holding) (sound : IsSound m) (sound
       let later = past_when four.1 in
       let five = past_unless later.1 in
       let six = past_unless five.1 in
-      let seven = past_when six.1 in
-      (record {
-        own = sym names;
-        limits = two.0;
-        rate = three.0;
-        cap = four.0;
-        row = five.0;
-        few = few_orders (not_least most_orders (length m.orders) seven.0);
-        above = above_all number (same_order number m.next_order accepts.0);
-      }, let more = not_least last m.batches later.0 in omega (arith, more))
+      let seven = past_when six.1 in (
+        record {
+          own = sym names;
+          limits = two.0;
+          rate = three.0;
+          cap = four.0;
+          row = five.0;
+          few = few_orders (not_least most_orders (length m.orders) seven.0);
+          above = above_all number (same_order number m.next_order accepts.0);
+        },
+        let more = not_least last m.batches later.0 in omega (arith, more),
+      )
   may_order (AddAsset ticker) number names none accepts = tt
   may_order OpenAccount number names none accepts = tt
   may_order (DepositMoney named ticks) number names none accepts = tt
@@ -274,3 +276,18 @@ may_add account m n h ticker reply.Done held serves = tt
 may_add account m n h ticker (reply.Account number) held serves = tt
 may_add account m n h ticker (reply.Order number) held serves = tt
 may_add account m n h ticker (reply.Refused refusal) held serves = tt
+
+-- what is held may be done with by a command of the account's own
+pub may_make_own : (s : Statement) (c : Command) (answer : Reply) (named : ℕ) → Names named c → (s.is_open && (named == s.account)) ≡ true → IsServed s c (Plain answer)
+    → MayMake s.account (holding_of s) c answer
+may_make_own s c answer named names own served =
+    let both = and_parts s.is_open (named == s.account) own in
+    may_make s.account served.market served.next (holding_of s) served.sound served.sound_next served.agrees both.0 c answer
+    (subst (λ k. Names k c) (eqb-true named s.account both.1) names) served.served
+
+pub may_clear_own : (s : Statement) (c : Command) (batch : ℕ) (k : Clearing) → IsServed s c (Batch batch (Cleared k)) → s.is_open ≡ true → MayClear (holding_of s) k
+may_clear_own s c batch k served open_now =
+    may_clear s.account served.market served.next (holding_of s) served.sound served.sound_next served.agrees open_now c batch k served.served
+
+pub may_add_own : (s : Statement) (ticker : List ℕ) (answer : Reply) → IsServed s (AddAsset ticker) (Plain answer) → MayAdd (holding_of s) ticker answer
+may_add_own s ticker answer served = may_add s.account served.market served.next (holding_of s) ticker answer served.agrees served.served

@@ -21,12 +21,12 @@ use Rattle.statement_rules.specs.Holdings.{Holding, after_all}
 use Rattle.statement_rules.specs.Statements.{lines_from}
 use Rattle.account_statement.specs.Telling.{Statement, holding_of, Agrees}
 
--- the same holding, asset by asset
+-- the same holding, asset by asset as far as there are tickers
 pub record AreAlike (one other : Holding) : Type 0 where
   pub tickers : one.tickers ≡ other.tickers
   pub is_open : one.is_open ≡ other.is_open
   pub money : one.money ≡ other.money
-  pub units : (asset : ℕ) → one.units asset ≡ other.units asset
+  pub units : (asset : ℕ) → asset < length other.tickers → one.units asset ≡ other.units asset
   pub orders : one.orders ≡ other.orders
 
 -- ---- which account a command names

@@ -30,6 +30,15 @@ pub(crate) struct OwnPart {
     pub(crate) cost: i128,
 }
 
+impl OwnPart {
+    // What the rates cost together, in grains.
+    pub(crate) fn cost(&self) -> i128
+        ensures { result ≡ self.now.cost }
+    {
+        self.cost
+    }
+}
+
 // The price of an asset that has one.
 fn price_at(view: &ClearedView<'_>, asset: u16) -> i64
     requires { asset < length view.now.clearing.prices }

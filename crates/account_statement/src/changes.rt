@@ -1,12 +1,14 @@
 //! What pairs make of what a statement holds.
-ghost use Rattle.std.specs.Prelude.{◌≡◌, ◌<◌, ◌≤◌, ◌++◌, ◌+ℤ◌, [], ◌∷◌, length, OnOk, OnErr};
+ghost use Rattle.std.specs.Prelude.{◌≡◌, ℕ, ◌<◌, ◌≤◌, ◌++◌, ◌+ℤ◌, ◌-ℤ◌, [], ◌∷◌, length, All, OnOk, OnErr};
 ghost use Rattle.list_sums.specs.Sums.{int_sum_by};
 ghost use Rattle.ticker_table.specs.Adding.{IsAddable};
 ghost use Rattle.wire_records.specs.Views.{command_of};
 ghost use Rattle.flow_accounts.specs.Balances.{grains};
 ghost use Rattle.flow_accounts.specs.Lawful.{IsMoneyBalance, IsUnitBalance};
+ghost use Rattle.flow_orders.specs.Orders.{terms_of};
 ghost use Rattle.flow_orders.specs.Outcomes.{residuals_of};
-ghost use Rattle.flow_orders.specs.Trades.{paid};
+ghost use Rattle.flow_orders.specs.Residuals.{residual_in};
+ghost use Rattle.flow_orders.specs.Trades.{Trade, trades, staying, going_on, paid};
 ghost use Rattle.statement_rules.specs.Views.{Adds, Clears};
 ghost use Rattle.statement_rules.specs.Holdings.{units_changed, ordered, after, after_done, after_placing, after_asked};
 ghost use Rattle.account_statement.specs.Telling.{holding_of};
@@ -37,6 +39,14 @@ fn ticker_of(bytes: &[u8]) -> [u8; 8]
     let mut ticker = [b' '; 8];
     ticker.copy_from_slice(bytes);
     ticker
+}
+
+// A balance of units, with an amount more.
+fn sum_of(units: i64, amount: i128) -> i64
+    requires { IsUnitBalance (units +ℤ amount) }
+    ensures { result ≡ units +ℤ amount }
+{
+    (i128::from(units) + amount) as i64
 }
 
 impl Statement {
@@ -103,8 +113,8 @@ impl Statement {
         ensures after { AreAlike (holding_of self.new) (record (holding_of self.old) { units = units_changed (holding_of self.old).units asset amount }) }
     {
         let place = usize::from(asset);
-        let units = i128::from(self.units[place]) + amount;
-        self.units[place] = units as i64;
+        let units = sum_of(self.units_held(asset), amount);
+        self.units[place] = units;
     }
 
     // Of one that placed the order of a number.
@@ -180,8 +190,7 @@ impl Statement {
 
     // Adds an asset, of which the account has nothing.
     pub(crate) fn add_asset(&mut self, ticker: &[u8]) -> Result<(), Memory>
-        requires ticker { length ticker.now ≡ 8 }
-        requires may { IsAddable self.old.tickers ticker.now }
+        requires { IsAddable self.old.tickers ticker.now }
         ensures told { OnOk result (Tells (Adds ticker.now ∷ []) self.old self.new [] []) }
         ensures stays { OnErr result (self.new ≡ self.old) }
     {
@@ -207,9 +216,37 @@ impl Statement {
         ensures after { AreAlike (holding_of self.new) (after (holding_of self.old) (Clears view.now.batch view.now.clearing.prices
             (fills_for view.now.clearing.fills self.old.orders))) }
     {
-        self.money -= part.cost;
-        add_brought(self.units.as_mut_slice(), part.brought.as_slice());
-        self.book.fill(part.rates.as_slice());
-        self.book.end(view.batch());
+        self.take_money(part.cost());
+        self.receive(part.brought.as_slice());
+        self.fill(part.rates.as_slice(), view.batch());
+    }
+
+    // Takes an amount of money, in grains, which may be below 0.
+    fn take_money(&mut self, amount: i128)
+        requires { IsMoneyBalance (self.old.money -ℤ amount) }
+        ensures { self.new ≡ record (self.old) { money = self.old.money -ℤ amount } }
+    {
+        self.money -= amount;
+    }
+
+    // Adds to the units what was brought of each asset.
+    fn receive(&mut self, brought: &[i64])
+        requires places { length brought.now ≡ length self.old.tickers }
+        requires fits { (asset : ℕ) → asset < length self.old.tickers → IsUnitBalance (residual_in self.old.units asset +ℤ residual_in brought.now asset) }
+        ensures others { self.new ≡ record (self.old) { units = self.new.units } }
+        ensures count { length self.new.units ≡ length self.old.tickers }
+        ensures each { (asset : ℕ) → asset < length self.old.tickers → residual_in self.new.units asset ≡ residual_in self.old.units asset +ℤ residual_in brought.now asset }
+    {
+        add_brought(self.units.as_mut_slice(), brought);
+    }
+
+    // Fills the orders by these rates, in a batch of this number.
+    fn fill(&mut self, rates: &[u32], batch: u32)
+        requires count { length rates.now ≡ length self.old.orders }
+        requires within { All (λ (t : Trade). t.traded ≤ (terms_of t.order).room) (trades self.old.orders rates.now) }
+        ensures { self.new ≡ record (self.old) { orders = going_on batch (staying (trades self.old.orders rates.now)) } }
+    {
+        self.book.fill(rates);
+        self.book.end(batch);
     }
 }

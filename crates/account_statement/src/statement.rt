@@ -4,7 +4,7 @@ ghost use Rattle.wire_records.specs.declared.version.Version.{Version};
 ghost use Rattle.market_rules.specs.Market.{Market as market_value, empty_market};
 ghost use Rattle.batch_audit.specs.Legal.{IsLegalPair};
 ghost use Rattle.statement_rules.specs.Holdings.{nothing};
-ghost use Rattle.statement_rules.specs.Statements.{end_lines, asset_line};
+ghost use Rattle.statement_rules.specs.Statements.{money_reserved, units_reserved, end_lines, asset_line};
 ghost use Rattle.account_statement.specs.Telling.{holding_of, Agrees, IsTold};
 
 use journal_records::PairView;
@@ -132,8 +132,7 @@ impl Statement {
         ensures before { out.new.before ≡ out.old.before }
         ensures put { OnOk result (out.new.text ≡ out.old.text ++ end_lines (holding_of self.now)) }
     {
-        let reserved = self.book.money_needed(self.account).unsigned_abs();
-        put_money(self.money, reserved, out)?;
+        put_money(self.money_held(), self.money_reserved(), out)?;
         for asset in 0..self.tickers.len() {
             self.put_asset(asset, out)?;
         }
@@ -146,13 +145,41 @@ impl Statement {
         ensures before { out.new.before ≡ out.old.before }
         ensures put { OnOk result (out.new.text ≡ out.old.text ++ asset_line (holding_of self.now) asset) }
     {
-        let reserved = self.book.units_needed(self.account, asset).unsigned_abs();
         put_asset(
             &self.tickers,
             asset,
-            self.units[usize::from(asset)],
-            reserved,
+            self.units_held(asset),
+            self.units_reserved(asset),
             out,
         )
+    }
+
+    // The money, in grains.
+    fn money_held(&self) -> i128
+        ensures { result ≡ self.now.money }
+    {
+        self.money
+    }
+
+    // The units of an asset that there is.
+    pub(crate) fn units_held(&self, asset: u16) -> i64
+        requires { asset < length self.now.tickers }
+        ensures { result ≡ (holding_of self.now).units asset }
+    {
+        self.units[usize::from(asset)]
+    }
+
+    // The money that the live orders need, in grains.
+    fn money_reserved(&self) -> u128
+        ensures { result ≡ money_reserved (holding_of self.now) }
+    {
+        self.book.money_needed(self.account).unsigned_abs()
+    }
+
+    // The units of an asset that they need.
+    fn units_reserved(&self, asset: u16) -> u128
+        ensures { result ≡ units_reserved (holding_of self.now) asset }
+    {
+        self.book.units_needed(self.account, asset).unsigned_abs()
     }
 }

@@ -1,5 +1,5 @@
 //! What a statement is told.
-ghost use Rattle.std.specs.Prelude.{◌≡◌, [], ◌∷◌, length, true, OnOk, OnErr};
+ghost use Rattle.std.specs.Prelude.{◌≡◌, ◌==◌, ◌&&◌, [], ◌∷◌, true, OnOk, OnErr};
 ghost use Rattle.wire_records.specs.Commands.{Plain};
 ghost use Rattle.wire_records.specs.Views.{command_of};
 ghost use Rattle.journal_records.specs.Views.{answer_of};
@@ -77,12 +77,21 @@ impl Statement {
         ensures before { out.new.before ≡ out.old.before }
     {
         match named(command) {
-            Some(account) if self.is_open && account == self.account => {
+            Some(account) => {
+                if !self.is_own(account) {
+                    return Ok(());
+                }
                 self.tell_own(command, answer, out)
             }
-            Some(_) => Ok(()),
             None => self.tell_general(command, answer, out),
         }
+    }
+
+    // Whether the account was opened, and is this one.
+    fn is_own(&self, account: u32) -> bool
+        ensures { result ≡ (self.now.is_open && (account == self.now.account)) }
+    {
+        self.is_open && account == self.account
     }
 
     // Tells a command that names no account.
@@ -116,8 +125,7 @@ impl Statement {
 
     // Tells an asset that is added, which has no line.
     fn tell_asset(&mut self, ticker: &[u8], answer: Reply) -> Result<(), Memory>
-        requires ticker { length ticker.now ≡ 8 }
-        requires may { MayAdd (holding_of self.old) ticker.now answer }
+        requires { MayAdd (holding_of self.old) ticker.now answer }
         ensures told { OnOk result (Tells (seen_asset ticker.now answer) self.old self.new [] []) }
         ensures stays { OnErr result (self.new ≡ self.old) }
     {
