@@ -23,3 +23,21 @@ returns-in-NoMemory-clause-cut g c = rw c.in-NoMemory.is c.write-in-NoMemory.ens
 
 pub returns-in-Rejected-clause-cut : goal.returns-in-Rejected-clause-cut
 returns-in-Rejected-clause-cut g c = rw c.in-Rejected.is c.write_number-in-Rejected.ensures.cut
+
+pub returns-in-BadCheckpoint-clause-written : goal.returns-in-BadCheckpoint-clause-written
+returns-in-BadCheckpoint-clause-written g c = rw c.in-BadCheckpoint.is c.write-in-BadCheckpoint.ensures.written
+
+pub returns-in-BadCheckpoint-clause-cut : goal.returns-in-BadCheckpoint-clause-cut
+returns-in-BadCheckpoint-clause-cut g c = rw c.in-BadCheckpoint.is c.write-in-BadCheckpoint.ensures.cut
+
+pub returns-in-NoAccount-clause-written : goal.returns-in-NoAccount-clause-written
+returns-in-NoAccount-clause-written g c = rw c.in-NoAccount.is c.write_number-in-NoAccount.ensures.written
+
+pub returns-in-NoAccount-clause-cut : goal.returns-in-NoAccount-clause-cut
+returns-in-NoAccount-clause-cut g c = rw c.in-NoAccount.is c.write_number-in-NoAccount.ensures.cut
+
+pub returns-in-NotDisk-clause-written : goal.returns-in-NotDisk-clause-written
+returns-in-NotDisk-clause-written g c = rw c.in-NotDisk.is c.write-in-NotDisk.ensures.written
+
+pub returns-in-NotDisk-clause-cut : goal.returns-in-NotDisk-clause-cut
+returns-in-NotDisk-clause-cut g c = rw c.in-NotDisk.is c.write-in-NotDisk.ensures.cut
