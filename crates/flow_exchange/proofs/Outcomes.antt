@@ -84,11 +84,11 @@ one_statement words n m a b =
     ap (λ k. Statement k) (decimal_injective n m a.number_fits b.number_fits (behind_statement (decimal n) (decimal m) (sym a.are ∙ b.are)))
 
 -- words that begin with other ones
-two_firsts : {x y v w : List ℕ} → (words : List (List ℕ)) → mark x ≢ mark y → words ≡ x ∷ v ∷ [] → words ≡ y ∷ w ∷ [] → ⊥
-two_firsts {x} {y} words other a b = other (ap (λ (ws : List (List ℕ)). mark (get_or ws 0 [])) (sym a ∙ b))
+two_firsts : (words : List (List ℕ)) (x y v w : List ℕ) → mark x ≢ mark y → words ≡ x ∷ v ∷ [] → words ≡ y ∷ w ∷ [] → ⊥
+two_firsts words x y v w other a b = other (ap (λ (ws : List (List ℕ)). mark (get_or ws 0 [])) (sym a ∙ b))
 
 not_encode : (words : List (List ℕ)) (n : ℕ) → AskStatement words n → words ≡ codes "encode" ∷ codes "2" ∷ [] → ⊥
-not_encode words n a b = two_firsts {codes "statement"} {codes "encode"} words (λ e. omega (arith, e)) a.are b
+not_encode words n a b = two_firsts words (codes "statement") (codes "encode") (decimal n) (codes "2") (λ e. omega (arith, e)) a.are b
 
 pub one_form : OneForm
 one_form words (Statement n) (Statement m) a b = one_statement words n m a b
