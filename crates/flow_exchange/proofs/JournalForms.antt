@@ -130,13 +130,13 @@ are_told start new (unit ∷ units) text each goes =
 
 -- ---- how the pairs of a file are judged
 
-more_or_not : (limit n : ℕ) → (limit < n) ⊎ (¬ (limit < n))
+pub more_or_not : (limit n : ℕ) → (limit < n) ⊎ (¬ (limit < n))
 more_or_not limit n = elim (cases_lt limit n) [ inl more ↦ inl more | inr not ↦ inr (λ more. omega (arith, more, not)) ]
 
 module _ (limit : ℕ) (bytes body : List ℕ) (version : Version) (magic : BeginsWith journals.magics (take limit bytes) version body) (units : List (Record × Record)) (rest : List ℕ) (whole : body ≡ spell_all journals.units units ++ rest) (lawful : All journals.units.IsLawful units)
     (legal : List (Pair Record Outcome)) (parts : units ≡ map records_of legal) (each : All IsPair legal) (market : Market) (steps : Follows IsReadAs IsRightOutcome (empty_market version) legal market) where
   -- all are legal
-  pub judged_all : (ending : Ending) → BeginsWithNone journals.units rest → EndsAs journals (limit < length bytes) rest (length (journals.magics.spell version) + length (spell_all journals.units units)) ending → Audits limit bytes legal [] ending market
+  unfoldable pub judged_all : (ending : Ending) → BeginsWithNone journals.units rest → EndsAs journals (limit < length bytes) rest (length (journals.magics.spell version) + length (spell_all journals.units units)) ending → Audits limit bytes legal [] ending market
   judged_all ending none ends = record {
     version = version;
     units = units;
@@ -145,7 +145,7 @@ module _ (limit : ℕ) (bytes body : List ℕ) (version : Version) (magic : Begi
   }
 
   -- the next one isn't
-  pub judged_some : (bad : Record × Record) (more : List ℕ) → BeginsWith journals.units rest bad more → IsIllegalPair market bad → (behind : List (Record × Record)) × (ending : Ending) × Audits limit bytes legal (bad ∷ behind) ending market
+  unfoldable pub judged_some : (bad : Record × Record) (more : List ℕ) → BeginsWith journals.units rest bad more → IsIllegalPair market bad → (behind : List (Record × Record)) × (ending : Ending) × Audits limit bytes legal (bad ∷ behind) ending market
   judged_some bad more front illegal =
       let on = read_more (length (journals.magics.spell version)) (limit < length bytes) (more_or_not limit (length bytes)) body rest more units bad whole lawful front.0 front.1 in (
         on.0,
@@ -228,7 +228,7 @@ audit_into limit bytes n text (ended, inr (version, body, behind, magic, is, on)
     inl (behind_only text behind way.so_far way.last is way.writes are.nothing ∙ audit_last _ way.rest way.state ended way.last way.halts)
 
 -- the units that were passed are legal pairs, and then comes another one
-pub at_pair : (limit : ℕ) (bytes body : List ℕ) (version : Version) (magic : BeginsWith journals.magics (take limit bytes) version body) (units : List (Record × Record)) (rest more : List ℕ) (next : Record × Record) (legal : List (Pair Record Outcome)) (market : Market)
+unfoldable pub at_pair : (limit : ℕ) (bytes body : List ℕ) (version : Version) (magic : BeginsWith journals.magics (take limit bytes) version body) (units : List (Record × Record)) (rest more : List ℕ) (next : Record × Record) (legal : List (Pair Record Outcome)) (market : Market)
     → body ≡ spell_all journals.units units ++ rest → All journals.units.IsLawful units → BeginsWith journals.units rest next more → units ≡ map records_of legal → IsLegalJournal version legal market → IsAtPair limit bytes legal market next
 at_pair limit bytes body version magic units rest more next legal market whole each front parts journal = record {
   version = version;

@@ -7,4 +7,5 @@ pub mod JournalForms
 pub mod ExplainForm
 pub mod EncodeForm
 mod SampleForm
+pub mod StatementForm
 pub mod Dispatch

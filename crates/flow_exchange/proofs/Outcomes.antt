@@ -24,7 +24,7 @@ use Rattle.exchange_session.specs.Journals.{Journals}
 use Rattle.journal_words.proofs.JournalLaws.{one_line}
 use Rattle.wire_records.specs.declared.version.Version.TheVariants.{One, Two}
 use Rattle.flow_exchange.specs.declared.form.Form.{Form}
-use Rattle.flow_exchange.specs.declared.form.Form.TheVariants.{Run, Audit, Explain, Report, Encode, Sample}
+use Rattle.flow_exchange.specs.declared.form.Form.TheVariants.{Run, Audit, Explain, Report, Encode, Sample, Statement}
 use Rattle.flow_exchange.specs.declared.status.Status.{Status}
 use Rattle.flow_exchange.specs.declared.status.Status.TheVariants as answer
 use Rattle.flow_exchange.specs.Statuses.{reading_status, ended_status, bad_text}
@@ -34,6 +34,9 @@ use Rattle.flow_exchange.specs.Reporting.{AreReported, ReportsTo}
 use Rattle.line_records.proofs.Encoding.{encodes_one}
 use Rattle.sample_summary.proofs.OneSummary.{one_summary}
 use Rattle.flow_exchange.specs.Sampling.{AskSample, SamplesTo}
+use Rattle.flow_exchange.specs.Stating.{AskStatement, statement_status, statement_text, StatesTo}
+use Rattle.statement_rules.specs.Views.{Event, Sees}
+use Rattle.statement_rules.proofs.ViewLaws.{one_view}
 use Rattle.flow_exchange.specs.Running.{WritesOf, RunsTo}
 use Rattle.flow_exchange.specs.Program.{ComesTo, Determines, Meets}
 use Rattle.flow_exchange.specs.Laws.{OneForm, OneEnd}
@@ -72,7 +75,37 @@ one_sample words n m p q a b =
     let orders = decimal_injective p q (omega (arith, a.few)) (omega (arith, b.few)) parts.1 in
     ap (λ k. Sample k p) numbers ∙ ap (λ k. Sample m k) orders
 
+-- the number in the words of a statement
+behind_statement : (a b : List ℕ) → codes "statement" ∷ a ∷ [] ≡ codes "statement" ∷ b ∷ [] → a ≡ b
+behind_statement a b e = ap (λ (ws : List (List ℕ)). get_or ws 1 []) e
+
+one_statement : (words : List (List ℕ)) (n m : ℕ) → AskStatement words n → AskStatement words m → Statement n ≡ Statement m
+one_statement words n m a b =
+    ap (λ k. Statement k) (decimal_injective n m a.number_fits b.number_fits (behind_statement (decimal n) (decimal m) (sym a.are ∙ b.are)))
+
+-- words that begin with other ones
+two_firsts : (words : List (List ℕ)) (x y v w : List ℕ) → mark x ≢ mark y → words ≡ x ∷ v ∷ [] → words ≡ y ∷ w ∷ [] → ⊥
+two_firsts words x y v w other a b = other (ap (λ (ws : List (List ℕ)). mark (get_or ws 0 [])) (sym a ∙ b))
+
+not_encode : (words : List (List ℕ)) (n : ℕ) → AskStatement words n → words ≡ codes "encode" ∷ codes "2" ∷ [] → ⊥
+not_encode words n a b = two_firsts words (codes "statement") (codes "encode") (decimal n) (codes "2") (λ e. omega (arith, e)) a.are b
+
 pub one_form : OneForm
+one_form words (Statement n) (Statement m) a b = one_statement words n m a b
+one_form words (Statement n) Run a b = absurd (one_or_two words b a.are)
+one_form words (Statement n) Audit a b = absurd (one_or_two words b a.are)
+one_form words (Statement n) Explain a b = absurd (one_or_two words b a.are)
+one_form words (Statement n) Report a b = absurd (one_or_two words b a.are)
+one_form words (Statement n) (Encode One) a b = absurd (one_or_two words b a.are)
+one_form words (Statement n) (Encode Two) a b = absurd (not_encode words n a b)
+one_form words (Statement n) (Sample k p) a b = absurd (three_or_two words b.are a.are)
+one_form words Run (Statement n) a b = absurd (one_or_two words a b.are)
+one_form words Audit (Statement n) a b = absurd (one_or_two words a b.are)
+one_form words Explain (Statement n) a b = absurd (one_or_two words a b.are)
+one_form words Report (Statement n) a b = absurd (one_or_two words a b.are)
+one_form words (Encode One) (Statement n) a b = absurd (one_or_two words a b.are)
+one_form words (Encode Two) (Statement n) a b = absurd (not_encode words n b a)
+one_form words (Sample k p) (Statement n) a b = absurd (three_or_two words a.are b.are)
 one_form words (Sample n p) (Sample m q) a b = one_sample words n m p q a b
 one_form words (Sample n p) Run a b = absurd (three_or_one words a.are b)
 one_form words (Sample n p) Audit a b = absurd (three_or_one words a.are b)
@@ -201,6 +234,24 @@ reports_one limit bytes s t x y (inr a) (inr b) =
     let writes = subst (λ (v : Version). AreReported (empty_market v) 1 b.legal a.market x) version (subst (λ (p : List (Pair Record Outcome)). AreReported (empty_market a.audits.version) 1 p a.market x) one.0 a.writes) in
     (same, one_text (empty_market b.audits.version) 1 b.legal a.market b.market x y writes b.writes)
 
+-- a statement comes to one status and one text
+states_one : (account limit : ℕ) (bytes : List ℕ) (s t : Status) (x y : List ℕ) → StatesTo account limit bytes s x → StatesTo account limit bytes t y → (s ≡ t) × (x ≡ y)
+states_one account limit bytes s t x y (inl a) (inl b) = (a.1 ∙ sym b.1, a.2 ∙ sym b.2)
+states_one account limit bytes s t x y (inl a) (inr b) = absurd (a.0 b.audits.version b.audits.reads.0 b.audits.reads.1.0 b.audits.reads.1.1)
+states_one account limit bytes s t x y (inr a) (inl b) = absurd (b.0 a.audits.version a.audits.reads.0 a.audits.reads.1.0 a.audits.reads.1.1)
+states_one account limit bytes s t x y (inr a) (inr b) =
+    let one = one_audit limit bytes a.legal b.legal a.behind b.behind a.ending b.ending a.market b.market a.audits b.audits in
+    let version = (journals_readable.magics.one a.audits.version b.audits.version a.audits.reads.0 b.audits.reads.0 a.audits.reads.1.0 b.audits.reads.1.0 (sym a.audits.reads.1.1 ∙ b.audits.reads.1.1)).0 in
+    let audited : audit_status limit a.ending a.legal a.behind ≡ audit_status limit b.ending b.legal b.behind =
+    ap (λ (p : List (Pair Record Outcome)). audit_status limit a.ending p a.behind) one.0 ∙ ap (λ (u : List (Record × Record)). audit_status limit a.ending b.legal u) one.1
+    ∙ ap (λ (e : Ending). audit_status limit e b.legal b.behind) one.2
+    in
+    let same : s ≡ t = a.ends ∙ ap (statement_status account a.market) audited ∙ ap (λ (m : Market). statement_status account m (audit_status limit b.ending b.legal b.behind)) one.3 ∙ sym b.ends in
+    let of_legal = subst (λ (p : List (Pair Record Outcome)). Sees account (empty_market a.audits.version) p a.view a.market) one.0 a.sees in
+    let of_version = subst (λ (v : Version). Sees account (empty_market v) b.legal a.view a.market) version of_legal in
+    let view = one_view.one account (empty_market b.audits.version) b.legal a.view b.view a.market b.market of_version b.sees in
+    (same, a.writes ∙ ap (λ (u : Status). statement_text u a.view) same ∙ ap (statement_text t) view ∙ sym b.writes)
+
 -- an encoding comes to one status and one text
 lines_one : (version : Version) (limit : ℕ) (bytes : List ℕ) (s t : Status) (x y : List ℕ) → ComesTo (Encode version) limit bytes s x → ComesTo (Encode version) limit bytes t y → (s ≡ t) × (x ≡ y)
 lines_one version limit bytes s t x y a b =
@@ -213,6 +264,7 @@ samples_one number orders s t x y a b = (a.0 ∙ sym b.0, one_summary number ord
 
 pub one_end : OneEnd
 one_end (Sample number orders) limit bytes s t x y a b = samples_one number orders s t x y a b
+one_end (Statement number) limit bytes s t x y a b = states_one number limit bytes s t x y a b
 one_end Run limit bytes s t x y a b = runs_one limit bytes s t x y a b
 one_end Audit limit bytes s t x y a b = audits_one limit bytes s t x y a b
 one_end Explain limit bytes s t x y a b = explains_one limit bytes s t x y a b

@@ -2,8 +2,9 @@
 use Rattle.std.specs.Prelude.{◌≡◌, ℕ, List, [], ◌∷◌, codes}
 use Rattle.wire_records.specs.declared.version.Version.TheVariants.{One, Two}
 use Rattle.flow_exchange.specs.Sampling.{AskSample}
+use Rattle.flow_exchange.specs.Stating.{AskStatement}
 use Rattle.flow_exchange.specs.declared.form.Form.{Form}
-use Rattle.flow_exchange.specs.declared.form.Form.TheVariants.{Run, Audit, Explain, Report, Encode, Sample}
+use Rattle.flow_exchange.specs.declared.form.Form.TheVariants.{Run, Audit, Explain, Report, Encode, Sample, Statement}
 
 -- the words, as the bytes of each, ask for this form
 abbrev pub Asks : List (List ℕ) → Form → Type 0
@@ -14,6 +15,7 @@ Asks words Report = words ≡ codes "report" ∷ []
 Asks words (Encode One) = words ≡ codes "encode" ∷ []
 Asks words (Encode Two) = words ≡ codes "encode" ∷ codes "2" ∷ []
 Asks words (Sample number orders) = AskSample words number orders
+Asks words (Statement number) = AskStatement words number
 
 -- the words are none of the forms
 abbrev pub AsksNothing : List (List ℕ) → Type 0

@@ -5,6 +5,7 @@ pub mod Auditing
 pub mod Explaining
 pub mod Reporting
 pub mod Sampling
+pub mod Stating
 pub mod Program
 pub mod Laws
 pub mod Private

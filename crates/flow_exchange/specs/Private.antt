@@ -1,6 +1,8 @@
 -- Words that only private functions use: the status of a word's own reason to stop.
 use Rattle.std.specs.Prelude.{◌≡◌, ℕ, List, [], ◌∷◌}
 use Rattle.word_driver.specs.declared.fault.Never.{Never}
+use Rattle.statement_word.specs.declared.no_statement.NoStatement.{NoStatement}
+use Rattle.statement_word.specs.declared.no_statement.NoStatement.TheVariants as why
 use Rattle.flow_exchange.specs.declared.status.Status.{Status}
 use Rattle.flow_exchange.specs.declared.status.Status.TheVariants as status
 
@@ -8,9 +10,18 @@ use Rattle.flow_exchange.specs.declared.status.Status.TheVariants as status
 abbrev pub rejected : ℕ → Status
 rejected number = status.Rejected number
 
+-- of a statement, which stops at the first pair that isn't legal, or where there is no account of its number
+abbrev pub no_statement : NoStatement → Status
+no_statement (why.Rejected number) = status.Rejected number
+no_statement (why.NoAccount number) = status.NoAccount number
+
 -- of a word that doesn't stop by itself
 abbrev pub no_reason : Never → Status
 no_reason never = elim never [ ]
+
+-- two words, of which this is the first
+abbrev pub AreTwo : List (List ℕ) → List ℕ → Type 0
+AreTwo words first = (second : List ℕ) × (words ≡ first ∷ second ∷ [])
 
 -- three words, of which this is the first
 abbrev pub AreThree : List (List ℕ) → List ℕ → Type 0

@@ -6,7 +6,7 @@ use Rattle.flow_io.specs.Changes.{Change}
 use Rattle.word_driver.specs.Ended.{Ended}
 use Rattle.line_records.specs.Encoding.{EncodesTo, EncodesInto, EncodesShort}
 use Rattle.flow_exchange.specs.declared.form.Form.{Form}
-use Rattle.flow_exchange.specs.declared.form.Form.TheVariants.{Run, Audit, Explain, Report, Encode, Sample}
+use Rattle.flow_exchange.specs.declared.form.Form.TheVariants.{Run, Audit, Explain, Report, Encode, Sample, Statement}
 use Rattle.flow_exchange.specs.declared.status.Status.{Status}
 use Rattle.flow_exchange.specs.declared.status.Status.TheVariants.{Done, Usage, NotFlow, Torn, ReadFault, WriteFault, NoMemory, Rejected, TooLong, BadText, BadCheckpoint, NoAccount, DiskFault, NotDisk, Damaged}
 use Rattle.flow_exchange.specs.Forms.{Asks, AsksNothing}
@@ -16,6 +16,7 @@ use Rattle.flow_exchange.specs.Auditing.{AuditsTo, AuditsShort}
 use Rattle.flow_exchange.specs.Explaining.{ExplainsTo, ExplainsInto}
 use Rattle.flow_exchange.specs.Sampling.{SamplesTo}
 use Rattle.flow_exchange.specs.Reporting.{ReportsTo, ReportsInto, ReportsShort}
+use Rattle.flow_exchange.specs.Stating.{StatesTo, StatesInto, StatesShort}
 
 -- ---- a row for each form
 
@@ -27,6 +28,7 @@ ComesTo Explain limit bytes status text = ExplainsTo limit bytes status text
 ComesTo Report limit bytes status text = ReportsTo limit bytes status text
 ComesTo (Encode version) limit bytes status text = (ended : Ended ℕ) × EncodesTo version limit bytes ended text × (status ≡ ended_status limit bad_text ended)
 ComesTo (Sample number orders) limit bytes status text = SamplesTo number orders status text
+ComesTo (Statement number) limit bytes status text = StatesTo number limit bytes status text
 
 -- what may stand in out, besides nothing, while a form is at work: the text of whole units
 abbrev pub GetsTo : Form → ℕ → List ℕ → List ℕ → Type 0
@@ -36,6 +38,7 @@ GetsTo Explain limit bytes text = ExplainsInto limit bytes text
 GetsTo Report limit bytes text = ReportsInto limit bytes text
 GetsTo (Encode version) limit bytes text = EncodesInto version limit bytes text
 GetsTo (Sample number orders) limit bytes text = ⊥
+GetsTo (Statement number) limit bytes text = StatesInto number limit bytes text
 
 -- what may stand in out where memory ran out once something was read
 abbrev pub LacksAt : Form → ℕ → List ℕ → List ℕ → Type 0
@@ -45,6 +48,7 @@ LacksAt Explain limit bytes text = AuditsShort limit bytes text
 LacksAt Report limit bytes text = ReportsShort limit bytes text
 LacksAt (Encode version) limit bytes text = (text ≡ []) ⊎ EncodesShort version limit bytes text
 LacksAt (Sample number orders) limit bytes text = ⊥
+LacksAt (Statement number) limit bytes text = StatesShort number limit bytes text
 
 -- how many bytes of the source are taken at most
 abbrev pub most_taken : Form → ℕ → ℕ
@@ -54,6 +58,7 @@ most_taken Explain limit = limit + 1
 most_taken Report limit = limit + 1
 most_taken (Encode version) limit = limit + 1
 most_taken (Sample number orders) limit = 0
+most_taken (Statement number) limit = limit + 1
 
 -- what is left of the source where all was done
 abbrev pub left_by : Form → List ℕ → List ℕ
@@ -63,6 +68,7 @@ left_by Explain bytes = []
 left_by Report bytes = []
 left_by (Encode version) bytes = []
 left_by (Sample number orders) bytes = bytes
+left_by (Statement number) bytes = []
 
 -- ---- what holds of all forms
 

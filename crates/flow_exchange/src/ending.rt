@@ -1,9 +1,10 @@
 //! The status of how a word ended, by its own reason to stop.
 ghost use Rattle.std.specs.Prelude.{◌≡◌};
 ghost use Rattle.flow_exchange.specs.Statuses.{ended_status, bad_text};
-ghost use Rattle.flow_exchange.specs.Private.{no_reason, rejected};
+ghost use Rattle.flow_exchange.specs.Private.{no_reason, no_statement, rejected};
 
 use crate::Status;
+use statement_word::NoStatement;
 use word_driver::{Fault, Never};
 
 // Of a word that doesn't stop by itself.
@@ -35,6 +36,23 @@ pub(crate) fn pairs_status(ended: Result<(), Fault<u64>>, limit: u64) -> Status
         Err(Fault::Torn(place)) => Status::Torn(place),
         Err(Fault::TooLong) => Status::TooLong(limit),
         Err(Fault::Stopped(number)) => Status::Rejected(number),
+    }
+}
+
+// Of a statement, which stops at the first pair that isn't legal, or where there is no account of its number.
+pub(crate) fn statement_status(ended: Result<(), Fault<NoStatement>>, limit: u64) -> Status
+    ensures { result ≡ ended_status limit no_statement ended }
+{
+    match ended {
+        Ok(()) => Status::Done,
+        Err(Fault::Read) => Status::ReadFault,
+        Err(Fault::Write) => Status::WriteFault,
+        Err(Fault::Memory) => Status::NoMemory,
+        Err(Fault::NotFlow) => Status::NotFlow,
+        Err(Fault::Torn(place)) => Status::Torn(place),
+        Err(Fault::TooLong) => Status::TooLong(limit),
+        Err(Fault::Stopped(NoStatement::Rejected(number))) => Status::Rejected(number),
+        Err(Fault::Stopped(NoStatement::NoAccount(number))) => Status::NoAccount(number),
     }
 }
 

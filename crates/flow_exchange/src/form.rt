@@ -3,6 +3,7 @@ ghost use Rattle.std.specs.Prelude.{◌≡◌, ◌↔◌, IfSome, IfNone, IsTrue
 ghost use Rattle.flow_exchange.specs.Forms.{Asks, AsksNothing};
 
 use crate::sample_form::sample_of;
+use crate::statement_form::statement_of;
 use wire_records::Version;
 
 /// What the program is asked for.
@@ -20,6 +21,8 @@ pub enum Form {
     Encode(Version),
     /// `sample NUMBER ORDERS`: a line out on a sample of so many orders, 1 to 16,384, that are drawn from this number on.
     Sample { number: u64, orders: u32 },
+    /// `statement NUMBER`: a journal in, and out the statement of the account of this number.
+    Statement { number: u64 },
 }
 
 // Whether the words are this one alone.
@@ -66,7 +69,11 @@ pub(crate) fn form_of(words: &[String]) -> Option<Form>
         return Some(Form::Encode(Version::Two));
     }
     match sample_of(words) {
-        Some((number, orders)) => Some(Form::Sample { number, orders }),
+        Some((number, orders)) => return Some(Form::Sample { number, orders }),
+        None => {}
+    }
+    match statement_of(words) {
+        Some(number) => Some(Form::Statement { number }),
         None => None,
     }
 }

@@ -17,6 +17,8 @@ mod report;
 mod run;
 mod sample;
 mod sample_form;
+mod statement;
+mod statement_form;
 mod status;
 mod top;
 

@@ -17,7 +17,7 @@ fn is_decimal(word: &str, number: u64) -> bool
 }
 
 // The number that a word is in plain decimal digits: without a sign, and without a zero before others.
-fn number_of(word: &str) -> Option<u64>
+pub(crate) fn number_of(word: &str) -> Option<u64>
     ensures number { IfSome result (λ number. (word.now ≡ decimal number) × (number < 2 ^ 64)) }
     ensures none { IfNone result ((number : ℕ) → number < 2 ^ 64 → word.now ≢ decimal number) }
 {

@@ -13,6 +13,7 @@ use crate::form::{Form, form_of};
 use crate::report::report;
 use crate::run::run;
 use crate::sample::sample;
+use crate::statement::statement;
 use flow_io::{Sink, Source};
 use std::alloc::Global;
 
@@ -41,6 +42,7 @@ fn do_form<S: Source, K: Sink>(
         Form::Report => report(alloc, limit, source, out),
         Form::Encode(version) => encode(alloc, version, limit, source, out),
         Form::Sample { number, orders } => sample(alloc, number, orders, out),
+        Form::Statement { number } => statement(alloc, number, limit, source, out),
     }
 }
 

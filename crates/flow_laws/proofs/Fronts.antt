@@ -31,7 +31,7 @@ use Rattle.word_driver.specs.Ended.{Ended}
 use Rattle.line_records.specs.Encoding.{EncodesTo, EncodesInto, EncodesShort}
 use Rattle.line_records.proofs.OneReadings.{first_is_a_front, before_next}
 use Rattle.exchange_session.specs.Journals.{Journals}
-use Rattle.flow_exchange.specs.declared.form.Form.TheVariants.{Run, Audit, Explain, Report, Encode, Sample}
+use Rattle.flow_exchange.specs.declared.form.Form.TheVariants.{Run, Audit, Explain, Report, Encode, Sample, Statement}
 use Rattle.flow_exchange.specs.declared.status.Status.{Status}
 use Rattle.flow_exchange.specs.declared.status.Status.TheVariants as answer
 use Rattle.flow_exchange.specs.Running.{WritesOf, RunsTo, RunsInto, RunsShort}
@@ -39,6 +39,7 @@ use Rattle.flow_exchange.specs.Reporting.{AreReported, ReportsTo, ReportsInto, R
 use Rattle.flow_exchange.specs.Explaining.{ExplainsTo, ExplainsInto}
 use Rattle.flow_exchange.proofs.Outcomes.{one_end}
 use Rattle.flow_laws.specs.Laws.{BegunIsAFront}
+use Rattle.flow_laws.proofs.StatementFronts.{statement_begins, statement_begun}
 
 -- a text begins with another
 abbrev Begins : List ℕ → List ℕ → Type 0
@@ -194,6 +195,8 @@ begun_is_a_front Explain limit bytes status text begun comes (inl gets) = explai
 begun_is_a_front Explain limit bytes status text begun comes (inr (legal, market, next, at, wants, nothing)) = begins-nothing text begun nothing
 begun_is_a_front Report limit bytes status text begun comes (inl gets) = report_begins-file limit bytes status text begun comes gets
 begun_is_a_front Report limit bytes status text begun comes (inr short) = report_begins-file limit bytes status text begun comes (report_begun limit bytes begun short)
+begun_is_a_front (Statement number) limit bytes status text begun comes (inl gets) = statement_begins number limit bytes status text begun comes gets
+begun_is_a_front (Statement number) limit bytes status text begun comes (inr short) = statement_begins number limit bytes status text begun comes (statement_begun number limit bytes begun short)
 begun_is_a_front (Encode version) limit bytes status text begun comes (inl gets) = encode_begins version limit bytes comes.0 text begun comes.1 gets
 begun_is_a_front (Encode version) limit bytes status text begun comes (inr (inl none)) = begins-nothing text begun none
 begun_is_a_front (Encode version) limit bytes status text begun comes (inr (inr short)) = encode_begins version limit bytes comes.0 text begun comes.1 (encode_begun version limit bytes begun short)

@@ -6,4 +6,6 @@ mod RunsAudited
 mod GoingOn
 mod SampleLaws
 mod SomeEnd
+mod StatementFronts
+mod StatementsAreOne
 mod Fronts

@@ -11,10 +11,10 @@ use Rattle.line_records.specs.Tasks.{encoding}
 use Rattle.market_rules.proofs.Soundness.{sound-empty}
 use Rattle.line_records.proofs.Encoding.{encodes_some}
 use Rattle.flow_exchange.specs.declared.form.Form.{Form}
-use Rattle.flow_exchange.specs.declared.form.Form.TheVariants.{Run, Audit, Explain, Report, Encode, Sample}
+use Rattle.flow_exchange.specs.declared.form.Form.TheVariants.{Run, Audit, Explain, Report, Encode, Sample, Statement}
 use Rattle.flow_exchange.specs.declared.status.Status.{Status}
 use Rattle.flow_exchange.specs.Statuses.{ended_status, bad_text}
-use Rattle.flow_exchange.specs.Private.{no_reason, rejected}
+use Rattle.flow_exchange.specs.Private.{no_reason, no_statement, rejected}
 use Rattle.flow_exchange.specs.Program.{ComesTo}
 use Rattle.flow_laws.specs.Laws.{NoneIsWithoutEnd}
 use Rattle.flow_exchange.proofs.Words.{IsForm}
@@ -22,6 +22,9 @@ use Rattle.flow_exchange.proofs.RunWord.{run_form, start}
 use Rattle.flow_exchange.proofs.EncodeForm.{encode_form}
 use Rattle.flow_exchange.proofs.JournalForms.{audit_form, report_form, audit_start, report_start}
 use Rattle.flow_exchange.proofs.ExplainForm.{explain_form}
+use Rattle.flow_exchange.proofs.StatementForm.{statement_form}
+use Rattle.statement_word.specs.Stating.{statement, statement_start}
+use Rattle.statement_word.proofs.StatementLaws.{statement_is_exact, statement_is_kept, statement_has_next}
 use Rattle.flow_laws.proofs.SampleLaws.{some_sample}
 
 -- where a task has some end, its form has some outcome
@@ -41,4 +44,7 @@ none_is_without_end words Report limit bytes asks =
     some_end_of (task report report_start) Report limit rejected (report_form limit) bytes
     (some_end report report_start report_is_exact (over_pairs_is_kept telling report_start (λ version. (refl, refl))) (report_has_next report_start sound-empty) limit bytes)
 none_is_without_end words (Encode version) limit bytes asks = some_end_of (encoding version) (Encode version) limit bad_text (encode_form version limit) bytes (encodes_some version limit bytes)
+none_is_without_end words (Statement number) limit bytes asks =
+    some_end_of (task statement (statement_start number)) (Statement number) limit no_statement (statement_form number limit) bytes
+    (some_end statement (statement_start number) statement_is_exact (statement_is_kept number) (statement_has_next number) limit bytes)
 none_is_without_end words (Sample number orders) limit bytes asks = some_sample number orders asks.few

@@ -11,7 +11,8 @@ use Rattle.wire_records.specs.Formats.{commands}
 use Rattle.flow_orders.specs.Outcomes.{Outcome}
 use Rattle.journal_records.specs.Pairs.{pair_spelling}
 use Rattle.journal_records.specs.Formats.{journals, journal_in}
-use Rattle.market_rules.specs.Market.{Market}
+use Rattle.flow_accounts.specs.Balances.{IsAccount}
+use Rattle.market_rules.specs.Market.{Market, empty_market}
 use Rattle.batch_audit.specs.Legal.{IsLegalJournal, IsIllegalPair}
 use Rattle.journal_replay.specs.Replays.{IsReplayed}
 use Rattle.word_driver.specs.Ended.{Ended}
@@ -21,13 +22,15 @@ use Rattle.exchange_session.specs.Journals.{Journals}
 use Rattle.exchange_session.specs.Running.{run}
 use Rattle.journal_words.specs.Findings.{IsExplained}
 use Rattle.journal_replay.specs.Audits.{cleared_in, skipped_in}
+use Rattle.statement_rules.specs.Views.{Event, Sees}
+use Rattle.statement_rules.specs.Statements.{statement}
 use Rattle.sample_market.specs.Files.{sample_file}
 use Rattle.sample_summary.specs.Summary.{units_in, summary_line}
 use Rattle.flow_exchange.specs.Forms.{Asks}
 use Rattle.flow_exchange.specs.declared.form.Form.{Form}
-use Rattle.flow_exchange.specs.declared.form.Form.TheVariants.{Run, Audit, Explain, Sample}
+use Rattle.flow_exchange.specs.declared.form.Form.TheVariants.{Run, Audit, Explain, Sample, Statement}
 use Rattle.flow_exchange.specs.declared.status.Status.{Status}
-use Rattle.flow_exchange.specs.declared.status.Status.TheVariants.{Done, NotFlow, Rejected}
+use Rattle.flow_exchange.specs.declared.status.Status.TheVariants.{Done, NotFlow, Rejected, NoAccount}
 use Rattle.flow_exchange.specs.Auditing.{legal_line}
 use Rattle.flow_exchange.specs.Program.{ComesTo, GetsTo, LacksAt}
 
@@ -86,6 +89,29 @@ pub record RunsAreAudited : Type 0 where
       → most < 2 ^ 64 → length text ≤ most → (line : List ℕ) × ComesTo Audit most text Done line
   pub begun : (limit most : ℕ) (bytes text : List ℕ) → GetsTo Run limit bytes text ⊎ LacksAt Run limit bytes text
       → most < 2 ^ 64 → length text ≤ most → (line : List ℕ) × ComesTo Audit most text Done line
+
+-- the bytes are the spelling of this legal journal of a version with nothing past the limit
+pub record SpellsLegal (limit : ℕ) (bytes : List ℕ) (version : Version) (pairs : List (Pair Record Outcome)) (market : Market) : Type 0 where
+  pub journal : IsLegalJournal version pairs market
+  pub spelled : bytes ≡ journal_in version pairs
+  pub within : length bytes ≤ limit
+
+-- A statement is done exactly for legal journals in whose market the account is there, and is that of what the account sees; there is no
+-- account exactly for those in whose market it isn't, and nothing is written.
+pub record StatementsOfLegalJournals : Type 0 where
+  pub done : (account limit : ℕ) (bytes text : List ℕ) → ComesTo (Statement account) limit bytes Done text
+      ↔ ((version : Version) × (pairs : List (Pair Record Outcome)) × (market : Market) × (view : List Event) × SpellsLegal limit bytes version pairs market
+          × Sees account (empty_market version) pairs view market × IsAccount market.balances account × (text ≡ statement view))
+  pub absent : (account number limit : ℕ) (bytes text : List ℕ) → ComesTo (Statement account) limit bytes (NoAccount number) text
+      ↔ ((version : Version) × (pairs : List (Pair Record Outcome)) × (market : Market) × SpellsLegal limit bytes version pairs market
+          × (¬ IsAccount market.balances account) × (number ≡ account) × (text ≡ []))
+
+-- two legal journals of which an account sees the same come to the same statement of it, whatever else stands in them
+abbrev pub OneViewOneStatement : Type 0
+OneViewOneStatement = (account limit most : ℕ) (bytes others x y : List ℕ) (one other : Version) (pairs more : List (Pair Record Outcome)) (view : List Event) (m n : Market) (s t : Status)
+    → SpellsLegal limit bytes one pairs m → SpellsLegal most others other more n
+    → Sees account (empty_market one) pairs view m → Sees account (empty_market other) more view n
+    → ComesTo (Statement account) limit bytes s x → ComesTo (Statement account) most others t y → (s ≡ t) × (x ≡ y)
 
 -- no bytes are without an end of a form that words ask for
 abbrev pub NoneIsWithoutEnd : Type 0

@@ -4,7 +4,7 @@
 //! is built without them.
 #![tactic(auto)]
 
-ghost use Rattle.flow_laws.specs.Laws.{DoneIsForLegalJournals, RejectedIsFirstIllegal, ExplainIsAudit, RejectedIsExplained, EncodedIsRead, EncodedIsServed, RunsAreAudited, NoneIsWithoutEnd, SamplesAreRun, BegunIsAFront, TickersAgree, SessionsGoOn};
+ghost use Rattle.flow_laws.specs.Laws.{DoneIsForLegalJournals, RejectedIsFirstIllegal, ExplainIsAudit, RejectedIsExplained, EncodedIsRead, EncodedIsServed, RunsAreAudited, NoneIsWithoutEnd, SamplesAreRun, BegunIsAFront, TickersAgree, SessionsGoOn, StatementsOfLegalJournals, OneViewOneStatement};
 
 /// `audit` is done exactly for the spelling of a legal journal with nothing past the limit, whoever wrote it, and the line that
 /// it writes counts the journal's pairs, and the batches that cleared and that were skipped.
@@ -62,6 +62,19 @@ pub fn tickers_agree()
 /// counts the same batches.
 pub fn samples_are_run()
     ensures { SamplesAreRun }
+{}
+
+/// `statement` is done exactly for the spelling of a legal journal with nothing past the limit in whose market the account is there, and
+/// writes the statement of what the account sees of it. It ends with `NoAccount` exactly for such a journal in whose market the
+/// account isn't there, and writes nothing.
+pub fn statements_of_legal_journals()
+    ensures { StatementsOfLegalJournals }
+{}
+
+/// `statement` comes to the same status and text for two legal journals of which the account sees the same, whatever else stands in
+/// them.
+pub fn one_view_one_statement()
+    ensures { OneViewOneStatement }
 {}
 
 /// For each form that words ask for no bytes are without a status and a text.

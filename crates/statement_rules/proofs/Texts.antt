@@ -18,7 +18,7 @@ use Rattle.statement_rules.specs.Laws.{TextsGoOn, AbsentAccountsHaveNoText}
 use Rattle.statement_rules.proofs.Told.{told, is_account}
 use Rattle.statement_rules.proofs.ViewLaws.{empty_held, after_both, sound_after, told_all}
 
-lines_both : (v : List Event) (h : Holding) (w : List Event) → lines_from h (v ++ w) ≡ lines_from h v ++ lines_from (after_all h v) w
+pub lines_both : (v : List Event) (h : Holding) (w : List Event) → lines_from h (v ++ w) ≡ lines_from h v ++ lines_from (after_all h v) w
 lines_both [] h w = refl
 lines_both (event ∷ v) h w = ap (λ l. event_lines h event ++ l) (lines_both v (after h event) w) ∙ sym (append_assoc (event_lines h event) (lines_from (after h event) v) (lines_from (after_all (after h event) v) w))
 
@@ -105,7 +105,7 @@ no_lines account h there (PlaceUntil last r) reply not_there closed = not_seen h
 no_lines account h there (SetMoneyCredit named ticks) reply not_there closed = not_seen h (there && (named == account)) (Asks (SetMoneyCredit named ticks) reply) (not_own there (named == account) not_there)
 no_lines account h there (SetUnitCredit named asset units) reply not_there closed = not_seen h (there && (named == account)) (Asks (SetUnitCredit named asset units) reply) (not_own there (named == account) not_there)
 
-quiet : (account : ℕ) (m : Market) (h : Holding) (read : Result Command BodyFault) (a : Answer Outcome) → is_there m account ≡ false → (after_all h (seen account m read a)).is_open ≡ false → lines_from h (seen account m read a) ≡ []
+pub quiet : (account : ℕ) (m : Market) (h : Holding) (read : Result Command BodyFault) (a : Answer Outcome) → is_there m account ≡ false → (after_all h (seen account m read a)).is_open ≡ false → lines_from h (seen account m read a) ≡ []
 quiet account m h (Ok c) (Plain reply) not_there closed = no_lines account h (is_there m account) c reply not_there closed
 quiet account m h (Ok c) (Batch batch (Cleared k)) not_there closed = not_seen h (is_there m account) _ not_there
 quiet account m h (Ok c) (Batch batch (Skipped s)) not_there closed = not_seen h (is_there m account) _ not_there

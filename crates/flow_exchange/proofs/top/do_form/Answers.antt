@@ -26,3 +26,6 @@ sample-requires-clause-few g c = (rw c.in-Sample.is at c.requires.form.1).few
 
 pub returns-in-Sample-clause-does : goal.returns-in-Sample-clause-does
 returns-in-Sample-clause-does g c = rw c.in-Sample.is (c.sample.ensures.does c.args.limit (g.S.Source.rest c.args.source.now) (g.S.Source.faults c.args.source.now))
+
+pub returns-in-Statement-clause-does : goal.returns-in-Statement-clause-does
+returns-in-Statement-clause-does g c = rw c.in-Statement.is c.statement.ensures.does

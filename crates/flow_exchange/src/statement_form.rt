@@ -1,0 +1,30 @@
+//! The words `statement NUMBER`.
+ghost use Rattle.std.specs.Prelude.{◌≡◌, ◌∷◌, [], ℕ, IfSome, IfNone, map, string_bytes};
+ghost use Rattle.flow_exchange.specs.Stating.{AskStatement};
+ghost use Rattle.flow_exchange.specs.Private.{AreTwo};
+
+use crate::sample_form::number_of;
+
+// The second of two words, of which the first is this one.
+fn behind<'a>(words: &'a [String], first: &str) -> Option<&'a str>
+    ensures two { IfSome result (λ second. map string_bytes words.now ≡ first.now ∷ second.now ∷ []) }
+    ensures none { IfNone result (¬ AreTwo (map string_bytes words.now) first.now) }
+{
+    if words.len() != 2 {
+        return None;
+    }
+    if words[0].as_str() != first {
+        return None;
+    }
+    Some(words[1].as_str())
+}
+
+/// The number of a statement's account, where the words ask for one.
+pub(crate) fn statement_of(words: &[String]) -> Option<u64>
+    ensures asked { IfSome result (λ number. AskStatement (map string_bytes words.now) number) }
+    ensures none { IfNone result ((number : ℕ) → ¬ AskStatement (map string_bytes words.now) number) }
+{
+    let number = behind(words, "statement")?;
+    let number = number_of(number)?;
+    Some(number)
+}

@@ -1,0 +1,4 @@
+pub mod Held
+pub mod StatementLaws
+mod Telling
+mod Opening

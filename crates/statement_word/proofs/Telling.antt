@@ -1,0 +1,129 @@
+-- What is kept of a statement stands for its account, from pair to pair and at the end.
+use Rattle.std.proofs.Common.{◌≡◌, ◌≤◌, ◌+◌, ◌^◌, ℕ, Bool, true, false, List, [], ◌++◌, Option, Some, None, Result, Ok, Err, refl, sym, ap, subst, ◌∙◌}
+use Rattle.std.proofs.lemmas.Bool.{true≢false}
+use Rattle.wire_records.specs.Records.{Record}
+use Rattle.wire_records.specs.Versions.{IsReadAs}
+use Rattle.wire_records.specs.declared.version.Version.{Version}
+use Rattle.flow_accounts.specs.Balances.{IsAccount}
+use Rattle.flow_orders.specs.Outcomes.{IsRightOutcome}
+use Rattle.market_rules.specs.Market.{Market, IsSound}
+use Rattle.market_rules.proofs.Versions.{step_version}
+use Rattle.batch_audit.specs.Legal.{IsLegalPair, IsIllegalPair}
+use Rattle.batch_audit.specs.Findings.{IsFinding}
+use Rattle.batch_audit.specs.declared.finding.Finding.{Finding}
+use Rattle.batch_audit.specs.declared.finding.Finding.TheVariants as finding
+use Rattle.batch_audit.proofs.OneFinding.{one_finding}
+use Rattle.statement_rules.specs.Views.{seen, is_there}
+use Rattle.statement_rules.specs.Holdings.{IsHeld}
+use Rattle.statement_rules.specs.Statements.{lines_from, end_lines}
+use Rattle.statement_rules.proofs.Told.{there_is, is_account}
+use Rattle.account_statement.specs.Telling.{Statement, holding_of, Agrees, IsTold}
+use Rattle.word_driver.specs.declared.fault.Halt.{Halt}
+use Rattle.word_driver.specs.declared.fault.Halt.TheVariants as halt
+use Rattle.word_driver.specs.Private.{IsClosed}
+use Rattle.journal_words.specs.Watching.{SeesOne}
+use Rattle.journal_words.specs.Private.{IsClosedBy}
+use Rattle.statement_word.specs.declared.no_statement.NoStatement.{NoStatement}
+use Rattle.statement_word.specs.Stating.{held_in, stating, statement}
+use Rattle.statement_word.specs.Private.{IsOf, IsStep, HasTold, at_work}
+use Rattle.statement_word.proofs.Held.{lines_are, ends_are}
+use Rattle.statement_word.proofs.StatementLaws.{not_there, far_is_quiet}
+
+some_is : (s t : Statement) → ◌≡◌ {A = Option Statement} (Some s) (Some t) → s ≡ t
+some_is s t e = cc
+
+not_none : (s : Statement) → ◌≡◌ {A = Option Statement} (Some s) None → ⊥
+not_none s e = cc
+
+-- a statement of an account, and none
+pub made_of : (number : ℕ) (m : Market) (s : Statement) → s.account ≡ number → Agrees m s → IsOf number m (Some s)
+made_of number m s account agrees = (λ t is. subst (λ (u : Statement). (u.account ≡ number) × Agrees m u) (some_is s t is) (account, agrees), λ none. absurd (not_none s none))
+
+pub far_of : (number : ℕ) (m : Market) → 2 ^ 32 ≤ number → IsOf number m None
+far_of number m far = (λ s none. absurd (not_none s (sym none)), λ same. far)
+
+-- it holds what the account of the number has
+held_of : (number : ℕ) (m : Market) (s : Statement) → IsOf number m (Some s) → IsHeld number m (holding_of s)
+held_of number m s of = let at = of.0 s refl in subst (λ (k : ℕ). IsHeld k m (holding_of s)) at.0 at.1
+
+-- a pair was told
+pub told_pair : (number : ℕ) (m : Market) (pair : Record × Record) (old new : Statement) (before now : List ℕ) (next : Market) (legal : IsLegalPair m pair next)
+    → IsOf number m (Some old) → new.account ≡ old.account → before ≡ [] → IsTold m pair old new before now next legal → HasTold number m pair (Some new) now next legal
+told_pair number m pair old new before now next legal of account none told =
+    let step = legal.step in
+    let named : old.account ≡ number = (of.0 old refl).0 in
+    record {
+      is_of = made_of number next new (account ∙ named) told.agrees;
+      lines = told.text ∙ ap (λ (l : List ℕ). l ++ lines_from (holding_of old) (seen old.account m step.read legal.answer)) none
+          ∙ ap (λ (k : ℕ). lines_from (holding_of old) (seen k m step.read legal.answer)) named ∙ lines_are number m (holding_of old) (held_of number m old of) step.read legal.answer;
+    }
+
+-- and where no account can have the number there is nothing to tell
+pub untold_pair : (number : ℕ) (m : Market) (pair : Record × Record) (text : List ℕ) (next : Market) (legal : IsLegalPair m pair next)
+    → IsSound m → 2 ^ 32 ≤ number → text ≡ [] → HasTold number m pair None text next legal
+untold_pair number m pair text next legal sound far none = record { is_of = far_of number next far; lines = none ∙ sym (far_is_quiet number m next pair sound far legal) }
+
+-- the account is there where its opening was told
+pub open_is_there : (number : ℕ) (m : Market) (s : Statement) → IsOf number m (Some s) → s.is_open ≡ true → IsAccount m.balances number
+open_is_there number m s of open_is = is_account m number (sym (held_of number m s of).opened ∙ open_is)
+
+pub shut_is_absent : (number : ℕ) (m : Market) (s : Statement) → IsOf number m (Some s) → s.is_open ≡ false → IsAccount m.balances number → ⊥
+shut_is_absent number m s of shut there = true≢false (sym (there_is m number there) ∙ sym (held_of number m s of).opened ∙ shut)
+
+pub far_is_absent : (number : ℕ) (m : Market) → IsSound m → 2 ^ 32 ≤ number → IsAccount m.balances number → ⊥
+far_is_absent number m sound far there = true≢false (sym (there_is m number there) ∙ not_there number m sound far)
+
+-- the last lines
+pub last_lines : (number : ℕ) (m : Market) (s : Statement) (before now : List ℕ) → IsSound m → IsOf number m (Some s) → s.is_open ≡ true → before ≡ [] → now ≡ before ++ end_lines (holding_of s)
+    → now ≡ end_lines (held_in number m)
+last_lines number m s before now sound of open_is none is =
+    is ∙ ap (λ (l : List ℕ). l ++ end_lines (holding_of s)) none ∙ ends_are number m (holding_of s) sound (open_is_there number m s of open_is) (held_of number m s of)
+
+-- by what is found of a pair it is a step, or isn't
+pub step_by : (m : Market) (pair : Record × Record) (found : Finding) (is : Bool) → IsFinding m pair found → (is ≡ true → found ≡ finding.Legal) → (found ≡ finding.Legal → is ≡ true) → IsStep is m pair
+step_by m pair found true finds legal by = subst (λ (f : Finding). IsFinding m pair f) (legal refl) finds
+step_by m pair found false finds legal by = λ new step. true≢false (sym (by (one_finding m pair found finding.Legal finds (new, step))))
+
+-- ---- a pair of the word, and its end
+
+-- what is kept goes with its market
+pub carried : (number other : ℕ) (m n : Market) (kept later : Option Statement) → other ≡ number → n ≡ m → later ≡ kept → IsOf number m kept → IsOf other n later
+carried number other m n kept later named moved same of =
+    subst (λ (k : ℕ). IsOf k n later) (sym named) (subst (λ (k : Market). IsOf number k later) (sym moved) (subst (λ (o : Option Statement). IsOf number m o) (sym same) of))
+
+-- a pair that was told and done
+pub pair_done : (number other : ℕ) (m at next : Market) (pair : Record × Record) (kept : Option Statement) (text : List ℕ) (pairs : ℕ) → other ≡ number → at ≡ m
+    → ((new : Market) (legal : IsLegalPair at pair new) → HasTold number at pair kept text new legal) → IsLegalPair m pair next
+    → IsOf other next kept × SeesOne stating (at_work number m pairs) pair (at_work other next (pairs + 1)) text
+pair_done number other m at next pair kept text pairs named moved has legal =
+    let told = subst (λ (k : Market). (new : Market) (l : IsLegalPair k pair new) → HasTold number k pair kept text new l) moved has next legal in
+    let step = legal.step in (
+      subst (λ (k : ℕ). IsOf k next kept) (sym named) told.is_of,
+      record {
+        legal = legal;
+        counted = refl;
+        sees = (
+          ap (λ (k : ℕ). record { account = k; market = next }) named,
+          record {
+            read = step.read;
+            answer = legal.answer;
+            reads = subst (λ (v : Version). IsReadAs v pair.0 step.read) (sym (step_version IsRightOutcome IsReadAs m pair.0 legal.answer next step)) step.spelled;
+            spelled = legal.spelled;
+            lines = told.lines;
+          },
+        );
+      },
+    )
+
+-- a pair that is a step isn't illegal
+pub not_both : (m n : Market) (pair : Record × Record) → n ≡ m → IsStep true m pair → IsIllegalPair n pair → ⊥
+not_both m n pair moved step illegal = illegal step.0 (subst (λ (k : Market). IsLegalPair k pair step.0) (sym moved) step.1)
+
+-- what is done at the end is what the word does there
+closed_as : (number : ℕ) (m : Market) (pairs : ℕ) (result : Result (Unit {0}) (Halt NoStatement)) (text : List ℕ) → IsClosedBy stating m pairs (record { account = number; market = m }) result text → IsClosed statement (at_work number m pairs) result text
+closed_as number m pairs (Ok done) text closed = closed
+closed_as number m pairs (Err halt.Memory) text closed = closed
+closed_as number m pairs (Err (halt.Stopped why)) text closed = closed
+
+pub closes : (number : ℕ) (m at : Market) (pairs : ℕ) (result : Result (Unit {0}) (Halt NoStatement)) (text : List ℕ) → at ≡ m → IsClosedBy stating at pairs (record { account = number; market = at }) result text → IsClosed statement (at_work number m pairs) result text
+closes number m at pairs result text moved closed = closed_as number m pairs result text (subst (λ (k : Market). IsClosedBy stating k pairs (record { account = number; market = k }) result text) moved closed)

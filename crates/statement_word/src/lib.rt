@@ -1,0 +1,18 @@
+//! The statement of an account as a word over the pairs of a journal.
+//!
+//! [`Stating`] is the word: it audits pair after pair, and has a [`Statement`](account_statement::Statement) tell each legal one. At
+//! the end of a legal journal it writes the account's last lines, where the account is there; else it stops, for a reason of its own
+//! ([`NoStatement`]).
+//!
+//! # Costs
+//!
+//! A pair is looked at before it is done, so its audit is paid twice: what the account sees of a pair is said with the market before it.
+//! Beside the market a statement holds what is the account's own, and one buffer for the lines of a pair.
+#![tactic(auto)]
+
+mod no_statement;
+mod own;
+mod stating;
+
+pub use no_statement::NoStatement;
+pub use stating::Stating;

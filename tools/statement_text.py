@@ -1,0 +1,126 @@
+"""The statement of an account, made from the bytes of a legal journal by the formats and the market's rules alone. The samples are
+made with it, and compared."""
+import struct
+
+from report_text import ACCOUNT, ASSET, CLEARED, DONE, ENTRY, MONEY, ORDER, REFUSED, SKIPPED, TERMS, UNITS, WORDS, records, signed
+
+TICK = 1 << 32
+# The codes of records that are no command, and so name no account.
+NO_COMMAND = (1, 2)
+
+
+class Order:
+    """A live order of the account: its high limit in grains, what is left of its cap, and its row."""
+
+    def __init__(self, number, last, high, cap, row):
+        self.number, self.last, self.high, self.left, self.row = number, last, high * TICK, cap, row
+
+    def units_needed(self, asset):
+        return sum(-weight * self.left for named, weight in self.row if named == asset and weight < 0)
+
+    def money_needed(self):
+        return max(self.high, 0) * self.left
+
+
+class Statement:
+    """What an account has by the pairs that were told, and the lines of these."""
+
+    def __init__(self, account):
+        self.account, self.is_open, self.lines = account, False, []
+        self.tickers, self.money, self.units, self.orders = [], 0, {}, []
+
+    def change(self, tag, body):
+        """A deposit, a withdrawal or a credit; the line of it."""
+        sign = {3: 1, 4: 1, 5: -1, 6: -1}.get(tag, 0)
+        if tag in (3, 5, 11):
+            _, ticks = struct.unpack(MONEY, body)
+            self.money += sign * ticks * TICK
+            return f"{WORDS[tag]} ticks {ticks}"
+        _, asset, units = struct.unpack(UNITS, body)
+        self.units[asset] = self.units.get(asset, 0) + sign * units
+        return f"{WORDS[tag]} {self.tickers[asset]} units {units}"
+
+    def place(self, number, tag, body):
+        last, terms = (int.from_bytes(body[:4], "big"), body[4:]) if tag == 10 else (0, body)
+        _, low, high, rate, cap, _ = struct.unpack(TERMS, terms[:33])
+        row = list(struct.iter_unpack(ENTRY, terms[33:]))
+        self.orders.append(Order(number, last, high, cap, row))
+        until = f" last {last}" if tag == 10 else ""
+        weights = "".join(f" {self.tickers[asset]}:{weight}" for asset, weight in row)
+        return f"order {number} low {low} high {high} rate {rate} cap {cap}{until}{weights}"
+
+    def own(self, asked, answered):
+        """A command that names the account."""
+        (tag, body), (reply, told) = asked, answered
+        number = int.from_bytes(told, "big")
+        if reply == REFUSED:
+            self.lines.append(f"refused {number}")
+        elif reply == ORDER:
+            self.lines.append(self.place(number, tag, body))
+        elif tag == 8:
+            _, order = struct.unpack(MONEY, body)
+            self.orders = [o for o in self.orders if o.number != order]
+            self.lines.append(f"cancel {order}")
+        else:
+            self.lines.append(self.change(tag, body))
+
+    def batch(self, reply, told):
+        """A batch, which may be the last one of some orders."""
+        number = int.from_bytes(told[:4], "big")
+        self.lines.append(f"batch {number} {'cleared' if reply == CLEARED else 'skipped'}")
+        if reply == CLEARED:
+            count, = struct.unpack_from(">H", told, 4)
+            prices = signed(told, 6, 8, count)
+            at = 6 + 8 * count
+            listed, = struct.unpack_from(">I", told, at)
+            rates = dict(struct.iter_unpack(">QI", told[at + 4:at + 4 + 12 * listed]))
+            for order in self.orders:
+                self.trade(order, rates[order.number], prices)
+        self.orders = [o for o in self.orders if o.left and o.last != number]
+
+    def trade(self, order, rate, prices):
+        cost = rate * sum(weight * prices[asset] for asset, weight in order.row)
+        self.money -= cost
+        for asset, weight in order.row:
+            self.units[asset] = self.units.get(asset, 0) + weight * rate
+        order.left -= rate
+        self.lines.append(f"  order {order.number} rate {rate} cost {cost}")
+
+    def names(self, asked, answered):
+        """Whether the pair's command names the account."""
+        (tag, body), (reply, told) = asked, answered
+        if reply == REFUSED and told[0] in NO_COMMAND or tag not in (3, 4, 5, 6, 7, 8, 10, 11, 12):
+            return False
+        return int.from_bytes(body[4:8] if tag == 10 else body[:4], "big") == self.account
+
+    def tell(self, asked, answered):
+        reply, told = answered
+        if reply == ASSET:
+            self.tickers.append(asked[1].decode("ascii").rstrip(" "))
+        elif reply == ACCOUNT:
+            if int.from_bytes(told, "big") == self.account:
+                self.is_open = True
+                self.lines.append(f"account {self.account}")
+        elif self.is_open and reply in (CLEARED, SKIPPED):
+            self.batch(reply, told)
+        elif self.is_open and self.names(asked, answered):
+            self.own(asked, answered)
+
+    def end(self):
+        """The last lines."""
+        yield f"money {self.money} reserved {sum(o.money_needed() for o in self.orders)}"
+        for asset, ticker in enumerate(self.tickers):
+            yield f"{ticker} units {self.units.get(asset, 0)} reserved {sum(o.units_needed(asset) for o in self.orders)}"
+
+
+def text_of(lines):
+    return "".join(line + "\n" for line in lines).encode("ascii")
+
+
+def statement_of(journal, account):
+    """The text of what an account sees of a legal journal that is whole, and the last lines, or None where there is no such
+    account."""
+    every, statement = list(records(journal)), Statement(account)
+    for asked, answered in zip(every[::2], every[1::2]):
+        statement.tell(asked, answered)
+    return text_of(statement.lines), text_of(statement.end()) if statement.is_open else None
