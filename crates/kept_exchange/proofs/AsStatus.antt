@@ -1,19 +1,14 @@
 -- How keeping a journal ended, as a status.
-use Rattle.std.proofs.Common.{◌≡◌, ◌≢◌, ◌⊎◌, inl, inr, ℕ, List, Option, Some, None, IfSome, Result, Ok, Err, refl, sym, ap}
-use Rattle.flow_io.specs.Faults.{Rose, Blames}
+use Rattle.std.proofs.Common.{◌≡◌, ◌≢◌, inl, inr, ℕ, List, Option, Some, None, IfSome, Result, Ok, Err, refl}
+use Rattle.flow_io.specs.Faults.{Blames}
 use Rattle.wire_records.specs.Records.{Record}
-use Rattle.wire_records.specs.Commands.{Pair}
 use Rattle.wire_records.specs.Reading as reading
-use Rattle.flow_orders.specs.Outcomes.{Outcome}
-use Rattle.market_rules.specs.Market.{Market}
 use Rattle.disk_edge.specs.Disks.{DiskState}
-use Rattle.journal_keeping.specs.Keeping.{StandIn, KeepsOn}
 use Rattle.journal_keeping.specs.Openings as opening
 use Rattle.journal_keeping.specs.Ended.{ComesTo, HasKeptAll, file_of}
 use Rattle.journal_keeping.specs.Ended as kept
 use Rattle.journal_keeping.specs.declared.fault.KeepFault.{KeepFault}
 use Rattle.journal_keeping.specs.declared.fault.KeepFault.TheVariants.{Read, Write, Disk, Memory, NotDisk, Damaged, Rejected, NotFlow, Torn, TooLong}
-use Rattle.flow_exchange.specs.declared.status.Status.{Status}
 use Rattle.flow_exchange.specs.Statuses.{reading_status}
 use Rattle.flow_exchange.specs.declared.status.Status.TheVariants as status
 use Rattle.kept_exchange.specs.Statuses.{kept_status, AsksStatus}
@@ -100,28 +95,6 @@ refusal_back limit (Err (Torn place)) (inr (inr e)) = absurd cc
 refusal_back limit (Err TooLong) (inl e) = absurd cc
 refusal_back limit (Err TooLong) (inr (inl e)) = absurd cc
 refusal_back limit (Err TooLong) (inr (inr e)) = absurd cc
-
--- what out gained, where more writes may have been cut short
-wider : (P Q : Type 0) (before after : Option (List ℕ)) (pairs : List (Pair Record Outcome)) → (P → Q) → StandIn P before after pairs → StandIn Q before after pairs
-wider P Q before after pairs to stand = record {
-  whole = stand.whole;
-  last = stand.last;
-  parts = stand.parts;
-  one = stand.one;
-  none = λ not. stand.none (λ p. not (to p));
-  written = stand.written;
-}
-
-pub keeps_as : (P Q : Type 0) → (P → Q) → (limit : ℕ) (content : Option (List ℕ)) (start end : DiskState) (old : List (Pair Record Outcome)) (market : Market) (before after : Option (List ℕ))
-    → KeepsOn limit content P start end old market before after → KeepsOn limit content Q start end old market before after
-keeps_as P Q to limit content start end old market before after on = record {
-  records = on.records;
-  new = on.new;
-  acknowledged = on.acknowledged;
-  served = on.served;
-  runs = on.runs;
-  written = wider P Q before after _ to on.written;
-}
 
 module _ (limit : ℕ) (held : List ℕ) (end : DiskState) (before after : Option (List ℕ)) where
   -- all was kept: the status is that of the reading

@@ -14,11 +14,12 @@ use Rattle.journal_keeping.specs.Keeping.{HoldsLegal, KeepsOn}
 use Rattle.journal_keeping.specs.Ended.{ComesTo, MayBeginAgain}
 use Rattle.journal_keeping.specs.Ended as kept
 use Rattle.journal_keeping.specs.declared.fault.KeepFault.TheVariants.{Read, Write, Disk}
+use Rattle.journal_keeping.proofs.Whole.{keeps_wider}
 use Rattle.flow_exchange.specs.declared.status.Status.TheVariants as status
 use Rattle.flow_exchange.specs.Statuses.{line_of}
 use Rattle.kept_exchange.specs.Statuses.{kept_status}
 use Rattle.kept_exchange.specs.Keeping.{EndsAs, Determines, ServesKeep}
-use Rattle.kept_exchange.proofs.AsStatus.{Kept, blames_as, read_back, write_back, disk_back, refusal_back, keeps_as, determines}
+use Rattle.kept_exchange.proofs.AsStatus.{Kept, blames_as, read_back, write_back, disk_back, refusal_back, determines}
 
 -- a line that no write failed of was written
 written : (result : Result (Unit {0}) WriteFailed) (before after : Option (List ℕ)) (line : List ℕ) (faults now : ℕ) → OnOk result (Grows before after line) → Blames (IsErr result) faults now → (¬ Rose faults now) → Grows before after line
@@ -57,7 +58,7 @@ module _ (limit : ℕ) (result : Kept) (start end : DiskState) (source out : Cha
       → Blames (IsErr noting) notes.faults notes.faults_after
       → ServesKeep limit (kept_status limit result) start end source out notes
   serves notes noting keeps again comes legal disk read write line front cause = record {
-    keeps = λ old market holds. keeps_as (◌≡◌ {A = Kept} result (Err Write)) (kept_status limit result ≡ status.WriteFault) (ap (kept_status limit)) limit source.before start end old market out.before out.after (keeps old market holds);
+    keeps = λ old market holds. keeps_wider limit source.before (◌≡◌ {A = Kept} result (Err Write)) (kept_status limit result ≡ status.WriteFault) start end old market out.before out.after (ap (kept_status limit)) (keeps old market holds);
     again = again;
     opens = λ old market holds small refused. legal old market holds small (refusal_back limit result refused);
     ends = ends_as start.content comes;
