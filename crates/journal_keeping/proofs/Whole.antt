@@ -50,26 +50,6 @@ keeps_none limit content Cut start next old market held journal is_disk opens = 
   written = stand_whole Cut held held [] (Grows-nothing held);
 }
 
--- the same for a wider reason to cut a write short
-pub keeps_wider : (limit : ℕ) (content : Option (List ℕ)) (Cut Wider : Type 0) (start end : DiskState) (old : Pairs) (market : Market) (held holds : Option (List ℕ)) → (Cut → Wider) → KeepsOn limit content Cut start end old market held holds → KeepsOn limit content Wider start end old market held holds
-keeps_wider limit content Cut Wider start end old market held holds wider keeps =
-    let stands = keeps.written in
-    record {
-      records = keeps.records;
-      new = keeps.new;
-      acknowledged = keeps.acknowledged;
-      served = keeps.served;
-      runs = keeps.runs;
-      written = record {
-        whole = stands.whole;
-        last = stands.last;
-        parts = stands.parts;
-        one = stands.one;
-        none = λ not. stands.none (λ cut. not (wider cut));
-        written = stands.written;
-      };
-    }
-
 -- ---- a later run
 
 legal_again : (end : DiskState) (content : Option (List ℕ)) → end.content ≡ content → IfSome content end.images → ((image : List ℕ) → end.images image → IsLegalImage image)
