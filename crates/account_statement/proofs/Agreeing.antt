@@ -1,6 +1,6 @@
 -- What is told of a pair, by what is held, is what the account sees of it.
-use Rattle.std.proofs.Common.{◌≡◌, ℕ, ◌<◌, ◌≤◌, ◌+◌, Bool, true, false, ◌&&◌, ℤ, List, [], ◌∷◌, ◌++◌, map, length, Result, Ok, Err, refl, sym, ap, subst, ◌∙◌, arith}
-use Rattle.std.specs.Prelude.{All, ◌==◌}
+use Rattle.std.proofs.Common.{◌≡◌, ℕ, ◌+◌, Bool, true, false, ◌&&◌, List, [], ◌∷◌, ◌++◌, length, Result, Ok, Err, refl, sym, ap, subst, ◌∙◌, arith}
+use Rattle.std.specs.Prelude.{◌==◌}
 use Rattle.std.proofs.lemmas.List.{append-nil}
 use Rattle.wire_records.specs.Records.{Record}
 use Rattle.wire_records.specs.Versions.{IsReadAs}
@@ -8,7 +8,7 @@ use Rattle.wire_records.specs.Commands.{Command, AddAsset, OpenAccount, DepositM
 use Rattle.wire_records.specs.declared.command.BodyFault.{BodyFault}
 use Rattle.wire_records.specs.declared.reply.Reply.{Reply}
 use Rattle.wire_records.proofs.Readings.{reading_unique}
-use Rattle.flow_orders.specs.Outcomes.{Fill, Clearing, Outcome, Cleared, Skipped, IsRightOutcome, IsRightClearing}
+use Rattle.flow_orders.specs.Outcomes.{Clearing, Outcome, Cleared, Skipped, IsRightOutcome, IsRightClearing}
 use Rattle.journal_records.specs.Replies.{SpellsAnswer}
 use Rattle.journal_records.proofs.Spelled.{answer_unique}
 use Rattle.market_rules.specs.Market.{Market, IsSound, start_prices}

@@ -1,6 +1,6 @@
 -- What own orders pay and receive, order by order.
-use Rattle.std.proofs.Common.{◌≡◌, ℕ, ◌+◌, ◌*◌, ◌^◌, ◌<◌, ◌≤◌, ℤ, pos, ◌+ℤ◌, ◌*ℤ◌, List, [], ◌∷◌, ◌++◌, length, take, get_or, to_z, of_z, refl, sym, ap, ◌∙◌, subst, ⊎_elim, arith}
-use Rattle.std.specs.Prelude.{unsigned_abs, All, FitsSigned}
+use Rattle.std.proofs.Common.{◌≡◌, ℕ, ◌+◌, ◌*◌, ◌^◌, ◌<◌, ◌≤◌, ℤ, pos, ◌+ℤ◌, List, ◌++◌, length, take, get_or, to_z, of_z, refl, sym, ap, ◌∙◌, ⊎_elim, arith}
+use Rattle.std.specs.Prelude.{unsigned_abs, FitsSigned}
 use mir.Syntax.{w128}
 use Rattle.std.specs.List.{flat_map}
 use Rattle.std.proofs.lemmas.Int.{ints, to_z-of_z, fits_signed_from_abs}
@@ -16,7 +16,7 @@ use Rattle.flow_orders.specs.Orders.{Order, IsOrder, most_orders, terms_of}
 use Rattle.flow_orders.specs.Trades.{Trade, trades, paid, received, residual}
 use Rattle.flow_orders.specs.Outcomes.{residuals_of}
 use Rattle.flow_orders.specs.Residuals.{AreNear, HasEach, AreZeros, IsTradeAdded}
-use Rattle.batch_certificate.proofs.Sums.{IsTurn, length-trades, trade_at, at_turn, each_is}
+use Rattle.batch_certificate.proofs.Sums.{IsTurn, length-trades, trade_at, each_is}
 use Rattle.pair_text.proofs.Joining.{one_more}
 use Rattle.statement_rules.specs.Statements.{cost_line}
 

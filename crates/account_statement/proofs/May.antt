@@ -1,5 +1,5 @@
 -- What a market that answers so allows to be done with what is held.
-use Rattle.std.proofs.Common.{◌≡◌, ◌⊎◌, inl, inr, ℕ, zero, suc, ◌<◌, ◌≤◌, ◌+◌, Bool, true, false, not, if◌then◌else◌, ◌&&◌, ℤ, pos, neg_ℤ, ◌+ℤ◌, ◌-ℤ◌, List, [], ◌∷◌, ◌++◌, map, length, Option, Some, None, Ok, refl, sym, ap, subst, ◌∙◌, arith}
+use Rattle.std.proofs.Common.{◌≡◌, ◌⊎◌, inl, inr, ℕ, zero, suc, ◌<◌, ◌≤◌, ◌+◌, Bool, true, false, not, if◌then◌else◌, ◌&&◌, ℤ, pos, neg_ℤ, ◌+ℤ◌, ◌-ℤ◌, List, [], ◌∷◌, map, length, Option, Some, None, Ok, refl, sym, ap, subst, ◌∙◌, arith}
 use Rattle.std.specs.Prelude.{All, Contains, ◌==◌, slice_index_or}
 use Rattle.std.specs.List.{filter}
 use Rattle.std.proofs.lemmas.Bool.{cases_Bool, eq-eqb, eqb-true, and_parts}
@@ -8,18 +8,17 @@ use Rattle.std.proofs.lemmas.List.Elements.{All-filter}
 use Rattle.std.proofs.lemmas.List.Filters.{length-filter_both}
 use Rattle.list_sums.specs.Sums.{int_sum_by}
 use Rattle.weight_rows.specs.Rows.{IsPricedBy}
-use Rattle.demand_curve.specs.Demand.{IsRounding}
 use Rattle.demand_curve.proofs.RoundingLaws.{rounding_is_within_room}
 use Rattle.wire_records.specs.Commands.{Command, AddAsset, OpenAccount, DepositMoney, DepositAsset, WithdrawMoney, WithdrawAsset, PlaceOrder, CancelOrder, RunBatch, PlaceUntil, SetMoneyCredit, SetUnitCredit, Answer, Plain, Batch}
 use Rattle.wire_records.specs.declared.reply.Reply.{Reply}
 use Rattle.wire_records.specs.declared.reply.Reply.TheVariants as reply
 use Rattle.wire_records.specs.declared.reply.Refusal.{Refusal}
-use Rattle.flow_accounts.specs.Balances.{IsAccount, IsAsset, asset_count, money_of, units_of}
+use Rattle.flow_accounts.specs.Balances.{IsAccount, IsAsset, asset_count}
 use Rattle.flow_accounts.specs.Lawful.{IsMoneyBalance, IsUnitBalance}
 use Rattle.flow_orders.specs.Orders.{Order, most_orders, terms_of}
 use Rattle.flow_orders.specs.Excess.{price_for}
-use Rattle.flow_orders.specs.Outcomes.{Fill, Clearing, Outcome, Cleared, Skipped, trades_of, IsRightOutcome, IsRightClearing}
-use Rattle.flow_orders.specs.Trades.{Trade, trades, trader, paid, received, staying, going_on}
+use Rattle.flow_orders.specs.Outcomes.{Fill, Clearing, Outcome, Cleared, trades_of, IsRightOutcome, IsRightClearing}
+use Rattle.flow_orders.specs.Trades.{Trade, trader, paid, received}
 use Rattle.flow_orders.proofs.TradeFacts.{All-trades}
 use Rattle.order_book.specs.Book.{HasOrder}
 use Rattle.ticker_table.specs.Adding.{IsAddable}
@@ -28,12 +27,12 @@ use Rattle.market_rules.specs.Step.{FirstRefusal, Accepts, Answers, Serves}
 use Rattle.market_rules.proofs.Accepted.{past_unless, past_when, not_least}
 use Rattle.market_rules.proofs.Lawful.{money_of_each, units_of_each}
 use Rattle.market_rules.proofs.LawProofs.{batch_of}
-use Rattle.statement_rules.specs.Views.{Event, Asks, Clears, event_if, is_there, seen, own_trades, own_fills}
-use Rattle.statement_rules.specs.Holdings.{Holding, IsHeld, units_changed, after, after_done, after_placing, after_all, own_orders}
+use Rattle.statement_rules.specs.Views.{Asks, Clears, event_if, is_there, own_trades, own_fills}
+use Rattle.statement_rules.specs.Holdings.{Holding, IsHeld, units_changed, after, after_done, after_all}
 use Rattle.statement_rules.proofs.Told.{told, is_account}
 use Rattle.statement_rules.proofs.OwnParts.{own_again}
-use Rattle.account_statement.specs.Telling.{Statement, holding_of, Agrees}
-use Rattle.account_statement.specs.Private.{Names, IsServed, fills_for, trades_for, MayPlace, MayDo, MayOrder, MayMake, MayAdd, HasOwn, MayClear, IsListed}
+use Rattle.account_statement.specs.Telling.{Statement, holding_of}
+use Rattle.account_statement.specs.Private.{Names, IsServed, fills_for, trades_for, MayDo, MayOrder, MayMake, MayAdd, HasOwn, MayClear, IsListed}
 use Rattle.account_statement.proofs.OwnRates.{fills_ascend, all_listed, trades_found}
 use Rattle.account_statement.proofs.Agreeing.{seen_named, own_fills_are}
 

@@ -1,15 +1,15 @@
 -- The rates that are listed under the numbers of own orders are those of the own trades.
-use Rattle.std.proofs.Common.{◌≡◌, ◌⊎◌, inl, inr, ℕ, zero, suc, pos, ◌<◌, ◌≤◌, true, false, if◌then◌else◌, List, [], ◌∷◌, length, map, get_or, refl, sym, ap, subst, ◌∙◌, arith}
+use Rattle.std.proofs.Common.{◌≡◌, ◌⊎◌, inl, inr, ℕ, zero, suc, pos, ◌<◌, true, false, if◌then◌else◌, List, [], ◌∷◌, length, map, get_or, refl, sym, ap, subst, ◌∙◌, arith}
 use Rattle.std.specs.Prelude.{All, AllPairs, ◌==◌, slice_index_or}
 use Rattle.std.proofs.lemmas.Bool.{cases_Bool, ne_eqb, eq-eqb}
-use Rattle.std.proofs.lemmas.List.{get_or-map, length-map, get_or_default}
+use Rattle.std.proofs.lemmas.List.{get_or-map, length-map}
 use Rattle.std.proofs.lemmas.Simd.{map-map}
 use Rattle.flow_orders.specs.Orders.{Order}
-use Rattle.flow_orders.specs.Outcomes.{Fill, Clearing, trades_of, fill_of}
-use Rattle.flow_orders.specs.Trades.{Trade, trades}
+use Rattle.flow_orders.specs.Outcomes.{Fill, trades_of, fill_of}
+use Rattle.flow_orders.specs.Trades.{trades}
 use Rattle.statement_rules.specs.Views.{own_trades}
 use Rattle.statement_rules.specs.Holdings.{own_orders}
-use Rattle.account_statement.specs.Private.{rate_in, rates_for, fills_for, trades_for, fill_at, no_fill, AreAscending, IsListed}
+use Rattle.account_statement.specs.Private.{rate_in, fills_for, trades_for, no_fill, AreAscending, IsListed}
 
 -- the rate that is listed under the number of a fill is the fill's
 at_head : (f : Fill) (fills : List Fill) → rate_in (f ∷ fills) f.order ≡ f.rate

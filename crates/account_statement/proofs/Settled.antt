@@ -1,20 +1,18 @@
 -- What a batch that cleared makes of a statement, change by change.
-use Rattle.std.proofs.Common.{◌≡◌, ℕ, ◌<◌, ◌≤◌, ◌+◌, Bool, true, false, ℤ, pos, ◌+ℤ◌, ◌-ℤ◌, List, [], ◌∷◌, ◌++◌, length, map, get_or, refl, sym, ap, subst, ◌∙◌, arith}
+use Rattle.std.proofs.Common.{◌≡◌, ℕ, ◌<◌, ◌+◌, true, false, ℤ, pos, ◌+ℤ◌, ◌-ℤ◌, List, [], ◌∷◌, ◌++◌, length, refl, sym, ap, subst, ◌∙◌, arith}
 use Rattle.std.specs.Prelude.{codes, decimal}
-use Rattle.std.specs.List.{flat_map, range_with_len}
+use Rattle.std.specs.List.{flat_map}
 use Rattle.std.proofs.lemmas.List.{append_assoc, append-nil}
 use Rattle.std.proofs.lemmas.List.FromFn.{length-map-range_with_len, get_or-map-range_with_len}
 use Rattle.list_sums.specs.Sums.{int_sum_by}
 use Rattle.flow_accounts.specs.Lawful.{IsUnitBalance}
-use Rattle.flow_orders.specs.Orders.{Order}
-use Rattle.flow_orders.specs.Outcomes.{Fill, Clearing, trades_of, residuals_of}
+use Rattle.flow_orders.specs.Outcomes.{Clearing, trades_of, residuals_of}
 use Rattle.flow_orders.specs.Residuals.{residual_in}
 use Rattle.flow_orders.specs.Trades.{Trade, trades, paid, received, residual, staying, going_on}
-use Rattle.pair_text.specs.Texts.{◌then◌}
-use Rattle.statement_rules.specs.Views.{Event, Clears, Skips, event_if}
-use Rattle.statement_rules.specs.Holdings.{Holding, after, after_all}
+use Rattle.statement_rules.specs.Views.{Event, Clears, event_if}
+use Rattle.statement_rules.specs.Holdings.{after}
 use Rattle.statement_rules.specs.Statements.{cost_line, lines_from}
-use Rattle.statement_lines.specs.Lines.{cleared_line, skipped_line}
+use Rattle.statement_lines.specs.Lines.{cleared_line}
 use Rattle.account_statement.specs.Telling.{Statement, holding_of}
 use Rattle.account_statement.specs.Private.{AreAlike, rates_for, fills_for, trades_for, MayClear, Tells}
 use Rattle.account_statement.proofs.OwnRates.{trades_found}

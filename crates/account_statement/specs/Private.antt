@@ -1,5 +1,5 @@
 -- Words that only private functions use.
-use Rattle.std.specs.Prelude.{◌≡◌, ℕ, ◌<◌, ◌≤◌, Bool, ◌&&◌, ◌==◌, if◌then◌else◌, true, ℤ, pos, neg_ℤ, ◌+ℤ◌, ◌-ℤ◌, List, [], ◌∷◌, ◌++◌, map, length, All, AllPairs, Contains, slice_index_or, ⊤}
+use Rattle.std.specs.Prelude.{◌≡◌, ℕ, ◌<◌, ◌≤◌, ◌==◌, if◌then◌else◌, ℤ, pos, neg_ℤ, ◌+ℤ◌, ◌-ℤ◌, List, [], ◌∷◌, ◌++◌, map, length, All, AllPairs, slice_index_or, ⊤}
 use Rattle.list_sums.specs.Sums.{int_sum_by}
 use Rattle.weight_rows.specs.Rows.{IsLawfulRow, IsPrice, IsPricedBy}
 use Rattle.demand_curve.specs.Demand.{most_rate}
@@ -9,14 +9,13 @@ use Rattle.wire_records.specs.declared.reply.Reply.{Reply}
 use Rattle.wire_records.specs.declared.reply.Reply.TheVariants as reply
 use Rattle.flow_accounts.specs.Balances.{grains}
 use Rattle.flow_accounts.specs.Lawful.{IsMoneyBalance, IsUnitBalance}
-use Rattle.flow_orders.specs.Orders.{Order, IsOrder, AreLimits, IsFrom1To, most_cap, most_orders, terms_of}
+use Rattle.flow_orders.specs.Orders.{Order, AreLimits, IsFrom1To, most_cap, most_orders, terms_of}
 use Rattle.flow_orders.specs.Outcomes.{Fill, Clearing, Outcome, Cleared, Skipped, IsRightOutcome}
 use Rattle.flow_orders.specs.Trades.{Trade, trades, paid, received}
 use Rattle.order_book.specs.Book.{HasOrder}
-use Rattle.batch_outcome.specs.Parts.{numbers_in}
 use Rattle.market_rules.specs.Market.{Market, IsSound}
 use Rattle.market_rules.specs.Step.{Serves}
-use Rattle.statement_rules.specs.Views.{Event, Asks, Clears, Skips, event_if, seen_plain}
+use Rattle.statement_rules.specs.Views.{Event, Clears, Skips, event_if, seen_plain}
 use Rattle.statement_rules.specs.Holdings.{Holding, after_all}
 use Rattle.statement_rules.specs.Statements.{lines_from}
 use Rattle.account_statement.specs.Telling.{Statement, holding_of, Agrees}

@@ -3,7 +3,6 @@ ghost use Rattle.std.specs.Prelude.{◌≡◌, ◌^◌, ◌<◌, ◌≤◌, ◌+
 ghost use Rattle.std.specs.List.{flat_map};
 ghost use Rattle.list_sums.specs.Sums.{int_sum_by};
 ghost use Rattle.weight_rows.specs.Rows.{IsPrice, IsPricedBy};
-ghost use Rattle.demand_curve.specs.Demand.{most_rate};
 ghost use Rattle.flow_accounts.specs.Lawful.{IsUnitBalance};
 ghost use Rattle.flow_orders.specs.Orders.{Order as order_value, most_orders, terms_of};
 ghost use Rattle.flow_orders.specs.Outcomes.{residuals_of};

@@ -18,8 +18,8 @@ use ticker_table::TickerTable;
 use wire_records::Memory;
 
 /// What an account has by the pairs that were told of a journal: its own money, units and live orders, the assets that there are, and
-/// whether it is there yet. Credits and the count of batches change no line, and aren't kept. Contracts see whose
-/// statement it is, and these as a holding; it agrees with a market where they are what the account has there (`Agrees`).
+/// whether it is there yet. Credits and the count of batches change no line, and aren't kept. Contracts see these and whose statement
+/// it is; it agrees with a market where what it holds is what the account has there.
 #[derive(Drop)]
 pub struct Statement {
     pub(crate) alloc: Global,

@@ -1,5 +1,5 @@
 //! The lines of batches.
-ghost use Rattle.std.specs.Prelude.{◌≡◌, ◌<◌, ◌++◌, length, slice_index_or, pos, OnOk};
+ghost use Rattle.std.specs.Prelude.{◌≡◌, ◌<◌, ◌++◌, length, OnOk};
 ghost use Rattle.std.specs.List.{flat_map, range_with_len};
 ghost use Rattle.weight_rows.specs.Rows.{price_of};
 ghost use Rattle.flow_orders.specs.Residuals.{residual_in};

@@ -1,5 +1,5 @@
 //! A text that is appended to a list, or taken back.
-ghost use Rattle.std.specs.Prelude.{◌≡◌, ◌≤◌, ◌++◌, [], length, take, OnOk, vec_capacity};
+ghost use Rattle.std.specs.Prelude.{◌≡◌, ◌≤◌, ◌++◌, [], take, OnOk, vec_capacity};
 ghost use Rattle.pair_text.specs.Texts.{◌then◌, asset_name};
 
 use crate::names::name_len;

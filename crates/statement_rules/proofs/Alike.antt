@@ -1,5 +1,5 @@
 -- Holdings that agree with one market tell the same.
-use Rattle.std.proofs.Common.{◌≡◌, ℕ, zero, suc, ◌+◌, ◌<◌, ◌≤◌, List, [], ◌∷◌, ◌++◌, length, refl, sym, ap, subst, ◌∙◌, arith}
+use Rattle.std.proofs.Common.{◌≡◌, ℕ, zero, suc, ◌+◌, ◌<◌, List, [], ◌∷◌, ◌++◌, length, refl, sym, ap, ◌∙◌, arith}
 use Rattle.std.specs.List.{flat_map, range_with_len, sum_by}
 use Rattle.std.specs.Prelude.{codes, decimal}
 use Rattle.std.specs.Fmt.{signed_decimal}
@@ -10,8 +10,8 @@ use Rattle.flow_orders.specs.Orders.{money_need, unit_need}
 use Rattle.order_book.specs.Book.{without}
 use Rattle.flow_orders.specs.Outcomes.{trades_of}
 use Rattle.flow_orders.specs.Trades.{staying, going_on}
-use Rattle.flow_accounts.specs.Balances.{IsAccount, IsAsset}
-use Rattle.market_rules.specs.Market.{Market, IsSound}
+use Rattle.flow_accounts.specs.Balances.{IsAsset}
+use Rattle.market_rules.specs.Market.{Market}
 use Rattle.pair_text.specs.Texts.{◌then◌, asset_name}
 use Rattle.statement_rules.specs.Views.{Event, Adds, Opens, Asks, Clears, Skips}
 use Rattle.statement_rules.specs.Holdings.{Holding, ordered, after, after_done, after_placing, after_asked, IsHeld}

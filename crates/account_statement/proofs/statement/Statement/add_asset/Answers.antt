@@ -1,4 +1,4 @@
-use Rattle.std.proofs.Common.{◌≡◌, List, [], ◌∷◌, ◌++◌, pos, refl, ap, sym, subst, ◌∙◌, arith}
+use Rattle.std.proofs.Common.{[], ◌∷◌, ◌++◌, pos, refl, ap, subst, ◌∙◌, arith}
 use Rattle.statement_rules.specs.Views.{Adds}
 use Rattle.account_statement.specs.Telling.{Statement}
 use Rattle.account_statement.specs.Kept.{statement_in}

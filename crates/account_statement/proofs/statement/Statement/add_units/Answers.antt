@@ -1,7 +1,7 @@
 use Rattle.std.proofs.Common.{◌≡◌, ◌+ℤ◌, length, set, to_z, of_z, refl, ap, sym, subst, ◌∙◌, arith}
 use mir.Syntax.{w64, w128}
 use Rattle.std.proofs.lemmas.Int.{to_z-of_z}
-use Rattle.statement_rules.specs.Holdings.{Holding, units_changed}
+use Rattle.statement_rules.specs.Holdings.{units_changed}
 use Rattle.account_statement.specs.Telling.{Statement, holding_of}
 use Rattle.account_statement.specs.Kept.{statement_in}
 use Rattle.account_statement.specs.Private.{AreAlike}

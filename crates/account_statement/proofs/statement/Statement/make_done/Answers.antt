@@ -1,4 +1,3 @@
-use Rattle.std.proofs.Common.{◌≡◌}
 use Rattle.account_statement.proofs.Keeping.{own_cancel}
 use Rattle.account_statement.proofs.statement.Statement.make_done.Goals as goal
 

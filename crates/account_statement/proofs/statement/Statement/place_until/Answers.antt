@@ -1,4 +1,4 @@
-use Rattle.std.proofs.Common.{◌≡◌, ap, sym, subst, ◌∙◌}
+use Rattle.std.proofs.Common.{ap, sym, ◌∙◌}
 use Rattle.account_statement.proofs.Keeping.{own_more}
 use Rattle.account_statement.proofs.statement.Statement.place_until.Goals as goal
 

@@ -1,9 +1,8 @@
-use Rattle.std.proofs.Common.{◌≡◌, ◌-ℤ◌, ◌+ℤ◌, length, ap, sym, subst, ◌∙◌, arith}
+use Rattle.std.proofs.Common.{◌≡◌, ◌-ℤ◌, ◌+ℤ◌, length, ap, sym, subst, ◌∙◌}
 use mir.Syntax.{w128}
 use Rattle.std.proofs.lemmas.Int.{to_z-of_z}
 use Rattle.flow_accounts.specs.Lawful.{IsUnitBalance}
 use Rattle.flow_orders.specs.Residuals.{residual_in}
-use Rattle.account_statement.specs.Telling.{Statement}
 use Rattle.account_statement.proofs.Settled.{brought_count, brought_fits, settled}
 use Rattle.account_statement.proofs.statement.Statement.settle.Goals as goal
 
