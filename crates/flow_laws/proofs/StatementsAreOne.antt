@@ -34,7 +34,9 @@ made : (account limit : ℕ) (bytes : List ℕ) (version : Version) (pairs : Lis
     → ComesTo (Statement account) limit bytes (by_there account (is_there market account)) (statement_text (by_there account (is_there market account)) view)
 made account limit bytes version pairs market view legal sees =
     let audits : Audits limit bytes pairs [] End market = (audits_to_end limit bytes pairs market).1 (version, legal.journal, legal.spelled, legal.within) in
-    let same : audits.version ≡ version = refl in
+    let same : audits.version ≡ version =
+    sym (follows_version IsRightOutcome IsReadAs (empty_market audits.version) pairs market audits.judged.journal.steps) ∙ follows_version IsRightOutcome IsReadAs (empty_market version) pairs market legal.journal.steps
+    in
     inr (record {
       legal = pairs;
       behind = [];
