@@ -5,4 +5,5 @@ mod Fitting
 mod MarketSettled
 mod Placing
 mod Reserving
+mod Restored
 mod StartPrices

@@ -1,7 +1,11 @@
 //! The last cleared prices.
 ghost use Rattle.std.specs.Prelude.{◌≡◌, ◌<◌, ◌≤◌, [], ◌∷◌, ◌++◌, pos, length};
+ghost use Rattle.flow_accounts.specs.Balances.{asset_count};
+ghost use Rattle.flow_accounts.specs.Parts.{ArePlacesOf};
 ghost use Rattle.flow_accounts.specs.Places.{HasSpare};
+ghost use Rattle.sound_parts.specs.Tests.{IsInShape};
 
+use market_parts::MarketParts;
 use std::marker::Model;
 
 // The places for prices, one for each asset that there may be.
@@ -38,6 +42,18 @@ impl LastPrices {
         }
     }
 
+    // The last prices that are read.
+    pub(crate) fn read<P: MarketParts>(parts: &P) -> LastPrices
+        requires shape { IsInShape (P.balances parts.now) (P.parts parts.now) }
+        requires few { asset_count (P.balances parts.now) ≤ 64 }
+        ensures { result ≡ (P.parts parts.now).last_prices }
+    {
+        LastPrices {
+            prices: prices_of(parts),
+            assets: parts.asset_count(),
+        }
+    }
+
     // The prices, by the assets' numbers.
     pub(crate) fn as_slice(&self) -> &[i64]
         ensures value { result.now ≡ self.now }
@@ -61,6 +77,19 @@ impl LastPrices {
     {
         self.prices[..usize::from(self.assets)].copy_from_slice(prices);
     }
+}
+
+// The places for the prices that are read.
+fn prices_of<P: MarketParts>(parts: &P) -> [i64; PLACES]
+    requires shape { IsInShape (P.balances parts.now) (P.parts parts.now) }
+    requires few { asset_count (P.balances parts.now) ≤ 64 }
+    ensures { ArePlacesOf (asset_count (P.balances parts.now)) (P.parts parts.now).last_prices result }
+{
+    let mut prices = no_prices();
+    for asset in 0..parts.asset_count() {
+        prices[usize::from(asset)] = parts.last_price(asset).unwrap();
+    }
+    prices
 }
 
 // Places for prices, none of them in use.
