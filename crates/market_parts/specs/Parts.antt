@@ -31,6 +31,12 @@ pub record Parts : Type 0 where
   pub batches : ℕ
   pub last_prices : List ℤ
 
+-- there is one ticker, one last price and one of the exchange's balances for each asset
+pub record HasOneForEach (p : Parts) : Type 0 where
+  pub tickers : length p.tickers ≡ asset_count p.balances
+  pub exchange : length p.exchange.units ≡ asset_count p.balances
+  pub prices : length p.last_prices ≡ asset_count p.balances
+
 -- the number of a version
 abbrev pub number_of : Version → ℕ
 number_of One = 1

@@ -1,7 +1,6 @@
 //! A market that lies somewhere and is read number by number.
 ghost use Rattle.std.specs.Prelude.{◌≡◌, length, slice_get, option_map};
-ghost use Rattle.flow_accounts.specs.Balances.{asset_count};
-ghost use Rattle.market_parts.specs.Parts.{Parts, numbers_of, row_of};
+ghost use Rattle.market_parts.specs.Parts.{Parts, HasOneForEach, numbers_of, row_of};
 
 use crate::OrderParts;
 use flow_accounts::AccountParts;
@@ -16,15 +15,16 @@ pub trait MarketParts: AccountParts {
     // All of it.
     ghost parts: { Self → Parts };
 
-    /// The number of the version: 1 or 2 in a sound market.
+    /// The number of the version: 1 or 2 in a sound market. There is one ticker, one last price and one of the exchange's
+    /// balances for each asset.
     fn version(&self) -> u8
         ensures version { result ≡ (parts self.now).version }
-        ensures balances { (parts self.now).balances ≡ Self.balances self.now };
+        ensures balances { (parts self.now).balances ≡ Self.balances self.now }
+        ensures one_each { HasOneForEach (parts self.now) };
 
     /// The ticker of an asset.
     fn ticker(&self, asset: u16) -> Option<[u8; 8]>
-        ensures value { result ≡ slice_get (parts self.now).tickers asset }
-        ensures one_each { length (parts self.now).tickers ≡ asset_count (Self.balances self.now) };
+        ensures { result ≡ slice_get (parts self.now).tickers asset };
 
     /// The money that the exchange holds, in grains.
     fn exchange_money(&self) -> i128
@@ -32,8 +32,7 @@ pub trait MarketParts: AccountParts {
 
     /// The units of an asset that the exchange holds.
     fn exchange_units(&self, asset: u16) -> Option<i64>
-        ensures value { result ≡ slice_get (parts self.now).exchange.units asset }
-        ensures one_each { length (parts self.now).exchange.units ≡ asset_count (Self.balances self.now) };
+        ensures { result ≡ slice_get (parts self.now).exchange.units asset };
 
     /// The number that the next order gets.
     fn next_number(&self) -> u64
@@ -45,8 +44,7 @@ pub trait MarketParts: AccountParts {
 
     /// The last cleared price of an asset, in grains, 0 where there is none.
     fn last_price(&self, asset: u16) -> Option<i64>
-        ensures value { result ≡ slice_get (parts self.now).last_prices asset }
-        ensures one_each { length (parts self.now).last_prices ≡ asset_count (Self.balances self.now) };
+        ensures { result ≡ slice_get (parts self.now).last_prices asset };
 
     /// How many live orders there are.
     fn order_count(&self) -> u32

@@ -1,0 +1,17 @@
+use Rattle.std.proofs.Common.{◌≡◌, ◌∙◌, ℕ, ◌+◌, ◌-◌, ◌*◌, ◌^◌, ◌<◌, ◌≤◌, ℤ, pos, ◌+ℤ◌, ◌*ℤ◌, FitsSigned, to_z, of_z, take, length, map, refl, sym, subst, ap, arith, rules}
+use Rattle.std.proofs.lemmas.Int.{ints, to_z-of_z, fits_signed_from_abs}
+use Rattle.std.specs.Int.{w64, w128}
+use Rattle.flow_accounts.specs.Balances.{Balances, IsAccount, IsAsset, units_of, unit_credit_of, total_units_of, units_in, money_of, money_credit_of, asset_count, account_count}
+use Rattle.flow_accounts.specs.Lawful.{IsUnitTotal, IsMoneyTotal, AreLawful}
+use Rattle.sound_parts.specs.Tests.{IsSoundAccount, AreSoundUnits, IsSoundMoney, HasSoundUnits, IsSoundAsset, CoversAccount}
+use Rattle.sound_parts.proofs.Below.{one_more, each_account, refuted, read_value}
+use Rattle.sound_parts.proofs.accounts.are_sound_accounts.Goals as goal
+
+pub loop-place-preserved : goal.loop-place-preserved
+loop-place-preserved g c = one_more (λ k. IsSoundAccount c.args.most (g.P.AccountParts.balances c.args.parts.now) (k + 1)) c.loop-place.place c.loop-place.invariant (c.is_sound_account.ensures.0 c.if-not-is_sound_account.false)
+
+pub returns-then-not-is_sound_account : goal.returns-then-not-is_sound_account
+returns-then-not-is_sound_account g c = refuted c.is_sound_account.ensures c.if-not-is_sound_account.true (λ all. all (c.loop-place.place + 1) (omega arith, omega (arith, c.loop-place-test.true, c.account_count-place-end.ensures)))
+
+pub returns : goal.returns
+returns g c = (λ _. each_account (g.P.AccountParts.balances c.args.parts.now) (λ account. IsSoundAccount c.args.most (g.P.AccountParts.balances c.args.parts.now) account) (λ k inside. c.loop-place.invariant k (omega (arith, inside, c.loop-place-test.false, c.account_count-place-end.ensures))), λ _. refl)

@@ -1,0 +1,24 @@
+use Rattle.std.proofs.Common.{◌≡◌, ◌∙◌, ℕ, ◌+◌, ◌-◌, ◌*◌, ◌^◌, ◌<◌, ◌≤◌, ℤ, pos, ◌+ℤ◌, ◌*ℤ◌, FitsSigned, to_z, of_z, take, length, map, refl, sym, subst, ap, arith, rules}
+use Rattle.std.proofs.lemmas.Int.{ints, to_z-of_z, fits_signed_from_abs}
+use Rattle.std.specs.Int.{w64, w128}
+use Rattle.flow_accounts.specs.Balances.{Balances, IsAccount, IsAsset, units_of, unit_credit_of, total_units_of, units_in, money_of, money_credit_of, asset_count, account_count}
+use Rattle.flow_accounts.specs.Lawful.{IsUnitTotal, IsMoneyTotal, AreLawful}
+use Rattle.sound_parts.specs.Tests.{IsSoundAccount, AreSoundUnits, IsSoundMoney, HasSoundUnits, IsSoundAsset, CoversAccount}
+use Rattle.sound_parts.proofs.Below.{one_more, each_account, refuted, read_value}
+use Rattle.sound_parts.proofs.accounts.has_sound_units.Goals as goal
+
+pub loop-asset-preserved : goal.loop-asset-preserved
+loop-asset-preserved g c =
+    let b = g.P.AccountParts.balances c.args.parts.now in
+    let units = to_z-of_z w64 c.unwrap-units.result (record { sfits = c.unwrap-units.type_inv }) ∙ read_value _ _ _ _ c.units.ensures c.unwrap-units.ensures in
+    let credit = read_value _ _ _ _ c.unit_credit.ensures c.unwrap-credit.ensures in
+    one_more (λ k. AreSoundUnits c.args.most (units_of b c.args.account k) (unit_credit_of b c.args.account k)) c.loop-asset.asset c.loop-asset.invariant (rw (units, credit) at (c.are_sound_units.ensures.0 c.if-not-are_sound_units.false))
+
+pub returns-then-not-are_sound_units : goal.returns-then-not-are_sound_units
+returns-then-not-are_sound_units g c =
+    let units = to_z-of_z w64 c.unwrap-units.result (record { sfits = c.unwrap-units.type_inv }) ∙ read_value _ _ _ _ c.units.ensures c.unwrap-units.ensures in
+    let credit = read_value _ _ _ _ c.unit_credit.ensures c.unwrap-credit.ensures in
+    refuted c.are_sound_units.ensures c.if-not-are_sound_units.true (λ all. rw (units, credit) (all c.loop-asset.asset (omega (arith, c.loop-asset-test.true, c.asset_count-asset-end.ensures.count))))
+
+pub returns : goal.returns
+returns g c = (λ _ asset there. c.loop-asset.invariant asset (omega (arith, there, c.loop-asset-test.false, c.asset_count-asset-end.ensures.count)), λ _. refl)

@@ -1,0 +1,20 @@
+use Rattle.std.proofs.Common.{◌≡◌, ◌∙◌, ℕ, ◌+◌, ◌-◌, ◌*◌, ◌^◌, ◌<◌, ◌≤◌, ℤ, pos, ◌+ℤ◌, ◌*ℤ◌, FitsSigned, to_z, of_z, take, length, map, refl, sym, subst, ap, arith, rules}
+use Rattle.std.proofs.lemmas.Int.{ints, to_z-of_z, fits_signed_from_abs}
+use Rattle.std.specs.Int.{w64, w128}
+use Rattle.flow_accounts.specs.Balances.{Balances, IsAccount, IsAsset, units_of, unit_credit_of, total_units_of, units_in, money_of, money_credit_of, asset_count, account_count}
+use Rattle.flow_accounts.specs.Lawful.{IsUnitTotal, IsMoneyTotal, AreLawful}
+use Rattle.sound_parts.specs.Tests.{IsSoundAccount, AreSoundUnits, IsSoundMoney, HasSoundUnits, IsSoundAsset, CoversAccount}
+use Rattle.sound_parts.proofs.Below.{one_more, each_account, refuted, read_value}
+use Rattle.sound_parts.proofs.accounts.is_sound_account.Goals as goal
+
+pub returns-then-not-is_sound_money : goal.returns-then-not-is_sound_money
+returns-then-not-is_sound_money g c =
+    let money = to_z-of_z w128 c.unwrap-money.result (record { sfits = c.unwrap-money.type_inv }) ∙ read_value _ _ _ _ c.money.ensures c.unwrap-money.ensures in
+    let ticks = read_value _ _ _ _ c.money_credit.ensures c.unwrap-ticks.ensures in
+    refuted c.is_sound_money.ensures c.if-not-is_sound_money.true (λ s. rw (money, ticks) s.money)
+
+pub returns : goal.returns
+returns g c =
+    let money = to_z-of_z w128 c.unwrap-money.result (record { sfits = c.unwrap-money.type_inv }) ∙ read_value _ _ _ _ c.money.ensures c.unwrap-money.ensures in
+    let ticks = read_value _ _ _ _ c.money_credit.ensures c.unwrap-ticks.ensures in
+    (λ t. record { money = rw (money, ticks) at (c.is_sound_money.ensures.0 c.if-not-is_sound_money.false); units = c.has_sound_units.ensures.0 t }, λ s. c.has_sound_units.ensures.1 s.units)

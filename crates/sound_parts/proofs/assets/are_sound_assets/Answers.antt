@@ -1,0 +1,17 @@
+use Rattle.std.proofs.Common.{◌≡◌, ◌∙◌, ℕ, ◌+◌, ◌-◌, ◌*◌, ◌^◌, ◌<◌, ◌≤◌, ℤ, pos, ◌+ℤ◌, ◌*ℤ◌, FitsSigned, to_z, of_z, take, length, map, refl, sym, subst, ap, arith, rules}
+use Rattle.std.proofs.lemmas.Int.{ints, to_z-of_z, fits_signed_from_abs}
+use Rattle.std.specs.Int.{w64, w128}
+use Rattle.flow_accounts.specs.Balances.{Balances, IsAccount, IsAsset, units_of, unit_credit_of, total_units_of, units_in, money_of, money_credit_of, asset_count, account_count}
+use Rattle.flow_accounts.specs.Lawful.{IsUnitTotal, IsMoneyTotal, AreLawful}
+use Rattle.sound_parts.specs.Tests.{IsSoundAccount, AreSoundUnits, IsSoundMoney, HasSoundUnits, IsSoundAsset, CoversAccount}
+use Rattle.sound_parts.proofs.Below.{one_more, each_account, refuted, read_value}
+use Rattle.sound_parts.proofs.assets.are_sound_assets.Goals as goal
+
+pub loop-asset-preserved : goal.loop-asset-preserved
+loop-asset-preserved g c = one_more (λ k. IsSoundAsset (g.P.AccountParts.balances c.args.parts.now) (g.P.MarketParts.parts c.args.parts.now) k) c.loop-asset.asset c.loop-asset.invariant (c.is_sound_asset.ensures.0 c.if-not-is_sound_asset.false)
+
+pub returns-then-not-is_sound_asset : goal.returns-then-not-is_sound_asset
+returns-then-not-is_sound_asset g c = refuted c.is_sound_asset.ensures c.if-not-is_sound_asset.true (λ all. all c.loop-asset.asset (omega (arith, c.loop-asset-test.true, c.asset_count-asset-end.ensures.count)))
+
+pub returns : goal.returns
+returns g c = (λ _ asset there. c.loop-asset.invariant asset (omega (arith, there, c.loop-asset-test.false, c.asset_count-asset-end.ensures.count)), λ _. refl)

@@ -1,0 +1,20 @@
+use Rattle.std.proofs.Common.{◌≡◌, ◌∙◌, ℕ, ◌+◌, ◌-◌, ◌*◌, ◌^◌, ◌<◌, ◌≤◌, ℤ, pos, ◌+ℤ◌, ◌*ℤ◌, FitsSigned, to_z, of_z, take, length, map, refl, sym, subst, ap, arith, rules}
+use Rattle.std.proofs.lemmas.Int.{ints, to_z-of_z, fits_signed_from_abs}
+use Rattle.std.specs.Int.{w64, w128}
+use Rattle.flow_accounts.specs.Balances.{Balances, IsAccount, IsAsset, units_of, unit_credit_of, total_units_of, units_in, money_of, money_credit_of, asset_count, account_count}
+use Rattle.flow_accounts.specs.Lawful.{IsUnitTotal, IsMoneyTotal, AreLawful}
+use Rattle.sound_parts.specs.Tests.{IsSoundAccount, AreSoundUnits, IsSoundMoney, HasSoundUnits, IsSoundAsset, CoversAccount}
+use Rattle.sound_parts.proofs.Below.{one_more, each_account, refuted, read_value}
+use Rattle.sound_parts.proofs.Making.{element_more, next_is_addable, tickers_more, units_joined, all_units_joined}
+use Rattle.sound_parts.proofs.assets.exchange_of.Goals as goal
+
+pub loop-asset-preserved : goal.loop-asset-preserved
+loop-asset-preserved g c =
+    let exchange = (g.P.MarketParts.parts c.args.parts.now).exchange in
+    let inside : c.loop-asset.asset < length exchange.units = omega (arith, c.loop-asset-test.true, c.asset_count-asset-end.ensures.count, c.requires.shape.exchange) in
+    units_joined exchange c.loop-asset.asset c.loop-asset.exchange c.add_asset.new.self c.add.new.self c.unwrap.result (to_z w64 (of_z w64 c.unwrap.result)) inside (sym c.exchange_units.ensures ∙ c.unwrap.ensures) (to_z-of_z w64 c.unwrap.result (record { sfits = c.unwrap.type_inv })) c.loop-asset.invariant c.add_asset.ensures c.add.ensures.added
+
+pub returns : goal.returns
+returns g c =
+    let exchange = (g.P.MarketParts.parts c.args.parts.now).exchange in
+    all_units_joined exchange c.loop-asset.asset c.loop-asset.exchange (omega (arith, c.loop-asset-test.false, c.asset_count-asset-end.ensures.count, c.requires.shape.exchange)) c.loop-asset.invariant

@@ -1,0 +1,137 @@
+//! Balances, each within its limits.
+ghost use Rattle.std.specs.Prelude.{◌≡◌, ℕ, ◌≤◌, ◌↔◌, IsTrue};
+ghost use Rattle.wire_records.specs.declared.version.Version.{Version};
+ghost use Rattle.flow_accounts.specs.Balances.{IsAccount, IsAsset, total_units_of};
+ghost use Rattle.flow_accounts.specs.Lawful.{most_credit, IsMoneyTotal, IsUnitTotal};
+ghost use Rattle.sound_parts.specs.Tests.{most_credit_in, IsSoundMoney, AreSoundUnits, HasSoundUnits, IsSoundAccount, AreSoundBalances};
+
+use flow_accounts::{AccountParts, MOST_ACCOUNTS, MOST_ASSETS};
+use wire_records::Version;
+
+// One tick in grains.
+const GRAINS_PER_TICK: i128 = 1 << 32;
+
+// No credit is above this, in ticks or units.
+const MOST_CREDIT: u64 = 1 << 40;
+
+// A balance is below this, in grains.
+const MONEY_WIDTH: i128 = 1 << 124;
+
+// A balance of an asset is below this, in units.
+const UNIT_WIDTH: i64 = 1 << 62;
+
+// No total of money is above this, in grains.
+const MONEY_LIMIT: i128 = 1 << 100;
+
+// No total of an asset is above this, in units.
+const UNIT_LIMIT: i64 = 1 << 60;
+
+// The highest credit in a market of a version, in ticks or units.
+pub(crate) fn most_credit_of(version: Version) -> u64
+    ensures value { result ≡ most_credit_in version }
+    ensures most { result ≤ most_credit }
+{
+    match version {
+        Version::One => 0,
+        Version::Two => MOST_CREDIT,
+    }
+}
+
+// Whether all counts, totals, balances and credits are within their limits.
+pub(crate) fn are_sound_balances<P: AccountParts>(parts: &P, most: u64) -> bool
+    requires { most ≤ most_credit }
+    ensures { IsTrue result ↔ AreSoundBalances most (P.balances parts.now) }
+{
+    if parts.account_count() > MOST_ACCOUNTS {
+        return false;
+    }
+    if parts.asset_count() > MOST_ASSETS {
+        return false;
+    }
+    if !is_money_total(parts.total_money()) {
+        return false;
+    }
+    if !are_unit_totals(parts) {
+        return false;
+    }
+    are_sound_accounts(parts, most)
+}
+
+fn is_money_total(total: i128) -> bool
+    ensures { IsTrue result ↔ IsMoneyTotal total }
+{
+    -MONEY_WIDTH < total && total <= MONEY_LIMIT
+}
+
+fn is_unit_total(total: i64) -> bool
+    ensures { IsTrue result ↔ IsUnitTotal total }
+{
+    -UNIT_WIDTH < total && total <= UNIT_LIMIT
+}
+
+fn are_unit_totals<P: AccountParts>(parts: &P) -> bool
+    ensures { IsTrue result ↔ ((asset : ℕ) → IsAsset (P.balances parts.now) asset →
+        IsUnitTotal (total_units_of (P.balances parts.now) asset)) }
+{
+    for asset in 0..parts.asset_count() {
+        if !is_unit_total(parts.total_units(asset).unwrap()) {
+            return false;
+        }
+    }
+    true
+}
+
+fn are_sound_accounts<P: AccountParts>(parts: &P, most: u64) -> bool
+    requires { most ≤ most_credit }
+    ensures { IsTrue result ↔ ((account : ℕ) → IsAccount (P.balances parts.now) account →
+        IsSoundAccount most (P.balances parts.now) account) }
+{
+    for place in 0..parts.account_count() {
+        if !is_sound_account(parts, place + 1, most) {
+            return false;
+        }
+    }
+    true
+}
+
+fn is_sound_account<P: AccountParts>(parts: &P, account: u32, most: u64) -> bool
+    requires account { IsAccount (P.balances parts.now) account }
+    requires most { most ≤ most_credit }
+    ensures { IsTrue result ↔ IsSoundAccount most (P.balances parts.now) account }
+{
+    let money = parts.money(account).unwrap();
+    let ticks = parts.money_credit(account).unwrap();
+    if !is_sound_money(most, money, ticks) {
+        return false;
+    }
+    has_sound_units(parts, account, most)
+}
+
+fn is_sound_money(most: u64, money: i128, ticks: u64) -> bool
+    requires { most ≤ most_credit }
+    ensures { IsTrue result ↔ IsSoundMoney most money ticks }
+{
+    ticks <= most && -(i128::from(ticks) * GRAINS_PER_TICK) <= money && money < MONEY_WIDTH
+}
+
+fn has_sound_units<P: AccountParts>(parts: &P, account: u32, most: u64) -> bool
+    requires account { IsAccount (P.balances parts.now) account }
+    requires most { most ≤ most_credit }
+    ensures { IsTrue result ↔ HasSoundUnits most (P.balances parts.now) account }
+{
+    for asset in 0..parts.asset_count() {
+        let units = parts.units(account, asset).unwrap();
+        let credit = parts.unit_credit(account, asset).unwrap();
+        if !are_sound_units(most, units, credit) {
+            return false;
+        }
+    }
+    true
+}
+
+fn are_sound_units(most: u64, units: i64, credit: u64) -> bool
+    requires { most ≤ most_credit }
+    ensures { IsTrue result ↔ AreSoundUnits most units credit }
+{
+    credit <= most && -(credit as i64) <= units && units < UNIT_WIDTH
+}

@@ -1,0 +1,85 @@
+//! All parts but tickers and orders.
+ghost use Rattle.std.specs.Prelude.{◌≡◌, ◌≤◌, ◌^◌, ◌*◌, ◌↔◌, unsigned_abs, IsTrue, MatchOption};
+ghost use Rattle.wire_records.specs.declared.version.Version.{Version};
+ghost use Rattle.flow_accounts.specs.Lawful.{AreLawful, most_credit};
+ghost use Rattle.market_rules.specs.Market.{most_batches};
+ghost use Rattle.market_parts.specs.Parts.{number_of};
+ghost use Rattle.sound_parts.specs.Tests.{IsInShape, AreSoundNumbers, AreSoundBalances, HasSoundCounts, HasSoundSums};
+
+use crate::accounts::are_sound_balances;
+use crate::assets::are_sound_assets;
+use crate::sums::is_money_held;
+use market_parts::MarketParts;
+use wire_records::Version;
+
+// The number that the next order gets is below this.
+const NEXT_WIDTH: u64 = 1 << 63;
+
+// No more orders are live.
+const MOST_ORDERS: u32 = 16_384;
+
+// No more batches are held.
+const MOST_BATCHES: u32 = 1 << 24;
+
+// The version of a number.
+pub(crate) fn version_of(number: u8) -> Option<Version>
+    ensures { MatchOption result ((version : Version) → ¬ (number ≡ number_of version)) (λ version. number ≡ number_of version) }
+{
+    match number {
+        1 => Some(Version::One),
+        2 => Some(Version::Two),
+        _ => None,
+    }
+}
+
+// Whether all numbers are within their limits, and the totals are held.
+pub(crate) fn are_sound_numbers<P: MarketParts>(parts: &P, most: u64) -> bool
+    requires shape { IsInShape (P.balances parts.now) (P.parts parts.now) }
+    requires most { most ≤ most_credit }
+    ensures { IsTrue result ↔ AreSoundNumbers most (P.balances parts.now) (P.parts parts.now) }
+{
+    if !has_sound_counts(parts) {
+        return false;
+    }
+    if !are_sound_balances(parts, most) {
+        return false;
+    }
+    has_sound_sums(parts)
+}
+
+fn has_sound_counts<P: MarketParts>(parts: &P) -> bool
+    ensures { IsTrue result ↔ HasSoundCounts (P.parts parts.now) }
+{
+    let next = parts.next_number();
+    if next < 1 || next >= NEXT_WIDTH {
+        return false;
+    }
+    if parts.batches() > MOST_BATCHES {
+        return false;
+    }
+    parts.order_count() <= MOST_ORDERS
+}
+
+fn has_sound_sums<P: MarketParts>(parts: &P) -> bool
+    requires shape { IsInShape (P.balances parts.now) (P.parts parts.now) }
+    requires lawful { AreLawful (P.balances parts.now) }
+    requires few_batches { (P.parts parts.now).batches ≤ most_batches }
+    ensures { IsTrue result ↔ HasSoundSums (P.balances parts.now) (P.parts parts.now) }
+{
+    let money = parts.exchange_money();
+    if !is_within_batches(money, parts.batches()) {
+        return false;
+    }
+    if !is_money_held(parts, money) {
+        return false;
+    }
+    are_sound_assets(parts)
+}
+
+// Whether the exchange may hold so much money after so many batches, in grains.
+fn is_within_batches(money: i128, batches: u32) -> bool
+    requires { batches ≤ most_batches }
+    ensures { IsTrue result ↔ (unsigned_abs money ≤ batches * 2 ^ 99) }
+{
+    money.unsigned_abs() <= u128::from(batches) << 99
+}
