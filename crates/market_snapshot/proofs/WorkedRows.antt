@@ -1,16 +1,15 @@
 -- Worked checkpoints, by computation from the definitions.
-use Rattle.std.proofs.Common.{◌≡◌, ◌<◌, ◌^◌, ℕ, ℤ, pos, List, [], ◌∷◌, ◌++◌, length, replicate, refl, sym, ap, ◌∙◌, subst, arith}
-use Rattle.std.specs.Prelude.{All, codes}
+use Rattle.std.proofs.Common.{◌≡◌, ◌<◌, ◌^◌, ℕ, ℤ, pos, List, [], ◌∷◌, ◌++◌, length, replicate, refl, sym, ap, ◌∙◌, arith}
+use Rattle.std.specs.Prelude.{codes}
 use Rattle.std.proofs.lemmas.Int.{ints}
 use Rattle.std.proofs.lemmas.List.{append-nil}
 use Rattle.std.proofs.lemmas.List.Elements.{All-nil}
 use Rattle.wire_fields.specs.Numbers.{unsigned, signed, IsSigned}
-use Rattle.wire_records.specs.declared.version.Version.TheVariants.{One, Two}
-use Rattle.flow_accounts.specs.Balances.{Account, Credit}
+use Rattle.wire_records.specs.declared.version.Version.TheVariants.{One}
 use Rattle.flow_orders.specs.Orders.{Order}
-use Rattle.market_rules.specs.Market.{Market, IsSound, empty_market, held_money}
+use Rattle.market_rules.specs.Market.{empty_market, held_money}
 use Rattle.market_rules.proofs.Soundness.{sound-empty}
-use Rattle.market_parts.specs.Parts.{ReadOrder, Parts}
+use Rattle.market_parts.specs.Parts.{Parts}
 use Rattle.market_snapshot.specs.Checkpoints.{tickers_spelling, accounts_spelling, totals_spelling, exchange_spelling, batches_spelling, orders_spelling, parts_spelling, parts_of, checkpoint_bytes, IsCheckpoint, BeginsWithNoCheckpoint}
 use Rattle.market_snapshot.specs.Widths.{FitsAccount, FitsOrder, FitWidths}
 use Rattle.market_snapshot.proofs.OneMarket.{fitting, spelled}
