@@ -15,6 +15,9 @@
 //! | `count: JOURNAL` | the pairs behind the magic are audited: how the reading ends, and the counts. Then the market. With `count more:` there are more bytes behind these |
 //! | `replay: JOURNAL` | the market, or the text of the fault |
 //! | `resume: JOURNAL` | the journal ends behind each of its pairs in turn, the magic alone first, is replayed, and a session over its market serves the commands of the pairs behind: how many bytes the new pairs have, and whether they are as they were |
+//! | `snapshot: BYTES` | the bytes are read as a checkpoint: `not sound`, or how many of them it has, and whether its market is written so again. Then the market |
+//! | `checkpoint: JOURNAL` | the journal is replayed and its market written, and these bytes are read, as by `snapshot` |
+//! | `turned N: BYTES` | the bits of N are turned over in each of the bytes in turn: how many of these are checkpoints, of markets that are written so again, and how many aren't |
 //! | `faults N:` | the texts of all faults of a replay, with this number |
 //!
 //! So
@@ -41,6 +44,7 @@
 #![tactic(auto)]
 
 mod batches;
+mod checkpoints;
 mod commands;
 mod explaining;
 mod journals;
@@ -69,6 +73,9 @@ fn put_case(alloc: Global, words: &str, bytes: &[u8], rows: &mut String) -> Opti
         "count" => journals::put_counted(alloc, bytes, with == "more", rows),
         "replay" => journals::put_replayed(alloc, bytes, rows),
         "resume" => resuming::put_resumed(alloc, bytes, rows),
+        "checkpoint" => checkpoints::put_kept(alloc, bytes, rows),
+        "snapshot" => checkpoints::put_read(alloc, bytes, rows),
+        "turned" => checkpoints::put_turned(alloc, with.parse().ok()?, bytes, rows),
         "faults" => journals::put_faults(with.parse().ok()?, rows),
         _ => None,
     }

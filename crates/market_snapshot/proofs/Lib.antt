@@ -6,4 +6,5 @@ mod SoundFits
 mod Ticks
 mod Viewing
 mod Walking
+mod WorkedRows
 mod Written

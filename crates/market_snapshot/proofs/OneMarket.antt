@@ -20,10 +20,10 @@ use Rattle.market_snapshot.proofs.SoundFits.{sound_fits}
 are_orders : (m : Market) → IsSound m → All IsOrder m.orders
 are_orders m sound i d inside = (sound.live i d inside).order
 
-fitting : (m : Market) (bytes : List ℕ) → IsCheckpoint m bytes → FitWidths (parts_of m)
+pub fitting : (m : Market) (bytes : List ℕ) → IsCheckpoint m bytes → FitWidths (parts_of m)
 fitting m bytes is = sound_fits m is.sound is.next is.last
 
-spelled : (m : Market) (bytes : List ℕ) → IsCheckpoint m bytes → bytes ≡ parts_spelling (parts_of m)
+pub spelled : (m : Market) (bytes : List ℕ) → IsCheckpoint m bytes → bytes ≡ parts_spelling (parts_of m)
 unfolding checkpoint_bytes
 spelled m bytes is = is.spelled
 

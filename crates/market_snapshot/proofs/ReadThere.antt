@@ -7,13 +7,13 @@ use Rattle.std.proofs.lemmas.Bool.{cases_lt}
 use Rattle.std.proofs.lemmas.List.Elements.{All-map}
 use Rattle.std.proofs.lemmas.List.FromFn.{length-map-range_with_len, get_or-map-range_with_len}
 use Rattle.std.proofs.lemmas.Option.{slice_get_past, slice_get-get_or}
-use Rattle.byte_places.specs.Places.{unsigned_at, signed_at}
+use Rattle.byte_places.specs.Places.{part, unsigned_at, signed_at}
 use Rattle.flow_accounts.specs.Balances.{Account, Credit, IsAccount, IsAsset, account_count, asset_count, account_of, credit_of, empty_account, no_credit, money_of, money_credit_of, units_of, unit_credit_of, total_units_of}
 use Rattle.flow_accounts.specs.Parts.{HasOneOfEach}
 use Rattle.market_parts.specs.declared.order.OrderParts.{OrderParts}
-use Rattle.market_parts.specs.Parts.{ReadOrder, numbers_of}
+use Rattle.market_parts.specs.Parts.{ReadOrder, numbers_of, HasOneForEach}
 use Rattle.market_snapshot.specs.declared.layout.Layout.{Layout}
-use Rattle.market_snapshot.specs.Layout.{account_at, credit_at, account_place, balances_at}
+use Rattle.market_snapshot.specs.Layout.{account_at, credit_at, account_place, balances_at, parts_at}
 
 -- an option that tells a value where a claim holds tells it in other words
 some_iff : {T : Type 0} (o : Option T) (P Q : Type 0) (v w : T) → SomeIff o P v → (P → Q) → (Q → P) → (P → v ≡ w) → SomeIff o Q w
@@ -65,6 +65,13 @@ module _ (l : Layout) (bytes : List ℕ) where
     lines = length-map-range_with_len (λ k. credit_at l.assets (account_place l.assets k) bytes) 0 l.accounts ∙ sym account_count_is;
     credits = All-map (λ (c : Credit). length c.units ≡ asset_count (balances_at l bytes)) (λ k. credit_at l.assets (account_place l.assets k) bytes) (range_with_len 0 l.accounts)
         (λ i d inside. length-map-range_with_len (λ k. unsigned_at 8 (account_place l.assets (get_or (range_with_len 0 l.accounts) i d) + 32 + 16 * k) bytes) 0 l.assets ∙ sym asset_count_is);
+  }
+
+  pub one_for_each : (orders : List ℕ) → HasOneForEach (parts_at l bytes orders)
+  one_for_each orders = record {
+    tickers = length-map-range_with_len (λ k. part (11 + 8 * k) 8 bytes) 0 l.assets ∙ sym asset_count_is;
+    exchange = length-map-range_with_len (λ k. signed_at w64 (l.totals + 32 + 8 * l.assets + 8 * k) bytes) 0 l.assets ∙ sym asset_count_is;
+    prices = length-map-range_with_len (λ k. signed_at w64 (l.totals + 44 + 16 * l.assets + 8 * k) bytes) 0 l.assets ∙ sym asset_count_is;
   }
 
   pub money_told : (account : ℕ) (o : Option ℤ) → SomeIff o ((0 < account) × (account ≤ l.accounts)) (signed_at w128 (account_place l.assets (account - 1)) bytes) → SomeIff o (IsAccount (balances_at l bytes) account) (money_of (balances_at l bytes) account)

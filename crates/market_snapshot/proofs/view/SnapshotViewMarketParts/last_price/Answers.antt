@@ -6,8 +6,8 @@ use Rattle.market_parts.specs.Parts.{Parts}
 use Rattle.market_snapshot.proofs.ReadThere.{slice_told}
 use Rattle.market_snapshot.proofs.view.SnapshotViewMarketParts.last_price.Goals as goal
 
-pub returns-clause-value : goal.returns-clause-value
-returns-clause-value c =
+pub returns : goal.returns
+returns c =
     let l = c.self.inside.layout in
     let bytes = c.self.inside.bytes.now in
     slice_told (λ k. signed_at w64 (l.totals + 44 + 16 * l.assets + 8 * k) bytes) l.assets c.args.asset c.number_in.result (rw c.from.ensures at c.number_in.ensures)

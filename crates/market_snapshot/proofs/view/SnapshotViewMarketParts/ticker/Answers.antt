@@ -5,8 +5,8 @@ use Rattle.market_parts.specs.Parts.{Parts}
 use Rattle.market_snapshot.proofs.ReadThere.{slice_told}
 use Rattle.market_snapshot.proofs.view.SnapshotViewMarketParts.ticker.Goals as goal
 
-pub returns-clause-value : goal.returns-clause-value
-returns-clause-value c =
+pub returns : goal.returns
+returns c =
     let l = c.self.inside.layout in
     let bytes = c.self.inside.bytes.now in
     slice_told (λ k. part (11 + 8 * k) 8 bytes) l.assets c.args.asset c.ticker_in.result c.ticker_in.ensures
