@@ -5,11 +5,10 @@ use disk_edge::FileDisk;
 use flow_exchange::{Status, flow};
 use flow_io::{StdSink, StdSource};
 use kept_exchange::{flow_disk, kept_file};
-use std::env;
 use std::fs::File;
-use std::io;
 use std::io::ErrorKind;
 use std::process::ExitCode;
+use std::{env, io};
 
 // The words after the program's name. One that isn't text makes a faulty command line.
 fn words(rt: &HostRuntime) -> Result<Vec<String>, Status> {
@@ -26,7 +25,11 @@ fn words(rt: &HostRuntime) -> Result<Vec<String>, Status> {
 // Folders in the places of standard streams that are closed, so that no file which is opened then comes there, and is read or written
 // as that stream. A folder can't be: such a read or write still fails.
 fn hold_places(rt: &HostRuntime) -> [io::Result<File>; 3] {
-    [File::open(rt, "/"), File::open(rt, "/"), File::open(rt, "/")]
+    [
+        File::open(rt, "/"),
+        File::open(rt, "/"),
+        File::open(rt, "/"),
+    ]
 }
 
 fn main(rt: HostRuntime) -> ExitCode {
