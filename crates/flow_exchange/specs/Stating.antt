@@ -103,5 +103,5 @@ pub record IsAtEnd (account limit : ℕ) (bytes : List ℕ) (legal : List (Pair 
 abbrev pub StatesShort : ℕ → ℕ → List ℕ → List ℕ → Type 0
 StatesShort account limit bytes text =
     ((legal : List (Pair Record Outcome)) × (market : Market) × (next : Record × Record) × (at : IsAtPair limit bytes legal market next)
-        × (RecordMayWant market next.0 ⊎ ((new : Market) × IsLegalPair market next new)) × AreSeen account at.version legal market text)
+    × (RecordMayWant market next.0 ⊎ ((new : Market) × IsLegalPair market next new)) × AreSeen account at.version legal market text)
     ⊎ ((legal : List (Pair Record Outcome)) × (market : Market) × (at : IsAtEnd account limit bytes legal market) × AreSeen account at.audits.version legal market text)

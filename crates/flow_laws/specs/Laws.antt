@@ -101,10 +101,10 @@ pub record SpellsLegal (limit : ℕ) (bytes : List ℕ) (version : Version) (pai
 pub record StatementsOfLegalJournals : Type 0 where
   pub done : (account limit : ℕ) (bytes text : List ℕ) → ComesTo (Statement account) limit bytes Done text
       ↔ ((version : Version) × (pairs : List (Pair Record Outcome)) × (market : Market) × (view : List Event) × SpellsLegal limit bytes version pairs market
-          × Sees account (empty_market version) pairs view market × IsAccount market.balances account × (text ≡ statement view))
+      × Sees account (empty_market version) pairs view market × IsAccount market.balances account × (text ≡ statement view))
   pub absent : (account number limit : ℕ) (bytes text : List ℕ) → ComesTo (Statement account) limit bytes (NoAccount number) text
       ↔ ((version : Version) × (pairs : List (Pair Record Outcome)) × (market : Market) × SpellsLegal limit bytes version pairs market
-          × (¬ IsAccount market.balances account) × (number ≡ account) × (text ≡ []))
+      × (¬ IsAccount market.balances account) × (number ≡ account) × (text ≡ []))
 
 -- two legal journals of which an account sees the same come to the same statement of it, whatever else stands in them
 abbrev pub OneViewOneStatement : Type 0

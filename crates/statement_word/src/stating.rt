@@ -78,7 +78,11 @@ impl Stating {
 
     // Audits a pair, and tells what the account sees of it. It is looked at before it is done, since the market before it says that. Where
     // memory runs out behind that, what was told is a pair ahead of the market, so both are put back to their start.
-    fn take_pair(&mut self, pair: &PairView<'_>, text: &mut Vec<u8>) -> Result<(), Halt<NoStatement>>
+    fn take_pair(
+        &mut self,
+        pair: &PairView<'_>,
+        text: &mut Vec<u8>,
+    ) -> Result<(), Halt<NoStatement>>
         requires next { self.old.audit.next_order + 1 < 2 ^ 64 }
         requires few { self.old.pairs + 1 < 2 ^ 64 }
         requires empty { text.old.items ≡ [] }
