@@ -1,5 +1,5 @@
 -- What holds at each place below a number.
-use Rattle.std.proofs.Common.{◌≡◌, Bool, false, IsTrue, true≢false, ◌↔◌, ◌∙◌, Option, Some, ℕ, ◌+◌, ◌-◌, ◌<◌, ◌≤◌, subst, sym, ⊎_elim, arith}
+use Rattle.std.proofs.Common.{◌≡◌, Bool, false, IsTrue, true≢false, ◌↔◌, ◌∙◌, Option, Some, ℕ, ◌+◌, ◌-◌, ◌<◌, subst, sym, ⊎_elim, arith}
 use Rattle.std.specs.Prelude.{SomeIff}
 use Rattle.std.proofs.lemmas.Bool.{cases_lt}
 use Rattle.flow_accounts.specs.Balances.{Balances, IsAccount, account_count}

@@ -1,21 +1,20 @@
 -- What is tested of parts is that they are sound.
 use Rattle.std.proofs.Common.{◌≡◌, ℕ, ◌+◌, ◌-◌, ◌*◌, ◌^◌, ◌<◌, ◌≤◌, pos, ◌≤ℤ◌, length, map, get_or, refl, ap, sym, subst, ◌∙◌, arith}
-use Rattle.std.specs.Prelude.{All, AllPairs, unsigned_abs}
+use Rattle.std.specs.Prelude.{All, unsigned_abs}
 use Rattle.std.proofs.lemmas.Int.{ints}
 use Rattle.std.proofs.lemmas.List.{length-map, get_or-map, get_or_default}
-use Rattle.std.proofs.lemmas.List.Elements.{All-map}
 use Rattle.weight_rows.specs.Rows.{IsLawfulRow, IsPrice}
 use Rattle.wire_records.specs.declared.version.Version.{Version}
 use Rattle.wire_records.specs.declared.version.Version.TheVariants.{One, Two}
 use Rattle.ticker_table.specs.Tickers.{AreTickers}
-use Rattle.flow_accounts.specs.Balances.{Account, Credit, Balances, IsAccount, IsAsset, account_count, asset_count, account_of, credit_of, empty_account, no_credit}
+use Rattle.flow_accounts.specs.Balances.{Account, Credit, Balances, IsAccount, asset_count, account_of, credit_of, no_credit}
 use Rattle.flow_accounts.specs.Lawful.{most_credit, AreLawful, IsLawfulAccount, IsLawfulCredit, IsUnitBalance, IsUnitTotal}
 use Rattle.flow_orders.specs.Orders.{Order, IsOrder}
 use Rattle.fill_caps.specs.Covers.{CoversNeeds}
-use Rattle.market_rules.specs.Market.{Market, IsSound, IsLiveOrder, IsNoCredit}
+use Rattle.market_rules.specs.Market.{IsSound, IsLiveOrder, IsNoCredit}
 use Rattle.market_rules.proofs.Lawful.{account_at, sound_is_lawful, money_of_each, units_of_each, credit_line}
 use Rattle.market_parts.specs.Parts.{ReadOrder, Parts, AreSound, number_of, numbers_of, order_of, market_of}
-use Rattle.sound_parts.specs.Tests.{IsInShape, most_credit_in, no_order, order_at, AreSoundBalances, AreSoundNumbers, HasSoundCounts, HasSoundSums, HasSoundTerms, IsSoundAccount, IsSoundOrder, AreSoundOrders}
+use Rattle.sound_parts.specs.Tests.{IsInShape, most_credit_in, no_order, order_at, AreSoundBalances, AreSoundNumbers, HasSoundTerms, IsSoundOrder, AreSoundOrders}
 
 -- no two versions have one number
 pub one_version : (v w : Version) → number_of v ≡ number_of w → v ≡ w

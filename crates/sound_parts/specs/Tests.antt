@@ -1,11 +1,11 @@
 -- What is tested of the parts of a market. Balances and the other parts are said apart, as they are read apart.
-use Rattle.std.specs.Prelude.{◌≡◌, ◌⊎◌, ℕ, ◌+◌, ◌*◌, ◌^◌, ◌<◌, ◌≤◌, ℤ, pos, ◌+ℤ◌, ◌≤ℤ◌, ◌<ℤ◌, unsigned_abs, List, [], length, slice_index_or, All, AllPairs}
+use Rattle.std.specs.Prelude.{◌≡◌, ◌⊎◌, ℕ, ◌*◌, ◌^◌, ◌<◌, ◌≤◌, ℤ, pos, ◌+ℤ◌, ◌≤ℤ◌, ◌<ℤ◌, unsigned_abs, List, [], length, slice_index_or, All, AllPairs}
 use Rattle.weight_rows.specs.declared.entries.Entry.{Entry}
 use Rattle.weight_rows.specs.Rows.{IsLawfulRow, IsPrice, price_of}
 use Rattle.wire_records.specs.declared.version.Version.{Version}
 use Rattle.wire_records.specs.declared.version.Version.TheVariants.{One, Two}
 use Rattle.demand_curve.specs.Demand.{most_rate}
-use Rattle.flow_accounts.specs.Balances.{Account, Balances, IsAccount, IsAsset, account_count, asset_count, grains, money_of, units_of, units_in, money_with_credit, units_with_credit, money_credit_of, unit_credit_of, total_units_of}
+use Rattle.flow_accounts.specs.Balances.{Balances, IsAccount, IsAsset, account_count, asset_count, grains, money_of, units_of, units_in, money_with_credit, units_with_credit, money_credit_of, unit_credit_of, total_units_of}
 use Rattle.flow_accounts.specs.Lawful.{most_accounts, most_assets, most_credit, IsMoneyTotal, IsUnitTotal}
 use Rattle.flow_accounts.specs.Sums.{money_of_all, units_of_all}
 use Rattle.flow_accounts.specs.Parts.{HasOneOfEach}

@@ -1,10 +1,9 @@
-use Rattle.std.proofs.Common.{◌≡◌, ◌∙◌, ℕ, ◌+◌, ◌-◌, ◌*◌, ◌^◌, ◌<◌, ◌≤◌, ℤ, pos, ◌+ℤ◌, ◌*ℤ◌, FitsSigned, to_z, of_z, take, length, map, refl, sym, subst, ap, arith, rules}
-use Rattle.std.proofs.lemmas.Int.{ints, to_z-of_z, fits_signed_from_abs}
-use Rattle.std.specs.Int.{w64, w128}
-use Rattle.flow_accounts.specs.Balances.{Balances, IsAccount, IsAsset, units_of, unit_credit_of, total_units_of, units_in, money_of, money_credit_of, asset_count, account_count}
-use Rattle.flow_accounts.specs.Lawful.{IsUnitTotal, IsMoneyTotal, AreLawful}
-use Rattle.sound_parts.specs.Tests.{IsSoundAccount, AreSoundUnits, IsSoundMoney, HasSoundUnits, IsSoundAsset, CoversAccount}
-use Rattle.sound_parts.proofs.Below.{one_more, each_account, refuted, read_value}
+use Rattle.std.proofs.Common.{◌∙◌, refl, arith}
+use Rattle.std.proofs.lemmas.Int.{to_z-of_z}
+use Rattle.std.specs.Int.{w64}
+use Rattle.flow_accounts.specs.Balances.{total_units_of}
+use Rattle.flow_accounts.specs.Lawful.{IsUnitTotal}
+use Rattle.sound_parts.proofs.Below.{one_more, refuted, read_value}
 use Rattle.sound_parts.proofs.accounts.are_unit_totals.Goals as goal
 
 pub loop-asset-preserved : goal.loop-asset-preserved

@@ -1,8 +1,8 @@
-use Rattle.std.proofs.Common.{◌≡◌, ◌∙◌, true≢false, map, refl, sym, subst, rules}
+use Rattle.std.proofs.Common.{◌∙◌, true≢false, refl, sym, subst, rules}
 use Rattle.ticker_table.specs.Tickers.{AreTickers}
 use Rattle.flow_accounts.specs.Balances.{Balances}
-use Rattle.market_parts.specs.Parts.{AreSound, order_of, number_of}
-use Rattle.sound_parts.specs.Tests.{IsInShape, AreSoundNumbers, AreSoundOrders, most_credit_in}
+use Rattle.market_parts.specs.Parts.{AreSound}
+use Rattle.sound_parts.specs.Tests.{IsInShape, AreSoundOrders}
 use Rattle.sound_parts.proofs.Soundness.{lawful_balances, numbers_are_sound, tickers_are_sound, orders_are_sound, needs_are_covered, market_is_sound}
 use Rattle.sound_parts.proofs.made.read_sound.Goals as goal
 

@@ -1,4 +1,4 @@
-use Rattle.std.proofs.Common.{◌≡◌, ◌∙◌, ◌<◌, FitsSigned, sym, rules}
+use Rattle.std.proofs.Common.{◌∙◌, ◌<◌, FitsSigned, sym, rules}
 use Rattle.std.specs.Int.{w64}
 use Rattle.std.proofs.lemmas.Int.{to_z-of_z}
 use Rattle.sound_parts.proofs.orders.has_sound_terms.Goals as goal

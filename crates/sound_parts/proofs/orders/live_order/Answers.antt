@@ -1,4 +1,4 @@
-use Rattle.std.proofs.Common.{◌≡◌, ◌∙◌, true≢false, sym}
+use Rattle.std.proofs.Common.{◌∙◌, true≢false, sym}
 use Rattle.sound_parts.proofs.orders.live_order.Goals as goal
 
 pub returns-then-not-has_sound_numbers-clause-unsound : goal.returns-then-not-has_sound_numbers-clause-unsound

@@ -1,4 +1,4 @@
-use Rattle.std.proofs.Common.{◌≡◌, ◌∙◌, true≢false, sym}
+use Rattle.std.proofs.Common.{◌∙◌, true≢false, sym}
 use Rattle.sound_parts.proofs.rows.row_at.Goals as goal
 
 pub returns-then-not-is_sound_row-clause-unsound : goal.returns-then-not-is_sound_row-clause-unsound

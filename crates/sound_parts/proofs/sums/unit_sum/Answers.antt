@@ -1,11 +1,9 @@
-use Rattle.std.proofs.Common.{◌≡◌, ◌∙◌, ℕ, ◌+◌, ◌-◌, ◌*◌, ◌^◌, ◌<◌, ◌≤◌, ℤ, pos, ◌+ℤ◌, ◌*ℤ◌, FitsSigned, to_z, of_z, take, length, map, refl, sym, subst, ap, arith, rules}
-use Rattle.std.proofs.lemmas.Int.{ints, to_z-of_z, fits_signed_from_abs}
+use Rattle.std.proofs.Common.{◌≡◌, ◌∙◌, ◌<◌, ◌+ℤ◌, to_z, of_z, ap, arith}
+use Rattle.std.proofs.lemmas.Int.{to_z-of_z}
 use Rattle.std.specs.Int.{w64, w128}
-use Rattle.flow_accounts.specs.Balances.{Balances, IsAccount, IsAsset, units_of, unit_credit_of, total_units_of, units_in, money_of, money_credit_of, asset_count, account_count}
-use Rattle.flow_accounts.specs.Lawful.{IsUnitTotal, IsMoneyTotal, AreLawful}
-use Rattle.sound_parts.specs.Tests.{IsSoundAccount, AreSoundUnits, IsSoundMoney, HasSoundUnits, IsSoundAsset, CoversAccount}
-use Rattle.sound_parts.proofs.Below.{one_more, each_account, refuted, read_value}
-use Rattle.sound_parts.proofs.Summing.{no_money, units_fit, money_more, money_too_much, all_money, money_small, never_held, no_units, units_more, all_units, units_small, money_bounds, unit_bounds}
+use Rattle.flow_accounts.specs.Balances.{account_count}
+use Rattle.sound_parts.proofs.Below.{read_value}
+use Rattle.sound_parts.proofs.Summing.{units_fit, no_units, units_more, all_units, units_small}
 use Rattle.sound_parts.proofs.sums.unit_sum.Goals as goal
 
 pub overflow_add-sum : goal.overflow_add-sum
