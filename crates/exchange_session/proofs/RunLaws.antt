@@ -125,7 +125,7 @@ run_is_kept version records market text each goes =
 -- ---- a run has a next step
 
 -- what a record is read as in each version
-abbrev CanBeRead : Record → Type 0
+abbrev pub CanBeRead : Record → Type 0
 CanBeRead asked = (version : Version) → (read : Result Command BodyFault) × IsReadAs version asked read
 
 -- no record is without a reading in a version: it spells a command, or its tag is none, or its body is bad
@@ -137,11 +137,11 @@ of_both : (P : Version → Type 0) → P One → P Two → (version : Version) �
 of_both P one two One = one
 of_both P one two Two = two
 
-can_be_read : (asked : Record) → IsNotDenied (CanBeRead asked)
+pub can_be_read : (asked : Record) → IsNotDenied (CanBeRead asked)
 can_be_read asked none = read_in One asked (λ one. read_in Two asked (λ two. none (of_both (λ version. (read : Result Command BodyFault) × IsReadAs version asked read) one two)))
 
 -- so each that is short enough has a step, from any sound market
-has_step : (s : Market) (asked : Record) → IsSound s → IsRecord 1024 asked → CanBeRead asked → (t : Market) × (text : List ℕ) × AnswersOne s asked t text
+pub has_step : (s : Market) (asked : Record) → IsSound s → IsRecord 1024 asked → CanBeRead asked → (t : Market) × (text : List ℕ) × AnswersOne s asked t text
 has_step s asked sound short readable =
     let there = step_is_there IsReadAs CanBeRead (λ version r some. some version) s asked readable in
     (there.1, pair_spelling (record { asked = asked; answer = there.0 }), record { answer = there.0; step = there.2; fits = pair_fits s asked there.0 there.1 sound short there.2; spelled = refl })

@@ -1,5 +1,5 @@
 -- What is kept of a statement stands for its account, from pair to pair and at the end.
-use Rattle.std.proofs.Common.{◌≡◌, ◌≤◌, ◌+◌, ◌^◌, ℕ, Bool, true, false, List, [], ◌++◌, Option, Some, None, Result, Ok, Err, refl, sym, ap, subst, ◌∙◌}
+use Rattle.std.proofs.Common.{◌≡◌, ◌≤◌, ◌+◌, ◌^◌, ℕ, true, false, List, [], ◌++◌, Option, Some, None, Result, Ok, Err, refl, sym, ap, subst, ◌∙◌}
 use Rattle.std.proofs.lemmas.Bool.{true≢false}
 use Rattle.wire_records.specs.Records.{Record}
 use Rattle.wire_records.specs.Versions.{IsReadAs}
@@ -8,11 +8,9 @@ use Rattle.flow_accounts.specs.Balances.{IsAccount}
 use Rattle.flow_orders.specs.Outcomes.{IsRightOutcome}
 use Rattle.market_rules.specs.Market.{Market, IsSound}
 use Rattle.market_rules.proofs.Versions.{step_version}
-use Rattle.batch_audit.specs.Legal.{IsLegalPair, IsIllegalPair}
-use Rattle.batch_audit.specs.Findings.{IsFinding}
-use Rattle.batch_audit.specs.declared.finding.Finding.{Finding}
-use Rattle.batch_audit.specs.declared.finding.Finding.TheVariants as finding
-use Rattle.batch_audit.proofs.OneFinding.{one_finding}
+use Rattle.batch_audit.specs.Legal.{IsLegalPair}
+use Rattle.batch_audit.specs.Judging.{IsChangeOf, IsWeighed}
+use Rattle.batch_audit.specs.declared.change.Change.{Change}
 use Rattle.statement_rules.specs.Views.{seen, is_there}
 use Rattle.statement_rules.specs.Holdings.{IsHeld}
 use Rattle.statement_rules.specs.Statements.{lines_from, end_lines}
@@ -25,7 +23,7 @@ use Rattle.journal_words.specs.Watching.{SeesOne}
 use Rattle.journal_words.specs.Private.{IsClosedBy}
 use Rattle.statement_word.specs.declared.no_statement.NoStatement.{NoStatement}
 use Rattle.statement_word.specs.Stating.{held_in, stating, statement}
-use Rattle.statement_word.specs.Private.{IsOf, IsStep, HasTold, at_work}
+use Rattle.statement_word.specs.Private.{IsOf, HasTold, at_work}
 use Rattle.statement_word.proofs.Held.{lines_are, ends_are}
 use Rattle.statement_word.proofs.StatementLaws.{not_there, far_is_quiet}
 
@@ -79,17 +77,20 @@ pub last_lines : (number : ℕ) (m : Market) (s : Statement) (before now : List 
 last_lines number m s before now sound of open_is none is =
     is ∙ ap (λ (l : List ℕ). l ++ end_lines (holding_of s)) none ∙ ends_are number m (holding_of s) sound (open_is_there number m s of open_is) (held_of number m s of)
 
--- by what is found of a pair it is a step, or isn't
-pub step_by : (m : Market) (pair : Record × Record) (found : Finding) (is : Bool) → IsFinding m pair found → (is ≡ true → found ≡ finding.Legal) → (found ≡ finding.Legal → is ≡ true) → IsStep is m pair
-step_by m pair found true finds legal by = subst (λ (f : Finding). IsFinding m pair f) (legal refl) finds
-step_by m pair found false finds legal by = λ new step. true≢false (sym (by (one_finding m pair found finding.Legal finds (new, step))))
-
 -- ---- a pair of the word, and its end
 
 -- what is kept goes with its market
 pub carried : (number other : ℕ) (m n : Market) (kept later : Option Statement) → other ≡ number → n ≡ m → later ≡ kept → IsOf number m kept → IsOf other n later
 carried number other m n kept later named moved same of =
     subst (λ (k : ℕ). IsOf k n later) (sym named) (subst (λ (k : Market). IsOf number k later) (sym moved) (subst (λ (o : Option Statement). IsOf number m o) (sym same) of))
+
+-- a pair that was judged over the market makes the same of an equal one, and is legal there
+pub change_at : (m at : Market) (pair : Record × Record) (found : Option Change) (change : Change) → at ≡ m → found ≡ Some change → IsWeighed m pair found → IsChangeOf at pair change
+change_at m at pair found change moved is weighed = subst (λ (k : Market). IsChangeOf k pair change) (sym moved) (subst (IsWeighed m pair) is weighed)
+
+pub legal_at : (m at : Market) (pair : Record × Record) (found : Option Change) (change : Change) → at ≡ m → found ≡ Some change → IsWeighed m pair found
+    → (next : Market) × IsLegalPair at pair next
+legal_at m at pair found change moved is weighed = let here = change_at m at pair found change moved is weighed in (here.new, here.legal)
 
 -- a pair that was told and done
 pub pair_done : (number other : ℕ) (m at next : Market) (pair : Record × Record) (kept : Option Statement) (text : List ℕ) (pairs : ℕ) → other ≡ number → at ≡ m
@@ -114,10 +115,6 @@ pair_done number other m at next pair kept text pairs named moved has legal =
         );
       },
     )
-
--- a pair that is a step isn't illegal
-pub not_both : (m n : Market) (pair : Record × Record) → n ≡ m → IsStep true m pair → IsIllegalPair n pair → ⊥
-not_both m n pair moved step illegal = illegal step.0 (subst (λ (k : Market). IsLegalPair k pair step.0) (sym moved) step.1)
 
 -- what is done at the end is what the word does there
 closed_as : (number : ℕ) (m : Market) (pairs : ℕ) (result : Result (Unit {0}) (Halt NoStatement)) (text : List ℕ) → IsClosedBy stating m pairs (record { account = number; market = m }) result text → IsClosed statement (at_work number m pairs) result text

@@ -1,8 +1,8 @@
--- Words of the code: what a statement at work keeps, and whether a pair is a step.
-use Rattle.std.specs.Prelude.{◌≡◌, ◌≤◌, ◌^◌, ℕ, Bool, true, false, List, Option, Some, None}
+-- Words of the code: what a statement at work keeps.
+use Rattle.std.specs.Prelude.{◌≡◌, ◌≤◌, ◌^◌, ℕ, List, Option, Some, None}
 use Rattle.wire_records.specs.Records.{Record}
 use Rattle.market_rules.specs.Market.{Market}
-use Rattle.batch_audit.specs.Legal.{IsLegalPair, IsIllegalPair}
+use Rattle.batch_audit.specs.Legal.{IsLegalPair}
 use Rattle.journal_words.specs.Watching.{Watched}
 use Rattle.account_statement.specs.Telling.{Statement, Agrees}
 use Rattle.statement_rules.specs.Views.{seen}
@@ -12,11 +12,6 @@ use Rattle.statement_word.specs.Stating.{Stated, held_in}
 -- it is the statement of the account of this number, and agrees with the market; there is none where no account can have the number
 abbrev pub IsOf : ℕ → Market → Option Statement → Type 0
 IsOf number m kept = ((s : Statement) → kept ≡ Some s → (s.account ≡ number) × Agrees m s) × (kept ≡ None → 2 ^ 32 ≤ number)
-
--- the pair is a step of the market, or isn't
-abbrev pub IsStep : Bool → Market → Record × Record → Type 0
-IsStep true m pair = (new : Market) × IsLegalPair m pair new
-IsStep false m pair = IsIllegalPair m pair
 
 -- A legal pair was told: what is kept is of the market after it, and the text is the lines of what the account sees of it.
 pub record HasTold (number : ℕ) (m : Market) (pair : Record × Record) (new : Option Statement) (text : List ℕ) (next : Market) (legal : IsLegalPair m pair next) : Type 0 where

@@ -6,7 +6,8 @@
 //!
 //! # Costs
 //!
-//! A pair is looked at before it is done, so its audit is paid twice: what the account sees of a pair is said with the market before it.
+//! One audit of each pair, and its lines. What the account sees of a pair is said with the market before it, so it is told when the pair
+//! is judged and its step isn't made yet.
 //! Beside the market a statement holds what is the account's own, and one buffer for the lines of a pair.
 #![tactic(auto)]
 

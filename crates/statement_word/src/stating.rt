@@ -1,55 +1,22 @@
 //! The statement of an account, as a word over the pairs of a journal.
 ghost use Rattle.std.specs.Prelude.{◌≡◌, ◌≤◌, ◌<◌, ◌+◌, ◌^◌, ◌↔◌, ℕ, [], IsTrue, IfOk, OnOk, OnErr, IfErr, Some, vec_len, vec_capacity};
-ghost use Rattle.market_rules.specs.Wanting.{RecordMayWant};
 ghost use Rattle.word_driver.specs.Private.{HaltsWith};
 ghost use Rattle.journal_words.specs.Watching.{SeesOne};
 ghost use Rattle.journal_words.specs.Private.{HasRoom};
 ghost use Rattle.statement_word.specs.Stating.{stating, statement as statement_word, statement_start};
-ghost use Rattle.statement_word.specs.Private.{IsOf, IsStep, at_work};
+ghost use Rattle.statement_word.specs.Private.{IsOf, at_work};
 
 use crate::no_statement::NoStatement;
 use crate::own::Own;
-use batch_audit::{Audit, Finding, Legality};
+use batch_audit::Audit;
 use file_units::Front;
 use journal_records::{PairFramed, PairView, is_overlong, journal_version, next_pair};
 use market_core::Market;
 use std::alloc::Global;
-use word_driver::{Halt, Memory, ServesWord};
+use word_driver::{Halt, ServesWord};
 
 // As many bytes has the longest pair: 5 and 1,024 of the command record, 5 and 262,144 of the reply's.
 const MOST_PAIR: usize = 263_178;
-
-// Whether it is found that the pair is legal.
-fn is_legal(finding: Finding) -> bool
-    ensures { IsTrue result ↔ (finding ≡ Finding.Legal) }
-{
-    match finding {
-        Finding::NoReply => false,
-        Finding::OtherReply(_) => false,
-        Finding::Batch(_) => false,
-        Finding::Part(_) => false,
-        Finding::SingleBook => false,
-        Finding::TraceLength => false,
-        Finding::TraceStep(_) => false,
-        Finding::AllSettled => false,
-        Finding::StartDual(_) => false,
-        Finding::EndDual(_) => false,
-        Finding::Legal => true,
-    }
-}
-
-// Whether the pair is a step of the audit's market, which stays as it is.
-fn is_step(audit: &mut Audit, pair: &PairView<'_>) -> Result<bool, Memory>
-    requires next { audit.old.next_order + 1 < 2 ^ 64 }
-    ensures step { IfOk result (λ is. IsStep is audit.old pair.now) }
-    ensures stays { audit.new ≡ audit.old }
-    ensures wanted { OnErr result (RecordMayWant audit.old pair.now.0) }
-{
-    match audit.explain(pair) {
-        Ok(finding) => Ok(is_legal(finding)),
-        Err(_) => Err(Memory),
-    }
-}
 
 /// The word `statement`: it audits the pairs of a journal one after the other, from the empty market of the journal's version, and
 /// tells of each legal one what the account of a number sees of it.
@@ -76,8 +43,8 @@ impl Stating {
         }
     }
 
-    // Audits a pair, and tells what the account sees of it. It is looked at before it is done, since the market before it says that. Where
-    // memory runs out behind that, what was told is a pair ahead of the market, so both are put back to their start.
+    // Audits a pair, and tells what the account sees of it between the judgement and the step, since the market before the step says that.
+    // Where memory runs out in the step, what was told is a pair ahead of the market, so both are put back to their start.
     fn take_pair(
         &mut self,
         pair: &PairView<'_>,
@@ -92,18 +59,17 @@ impl Stating {
         ensures halted { IfErr result (λ halt. HaltsWith statement_word
             (at_work self.old.own.number self.old.audit self.old.pairs) (Some pair.now) halt text.new.items) }
     {
-        match is_step(&mut self.audit, pair) {
-            Ok(true) => {}
-            Ok(false) => return Err(Halt::Stopped(NoStatement::Rejected(self.pairs + 1))),
+        let change = match self.audit.judge(pair) {
+            Ok(Some(change)) => change,
+            Ok(None) => return Err(Halt::Stopped(NoStatement::Rejected(self.pairs + 1))),
             Err(_) => return Err(Halt::Memory),
-        }
+        };
         match self.own.tell(self.audit.market(), pair, text) {
             Ok(()) => {}
             Err(_) => return Err(Halt::Memory),
         }
-        match self.audit.pair(pair) {
-            Ok(Legality::Legal) => {}
-            Ok(Legality::Illegal) => unreachable!(),
+        match self.audit.make(pair, change) {
+            Ok(()) => {}
             Err(_) => {
                 self.audit = Audit::new(self.alloc);
                 self.own = Own::new(self.alloc, self.own.number);
