@@ -1,0 +1,31 @@
+-- What stands at the front of the rest of a command file.
+use Rattle.std.proofs.Common.{◌≡◌, ◌<◌, ◌≤◌, ◌+◌, ◌-◌, ◌*◌, ◌^◌, ℕ, List, [], ◌++◌, length, drop, ap, length-append, arith}
+use Rattle.wire_records.specs.Records.{Record, IsRecord, StatesLength, HasNoFront, spelling}
+use Rattle.wire_records.specs.Formats.{StatesOver}
+use Rattle.wire_records.proofs.Fronts.{no_front-from_few, states_none-from_few, no_front-from_overlong}
+use Rattle.wire_records.proofs.Spelled.{length-spelling}
+use Rattle.journal_records.specs.Pairs.{plain_room}
+
+-- a record has room in the buffer
+pub has_room : (r : Record) (capacity : ℕ) → IsRecord 1024 r → 1042 ≤ capacity → plain_room r ≤ capacity
+has_room r capacity fits room = omega (arith, length-spelling r, fits.body, room)
+
+-- a record at the front of bytes leaves as many fewer, and takes five at least
+pub record_within : (bytes : List ℕ) (r : Record) (taken : ℕ) → taken ≡ length (spelling r) → bytes ≡ spelling r ++ drop taken bytes → (taken ≤ length bytes) × (5 ≤ taken)
+record_within bytes r taken size front = (omega (arith, size, ap length front, length-append (spelling r) (drop taken bytes)), omega (arith, size, length-spelling r))
+
+-- no bytes begin with no record
+pub no_front-from_none : (rest : List ℕ) → rest ≡ [] → HasNoFront 1024 rest
+no_front-from_none rest e = no_front-from_few 1024 rest (rw e (omega arith))
+
+-- a stated length that is too large
+pub no_front-from_large : (n : ℕ) (rest : List ℕ) → StatesLength n rest → 1024 < n → HasNoFront 1024 rest
+no_front-from_large n rest states above = no_front-from_overlong 1024 n rest (omega arith) states above
+
+-- no bytes state a length
+pub not_overlong-from_none : (rest : List ℕ) → rest ≡ [] → StatesOver 1024 rest → ⊥
+not_overlong-from_none rest e over = states_none-from_few over.0 rest (rw e (omega arith)) over.1
+
+-- no stated length is too large
+pub not_overlong-from_stated : (rest : List ℕ) → ((n : ℕ) → StatesLength n rest → n ≤ 1024) → StatesOver 1024 rest → ⊥
+not_overlong-from_stated rest small over = omega (arith, small over.0 over.1, over.2)

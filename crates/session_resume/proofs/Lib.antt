@@ -1,0 +1,9 @@
+mod Firsts
+mod Frames
+mod Magics
+mod Written
+pub mod OneFirst
+pub mod OneResumption
+mod Behind
+mod Taken
+pub mod SomeResumption

@@ -1,0 +1,65 @@
+-- What stands first in an input that is gone on from: a journal, or a checkpoint.
+use Rattle.std.specs.Prelude.{◌≡◌, ◌≢◌, ◌+◌, ℕ, List, ◌++◌, length}
+use Rattle.wire_records.specs.Records.{Record}
+use Rattle.wire_records.specs.Commands.{Pair}
+use Rattle.wire_records.specs.Grammars.{BeginsWithNone}
+use Rattle.wire_records.specs.declared.version.Version.{Version}
+use Rattle.flow_orders.specs.Outcomes.{Outcome}
+use Rattle.journal_records.specs.Formats.{journals, journal_in}
+use Rattle.market_rules.specs.Market.{Market}
+use Rattle.batch_audit.specs.Legal.{IsLegalJournal, IsIllegalPair}
+use Rattle.market_snapshot.specs.Checkpoints.{checkpoint_magic, IsCheckpoint, BeginsWithNoCheckpoint}
+use Rattle.session_resume.specs.declared.first.Origin.{Origin}
+use Rattle.session_resume.specs.declared.first.Origin.TheVariants.{Journal, Checkpoint}
+
+-- what stands first
+pub data First : Type 0 where
+  -- the magic of no journal and of no checkpoint
+  Neither : First
+  -- the magic of a checkpoint, and no checkpoint
+  NoCheckpoint : First
+  -- a journal of which the pair of this number, counted from 1, is the first that isn't legal
+  Illegal : ℕ → First
+  -- a legal journal up to behind its last whole pair, or a checkpoint: its market, where it ends, and the rest that stands behind it
+  Whole : Origin → Market → ℕ → List ℕ → First
+
+-- A legal journal, which leads to this market, and behind it at this place a rest that begins with no whole pair.
+pub record BeginsLegal (bytes : List ℕ) (market : Market) (place : ℕ) (rest : List ℕ) : Type 0 where
+  pub version : Version
+  pub pairs : List (Pair Record Outcome)
+  pub legal : IsLegalJournal version pairs market
+  pub whole : bytes ≡ journal_in version pairs ++ rest
+  pub last : BeginsWithNone journals.units rest
+  pub ends : place ≡ length (journal_in version pairs)
+
+-- A legal journal, and behind it a whole pair that is no step of its market; the pair has this number, counted from 1.
+pub record BeginsIllegal (bytes : List ℕ) (number : ℕ) : Type 0 where
+  pub version : Version
+  pub pairs : List (Pair Record Outcome)
+  pub market : Market
+  pub bad : Record × Record
+  pub rest : List ℕ
+  pub legal : IsLegalJournal version pairs market
+  pub whole : bytes ≡ journal_in version pairs ++ (journals.units.spell bad ++ rest)
+  pub lawful : journals.units.IsLawful bad
+  pub illegal : IsIllegalPair market bad
+  pub counted : number ≡ length pairs + 1
+
+-- A checkpoint of this market, and behind it at this place a rest.
+pub record BeginsKept (bytes : List ℕ) (market : Market) (place : ℕ) (rest : List ℕ) : Type 0 where
+  pub checkpoint : List ℕ
+  pub is_one : IsCheckpoint market checkpoint
+  pub whole : bytes ≡ checkpoint ++ rest
+  pub ends : place ≡ length checkpoint
+
+-- the bytes begin with the magic of a checkpoint
+abbrev pub HasCheckpointMagic : List ℕ → Type 0
+HasCheckpointMagic bytes = (rest : List ℕ) × (bytes ≡ checkpoint_magic ++ rest)
+
+-- which of these stands first
+abbrev pub IsFirst : List ℕ → First → Type 0
+IsFirst bytes Neither = BeginsWithNone journals.magics bytes × (¬ HasCheckpointMagic bytes)
+IsFirst bytes NoCheckpoint = HasCheckpointMagic bytes × BeginsWithNoCheckpoint bytes
+IsFirst bytes (Illegal number) = BeginsIllegal bytes number
+IsFirst bytes (Whole Journal market place rest) = BeginsLegal bytes market place rest
+IsFirst bytes (Whole Checkpoint market place rest) = BeginsKept bytes market place rest

@@ -1,0 +1,2 @@
+-- What holds of what is gone on from.
+use Rattle.std.specs.Prelude.{◌≡◌, ℕ, List}

@@ -1,0 +1,7 @@
+pub mod Firsts
+pub mod Continuing
+pub mod Rests
+pub mod Resuming
+pub mod Tasks
+pub mod Laws
+pub mod Private

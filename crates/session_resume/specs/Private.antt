@@ -1,0 +1,100 @@
+-- Words that only private functions use: why there is nothing to go on from, what serving a record does, and how an input ends.
+use Rattle.std.specs.Prelude.{◌≡◌, ◌⊎◌, ◌+◌, ◌*◌, ◌<◌, ◌^◌, ℕ, List, [], ◌++◌, Option, Ok, Err, All}
+use Rattle.flow_io.specs.Faults.{Blames}
+use Rattle.flow_io.specs.Streams.{Grows, GrowsByFront}
+use Rattle.flow_io.specs.Changes.{Change}
+use Rattle.wire_records.specs.Records.{Record}
+use Rattle.wire_records.specs.Grammars.{BeginsWith, spell_all}
+use Rattle.wire_records.specs.Formats.{commands, command_magic_of}
+use Rattle.market_rules.specs.Market.{Market}
+use Rattle.market_rules.specs.Wanting.{RecordMayWant}
+use Rattle.word_driver.specs.Ended.{Ended}
+use Rattle.word_driver.specs.declared.fault.Fault.TheVariants.{Read, Write, Memory, NotFlow, Torn, TooLong, Stopped}
+use Rattle.exchange_session.specs.Serving.{AnswersOne}
+use Rattle.session_resume.specs.declared.first.FirstFault.{FirstFault}
+use Rattle.session_resume.specs.declared.first.FirstFault.TheVariants as fault
+use Rattle.session_resume.specs.declared.first.Unfit.{Unfit}
+use Rattle.session_resume.specs.declared.serving.ServeFault.{ServeFault}
+use Rattle.session_resume.specs.declared.serving.ServeFault.TheVariants as serve
+use Rattle.session_resume.specs.Firsts.{Neither, NoCheckpoint, Illegal, IsFirst}
+use Rattle.session_resume.specs.Continuing.{Continues}
+
+-- why there is nothing to go on from
+abbrev pub IsFirstFault : List ℕ → FirstFault → Type 0
+IsFirstFault bytes fault.Neither = IsFirst bytes Neither
+IsFirstFault bytes fault.NoCheckpoint = IsFirst bytes NoCheckpoint
+IsFirstFault bytes (fault.Illegal number) = IsFirst bytes (Illegal number)
+IsFirstFault bytes fault.Memory = Unit {0}
+
+-- the numbers of orders stay within their width while so many bytes are left: each record has five at least
+abbrev pub HasNumbers : Market → ℕ → Type 0
+HasNumbers market left = 5 * market.next_order + left < 5 * 2 ^ 64
+
+-- a record was answered, and its pair put into an empty buffer
+abbrev pub Puts : Market → Record → Market → List ℕ → List ℕ → Type 0
+Puts old asked new before text = AnswersOne old asked new text
+
+-- The record at the front may want memory.
+pub record WantsNext (old : Market) (bytes : List ℕ) : Type 0 where
+  pub asked : Record
+  pub rest : List ℕ
+  pub lawful : commands.units.IsLawful asked
+  pub front : bytes ≡ commands.units.spell asked ++ rest
+  pub wants : RecordMayWant old asked
+
+-- A record was answered, and its pair written.
+pub record WritesPair (old : Market) (asked : Record) (new : Market) (out : Change) : Type 0 where
+  pub text : List ℕ
+  pub answers : AnswersOne old asked new text
+  pub written : Grows out.before out.after text
+  pub quiet : out.faults_after ≡ out.faults
+
+-- by why a record's pair wasn't written whole
+abbrev pub BreaksPairBy : Market → Record → ServeFault → Option (List ℕ) → Option (List ℕ) → Type 0
+BreaksPairBy old asked serve.Write before after = (new : Market) × (text : List ℕ) × AnswersOne old asked new text × GrowsByFront before after text
+BreaksPairBy old asked serve.Memory before after = RecordMayWant old asked × (after ≡ before)
+
+-- A record's pair wasn't written whole.
+pub record BreaksPair (old : Market) (asked : Record) (fault : ServeFault) (out : Change) : Type 0 where
+  pub broken : BreaksPairBy old asked fault out.before out.after
+  pub cause : Blames (fault ≡ serve.Write) out.faults out.faults_after
+
+-- These are the first records, and the text is that of their pairs.
+pub record WritesFirst (old : Market) (body : List ℕ) (records : List Record) (left : List ℕ) (new : Market) (text : List ℕ) : Type 0 where
+  pub whole : body ≡ spell_all commands.units records ++ left
+  pub each : All commands.units.IsLawful records
+  pub writes : Continues old records new text
+
+-- The text is that of the pairs of some first records.
+abbrev pub WritesInto : Market → List ℕ → List ℕ → Type 0
+WritesInto old body text = (records : List Record) × (left : List ℕ) × (new : Market) × WritesFirst old body records left new text
+
+-- The text is that of the pairs of the records before one that may want memory.
+pub record WritesShort (old : Market) (body : List ℕ) (text : List ℕ) : Type 0 where
+  pub records : List Record
+  pub left : List ℕ
+  pub new : Market
+  pub next : Record
+  pub behind : List ℕ
+  pub first : WritesFirst old body records left new text
+  pub stands : BeginsWith commands.units left next behind
+  pub wants : RecordMayWant new next
+
+-- the same of a rest that is a command file of the market's version
+abbrev pub IntoBehind : Market → List ℕ → List ℕ → Type 0
+IntoBehind market rest text = (body : List ℕ) × (rest ≡ command_magic_of market.version ++ body) × WritesInto market body text
+
+abbrev pub ShortBehind : Market → List ℕ → List ℕ → Type 0
+ShortBehind market rest text = (body : List ℕ) × (rest ≡ command_magic_of market.version ++ body) × WritesShort market body text
+
+-- What was written: by what bytes come to, what their first records come to, and what was written where memory was wanted.
+module _ (Comes : Ended Unfit → List ℕ → Type 0) (Into Short : List ℕ → Type 0) where
+  abbrev pub Ends : Ended Unfit → Option (List ℕ) → Option (List ℕ) → Type 0
+  Ends (Ok done) before after = (text : List ℕ) × Comes (Ok tt) text × Grows before after text
+  Ends (Err NotFlow) before after = (text : List ℕ) × Comes (Err NotFlow) text × Grows before after text
+  Ends (Err (Torn place)) before after = (text : List ℕ) × Comes (Err (Torn place)) text × Grows before after text
+  Ends (Err TooLong) before after = (text : List ℕ) × Comes (Err TooLong) text × Grows before after text
+  Ends (Err (Stopped why)) before after = (text : List ℕ) × Comes (Err (Stopped why)) text × Grows before after text
+  Ends (Err Write) before after = (text : List ℕ) × Into text × GrowsByFront before after text
+  Ends (Err Memory) before after = (text : List ℕ) × ((text ≡ []) ⊎ Short text) × Grows before after text
+  Ends (Err Read) before after = ⊥

@@ -1,0 +1,18 @@
+-- `flow resume` as a task.
+use Rattle.std.specs.Prelude.{◌≡◌, ◌⊎◌, ◌+◌, ◌<◌, ℕ, List, [], length, take}
+use Rattle.word_driver.specs.Does.{Task}
+use Rattle.session_resume.specs.declared.first.Unfit.{Unfit}
+use Rattle.session_resume.specs.Resuming.{Resumes, ResumesInto, ResumesShort}
+
+-- It reads its input whole, and audits a journal or restores the market of a checkpoint, before it writes, and may want memory for that; and
+-- then at a record that may want some. What may stand in out before the end, besides nothing, are the pairs of the first new records.
+abbrev pub resuming : Task Unfit
+resuming = record {
+  Comes = λ limit bytes ended text. Resumes (limit < length bytes) (take limit bytes) ended text;
+  Begins = λ limit bytes n text. (text ≡ []) ⊎ ResumesInto (take limit bytes) text;
+  Lacks = λ limit bytes text. (text ≡ []) ⊎ ResumesShort (take limit bytes) text;
+  Passed = λ limit bytes n text. ⊥;
+  ahead = λ limit. limit + 1;
+  most_taken = λ limit. limit + 1;
+  left = λ bytes. [];
+}
