@@ -84,14 +84,14 @@ module _ {S B : Type 0} (watch : Watch S B) where
     }
 
   -- The units are these legal pairs, which lead from a state to another and are counted.
-  record AreLegal (start new : Watched S) (units : List (Record × Record)) : Type 0 where
-    legal : List (Pair Record Outcome)
-    parts : units ≡ map records_of legal
-    each : All IsPair legal
-    steps : Follows IsReadAs IsRightOutcome start.market legal new.market
-    pairs : new.pairs ≡ start.pairs + length legal
+  pub record AreLegal (start new : Watched S) (units : List (Record × Record)) : Type 0 where
+    pub legal : List (Pair Record Outcome)
+    pub parts : units ≡ map records_of legal
+    pub each : All IsPair legal
+    pub steps : Follows IsReadAs IsRightOutcome start.market legal new.market
+    pub pairs : new.pairs ≡ start.pairs + length legal
 
-  are_legal : (start new : Watched S) (units : List (Record × Record)) (text : List ℕ) → All journals.units.IsLawful units → Goes (over_pairs watch) start units new text → AreLegal start new units
+  pub are_legal : (start new : Watched S) (units : List (Record × Record)) (text : List ℕ) → All journals.units.IsLawful units → Goes (over_pairs watch) start units new text → AreLegal start new units
   are_legal start new [] text each goes = record {
     legal = [];
     parts = refl;

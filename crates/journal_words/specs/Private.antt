@@ -1,5 +1,5 @@
 -- Words of the code: what watching a pair answers.
-use Rattle.std.specs.Prelude.{◌+◌, ◌<◌, ◌^◌, ℕ, List, Result, Ok, Err}
+use Rattle.std.specs.Prelude.{◌+◌, ◌*◌, ◌<◌, ◌^◌, ℕ, List, Result, Ok, Err}
 use Rattle.market_rules.specs.Market.{Market}
 use Rattle.word_driver.specs.declared.fault.Halt.{Halt}
 use Rattle.word_driver.specs.declared.fault.Halt.TheVariants.{Memory, Stopped}
@@ -11,7 +11,7 @@ IsClosedBy watch market pairs seen (Ok done) text = watch.Closes market pairs se
 IsClosedBy watch market pairs seen (Err Memory) text = watch.Wants market pairs End seen
 IsClosedBy watch market pairs seen (Err (Stopped why)) text = watch.Stops market pairs seen why text
 
--- the numbers stay within their width while so many bytes are left
+-- the numbers stay within their widths while so many bytes are left: each pair has ten at least, so that of the next order is below 2 ^ 63
 pub record HasRoom (market : Market) (pairs left : ℕ) : Type 0 where
-  pub orders : market.next_order + left < 2 ^ 64
+  pub orders : 10 * market.next_order + left < 2 ^ 64 + 10
   pub counts : pairs + left < 2 ^ 64

@@ -96,7 +96,7 @@ impl OnPair for Counting {
         Ok(pairs + 1)
     }
 
-    fn end(&mut self, _audit: &Audit, pairs: u64, text: &mut Vec<u8>) -> Result<(), Halt<u64>> {
+    fn end(&mut self, _audit: &mut Audit, pairs: u64, text: &mut Vec<u8>) -> Result<(), Halt<u64>> {
         put_line(text, pairs, self.cleared, self.skipped);
         Ok(())
     }

@@ -149,7 +149,7 @@ impl OnPair for Explaining {
         Ok(pairs + 1)
     }
 
-    fn end(&mut self, audit: &Audit, pairs: u64, text: &mut Vec<u8>) -> Result<(), Halt<u64>> {
+    fn end(&mut self, audit: &mut Audit, pairs: u64, text: &mut Vec<u8>) -> Result<(), Halt<u64>> {
         self.counting.end(audit, pairs, text)
     }
 }

@@ -68,11 +68,18 @@ pub trait OnPair {
             (λ why. watch.Rejects audit.old pairs pair.now (seen self.old) why text.new.items) }
         ensures wanted { OnErr result (watch.Wants audit.old pairs (Illegal pair.now) (seen self.old)) };
 
-    /// The end of the journal.
-    fn end(&mut self, audit: &Audit, pairs: u64, text: &mut Vec<u8>) -> Result<(), Halt<Self::Stop>>
+    /// The end of the journal, in whose market the next order gets a number below 2^63. The audit is left as it is.
+    fn end(
+        &mut self,
+        audit: &mut Audit,
+        pairs: u64,
+        text: &mut Vec<u8>,
+    ) -> Result<(), Halt<Self::Stop>>
+        requires next { audit.old.next_order < 2 ^ 63 }
         requires empty { text.old.items ≡ [] }
         requires none { vec_len text.old ≡ 0 }
         requires room { ROOM ≤ vec_capacity text.old }
+        ensures stays { audit.new ≡ audit.old }
         ensures room { vec_capacity text.old ≤ vec_capacity text.new }
-        ensures closed { IsClosedBy watch audit.now pairs (seen self.old) result text.new.items };
+        ensures closed { IsClosedBy watch audit.old pairs (seen self.old) result text.new.items };
 }

@@ -23,6 +23,7 @@ pub struct Pairs<P> {
     audit: Audit,
     pairs: u64,
     on: P,
+    ghost next: { audit.next_order < 2 ^ 63 },
 }
 
 impl<P: OnPair + Drop> Pairs<P> {
@@ -43,7 +44,7 @@ impl<P: OnPair + Drop> Pairs<P> {
 
     // Audits a pair, and does with it what is to be done.
     fn take_pair(&mut self, pair: &PairView<'_>, text: &mut Vec<u8>) -> Result<(), Halt<P::Stop>>
-        requires next { self.old.audit.next_order + 1 < 2 ^ 64 }
+        requires next { self.old.audit.next_order + 1 < 2 ^ 63 }
         requires few { self.old.pairs + 1 < 2 ^ 64 }
         requires within { P.is_within self.old.on self.old.pairs }
         requires empty { text.old.items ≡ [] }
@@ -128,6 +129,6 @@ impl<P: OnPair + Drop> ServesWord for Pairs<P> {
     }
 
     fn close(&mut self, text: &mut Vec<u8>) -> Result<(), Halt<P::Stop>> {
-        self.on.end(&self.audit, self.pairs, text)
+        self.on.end(&mut self.audit, self.pairs, text)
     }
 }

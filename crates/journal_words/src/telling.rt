@@ -46,7 +46,12 @@ impl OnPair for Telling {
         Ok(pairs + 1)
     }
 
-    fn end(&mut self, _audit: &Audit, _pairs: u64, _text: &mut Vec<u8>) -> Result<(), Halt<u64>> {
+    fn end(
+        &mut self,
+        _audit: &mut Audit,
+        _pairs: u64,
+        _text: &mut Vec<u8>,
+    ) -> Result<(), Halt<u64>> {
         Ok(())
     }
 }

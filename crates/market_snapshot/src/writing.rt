@@ -88,6 +88,7 @@ pub fn write_market(market: &mut Market, out: &mut Vec<u8>) -> Result<(), Memory
     ensures written { OnOk result (out.new.items ≡ out.old.items ++ checkpoint_bytes market.old) }
     ensures checkpoint { OnOk result (IsCheckpoint market.old (checkpoint_bytes market.old)) }
     ensures unwritten { OnErr result (out.new.items ≡ out.old.items) }
+    ensures room { vec_capacity out.old ≤ vec_capacity out.new }
     ensures market { market.new ≡ market.old }
 {
     let fields = fields_size(market);

@@ -1,0 +1,72 @@
+//! What is written at the end of a journal.
+ghost use Rattle.journal_checkpoint.specs.Checkpointing.{checkpointing};
+
+use batch_audit::Audit;
+use journal_records::PairView;
+use journal_words::OnPair;
+use market_core::Market;
+use market_snapshot::write_market;
+use std::alloc::Global;
+use std::mem::replace;
+use word_driver::{Halt, Memory};
+
+/// It writes the market of the journal at its end.
+#[derive(Drop)]
+pub struct Checkpointing {
+    alloc: Global,
+}
+
+impl Checkpointing {
+    /// Takes no memory before the end.
+    pub fn new(alloc: Global) -> Checkpointing
+        ensures { ⟦<Checkpointing as OnPair>⟧.is_within result 0 }
+    {
+        Checkpointing { alloc }
+    }
+}
+
+impl OnPair for Checkpointing {
+    type Stop = u64;
+
+    const ROOM: usize = 0;
+
+    ghost ROOM = { 0 };
+
+    ghost Seen = { Unit {0} };
+
+    ghost watch = { checkpointing };
+
+    ghost seen = { λ c. tt };
+
+    ghost is_within = { λ c pairs. Unit {0} };
+
+    fn legal(
+        &mut self,
+        _audit: &Audit,
+        _pair: &PairView<'_>,
+        _pairs: u64,
+        _text: &mut Vec<u8>,
+    ) -> Result<(), Memory> {
+        Ok(())
+    }
+
+    fn illegal(
+        &mut self,
+        _audit: &mut Audit,
+        _pair: &PairView<'_>,
+        pairs: u64,
+        _text: &mut Vec<u8>,
+    ) -> Result<u64, Memory> {
+        Ok(pairs + 1)
+    }
+
+    fn end(&mut self, audit: &mut Audit, _pairs: u64, text: &mut Vec<u8>) -> Result<(), Halt<u64>> {
+        let mut market = replace(audit, Audit::new(self.alloc)).into_market();
+        let written = write_market(&mut market, text);
+        *audit = Audit::over(market);
+        match written {
+            Ok(()) => Ok(()),
+            Err(_) => Err(Halt::Memory),
+        }
+    }
+}
