@@ -62,6 +62,7 @@ pub(crate) fn put_orders(out: &mut Vec<u8>, orders: &[Order])
     requires few { length orders.now ≤ most_orders }
     requires room { vec_len out.old + (4 + length (flat_map (λ o. order_spelling (read_order o)) orders.now)) ≤ vec_capacity out.old }
     ensures written { out.new.items ≡ out.old.items ++ orders_spelling (map read_order orders.now) }
+    ensures capacity { vec_capacity out.new ≡ vec_capacity out.old }
     ensures last { All (λ o. o.last < 2 ^ 32) orders.now }
 {
     put_u32(out, orders.len() as u32);

@@ -1,4 +1,4 @@
-use Rattle.std.proofs.Common.{◌≡◌, ◌∙◌, ◌++◌, map, ap}
+use Rattle.std.proofs.Common.{◌≡◌, ◌∙◌, ◌++◌, map, ap, arith}
 use Rattle.market_rules.specs.Market.{Market}
 use Rattle.market_snapshot.specs.Checkpoints.{orders_spelling, read_order}
 use Rattle.market_snapshot.specs.Fields.{fields_spelling}
@@ -13,3 +13,6 @@ returns-clause-written c =
     c.put_fields.ensures.written ∙ ap (λ n. c.reserve.new.self.items ++ fields_spelling n) c.orders.follows.holds-at-none ∙ ap (λ z. z ++ fields_spelling m) c.reserve.ensures.items in
     market_written old c.put_orders.new.out.items m
     (c.put_orders.ensures.written ∙ ap (λ os. c.put_fields.new.out.items ++ orders_spelling (map read_order os)) (c.orders-2.ensures.value ∙ ap (λ (n : Market). n.orders) c.orders.follows.holds-at-none) ∙ ap (λ z. z ++ orders_spelling (map read_order m.orders)) fields)
+
+pub returns-clause-room : goal.returns-clause-room
+returns-clause-room c = omega (arith, c.put_orders.ensures.capacity, c.put_fields.ensures.capacity, c.reserve.ensures.capacity)
