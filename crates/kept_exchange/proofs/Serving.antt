@@ -14,12 +14,32 @@ use Rattle.journal_keeping.specs.Keeping.{HoldsLegal, KeepsOn}
 use Rattle.journal_keeping.specs.Ended.{ComesTo, MayBeginAgain}
 use Rattle.journal_keeping.specs.Ended as kept
 use Rattle.journal_keeping.specs.declared.fault.KeepFault.TheVariants.{Read, Write, Disk}
-use Rattle.journal_keeping.proofs.Whole.{keeps_wider}
 use Rattle.flow_exchange.specs.declared.status.Status.TheVariants as status
 use Rattle.flow_exchange.specs.Statuses.{line_of}
 use Rattle.kept_exchange.specs.Statuses.{kept_status}
 use Rattle.kept_exchange.specs.Keeping.{EndsAs, Determines, ServesKeep}
 use Rattle.kept_exchange.proofs.AsStatus.{Kept, blames_as, read_back, write_back, disk_back, refusal_back, determines}
+
+-- what a call keeps, for a wider reason to cut a write short
+keeps_wider : (limit : ℕ) (content : Option (List ℕ)) (Cut Wider : Type 0) (start end : DiskState) (old : List (Pair Record Outcome)) (market : Market) (held holds : Option (List ℕ)) → (Cut → Wider)
+    → KeepsOn limit content Cut start end old market held holds → KeepsOn limit content Wider start end old market held holds
+keeps_wider limit content Cut Wider start end old market held holds wider keeps =
+    let stands = keeps.written in
+    record {
+      records = keeps.records;
+      new = keeps.new;
+      acknowledged = keeps.acknowledged;
+      served = keeps.served;
+      runs = keeps.runs;
+      written = record {
+        whole = stands.whole;
+        last = stands.last;
+        parts = stands.parts;
+        one = stands.one;
+        none = λ not. stands.none (λ cut. not (wider cut));
+        written = stands.written;
+      };
+    }
 
 -- a line that no write failed of was written
 written : (result : Result (Unit {0}) WriteFailed) (before after : Option (List ℕ)) (line : List ℕ) (faults now : ℕ) → OnOk result (Grows before after line) → Blames (IsErr result) faults now → (¬ Rose faults now) → Grows before after line
