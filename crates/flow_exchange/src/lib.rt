@@ -7,6 +7,7 @@
 #![tactic(auto)]
 
 mod audit;
+mod checkpoint;
 mod encode;
 mod ending;
 mod explain;
@@ -14,6 +15,7 @@ mod form;
 pub mod laws;
 mod line;
 mod report;
+mod resume;
 mod run;
 mod sample;
 mod sample_form;

@@ -7,10 +7,12 @@ ghost use Rattle.flow_exchange.specs.Running.{KeepsPace};
 
 use crate::Status;
 use crate::audit::audit;
+use crate::checkpoint::checkpoint;
 use crate::encode::encode;
 use crate::explain::explain;
 use crate::form::{Form, form_of};
 use crate::report::report;
+use crate::resume::resume;
 use crate::run::run;
 use crate::sample::sample;
 use crate::statement::statement;
@@ -43,6 +45,8 @@ fn do_form<S: Source, K: Sink>(
         Form::Encode(version) => encode(alloc, version, limit, source, out),
         Form::Sample { number, orders } => sample(alloc, number, orders, out),
         Form::Statement { number } => statement(alloc, number, limit, source, out),
+        Form::Checkpoint => checkpoint(alloc, limit, source, out),
+        Form::Resume => resume(alloc, limit, source, out),
     }
 }
 

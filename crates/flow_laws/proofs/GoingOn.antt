@@ -35,11 +35,11 @@ use Rattle.flow_laws.proofs.RunsAudited.{pairs_short, journal}
 
 -- The pairs that answer records from a market on, which fit their widths while each may have given a number to an order, and this is
 -- their text.
-record Answers (old : Market) (records : List Record) (new : Market) (text : List ℕ) : Type 0 where
-  pairs : List (Pair Record Outcome)
-  answered : IsAnswered IsReadAs IsOwnOutcome old records pairs new
-  fits : old.next_order + length pairs < 2 ^ 64 → All IsPair pairs
-  spelled : text ≡ flat_map pair_spelling pairs
+pub record Answers (old : Market) (records : List Record) (new : Market) (text : List ℕ) : Type 0 where
+  pub pairs : List (Pair Record Outcome)
+  pub answered : IsAnswered IsReadAs IsOwnOutcome old records pairs new
+  pub fits : old.next_order + length pairs < 2 ^ 64 → All IsPair pairs
+  pub spelled : text ≡ flat_map pair_spelling pairs
 
 answers : (old new : Market) (records : List Record) (text : List ℕ) → Goes run old records new text → Answers old records new text
 answers old new [] text goes = record { pairs = []; answered = record { asked = refl; steps = goes.0 }; fits = λ few. All-nil IsPair; spelled = goes.1 }
@@ -90,7 +90,7 @@ module _ (most : ℕ) (version : Version) (pairs : List (Pair Record Outcome)) (
         (own_follows_are_right IsReadAs read_own old so.pairs new (legal_is_sound version pairs old legal) so.answered.steps);
   }
 
-  one_journal : IsOneJournal most bytes records new text
+  pub one_journal : IsOneJournal most bytes records new text
   one_journal =
       let whole = joined version pairs so.pairs bytes text before so.spelled in
       record {

@@ -9,3 +9,4 @@ mod SomeEnd
 mod StatementFronts
 mod StatementsAreOne
 mod Fronts
+mod Resumed

@@ -7,12 +7,16 @@ use Rattle.wire_records.specs.CommandRecords.{record_of}
 use Rattle.wire_records.specs.Versions.{IsReadAs}
 use Rattle.wire_records.specs.Reading.{Reads, File, End}
 use Rattle.wire_records.specs.declared.version.Version.{Version}
-use Rattle.wire_records.specs.Formats.{commands}
+use Rattle.wire_records.specs.Grammars.{BeginsWithNone, spell_all}
+use Rattle.wire_records.specs.Formats.{commands, command_magic_of}
 use Rattle.flow_orders.specs.Outcomes.{Outcome}
 use Rattle.journal_records.specs.Pairs.{pair_spelling}
 use Rattle.journal_records.specs.Formats.{journals, journal_in}
 use Rattle.flow_accounts.specs.Balances.{IsAccount}
-use Rattle.market_rules.specs.Market.{Market, empty_market}
+use Rattle.market_rules.specs.Market.{Market, empty_market, IsSound}
+use Rattle.market_rules.specs.Journal.{HoldsDeposits}
+use Rattle.market_rules.specs.Laws.{Leads}
+use Rattle.market_snapshot.specs.Checkpoints.{IsCheckpoint}
 use Rattle.batch_audit.specs.Legal.{IsLegalJournal, IsIllegalPair}
 use Rattle.journal_replay.specs.Replays.{IsReplayed}
 use Rattle.word_driver.specs.Ended.{Ended}
@@ -20,6 +24,7 @@ use Rattle.word_driver.specs.Word.{Goes}
 use Rattle.line_records.specs.Encoding.{EncodesTo}
 use Rattle.exchange_session.specs.Journals.{Journals}
 use Rattle.exchange_session.specs.Running.{run}
+use Rattle.session_resume.specs.Continuing.{Continues}
 use Rattle.journal_words.specs.Findings.{IsExplained}
 use Rattle.journal_replay.specs.Audits.{cleared_in, skipped_in}
 use Rattle.statement_rules.specs.Views.{Event, Sees}
@@ -28,7 +33,7 @@ use Rattle.sample_market.specs.Files.{sample_file}
 use Rattle.sample_summary.specs.Summary.{units_in, summary_line}
 use Rattle.flow_exchange.specs.Forms.{Asks}
 use Rattle.flow_exchange.specs.declared.form.Form.{Form}
-use Rattle.flow_exchange.specs.declared.form.Form.TheVariants.{Run, Audit, Explain, Sample, Statement}
+use Rattle.flow_exchange.specs.declared.form.Form.TheVariants.{Run, Audit, Explain, Sample, Statement, Checkpoint, Resume}
 use Rattle.flow_exchange.specs.declared.status.Status.{Status}
 use Rattle.flow_exchange.specs.declared.status.Status.TheVariants.{Done, NotFlow, Rejected, NoAccount}
 use Rattle.flow_exchange.specs.Auditing.{legal_line}
@@ -166,3 +171,37 @@ pub record SessionsGoOn : Type 0 where
   pub same : (most : ℕ) (version : Version) (bytes text whole : List ℕ) (at old new last : Market) (first records : List Record)
       → Journals version first at bytes → IsReplayed bytes (Ok old) → Goes run old records new text
       → most < 2 ^ 64 → length (bytes ++ text) ≤ most → Journals version (first ++ records) last whole → (whole ≡ bytes ++ text) × (last ≡ new)
+
+-- The rest begins with the command magic of the version, and these are all whole records behind it.
+pub record AreNew (version : Version) (rest : List ℕ) (records : List Record) : Type 0 where
+  pub left : List ℕ
+  pub whole : rest ≡ command_magic_of version ++ (spell_all commands.units records ++ left)
+  pub each : All commands.units.IsLawful records
+  pub last : BeginsWithNone commands.units left
+
+-- the records that stand in a rest: those of a command file of the version, or none
+abbrev pub NewRecords : Version → List ℕ → List Record → Type 0
+NewRecords version rest records = AreNew version rest records ⊎ (((body : List ℕ) → rest ≢ command_magic_of version ++ body) × (records ≡ []))
+
+-- What is written for a rest behind these pairs, which lead to the old market, is with them one legal journal, of the old records and
+-- then of the new ones.
+pub record JoinsJournal (most : ℕ) (version : Version) (pairs : List (Pair Record Outcome)) (rest text : List ℕ) : Type 0 where
+  pub records : List Record
+  pub new : Market
+  pub are_new : NewRecords version rest records
+  pub one : IsOneJournal most (journal_in version pairs) records new text
+
+-- Going on from a legal journal, or from the checkpoint of its market, makes of it one legal journal, whoever wrote the first of it.
+pub record ResumptionsGoOn : Type 0 where
+  pub journal : (limit most : ℕ) (bytes rest text : List ℕ) (version : Version) (pairs : List (Pair Record Outcome)) (market : Market) (status : Status) → IsLegalJournal version pairs market
+      → take limit bytes ≡ journal_in version pairs ++ rest → BeginsWithNone journals.units rest → ComesTo Resume limit bytes status text → most < 2 ^ 64 → length (journal_in version pairs ++ text) ≤ most
+      → JoinsJournal most version pairs rest text
+  pub checkpoint : (limit most : ℕ) (bytes checkpoint rest text : List ℕ) (version : Version) (pairs : List (Pair Record Outcome)) (market : Market) (status : Status) → IsLegalJournal version pairs market
+      → IsCheckpoint market checkpoint → take limit bytes ≡ checkpoint ++ rest → ComesTo Resume limit bytes status text → most < 2 ^ 64 → length (journal_in version pairs ++ text) ≤ most
+      → JoinsJournal most version pairs rest text
+
+-- after each of the pairs that are written what is held is what was held at the start, and the accepted deposits less the accepted
+-- withdrawals of the pairs so far
+abbrev pub EachPairHoldsDeposits : Type 0
+EachPairHoldsDeposits = (old new : Market) (records : List Record) (text : List ℕ) (writes : Continues old records new text) (before after : List (Pair Record Outcome)) → IsSound old
+    → writes.pairs ≡ before ++ after → (market : Market) × Leads old before market × HoldsDeposits IsReadAs old before market

@@ -4,7 +4,7 @@
 //! is built without them.
 #![tactic(auto)]
 
-ghost use Rattle.flow_laws.specs.Laws.{DoneIsForLegalJournals, RejectedIsFirstIllegal, ExplainIsAudit, RejectedIsExplained, EncodedIsRead, EncodedIsServed, RunsAreAudited, NoneIsWithoutEnd, SamplesAreRun, BegunIsAFront, TickersAgree, SessionsGoOn, StatementsOfLegalJournals, OneViewOneStatement};
+ghost use Rattle.flow_laws.specs.Laws.{DoneIsForLegalJournals, RejectedIsFirstIllegal, ExplainIsAudit, RejectedIsExplained, EncodedIsRead, EncodedIsServed, RunsAreAudited, NoneIsWithoutEnd, SamplesAreRun, BegunIsAFront, TickersAgree, SessionsGoOn, StatementsOfLegalJournals, OneViewOneStatement, ResumptionsGoOn, EachPairHoldsDeposits};
 
 /// `audit` is done exactly for the spelling of a legal journal with nothing past the limit, whoever wrote it, and the line that
 /// it writes counts the journal's pairs, and the batches that cleared and that were skipped.
@@ -86,4 +86,16 @@ pub fn none_is_without_end()
 /// determine.
 pub fn begun_is_a_front()
     ensures { BegunIsAFront }
+{}
+
+/// What `resume` writes behind a legal journal, whoever wrote it, is with the journal one legal journal, of the old records and then of the
+/// new ones. So is what it writes behind the checkpoint of the journal's market.
+pub fn resumptions_go_on()
+    ensures { ResumptionsGoOn }
+{}
+
+/// After each pair that `resume` writes, what is held is what was held in the market that it went on from, and the accepted deposits less
+/// the accepted withdrawals of its pairs so far, of money and of each asset.
+pub fn each_pair_holds_deposits()
+    ensures { EachPairHoldsDeposits }
 {}
