@@ -153,7 +153,7 @@ class Day:
         batch = Batch(pair, number, [Trade(order, order.room(), rate) for order, rate in zip(live, rates)])
         batch.prices, batch.residuals = signed(answer, 6, 8, count), signed(answer, behind, 8, count)
         batch.gap, = signed(answer, behind + 8 * count, 16, 1)
-        self.prices = batch.prices
+        self.prices = list(batch.prices)
         for order, rate in zip(live, rates):
             self.settle(order, rate, batch.prices)
         return batch
