@@ -10,3 +10,5 @@ pub mod Signed
 pub mod LossLaws
 pub mod GainLaws
 pub mod DualLaws
+pub mod Parts
+pub mod Smooth

@@ -9,7 +9,7 @@ twice_product_from : (p d : ℕ) → 2 * p * (p + d) ≤ p * p + (p + d) * (p + 
 twice_product_from p d = omega arith
 
 -- the same for any two numbers
-twice_product : (p r : ℕ) → 2 * p * r ≤ p * p + r * r
+pub twice_product : (p r : ℕ) → 2 * p * r ≤ p * p + r * r
 twice_product p r =
     elim (cases_lt p r) [
       | inl below ↦ let split : p + (r - p) ≡ r = omega arith in rw split at (twice_product_from p (r - p))

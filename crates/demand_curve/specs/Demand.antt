@@ -55,6 +55,14 @@ floor_rate t price = rounded_down (scaled_demand t price) (span t)
 unfoldable pub ceil_rate : Terms → ℤ → ℕ
 ceil_rate t price = rounded_up (scaled_demand t price) (span t)
 
+-- the demand in parts of a unit, rounded down
+unfoldable pub floor_in : ℕ → Terms → ℤ → ℕ
+floor_in parts t price = rounded_down (parts * scaled_demand t price) (span t)
+
+-- the demand in parts of a unit, rounded up
+unfoldable pub ceil_in : ℕ → Terms → ℤ → ℕ
+ceil_in parts t price = rounded_up (parts * scaled_demand t price) (span t)
+
 -- a whole rate that is less than 1 above the demand and less than 1 below it
 pub record IsRounding (t : Terms) (x : ℕ) (price : ℤ) : Type 0 where
   pub less_than_one_above : x * span t < scaled_demand t price + span t

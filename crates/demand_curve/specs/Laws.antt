@@ -1,7 +1,7 @@
 -- What holds of every demand curve. The functions of the module `laws` ensure these facts.
 use Rattle.std.specs.Prelude.{◌≡◌, ℕ, ◌+◌, ◌-◌, ◌*◌, ◌^◌, ◌<◌, ◌≤◌, ◌⊎◌, ◌↔◌, ℤ, pos, ◌+ℤ◌, ◌-ℤ◌, ◌*ℤ◌, ◌≤ℤ◌}
 use Rattle.demand_curve.specs.Numbers.{distance, rounded_down, rounded_up}
-use Rattle.demand_curve.specs.Demand.{Terms, IsWithin, IsWithinLimits, span, line, signed_line, scaled_demand, floor_rate, ceil_rate, IsRounding, loss, scaled_dual, dual_floor}
+use Rattle.demand_curve.specs.Demand.{Terms, IsWithin, IsWithinLimits, span, line, signed_line, scaled_demand, floor_rate, ceil_rate, floor_in, ceil_in, IsRounding, loss, scaled_dual, dual_floor}
 use Rattle.demand_curve.specs.Welfare.{scaled_welfare, scaled_gain}
 
 -- ---- the demand
@@ -95,6 +95,40 @@ RoundingsMoveLittle =
     (t : Terms) → IsWithinLimits t → (price : ℤ) (grains : ℕ)
     → 256 * floor_rate t price ≤ 256 * ceil_rate t (price +ℤ pos grains) + grains
 
+-- ---- its roundings in parts of a unit
+
+-- the demand in parts lies between its two roundings, and so between those of the demand in whole units
+pub record IsEnclosedIn (parts : ℕ) (t : Terms) (price : ℤ) : Type 0 where
+  pub floor_below : floor_in parts t price * span t ≤ parts * scaled_demand t price
+  pub floor_near : parts * scaled_demand t price < floor_in parts t price * span t + span t
+  pub ceil_above : parts * scaled_demand t price ≤ ceil_in parts t price * span t
+  pub ceil_near : ceil_in parts t price * span t < parts * scaled_demand t price + span t
+  pub floor_first : floor_in parts t price ≤ ceil_in parts t price
+  pub one_apart : ceil_in parts t price ≤ floor_in parts t price + 1
+  pub within_room : ceil_in parts t price ≤ parts * t.room
+  pub whole_floor : parts * floor_rate t price ≤ floor_in parts t price
+  pub whole_ceil : ceil_in parts t price ≤ parts * ceil_rate t price
+
+-- both roundings in parts enclose the demand, and differ by at most one part
+abbrev pub PartsEncloseDemand : Type 0
+PartsEncloseDemand = (parts : ℕ) (t : Terms) → IsWithinLimits t → (price : ℤ) → IsEnclosedIn parts t price
+
+-- neither rises as the price rises
+abbrev pub PartsNeverRise : Type 0
+PartsNeverRise =
+    (parts : ℕ) (t : Terms) → IsWithinLimits t → (lower higher : ℤ) → lower ≤ℤ higher
+    → (floor_in parts t higher ≤ floor_in parts t lower) × (ceil_in parts t higher ≤ ceil_in parts t lower)
+
+-- the demand in parts, rounded down, is above the demand in parts, rounded up, at a higher price by at most 1/256 of a unit for each grain between
+abbrev pub PartsMoveLittle : Type 0
+PartsMoveLittle =
+    (parts : ℕ) (t : Terms) → IsWithinLimits t → (price : ℤ) (grains : ℕ)
+    → 256 * floor_in parts t price ≤ 256 * ceil_in parts t (price +ℤ pos grains) + parts * grains
+
+-- in one part the roundings are those in whole units
+abbrev pub OnePartIsAUnit : Type 0
+OnePartIsAUnit = (t : Terms) (price : ℤ) → (floor_in 1 t price ≡ floor_rate t price) × (ceil_in 1 t price ≡ ceil_rate t price)
+
 -- ---- the loss
 
 -- the loss is 0 exactly where the demand is whole and the rate is it
@@ -183,3 +217,12 @@ abbrev pub DualFloorInParts : Type 0
 DualFloorInParts =
     (t : Terms) → IsWithinLimits t → (price : ℤ) (k N : ℕ) → k * (2 * t.rate * span t) ≡ N → 1 ≤ N
     → (N * dual_floor t price ≤ k * scaled_dual t price) × (k * scaled_dual t price < N * dual_floor t price + N)
+
+-- a price that moves by some grains lowers the dual value by at least the move times the demand before it, less half of the move times what it may change the demand by
+pub record IsSmooth (t : Terms) (price : ℤ) (grains : ℕ) : Type 0 where
+  pub rise : scaled_dual t (price +ℤ pos grains) + 2 * t.rate * scaled_demand t price * grains ≤ scaled_dual t price + t.rate * grains * (t.rate * grains)
+  pub fall : scaled_dual t (price -ℤ pos grains) ≤ scaled_dual t price + 2 * t.rate * scaled_demand t price * grains + t.rate * grains * (t.rate * grains)
+
+-- the dual value is smooth
+abbrev pub DualIsSmooth : Type 0
+DualIsSmooth = (t : Terms) → IsWithinLimits t → (price : ℤ) (grains : ℕ) → IsSmooth t price grains

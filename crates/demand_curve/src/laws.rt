@@ -3,7 +3,7 @@
 //! Each function does nothing. Its clause is a law, stated in the crate's `specs/Laws.antt` for all terms within
 //! their limits and all prices; a caller has the law after the call. All are free.
 
-ghost use Rattle.demand_curve.specs.Laws.{SpanIsInRange, DemandIsCutAtLimits, DemandNeverRises, DemandMovesLittle, RoundingsEncloseDemand, WholeDemandIsRoundedOnce, RoundingsAreFloorAndCeil, RoundingIsWithinRoom, RoundingIsExactAtCuts, RoundingsMoveLittle, LossIsZeroAtDemand, LossIsSmall, GainIsDifferenceOfSquares, LossCoversBestRate, LossCoversBestRateInParts, DualIsByCases, DualIsGreatestGain, DualFallsByDemand, DualFallsInParts, DualFloorInParts};
+ghost use Rattle.demand_curve.specs.Laws.{SpanIsInRange, DemandIsCutAtLimits, DemandNeverRises, DemandMovesLittle, RoundingsEncloseDemand, WholeDemandIsRoundedOnce, RoundingsAreFloorAndCeil, RoundingIsWithinRoom, RoundingIsExactAtCuts, RoundingsMoveLittle, PartsEncloseDemand, PartsNeverRise, PartsMoveLittle, OnePartIsAUnit, LossIsZeroAtDemand, LossIsSmall, GainIsDifferenceOfSquares, LossCoversBestRate, LossCoversBestRateInParts, DualIsByCases, DualIsGreatestGain, DualFallsByDemand, DualFallsInParts, DualFloorInParts, DualIsSmooth};
 
 /// The span `high - low` is 2^32 to 2^61 grains.
 pub fn span_is_in_range()
@@ -55,6 +55,28 @@ pub fn rounding_is_exact_at_cuts()
 /// grain between the two prices.
 pub fn roundings_move_little()
     ensures { RoundingsMoveLittle }
+{}
+
+/// The demand in parts of a unit lies between its two roundings, which differ by at most one part and lie between the
+/// roundings in whole units.
+pub fn parts_enclose_demand()
+    ensures { PartsEncloseDemand }
+{}
+
+/// Neither rounding in parts rises as the price rises.
+pub fn parts_never_rise()
+    ensures { PartsNeverRise }
+{}
+
+/// The demand in parts, rounded down, is above the demand in parts, rounded up, at a higher price by at most 1/256 of
+/// a unit for each grain between the two prices.
+pub fn parts_move_little()
+    ensures { PartsMoveLittle }
+{}
+
+/// In one part the roundings are those in whole units.
+pub fn one_part_is_a_unit()
+    ensures { OnePartIsAUnit }
 {}
 
 /// The loss is 0 exactly where the demand is whole and the rate is it.
@@ -110,4 +132,10 @@ pub fn dual_falls_in_parts()
 /// least its whole grains, and less than one grain above them.
 pub fn dual_floor_in_parts()
     ensures { DualFloorInParts }
+{}
+
+/// A price that moves by some grains lowers the dual value by at least the move times the demand before it, less half of
+/// the move times what it may change the demand by.
+pub fn dual_is_smooth()
+    ensures { DualIsSmooth }
 {}

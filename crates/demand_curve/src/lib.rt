@@ -20,7 +20,7 @@ pub mod laws;
 mod rounding;
 
 use arithmetic::{distance, floor_square_over};
-pub use rounding::Roundings;
+pub use rounding::{PartRoundings, Roundings};
 
 /// The demand curve of one order.
 ///
@@ -42,7 +42,7 @@ pub struct Curve {
 impl Curve {
     ghost use Rattle.std.specs.Prelude.{◌≡◌, ◌≤◌, ◌<◌, ◌*◌, ◌^◌, pos, ◌≤ℤ◌, ◌↔◌, IsTrue, min};
     ghost use Rattle.demand_curve.specs.Numbers.{distance, rounded_down, rounded_up};
-    ghost use Rattle.demand_curve.specs.Demand.{IsWithin, span, line, scaled_demand, floor_rate, ceil_rate, IsRounding, loss, dual_floor};
+    ghost use Rattle.demand_curve.specs.Demand.{IsWithin, span, line, scaled_demand, floor_rate, ceil_rate, floor_in, ceil_in, IsRounding, loss, dual_floor};
     ghost use Rattle.demand_curve.specs.Curve.{terms};
 
     /// The span `high - low`, in grains: 2^32 to 2^61.
@@ -109,6 +109,27 @@ impl Curve {
         }
     }
 
+    /// The demand at a price in parts of a unit, rounded down and rounded up: each at most the room in parts.
+    ///
+    /// The price is in grains, and there are 1 to 65,535 parts. Constant time, no memory, and one division, as for whole
+    /// units; none where the demand is cut.
+    pub fn roundings_in(&self, parts: u16, price: i128) -> PartRoundings
+        requires some { 1 ≤ parts }
+        requires price_in_range { IsWithin (2 ^ 78) price }
+        ensures floor { result.floor ≡ floor_in parts (terms self.now) price }
+        ensures ceil { result.ceil ≡ ceil_in parts (terms self.now) price }
+        ensures floor_within_room { result.floor ≤ parts * self.now.room }
+        ensures ceil_within_room { result.ceil ≤ parts * self.now.room }
+    {
+        if i128::from(self.high) <= price {
+            PartRoundings::of_whole(0)
+        } else if price <= i128::from(self.low) {
+            PartRoundings::of_whole(u64::from(parts) * u64::from(self.room))
+        } else {
+            self.parts_between(parts, self.below_high(price) as u64)
+        }
+    }
+
     /// Whether a rate, in whole units per batch, is less than 1 above and less than 1 below the demand at a price.
     ///
     /// The price is in grains. Constant time, no memory.
@@ -169,6 +190,20 @@ impl Curve {
         } else {
             Roundings::of_fraction(line, span, self.room)
         }
+    }
+
+    // Both roundings in parts between the limits, where the price is so many grains below the high one.
+    fn parts_between(&self, parts: u16, below_high: u64) -> PartRoundings
+        requires some { 1 ≤ parts }
+        ensures floor { let t = terms self.now in
+            result.floor ≡ rounded_down (parts * min (t.rate * below_high) (t.room * span t)) (span t) }
+        ensures ceil { let t = terms self.now in
+            result.ceil ≡ rounded_up (parts * min (t.rate * below_high) (t.room * span t)) (span t) }
+        ensures floor_within_room { result.floor ≤ parts * self.now.room }
+        ensures ceil_within_room { result.ceil ≤ parts * self.now.room }
+    {
+        let line = u128::from(self.rate) * u128::from(below_high);
+        PartRoundings::of_least(parts, line, self.span() as u64, self.room)
     }
 
     // The dual value where the line asks for more than the room.

@@ -1,6 +1,6 @@
-//! A demand rounded to whole units, both ways by one division.
+//! A demand rounded to whole units, or to parts of a unit, both ways by one division.
 
-ghost use Rattle.std.specs.Prelude.{◌≡◌, ◌<◌, ◌≤◌, ◌*◌, ◌/◌};
+ghost use Rattle.std.specs.Prelude.{◌≡◌, ◌<◌, ◌≤◌, ◌*◌, ◌/◌, min};
 ghost use Rattle.demand_curve.specs.Numbers.{rounded_down, rounded_up};
 
 /// Both roundings of one demand, in whole units per batch. They differ by at most 1, and are equal exactly where
@@ -38,6 +38,61 @@ impl Roundings {
         let is_whole = u128::from(floor) * u128::from(d) == n;
         let ceil = if is_whole { floor } else { floor + 1 };
         Roundings { floor, ceil }
+    }
+}
+
+/// Both roundings of one demand in parts of a unit. They differ by at most 1.
+#[derive(Clone, Copy, Debug, PartialEq, Eq)]
+pub struct PartRoundings {
+    /// The demand in parts, rounded down.
+    pub floor: u64,
+    /// The demand in parts, rounded up.
+    pub ceil: u64,
+}
+
+impl PartRoundings {
+    // Both roundings, in parts, of the fraction n/d, or of `room` where that is less.
+    pub(crate) fn of_least(parts: u16, n: u128, d: u64, room: u32) -> PartRoundings
+        requires some { 1 ≤ parts }
+        requires positive { 0 < d }
+        ensures floor { result.floor ≡ rounded_down (parts * min n (room * d)) d }
+        ensures ceil { result.ceil ≡ rounded_up (parts * min n (room * d)) d }
+        ensures floor_within_room { result.floor ≤ parts * room }
+        ensures ceil_within_room { result.ceil ≤ parts * room }
+    {
+        let most = u64::from(parts) * u64::from(room);
+        if u128::from(room) * u128::from(d) <= n {
+            PartRoundings::of_whole(most)
+        } else {
+            PartRoundings::of_fraction(u128::from(parts) * n, d, most)
+        }
+    }
+
+    // Both roundings of a whole number of parts.
+    pub(crate) fn of_whole(number: u64) -> PartRoundings
+        ensures floor { result.floor ≡ number }
+        ensures ceil { result.ceil ≡ number }
+    {
+        PartRoundings {
+            floor: number,
+            ceil: number,
+        }
+    }
+
+    // Both roundings of the fraction n/d, which is less than `most`.
+    #[tactic(auto, using(crate::proofs::Quotients::rounding_steps))]
+    fn of_fraction(n: u128, d: u64, most: u64) -> PartRoundings
+        requires positive { 0 < d }
+        requires below { n < most * d }
+        ensures floor { result.floor ≡ rounded_down n d }
+        ensures ceil { result.ceil ≡ rounded_up n d }
+        ensures floor_within { result.floor ≤ most }
+        ensures ceil_within { result.ceil ≤ most }
+    {
+        let floor = quotient(n, d) as u64;
+        let is_whole = u128::from(floor) * u128::from(d) == n;
+        let ceil = if is_whole { floor } else { floor + 1 };
+        PartRoundings { floor, ceil }
     }
 }
 

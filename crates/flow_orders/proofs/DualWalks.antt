@@ -1,12 +1,13 @@
 -- A walk lowers the exact dual by at least its movement, and the dual floors tell it up to the number of orders.
-use Rattle.std.proofs.Common.{◌≡◌, ℕ, zero, suc, ◌+◌, ◌*◌, ◌/◌, ◌≤◌, ◌<◌, ◌⊎◌, inl, inr, ℤ, pos, ◌+ℤ◌, ◌-ℤ◌, ◌*ℤ◌, ◌≤ℤ◌, List, [], ◌∷◌, length, get_or, ap, arith}
+use Rattle.std.proofs.Common.{◌≡◌, ℕ, zero, suc, ◌+◌, ◌*◌, ◌/◌, ◌≤◌, ◌<◌, ◌⊎◌, inl, inr, ℤ, pos, negsuc, ◌+ℤ◌, ◌-ℤ◌, ◌*ℤ◌, ◌≤ℤ◌, ◌<ℤ◌, List, [], ◌∷◌, length, get_or, ap, arith}
 use Prim.Native.Nat.{◌∣◌}
 use Rattle.std.specs.Prelude.{All, neg_ℤ}
-use Rattle.std.proofs.Math.Nat.{mul-le-mul_left, mul-le-mul, mul-div_cancel, div-mul_cancel, lt_of_mul-lt-mul_left}
+use Rattle.std.proofs.Math.Nat.{mul-le-mul_left, mul-le-mul, mul-div_cancel, div-mul_cancel, lt_of_mul-lt-mul_left, le_of_mul-le-mul_left}
+use Rattle.std.proofs.lemmas.Bool.{cases_lt}
 use Rattle.std.proofs.lemmas.Int.{ints}
 use Rattle.std.proofs.lemmas.List.{length-set}
 use Rattle.std.proofs.lemmas.List.Sums.{sum_by-cons}
-use borrow.Author.Differences.{up, down, product_is}
+use borrow.Author.Differences.{up, down}
 use Rattle.weight_rows.specs.Rows.{price_of, portfolio_price}
 use Rattle.demand_curve.specs.Demand.{Terms, span, scaled_dual, dual_floor}
 use Rattle.demand_curve.proofs.Limits.{span_least}
@@ -16,48 +17,142 @@ use Rattle.flow_orders.specs.Orders.{Order}
 use Rattle.flow_orders.proofs.Book.{IsSound}
 use Rattle.flow_orders.specs.Moves.{risen, fallen}
 use Rattle.flow_orders.specs.Duals.{share, IsCommonPart, exact_dual}
-use Rattle.flow_orders.proofs.BookSums.{own_price}
-use Rattle.flow_orders.proofs.Moves.{IsRise, IsFall}
-use Rattle.flow_orders.proofs.Progress.{AreShares, true_excess, dual_floors, times_keeps, excess_after_rise, excess_after_fall, dual_falls_by_excess}
+use Rattle.flow_orders.specs.Excess.{low_excess, high_excess, low_excess_in, high_excess_in, steepness}
+use Rattle.flow_orders.proofs.Moves.{IsRise, IsFall, risen_none, fallen_none, risen_more, fallen_more}
+use Rattle.flow_orders.proofs.Progress.{AreShares, true_excess, dual_floors, times_keeps, low_excess-below, high_excess-above, low_excess_in-below, high_excess_in-above, true_excess_step, dual_falls_by_excess, grain_rises, grain_falls}
+
+-- ---- grain after grain
+
+-- a dual and an excess that goes with it, grain after grain: the dual falls by at least the excess after a grain, and by at least the excess before it less half of the steepness, which is the most that the excess falls by
+pub record IsDescent (N steep : ℕ) (dual : ℕ → ℕ) (excess : ℕ → ℤ) : Type 0 where
+  pub after : (e : ℕ) → (pos (dual (suc e)) +ℤ excess (suc e)) ≤ℤ pos (dual e)
+  pub before : (e : ℕ) → (pos (2 * dual (suc e)) +ℤ pos 2 *ℤ excess e) ≤ℤ pos (2 * dual e + N * steep)
+  pub step : (e : ℕ) → excess e ≤ℤ (excess (suc e) +ℤ pos (N * steep))
+  pub start : pos (N * suc steep) ≤ℤ excess 0
+
+module _ (N steep : ℕ) (dual : ℕ → ℕ) (excess : ℕ → ℤ) (descent : IsDescent N steep dual excess) where
+  -- where the steepness is 0 the excess never falls
+  level : steep ≡ 0 → (e : ℕ) → pos N ≤ℤ excess e
+  level none zero = let start = descent.start in let flat : N * suc steep ≡ N = rw none (omega arith) in omega (arith, ints, rw flat at start)
+  level none (suc e) =
+      let step = descent.step e in
+      let flat : N * steep ≡ 0 = rw none (omega arith) in
+      omega (arith, ints, rw flat at step, level none e)
+
+  -- so the dual falls by N a grain
+  level_falls : steep ≡ 0 → (d : ℕ) → dual d + N * d ≤ dual 0
+  level_falls none zero = omega arith
+  level_falls none (suc e) =
+      let after = descent.after e in
+      let least : dual (suc e) + N ≤ dual e = omega (arith, ints, after, level none (suc e)) in
+      omega (arith, least, level_falls none e)
+
+  -- the first grain
+  first_grain : 2 * dual 1 + 2 * N + N * steep ≤ 2 * dual 0
+  first_grain = let before = descent.before 0 in let start = descent.start in omega (arith, ints, before, start)
+
+  -- while the excess is at least the steepness, the dual falls by N a grain and half of the steepness more
+  steep_falls : 1 ≤ steep → (e : ℕ) → ((i : ℕ) → 1 ≤ i → i ≤ suc e → pos (N * steep) ≤ℤ excess i) → 2 * dual (suc e) + 2 * N * suc e + N * steep ≤ 2 * dual 0
+  steep_falls some zero high = omega (arith, first_grain)
+  steep_falls some (suc e) high =
+      let after = descent.after (suc e) in
+      let here = high (suc (suc e)) (omega arith) (omega arith) in
+      let least : dual (suc (suc e)) + N * steep ≤ dual (suc e) = omega (arith, ints, after, here) in
+      omega (arith, least, mul-le-mul_left N some, steep_falls some e (λ i one most. high i one (omega (arith, most))))
+
+  -- where the excess is at least the steepness before the last grain, the dual falls by N a grain
+  pub dual_falls : (d : ℕ) → 1 ≤ d → ((i : ℕ) → 1 ≤ i → i < d → pos (N * steep) ≤ℤ excess i) → dual d + N * d ≤ dual 0
+  dual_falls d some high =
+      elim (cases_lt 0 steep) [
+        | inl rises ↦ by_grains rises d some high
+        | inr none ↦ level_falls (omega (arith, none)) d
+      ]
+    where
+      by_grains : 1 ≤ steep → (d : ℕ) → 1 ≤ d → ((i : ℕ) → 1 ≤ i → i < d → pos (N * steep) ≤ℤ excess i) → dual d + N * d ≤ dual 0
+      by_grains rises zero some high = absurd (omega (arith, some))
+      by_grains rises (suc zero) some high = omega (arith, first_grain)
+      by_grains rises (suc (suc e)) some high =
+          let so_far = steep_falls rises e (λ i one most. high i one (omega (arith, most))) in
+          let before = descent.before (suc e) in
+          let here = high (suc e) (omega arith) (omega arith) in
+          let last : 2 * dual (suc (suc e)) + N * steep ≤ 2 * dual (suc e) = omega (arith, ints, before, here) in
+          omega (arith, last, so_far, mul-le-mul_left N rises)
 
 -- ---- one move
 
--- a number at most -n, times -d
-pub times_turns : (d n : ℕ) (x : ℤ) → x ≤ℤ neg_ℤ (pos n) → pos (d * n) ≤ℤ (neg_ℤ (pos d) *ℤ x)
-times_turns d n x h =
-    let sides : n + up x ≤ down x = omega (arith, ints, h) in
-    let none : up (neg_ℤ (pos d)) ≡ 0 = omega (arith, ints) in
-    let all : down (neg_ℤ (pos d)) ≡ d = omega (arith, ints) in
-    omega (arith, ints, product_is (neg_ℤ (pos d)) x, ap (λ y. y * up x) none, ap (λ y. y * down x) none, ap (λ y. y * up x) all, ap (λ y. y * down x) all, mul-le-mul_left d sides)
-
 -- an asset's price moves by d grains: a rise or a fall
-abbrev pub IsMove : List Order → List ℤ → ℕ → ℕ → ℕ → List ℤ → Type 0
-IsMove orders prices asset reach d next =
-    (IsRise orders prices asset reach d × (next ≡ risen prices asset d)) ⊎ (IsFall orders prices asset reach d × (next ≡ fallen prices asset d))
+abbrev pub IsMove : ℕ → List Order → List ℤ → ℕ → ℕ → ℕ → List ℤ → Type 0
+IsMove parts orders prices asset reach d next =
+    (IsRise parts orders prices asset reach d × (next ≡ risen prices asset d)) ⊎ (IsFall parts orders prices asset reach d × (next ≡ fallen prices asset d))
 
-module _ (N : ℕ) (orders : List Order) (common : AreShares N orders) (sound : All IsSound orders) where
+-- an excess in parts that is above the steepness, times N
+steep_above : (N parts steep : ℕ) (low z : ℤ) → 1 ≤ parts → pos (parts * steep) <ℤ low → (pos N *ℤ low) ≤ℤ (pos parts *ℤ z) → pos (N * steep) ≤ℤ z
+steep_above N parts steep low z some above below =
+    let least : pos (parts * steep) ≤ℤ low = omega (arith, ints, above) in
+    let times = times_keeps N (pos (parts * steep)) low least in
+    let sides : parts * (N * steep + down z) ≤ parts * up z = omega (arith, ints, times, below) in
+    let one : N * steep + down z ≤ up z = le_of_mul-le-mul_left sides some in
+    omega (arith, ints, one)
+
+steep_below : (N parts steep : ℕ) (high z : ℤ) → 1 ≤ parts → high <ℤ neg_ℤ (pos (parts * steep)) → (pos parts *ℤ z) ≤ℤ (pos N *ℤ high) → pos (N * steep) ≤ℤ neg_ℤ z
+steep_below N parts steep high z some below above =
+    let sides_high : parts * steep + up high ≤ down high = omega (arith, ints, below) in
+    let times = mul-le-mul_left N sides_high in
+    let sides : parts * (N * steep + up z) ≤ parts * down z = omega (arith, ints, times, above) in
+    let one : N * steep + up z ≤ down z = le_of_mul-le-mul_left sides some in
+    omega (arith, ints, one)
+
+module _ (parts : ℕ) (some : 1 ≤ parts) (N : ℕ) (orders : List Order) (common : AreShares N orders) (sound : All IsSound orders) where
+  -- a rise goes down the exact dual
+  rise_descends : (prices : List ℤ) (asset : ℕ) → asset < length prices → pos (steepness orders asset) <ℤ low_excess orders prices asset
+      → IsDescent N (steepness orders asset) (λ e. exact_dual N orders (risen prices asset e)) (λ e. true_excess N orders (risen prices asset e) asset)
+  rise_descends prices asset within above = record {
+    after = λ e.
+        let p = price_of prices asset in
+        let gap : p +ℤ pos (suc e) -ℤ (p +ℤ pos e) ≡ pos 1 = omega (arith, ints) in
+        let fall = rw gap at (dual_falls_by_excess N orders sound prices asset (p +ℤ pos e) (p +ℤ pos (suc e)) within) in
+        omega (arith, ints, fall);
+    before = λ e. rw (risen_more prices asset e) at (grain_rises N orders common sound prices asset (price_of prices asset +ℤ pos e) within);
+    step = λ e. rw (risen_more prices asset e) at (true_excess_step N orders common sound prices asset (price_of prices asset +ℤ pos e) within);
+    start =
+        let least : pos (suc (steepness orders asset)) ≤ℤ low_excess orders prices asset = omega (arith, ints, above) in
+        let times = times_keeps N (pos (suc (steepness orders asset))) (low_excess orders prices asset) least in
+        rw (risen_none prices asset) (omega (arith, ints, times, low_excess-below N orders common sound prices asset));
+  }
+
+  -- and so does a fall
+  fall_descends : (prices : List ℤ) (asset : ℕ) → asset < length prices → high_excess orders prices asset <ℤ neg_ℤ (pos (steepness orders asset))
+      → IsDescent N (steepness orders asset) (λ e. exact_dual N orders (fallen prices asset e)) (λ e. neg_ℤ (true_excess N orders (fallen prices asset e) asset))
+  fall_descends prices asset within below = record {
+    after = λ e.
+        let p = price_of prices asset in
+        let gap : p -ℤ pos (suc e) -ℤ (p -ℤ pos e) ≡ negsuc 0 = omega (arith, ints) in
+        let fall = rw gap at (dual_falls_by_excess N orders sound prices asset (p -ℤ pos e) (p -ℤ pos (suc e)) within) in
+        omega (arith, ints, fall);
+    before = λ e. let grain = rw (fallen_more prices asset e) at (grain_falls N orders common sound prices asset (price_of prices asset -ℤ pos (suc e)) within) in omega (arith, ints, grain);
+    step = λ e. let grain = rw (fallen_more prices asset e) at (true_excess_step N orders common sound prices asset (price_of prices asset -ℤ pos (suc e)) within) in omega (arith, ints, grain);
+    start =
+        let sides : suc (steepness orders asset) + up (high_excess orders prices asset) ≤ down (high_excess orders prices asset) = omega (arith, ints, below) in
+        let times = mul-le-mul_left N sides in
+        rw (fallen_none prices asset) (omega (arith, ints, times, high_excess-above N orders common sound prices asset));
+  }
+
   -- a rise by d lowers the exact dual by at least N * d parts
-  pub rise_lowers_dual : (prices : List ℤ) (asset reach d : ℕ) → asset < length prices → IsRise orders prices asset reach d → exact_dual N orders (risen prices asset d) + N * d ≤ exact_dual N orders prices
+  pub rise_lowers_dual : (prices : List ℤ) (asset reach d : ℕ) → asset < length prices → IsRise parts orders prices asset reach d → exact_dual N orders (risen prices asset d) + N * d ≤ exact_dual N orders prices
   rise_lowers_dual prices asset reach d within move =
-      let p = price_of prices asset in
-      let gap : p +ℤ pos d -ℤ p ≡ pos d = omega (arith, ints) in
-      let fall = rw (gap, own_price prices asset) at (dual_falls_by_excess N orders sound prices asset p (p +ℤ pos d) within) in
-      let excess = excess_after_rise N orders common sound prices asset reach d within move in
-      let least = times_keeps d (pos N) (true_excess N orders (risen prices asset d) asset) excess in
-      omega (arith, ints, fall, least)
+      let falls = dual_falls N (steepness orders asset) (λ e. exact_dual N orders (risen prices asset e)) (λ e. true_excess N orders (risen prices asset e) asset) (rise_descends prices asset within move.above) d move.least
+      (λ e one less. steep_above N parts (steepness orders asset) (low_excess_in parts orders (risen prices asset e) asset) (true_excess N orders (risen prices asset e) asset) some (move.first e one less) (low_excess_in-below N orders common sound parts (risen prices asset e) asset)) in
+      rw (risen_none prices asset) at falls
 
   -- and so does a fall by d
-  pub fall_lowers_dual : (prices : List ℤ) (asset reach d : ℕ) → asset < length prices → IsFall orders prices asset reach d → exact_dual N orders (fallen prices asset d) + N * d ≤ exact_dual N orders prices
+  pub fall_lowers_dual : (prices : List ℤ) (asset reach d : ℕ) → asset < length prices → IsFall parts orders prices asset reach d → exact_dual N orders (fallen prices asset d) + N * d ≤ exact_dual N orders prices
   fall_lowers_dual prices asset reach d within move =
-      let p = price_of prices asset in
-      let gap : p -ℤ pos d -ℤ p ≡ neg_ℤ (pos d) = omega (arith, ints) in
-      let fall = rw (gap, own_price prices asset) at (dual_falls_by_excess N orders sound prices asset p (p -ℤ pos d) within) in
-      let excess = excess_after_fall N orders common sound prices asset reach d within move in
-      let least = times_turns d N (true_excess N orders (fallen prices asset d) asset) excess in
-      omega (arith, ints, fall, least)
+      let falls = dual_falls N (steepness orders asset) (λ e. exact_dual N orders (fallen prices asset e)) (λ e. neg_ℤ (true_excess N orders (fallen prices asset e) asset)) (fall_descends prices asset within move.below) d move.least
+      (λ e one less. steep_below N parts (steepness orders asset) (high_excess_in parts orders (fallen prices asset e) asset) (true_excess N orders (fallen prices asset e) asset) some (move.first e one less) (high_excess_in-above N orders common sound parts (fallen prices asset e) asset)) in
+      rw (fallen_none prices asset) at falls
 
   -- a move lowers the exact dual by at least N * d parts
-  pub move_lowers_dual : (prices : List ℤ) (asset reach d : ℕ) (next : List ℤ) → asset < length prices → IsMove orders prices asset reach d next → exact_dual N orders next + N * d ≤ exact_dual N orders prices
+  pub move_lowers_dual : (prices : List ℤ) (asset reach d : ℕ) (next : List ℤ) → asset < length prices → IsMove parts orders prices asset reach d next → exact_dual N orders next + N * d ≤ exact_dual N orders prices
   move_lowers_dual prices asset reach d next within move =
       elim move [
         | inl rise ↦ rw rise.1 (rise_lowers_dual prices asset reach d within rise.0)
@@ -67,19 +162,19 @@ module _ (N : ℕ) (orders : List Order) (common : AreShares N orders) (sound : 
 -- ---- walks
 
 -- a walk makes a move of each asset in turn; its movement is the sum of the amounts moved
-abbrev pub IsWalk : List Order → ℕ → List ℤ → List ℕ → List ℤ → ℕ → Type 0
-IsWalk orders reach start [] stop movement = (stop ≡ start) × (movement ≡ 0)
-IsWalk orders reach start (asset ∷ assets) stop movement =
-    (next : List ℤ) × (d : ℕ) × (rest : ℕ) × (asset < length start) × IsMove orders start asset reach d next × IsWalk orders reach next assets stop rest × (movement ≡ d + rest)
+abbrev pub IsWalk : ℕ → List Order → ℕ → List ℤ → List ℕ → List ℤ → ℕ → Type 0
+IsWalk parts orders reach start [] stop movement = (stop ≡ start) × (movement ≡ 0)
+IsWalk parts orders reach start (asset ∷ assets) stop movement =
+    (next : List ℤ) × (d : ℕ) × (rest : ℕ) × (asset < length start) × IsMove parts orders start asset reach d next × IsWalk parts orders reach next assets stop rest × (movement ≡ d + rest)
 
-module _ (orders : List Order) (reach : ℕ) where
+module _ (parts : ℕ) (orders : List Order) (reach : ℕ) where
   -- a move is by a grain at least
-  pub move_is_some : (prices : List ℤ) (asset d : ℕ) (next : List ℤ) → IsMove orders prices asset reach d next → 1 ≤ d
+  pub move_is_some : (prices : List ℤ) (asset d : ℕ) (next : List ℤ) → IsMove parts orders prices asset reach d next → 1 ≤ d
   move_is_some prices asset d next move =
       elim move [ inl rise ↦ rise.0.least | inr fall ↦ fall.0.least ]
 
   -- a move keeps the number of prices
-  pub length-move : (prices : List ℤ) (asset d : ℕ) (next : List ℤ) → IsMove orders prices asset reach d next → length next ≡ length prices
+  pub length-move : (prices : List ℤ) (asset d : ℕ) (next : List ℤ) → IsMove parts orders prices asset reach d next → length next ≡ length prices
   length-move prices asset d next move =
       elim move [
         | inl rise ↦ rw rise.1 (length-set prices asset (price_of prices asset +ℤ pos d))
@@ -87,18 +182,18 @@ module _ (orders : List Order) (reach : ℕ) where
       ]
 
   -- a walk moves a grain at least for each asset along it
-  pub movement_at_least : (assets : List ℕ) (start stop : List ℤ) (movement : ℕ) → IsWalk orders reach start assets stop movement → length assets ≤ movement
+  pub movement_at_least : (assets : List ℕ) (start stop : List ℤ) (movement : ℕ) → IsWalk parts orders reach start assets stop movement → length assets ≤ movement
   movement_at_least [] start stop movement walk = omega arith
   movement_at_least (asset ∷ assets) start stop movement (next, d, rest, within, move, walk, sum) =
       omega (arith, sum, move_is_some start asset d next move, movement_at_least assets next stop rest walk)
 
   -- a walk lowers the exact dual by at least N times its movement
-  pub walk_lowers_dual : (N : ℕ) → AreShares N orders → All IsSound orders → (assets : List ℕ) (start stop : List ℤ) (movement : ℕ) → IsWalk orders reach start assets stop movement
+  pub walk_lowers_dual : 1 ≤ parts → (N : ℕ) → AreShares N orders → All IsSound orders → (assets : List ℕ) (start stop : List ℤ) (movement : ℕ) → IsWalk parts orders reach start assets stop movement
       → exact_dual N orders stop + N * movement ≤ exact_dual N orders start
-  walk_lowers_dual N common sound [] start stop movement (same, none) = rw (same, none) (omega arith)
-  walk_lowers_dual N common sound (asset ∷ assets) start stop movement (next, d, rest, within, move, walk, sum) =
-      let first = move_lowers_dual N orders common sound start asset reach d next within move in
-      let others = walk_lowers_dual N common sound assets next stop rest walk in
+  walk_lowers_dual some N common sound [] start stop movement (same, none) = rw (same, none) (omega arith)
+  walk_lowers_dual some N common sound (asset ∷ assets) start stop movement (next, d, rest, within, move, walk, sum) =
+      let first = move_lowers_dual parts some N orders common sound start asset reach d next within move in
+      let others = walk_lowers_dual some N common sound assets next stop rest walk in
       rw sum (joined (exact_dual N orders start) (exact_dual N orders next) (exact_dual N orders stop) first others)
     where
       joined : (a b c : ℕ) → b + N * d ≤ a → c + N * rest ≤ b → c + N * (d + rest) ≤ a
@@ -181,14 +276,14 @@ pub common_part_is_there : (orders : List Order) → All IsSound orders → (N :
 common_part_is_there orders sound = (common_parts orders, (common_parts-some orders sound, common_parts-common orders sound))
 
 -- the dual floors fall by more than the movement less the number of orders
-pub floors_fall : (orders : List Order) (reach : ℕ) → All IsSound orders → 1 ≤ length orders → (assets : List ℕ) (start stop : List ℤ) (movement : ℕ) → IsWalk orders reach start assets stop movement
+pub floors_fall : (parts : ℕ) → 1 ≤ parts → (orders : List Order) (reach : ℕ) → All IsSound orders → 1 ≤ length orders → (assets : List ℕ) (start stop : List ℤ) (movement : ℕ) → IsWalk parts orders reach start assets stop movement
     → dual_floors orders stop + movement < dual_floors orders start + length orders
-floors_fall orders reach sound some assets start stop movement walk =
+floors_fall parts whole orders reach sound some assets start stop movement walk =
     let N = common_parts orders in
     let one : 1 ≤ common_parts orders = common_parts-some orders sound in
     let common = common_parts-common orders sound in
     compared (common_parts orders) (dual_floors orders start) (dual_floors orders stop) (exact_dual N orders start) (exact_dual N orders stop) (length orders) movement some
-    (floors_enclose_dual N orders start one common sound).1 (floors_enclose_dual N orders stop one common sound).0 (walk_lowers_dual orders reach N common sound assets start stop movement walk)
+    (floors_enclose_dual N orders start one common sound).1 (floors_enclose_dual N orders stop one common sound).0 (walk_lowers_dual parts orders reach whole N common sound assets start stop movement walk)
   where
     compared : (N f g d e n m : ℕ) → 1 ≤ n → d + n ≤ N * (f + n) → N * g ≤ e → e + N * m ≤ d → g + m < f + n
     compared N f g d e n m some above below fall = lt_of_mul-lt-mul_left N (omega (arith, some, above, below, fall))

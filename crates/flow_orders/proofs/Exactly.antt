@@ -5,11 +5,11 @@ use Rattle.std.proofs.lemmas.Int.{ints}
 use Rattle.std.proofs.lemmas.Bool.{false≢true, cases_lt}
 use Rattle.weight_rows.specs.Rows.{price_of}
 use Rattle.flow_orders.specs.Orders.{Order}
-use Rattle.flow_orders.specs.Excess.{is_above, is_below}
+use Rattle.flow_orders.specs.Excess.{is_above, is_below, is_above_in, is_below_in}
 use Rattle.flow_orders.specs.Moves.{risen, fallen, rise_of, fall_of, moved, amount_of}
 use Rattle.flow_orders.proofs.Book.{IsSound}
 use Rattle.flow_orders.proofs.BookLaws.{low_excess-falls, high_excess-falls}
-use Rattle.flow_orders.proofs.Moving.{IsLeast, least_amount_is, above_is, not_above_is, below_is, not_below_is}
+use Rattle.flow_orders.proofs.Moving.{IsLeast, least_amount_is, above_in_is, not_above_in_is, below_in_is, not_below_in_is}
 
 not_true : (b : Bool) → not b ≡ true → b ≡ false
 not_true true e = absurd (false≢true e)
@@ -23,44 +23,44 @@ least_exactly passes reach d e few is there none =
     (λ most. ⊎_elim (λ past. absurd (false≢true (sym (is.first (suc e) (omega arith) past) ∙ there))) (λ least. omega (arith, most, least)) (cases_lt (suc e) d))
     (cases_lt d (suc e))
 
-module _ (orders : List Order) (reach : ℕ) (prices : List ℤ) (asset e : ℕ) (sound : All IsSound orders) (within : asset < length prices) (few : e < reach) where
+module _ (parts : ℕ) (orders : List Order) (reach : ℕ) (prices : List ℤ) (asset e : ℕ) (sound : All IsSound orders) (within : asset < length prices) (few : e < reach) where
   -- an asset is still above e grains higher, and no longer a grain after that
-  rise_exactly : is_above orders (risen prices asset e) asset ≡ true → is_above orders (risen prices asset (suc e)) asset ≡ false → rise_of orders reach prices asset ≡ suc e
+  rise_exactly : is_above_in parts orders (risen prices asset e) asset ≡ true → is_above_in parts orders (risen prices asset (suc e)) asset ≡ false → rise_of parts orders reach prices asset ≡ suc e
   rise_exactly before after =
-      least_exactly (λ d. not (is_above orders (risen prices asset d) asset)) reach (rise_of orders reach prices asset) e few
-      (least_amount_is reach (λ d. not (is_above orders (risen prices asset d) asset)) (omega (arith, few))) (ap not after)
+      least_exactly (λ d. not (is_above_in parts orders (risen prices asset d) asset)) reach (rise_of parts orders reach prices asset) e few
+      (least_amount_is reach (λ d. not (is_above_in parts orders (risen prices asset d) asset)) (omega (arith, few))) (ap not after)
       (λ less passes.
-      let d = rise_of orders reach prices asset in
+      let d = rise_of parts orders reach prices asset in
       let p = price_of prices asset in
-      let more = low_excess-falls orders prices asset (p +ℤ pos d) (p +ℤ pos e) sound within (omega (arith, ints, less)) in
-      let high = above_is orders (risen prices asset e) asset before in
-      let low = not_above_is orders (risen prices asset d) asset (not_true (is_above orders (risen prices asset d) asset) passes) in
+      let more = low_excess-falls parts orders prices asset (p +ℤ pos d) (p +ℤ pos e) sound within (omega (arith, ints, less)) in
+      let high = above_in_is parts orders (risen prices asset e) asset before in
+      let low = not_above_in_is parts orders (risen prices asset d) asset (not_true (is_above_in parts orders (risen prices asset d) asset) passes) in
       omega (arith, ints, more, high, low))
 
   -- an asset is still below e grains lower, and no longer a grain after that
-  fall_exactly : is_below orders (fallen prices asset e) asset ≡ true → is_below orders (fallen prices asset (suc e)) asset ≡ false → fall_of orders reach prices asset ≡ suc e
+  fall_exactly : is_below_in parts orders (fallen prices asset e) asset ≡ true → is_below_in parts orders (fallen prices asset (suc e)) asset ≡ false → fall_of parts orders reach prices asset ≡ suc e
   fall_exactly before after =
-      least_exactly (λ d. not (is_below orders (fallen prices asset d) asset)) reach (fall_of orders reach prices asset) e few
-      (least_amount_is reach (λ d. not (is_below orders (fallen prices asset d) asset)) (omega (arith, few))) (ap not after)
+      least_exactly (λ d. not (is_below_in parts orders (fallen prices asset d) asset)) reach (fall_of parts orders reach prices asset) e few
+      (least_amount_is reach (λ d. not (is_below_in parts orders (fallen prices asset d) asset)) (omega (arith, few))) (ap not after)
       (λ less passes.
-      let d = fall_of orders reach prices asset in
+      let d = fall_of parts orders reach prices asset in
       let p = price_of prices asset in
-      let more = high_excess-falls orders prices asset (p -ℤ pos e) (p -ℤ pos d) sound within (omega (arith, ints, less)) in
-      let low = below_is orders (fallen prices asset e) asset before in
-      let high = not_below_is orders (fallen prices asset d) asset (not_true (is_below orders (fallen prices asset d) asset) passes) in
+      let more = high_excess-falls parts orders prices asset (p -ℤ pos e) (p -ℤ pos d) sound within (omega (arith, ints, less)) in
+      let low = below_in_is parts orders (fallen prices asset e) asset before in
+      let high = not_below_in_is parts orders (fallen prices asset d) asset (not_true (is_below_in parts orders (fallen prices asset d) asset) passes) in
       omega (arith, ints, more, high, low))
 
   -- so the move is that rise
-  pub rises_to : is_above orders prices asset ≡ true → is_above orders (risen prices asset e) asset ≡ true → is_above orders (risen prices asset (suc e)) asset ≡ false
-      → (moved orders reach prices asset ≡ risen prices asset (suc e)) × (amount_of orders reach prices asset ≡ suc e)
+  pub rises_to : is_above orders prices asset ≡ true → is_above_in parts orders (risen prices asset e) asset ≡ true → is_above_in parts orders (risen prices asset (suc e)) asset ≡ false
+      → (moved parts orders reach prices asset ≡ risen prices asset (suc e)) × (amount_of parts orders reach prices asset ≡ suc e)
   unfolding moved amount_of
   rises_to above before after =
       let exactly = rise_exactly before after in
       (rw above (ap (risen prices asset) exactly), rw above exactly)
 
   -- or that fall
-  pub falls_to : is_above orders prices asset ≡ false → is_below orders prices asset ≡ true → is_below orders (fallen prices asset e) asset ≡ true → is_below orders (fallen prices asset (suc e)) asset ≡ false
-      → (moved orders reach prices asset ≡ fallen prices asset (suc e)) × (amount_of orders reach prices asset ≡ suc e)
+  pub falls_to : is_above orders prices asset ≡ false → is_below orders prices asset ≡ true → is_below_in parts orders (fallen prices asset e) asset ≡ true → is_below_in parts orders (fallen prices asset (suc e)) asset ≡ false
+      → (moved parts orders reach prices asset ≡ fallen prices asset (suc e)) × (amount_of parts orders reach prices asset ≡ suc e)
   unfolding moved amount_of
   falls_to level below before after =
       let exactly = fall_exactly before after in

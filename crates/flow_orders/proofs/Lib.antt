@@ -11,10 +11,12 @@ pub mod Excess
 pub mod Gap
 pub mod Loops
 pub mod MoveFacts
+pub mod MoveLaws
 pub mod Moved
 pub mod Moves
 pub mod Moving
 pub mod OneOwn
+pub mod OnePart
 pub mod Optimal
 pub mod OwnIsRight
 pub mod OwnLaws

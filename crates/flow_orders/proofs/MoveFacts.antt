@@ -1,5 +1,5 @@
 -- A move is one: an unsettled asset has exactly one move, and a settled one none.
-use Rattle.std.proofs.Common.{◌≡◌, ℕ, zero, suc, ◌+◌, ◌-◌, ◌≤◌, ◌<◌, ◌⊎◌, inl, inr, ℤ, pos, negsuc, ◌+ℤ◌, ◌-ℤ◌, ◌≤ℤ◌, ◌<ℤ◌, List, set, ap, refl, sym, ◌∙◌, arith}
+use Rattle.std.proofs.Common.{◌≡◌, ℕ, zero, suc, ◌+◌, ◌-◌, ◌*◌, ◌≤◌, ◌<◌, ◌⊎◌, inl, inr, ℤ, pos, negsuc, ◌+ℤ◌, ◌-ℤ◌, ◌≤ℤ◌, ◌<ℤ◌, List, set, ap, refl, sym, ◌∙◌, arith}
 use Rattle.std.specs.Prelude.{All, neg_ℤ, slice_index_or}
 use Rattle.std.proofs.Math.Nat.{mul-le-mul_left}
 use Rattle.std.proofs.lemmas.Int.{ints}
@@ -14,7 +14,7 @@ use Rattle.list_sums.proofs.SumLemmas.{int_sum_by-le}
 use Rattle.flow_orders.specs.Excess.{low_part, high_part}
 use Rattle.flow_orders.specs.Orders.{Order}
 use Rattle.flow_orders.proofs.Book.{IsSound, IsSettled}
-use Rattle.flow_orders.specs.Excess.{low_excess, high_excess, steepness}
+use Rattle.flow_orders.specs.Excess.{low_excess, high_excess, low_excess_in, high_excess_in, steepness}
 use Rattle.flow_orders.specs.Moves.{risen, fallen}
 use Rattle.flow_orders.proofs.BookSums.{from_distance}
 use Rattle.flow_orders.proofs.Moves.{IsRise, IsFall}
@@ -58,19 +58,19 @@ first_or_last Before After decide (suc left) n last ends before =
           (rest.0, omega (arith, rest.1), rest.2, rest.3, rest.4)
     ]
 
-module _ (orders : List Order) (prices : List ℤ) (asset reach : ℕ) where
+module _ (parts : ℕ) (orders : List Order) (prices : List ℤ) (asset reach : ℕ) where
   -- where the low excess is above the steepness there is a rise
-  pub rise_exists : 1 ≤ reach → pos (steepness orders asset) <ℤ low_excess orders prices asset → (d : ℕ) × IsRise orders prices asset reach d
+  pub rise_exists : 1 ≤ reach → pos (steepness orders asset) <ℤ low_excess orders prices asset → (d : ℕ) × IsRise parts orders prices asset reach d
   rise_exists some above =
-      let found = first_or_last (λ e. pos (steepness orders asset) <ℤ low_excess orders (risen prices asset e) asset) (λ e. low_excess orders (risen prices asset e) asset ≤ℤ pos (steepness orders asset))
-      (λ e. above_or_not (steepness orders asset) (low_excess orders (risen prices asset e) asset)) (reach - 1) 1 reach (omega (arith, some)) (λ e one none. absurd (omega (arith, one, none))) in
+      let found = first_or_last (λ e. pos (parts * steepness orders asset) <ℤ low_excess_in parts orders (risen prices asset e) asset) (λ e. low_excess_in parts orders (risen prices asset e) asset ≤ℤ pos (parts * steepness orders asset))
+      (λ e. above_or_not (parts * steepness orders asset) (low_excess_in parts orders (risen prices asset e) asset)) (reach - 1) 1 reach (omega (arith, some)) (λ e one none. absurd (omega (arith, one, none))) in
       (found.0, record { above = above; least = found.1; most = found.2; first = found.3; ends = found.4 })
 
   -- where the high excess is below minus the steepness there is a fall
-  pub fall_exists : 1 ≤ reach → high_excess orders prices asset <ℤ neg_ℤ (pos (steepness orders asset)) → (d : ℕ) × IsFall orders prices asset reach d
+  pub fall_exists : 1 ≤ reach → high_excess orders prices asset <ℤ neg_ℤ (pos (steepness orders asset)) → (d : ℕ) × IsFall parts orders prices asset reach d
   fall_exists some below =
-      let found = first_or_last (λ e. high_excess orders (fallen prices asset e) asset <ℤ neg_ℤ (pos (steepness orders asset))) (λ e. neg_ℤ (pos (steepness orders asset)) ≤ℤ high_excess orders (fallen prices asset e) asset)
-      (λ e. below_or_not (steepness orders asset) (high_excess orders (fallen prices asset e) asset)) (reach - 1) 1 reach (omega (arith, some)) (λ e one none. absurd (omega (arith, one, none))) in
+      let found = first_or_last (λ e. high_excess_in parts orders (fallen prices asset e) asset <ℤ neg_ℤ (pos (parts * steepness orders asset))) (λ e. neg_ℤ (pos (parts * steepness orders asset)) ≤ℤ high_excess_in parts orders (fallen prices asset e) asset)
+      (λ e. below_or_not (parts * steepness orders asset) (high_excess_in parts orders (fallen prices asset e) asset)) (reach - 1) 1 reach (omega (arith, some)) (λ e one none. absurd (omega (arith, one, none))) in
       (found.0, record { below = below; least = found.1; most = found.2; first = found.3; ends = found.4 })
 
   -- an asset that isn't settled has a low excess above the steepness, or a high excess below minus the steepness
@@ -85,7 +85,7 @@ module _ (orders : List Order) (prices : List ℤ) (asset reach : ℕ) where
       ]
 
   -- an asset that isn't settled has a move
-  pub move_exists : 1 ≤ reach → ¬ IsSettled orders prices asset → (d : ℕ) × (next : List ℤ) × IsMove orders prices asset reach d next
+  pub move_exists : 1 ≤ reach → ¬ IsSettled orders prices asset → (d : ℕ) × (next : List ℤ) × IsMove parts orders prices asset reach d next
   move_exists some unsettled =
       elim (unsettled_cases unsettled) [
         | inl above ↦ let rise = rise_exists some above in (rise.0, risen prices asset rise.0, inl (rise.1, refl))
@@ -93,7 +93,7 @@ module _ (orders : List Order) (prices : List ℤ) (asset reach : ℕ) where
       ]
 
   -- an asset that has a move isn't settled
-  pub moved_unsettled : (d : ℕ) (next : List ℤ) → IsMove orders prices asset reach d next → ¬ IsSettled orders prices asset
+  pub moved_unsettled : (d : ℕ) (next : List ℤ) → IsMove parts orders prices asset reach d next → ¬ IsSettled orders prices asset
   moved_unsettled d next move settled =
       elim move [
         | inl rise ↦ let above = rise.0.above in let low = settled.low in omega (arith, ints, above, low)
@@ -101,7 +101,7 @@ module _ (orders : List Order) (prices : List ℤ) (asset reach : ℕ) where
       ]
 
   -- no rise is shorter than another
-  rise_no_shorter : (d e : ℕ) → IsRise orders prices asset reach d → IsRise orders prices asset reach e → d ≤ e
+  rise_no_shorter : (d e : ℕ) → IsRise parts orders prices asset reach d → IsRise parts orders prices asset reach e → d ≤ e
   rise_no_shorter d e one other =
       elim (cases_lt e d) [
         | inr not ↦ not
@@ -113,7 +113,7 @@ module _ (orders : List Order) (prices : List ℤ) (asset reach : ℕ) where
             ]
       ]
 
-  fall_no_shorter : (d e : ℕ) → IsFall orders prices asset reach d → IsFall orders prices asset reach e → d ≤ e
+  fall_no_shorter : (d e : ℕ) → IsFall parts orders prices asset reach d → IsFall parts orders prices asset reach e → d ≤ e
   fall_no_shorter d e one other =
       elim (cases_lt e d) [
         | inr not ↦ not
@@ -126,7 +126,7 @@ module _ (orders : List Order) (prices : List ℤ) (asset reach : ℕ) where
       ]
 
   -- a rise and a fall exclude one another
-  pub rise_or_fall : All IsSound orders → (d e : ℕ) → IsRise orders prices asset reach d → IsFall orders prices asset reach e → ⊥
+  pub rise_or_fall : All IsSound orders → (d e : ℕ) → IsRise parts orders prices asset reach d → IsFall parts orders prices asset reach e → ⊥
   rise_or_fall sound d e rise fall =
       let order = low_excess-le orders prices asset sound in
       let above = rise.above in
@@ -134,7 +134,7 @@ module _ (orders : List Order) (prices : List ℤ) (asset reach : ℕ) where
       omega (arith, ints, order, above, below)
 
   -- an asset has one move at most
-  pub move_unique : All IsSound orders → (d e : ℕ) (next other : List ℤ) → IsMove orders prices asset reach d next → IsMove orders prices asset reach e other → (d ≡ e) × (next ≡ other)
+  pub move_unique : All IsSound orders → (d e : ℕ) (next other : List ℤ) → IsMove parts orders prices asset reach d next → IsMove parts orders prices asset reach e other → (d ≡ e) × (next ≡ other)
   move_unique sound d e next other one two =
       elim one [
         | inl rise ↦ elim two [
@@ -149,9 +149,9 @@ module _ (orders : List Order) (prices : List ℤ) (asset reach : ℕ) where
 
   -- a rise from its place: no place before x ends it, and x does, by its excess or as the reach's last
   pub rise_to_place : (x : ℤ) → pos (steepness orders asset) <ℤ low_excess orders prices asset → price_of prices asset <ℤ x → x ≤ℤ (price_of prices asset +ℤ pos reach)
-      → ((p : ℤ) → price_of prices asset <ℤ p → p <ℤ x → pos (steepness orders asset) <ℤ low_excess orders (set prices asset p) asset)
-      → (low_excess orders (set prices asset x) asset ≤ℤ pos (steepness orders asset)) ⊎ (x ≡ price_of prices asset +ℤ pos reach)
-      → IsMove orders prices asset reach (distance x (price_of prices asset)) (set prices asset x)
+      → ((p : ℤ) → price_of prices asset <ℤ p → p <ℤ x → pos (parts * steepness orders asset) <ℤ low_excess_in parts orders (set prices asset p) asset)
+      → (low_excess_in parts orders (set prices asset x) asset ≤ℤ pos (parts * steepness orders asset)) ⊎ (x ≡ price_of prices asset +ℤ pos reach)
+      → IsMove parts orders prices asset reach (distance x (price_of prices asset)) (set prices asset x)
   rise_to_place x above after most before ends =
       let d = distance x (price_of prices asset) in
       let place : x ≡ price_of prices asset +ℤ pos d = from_distance (price_of prices asset) x (omega (arith, ints, after)) in
@@ -171,9 +171,9 @@ module _ (orders : List Order) (prices : List ℤ) (asset reach : ℕ) where
 
   -- a fall from its place
   pub fall_to_place : (x : ℤ) → high_excess orders prices asset <ℤ neg_ℤ (pos (steepness orders asset)) → x <ℤ price_of prices asset → (price_of prices asset -ℤ pos reach) ≤ℤ x
-      → ((p : ℤ) → x <ℤ p → p <ℤ price_of prices asset → high_excess orders (set prices asset p) asset <ℤ neg_ℤ (pos (steepness orders asset)))
-      → (neg_ℤ (pos (steepness orders asset)) ≤ℤ high_excess orders (set prices asset x) asset) ⊎ (x ≡ price_of prices asset -ℤ pos reach)
-      → IsMove orders prices asset reach (distance (price_of prices asset) x) (set prices asset x)
+      → ((p : ℤ) → x <ℤ p → p <ℤ price_of prices asset → high_excess_in parts orders (set prices asset p) asset <ℤ neg_ℤ (pos (parts * steepness orders asset)))
+      → (neg_ℤ (pos (parts * steepness orders asset)) ≤ℤ high_excess_in parts orders (set prices asset x) asset) ⊎ (x ≡ price_of prices asset -ℤ pos reach)
+      → IsMove parts orders prices asset reach (distance (price_of prices asset) x) (set prices asset x)
   fall_to_place x below before most after ends =
       let d = distance (price_of prices asset) x in
       let place : x ≡ price_of prices asset -ℤ pos d = from_above (price_of prices asset) x (omega (arith, ints, before)) in

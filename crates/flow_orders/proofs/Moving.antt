@@ -11,7 +11,7 @@ use Rattle.weight_rows.specs.Rows.{assets_of, weight_in, price_of}
 use Rattle.weight_rows.specs.declared.entries.Entry.{Entry}
 use Rattle.std.proofs.lemmas.Bool.Decides.{eqb_tells}
 use Rattle.flow_orders.specs.Orders.{Order, terms_of}
-use Rattle.flow_orders.specs.Excess.{low_part, high_part, price_for, low_excess, high_excess, steepness, is_above, is_below, is_unsettled}
+use Rattle.flow_orders.specs.Excess.{low_part, high_part, price_for, low_excess, high_excess, low_excess_in, high_excess_in, steepness, is_above, is_below, is_above_in, is_below_in, is_unsettled}
 use Rattle.flow_orders.specs.Walks.{first_that, walk_end, IsLegal}
 use Rattle.flow_orders.specs.Moves.{least_amount, risen, fallen, rise_of, fall_of, moved, amount_of, walk_reach}
 use Rattle.flow_orders.specs.Outcomes.{step_of, IsUnnamed}
@@ -34,6 +34,19 @@ below_is orders prices asset e = omega (arith, ints, e)
 
 pub not_below_is : (orders : List Order) (prices : List ℤ) (asset : ℕ) → is_below orders prices asset ≡ false → neg_ℤ (pos (steepness orders asset)) ≤ℤ high_excess orders prices asset
 not_below_is orders prices asset e = omega (arith, ints, e)
+
+-- in parts of a unit
+pub above_in_is : (parts : ℕ) (orders : List Order) (prices : List ℤ) (asset : ℕ) → is_above_in parts orders prices asset ≡ true → pos (parts * steepness orders asset) <ℤ low_excess_in parts orders prices asset
+above_in_is parts orders prices asset e = omega (arith, ints, e)
+
+pub not_above_in_is : (parts : ℕ) (orders : List Order) (prices : List ℤ) (asset : ℕ) → is_above_in parts orders prices asset ≡ false → low_excess_in parts orders prices asset ≤ℤ pos (parts * steepness orders asset)
+not_above_in_is parts orders prices asset e = omega (arith, ints, e)
+
+pub below_in_is : (parts : ℕ) (orders : List Order) (prices : List ℤ) (asset : ℕ) → is_below_in parts orders prices asset ≡ true → high_excess_in parts orders prices asset <ℤ neg_ℤ (pos (parts * steepness orders asset))
+below_in_is parts orders prices asset e = omega (arith, ints, e)
+
+pub not_below_in_is : (parts : ℕ) (orders : List Order) (prices : List ℤ) (asset : ℕ) → is_below_in parts orders prices asset ≡ false → neg_ℤ (pos (parts * steepness orders asset)) ≤ℤ high_excess_in parts orders prices asset
+not_below_in_is parts orders prices asset e = omega (arith, ints, e)
 
 pub settled_is : (orders : List Order) (prices : List ℤ) (asset : ℕ) → is_unsettled orders prices asset ≡ false → IsSettled orders prices asset
 unfolding is_unsettled
@@ -93,42 +106,42 @@ not_is false false e = absurd (false≢true (sym e))
 
 -- ---- a move
 
-module _ (orders : List Order) (reach : ℕ) (prices : List ℤ) (asset : ℕ) (some : 1 ≤ reach) where
-  rise_is : is_above orders prices asset ≡ true → IsRise orders prices asset reach (rise_of orders reach prices asset)
+module _ (parts : ℕ) (orders : List Order) (reach : ℕ) (prices : List ℤ) (asset : ℕ) (some : 1 ≤ reach) where
+  rise_is : is_above orders prices asset ≡ true → IsRise parts orders prices asset reach (rise_of parts orders reach prices asset)
   rise_is above =
-      let is = least_amount_is reach (λ d. not (is_above orders (risen prices asset d) asset)) some in
+      let is = least_amount_is reach (λ d. not (is_above_in parts orders (risen prices asset d) asset)) some in
       record {
         above = above_is orders prices asset above;
         least = is.least;
         most = is.most;
-        first = λ e one below. above_is orders (risen prices asset e) asset (not_is (is_above orders (risen prices asset e) asset) false (is.first e one below));
-        ends = ⊎_elim (λ passes. inl (not_above_is orders (risen prices asset (rise_of orders reach prices asset)) asset (not_is (is_above orders (risen prices asset (rise_of orders reach prices asset)) asset) true passes))) (λ all. inr all) is.ends;
+        first = λ e one below. above_in_is parts orders (risen prices asset e) asset (not_is (is_above_in parts orders (risen prices asset e) asset) false (is.first e one below));
+        ends = ⊎_elim (λ passes. inl (not_above_in_is parts orders (risen prices asset (rise_of parts orders reach prices asset)) asset (not_is (is_above_in parts orders (risen prices asset (rise_of parts orders reach prices asset)) asset) true passes))) (λ all. inr all) is.ends;
       }
 
-  fall_is : is_below orders prices asset ≡ true → IsFall orders prices asset reach (fall_of orders reach prices asset)
+  fall_is : is_below orders prices asset ≡ true → IsFall parts orders prices asset reach (fall_of parts orders reach prices asset)
   fall_is below =
-      let is = least_amount_is reach (λ d. not (is_below orders (fallen prices asset d) asset)) some in
+      let is = least_amount_is reach (λ d. not (is_below_in parts orders (fallen prices asset d) asset)) some in
       record {
         below = below_is orders prices asset below;
         least = is.least;
         most = is.most;
-        first = λ e one less. below_is orders (fallen prices asset e) asset (not_is (is_below orders (fallen prices asset e) asset) false (is.first e one less));
-        ends = ⊎_elim (λ passes. inl (not_below_is orders (fallen prices asset (fall_of orders reach prices asset)) asset (not_is (is_below orders (fallen prices asset (fall_of orders reach prices asset)) asset) true passes))) (λ all. inr all) is.ends;
+        first = λ e one less. below_in_is parts orders (fallen prices asset e) asset (not_is (is_below_in parts orders (fallen prices asset e) asset) false (is.first e one less));
+        ends = ⊎_elim (λ passes. inl (not_below_in_is parts orders (fallen prices asset (fall_of parts orders reach prices asset)) asset (not_is (is_below_in parts orders (fallen prices asset (fall_of parts orders reach prices asset)) asset) true passes))) (λ all. inr all) is.ends;
       }
 
   -- where an asset is unsettled, the move of the definitions is a rise or a fall by the least amount
-  pub moves_by : is_unsettled orders prices asset ≡ true → IsMove orders prices asset reach (amount_of orders reach prices asset) (moved orders reach prices asset)
+  pub moves_by : is_unsettled orders prices asset ≡ true → IsMove parts orders prices asset reach (amount_of parts orders reach prices asset) (moved parts orders reach prices asset)
   unfolding is_unsettled moved amount_of
   moves_by unsettled = by (is_above orders prices asset) (is_below orders prices asset) refl refl unsettled
     where
       by : (a b : Bool) → is_above orders prices asset ≡ a → is_below orders prices asset ≡ b → (a || b) ≡ true
-          → IsMove orders prices asset reach (cond a (rise_of orders reach prices asset) (cond b (fall_of orders reach prices asset) 0)) (cond a (risen prices asset (rise_of orders reach prices asset)) (cond b (fallen prices asset (fall_of orders reach prices asset)) prices))
+          → IsMove parts orders prices asset reach (cond a (rise_of parts orders reach prices asset) (cond b (fall_of parts orders reach prices asset) 0)) (cond a (risen prices asset (rise_of parts orders reach prices asset)) (cond b (fallen prices asset (fall_of parts orders reach prices asset)) prices))
       by true b e f u = inl (rise_is e, refl)
       by false true e f u = inr (fall_is f, refl)
       by false false e f u = absurd (false≢true u)
 
-  pub moved_is : is_unsettled orders prices asset ≡ true → (d : ℕ) × IsMove orders prices asset reach d (moved orders reach prices asset)
-  moved_is unsettled = (amount_of orders reach prices asset, moves_by unsettled)
+  pub moved_is : is_unsettled orders prices asset ≡ true → (d : ℕ) × IsMove parts orders prices asset reach d (moved parts orders reach prices asset)
+  moved_is unsettled = (amount_of parts orders reach prices asset, moves_by unsettled)
 
 -- ---- an asset that no order names
 
@@ -179,9 +192,9 @@ has_set reach prices asset x there near = record {
   others = λ other apart. get_or-set_other prices asset other x (pos 0) apart;
 }
 
-has_moved : (orders : List Order) (reach : ℕ) (prices : List ℤ) (asset : ℕ) → 1 ≤ reach → asset < length prices → is_unsettled orders prices asset ≡ true → HasMoved reach prices asset (moved orders reach prices asset)
-has_moved orders reach prices asset some there unsettled =
-    let move = moved_is orders reach prices asset some unsettled in
+has_moved : (parts : ℕ) (orders : List Order) (reach : ℕ) (prices : List ℤ) (asset : ℕ) → 1 ≤ reach → asset < length prices → is_unsettled orders prices asset ≡ true → HasMoved reach prices asset (moved parts orders reach prices asset)
+has_moved parts orders reach prices asset some there unsettled =
+    let move = moved_is parts orders reach prices asset some unsettled in
     ⊎_elim
     (λ rise. subst (HasMoved reach prices asset) (sym rise.1) (has_set reach prices asset (price_of prices asset +ℤ pos move.0) there (λ b near. (far_price (price_of prices asset) move.0 b reach near rise.0.most).0)))
     (λ fall. subst (HasMoved reach prices asset) (sym fall.1) (has_set reach prices asset (price_of prices asset -ℤ pos move.0) there (λ b near. (far_price (price_of prices asset) move.0 b reach near fall.0.most).1)))
@@ -193,12 +206,12 @@ pub record HasWalked (orders : List Order) (start : List ℤ) (steps : ℕ) (end
   pub range : (b : ℕ) → AreWithin b start → AreWithin (b + steps * 2 ^ 45) end
   pub unnamed : (asset : ℕ) → IsUnnamed orders asset → price_of end asset ≡ price_of start asset
 
-pub has_walked : (orders : List Order) (n : ℕ) (start : List ℤ) (walk : List ℕ) → length start ≡ n → IsLegal n (is_unsettled orders) (step_of orders) start walk → HasWalked orders start (length walk) (walk_end (step_of orders) start walk)
-has_walked orders n start [] count legal = record { count = refl; range = λ b within. wider b (b + 0 * 2 ^ 45) start (omega arith) within; unnamed = λ asset none. refl }
-has_walked orders n start (a ∷ walk) count legal =
-    let here = has_moved orders walk_reach start a (omega arith) (omega (arith, legal.0, count)) legal.1 in
-    let next = step_of orders start a in
-    let rest = has_walked orders n next walk (here.count ∙ count) legal.2 in
+pub has_walked : (parts : ℕ) (orders : List Order) (n : ℕ) (start : List ℤ) (walk : List ℕ) → length start ≡ n → IsLegal n (is_unsettled orders) (step_of parts orders) start walk → HasWalked orders start (length walk) (walk_end (step_of parts orders) start walk)
+has_walked parts orders n start [] count legal = record { count = refl; range = λ b within. wider b (b + 0 * 2 ^ 45) start (omega arith) within; unnamed = λ asset none. refl }
+has_walked parts orders n start (a ∷ walk) count legal =
+    let here = has_moved parts orders walk_reach start a (omega arith) (omega (arith, legal.0, count)) legal.1 in
+    let next = step_of parts orders start a in
+    let rest = has_walked parts orders n next walk (here.count ∙ count) legal.2 in
     record {
       count = rest.count ∙ here.count;
       range = λ b within. wider (b + 2 ^ 45 + length walk * 2 ^ 45) (b + length (a ∷ walk) * 2 ^ 45) _ (omega arith) (rest.range (b + 2 ^ 45) (here.range b within));
@@ -208,17 +221,17 @@ has_walked orders n start (a ∷ walk) count legal =
     }
 
 -- a legal walk is a walk in words, with its movement
-pub legal_moves : (orders : List Order) (n : ℕ) (start : List ℤ) (walk : List ℕ) → length start ≡ n → IsLegal n (is_unsettled orders) (step_of orders) start walk
-    → IsWalk orders walk_reach start walk (walk_end (step_of orders) start walk) (movement_of orders start walk)
-legal_moves orders n start [] count legal = (refl, refl)
-legal_moves orders n start (a ∷ walk) count legal =
+pub legal_moves : (parts : ℕ) (orders : List Order) (n : ℕ) (start : List ℤ) (walk : List ℕ) → length start ≡ n → IsLegal n (is_unsettled orders) (step_of parts orders) start walk
+    → IsWalk parts orders walk_reach start walk (walk_end (step_of parts orders) start walk) (movement_of parts orders start walk)
+legal_moves parts orders n start [] count legal = (refl, refl)
+legal_moves parts orders n start (a ∷ walk) count legal =
     let there : a < length start = omega (arith, legal.0, count) in
-    let here = has_moved orders walk_reach start a (omega arith) there legal.1 in
-    let rest = legal_moves orders n (step_of orders start a) walk (here.count ∙ count) legal.2 in
-    (step_of orders start a, amount_of orders walk_reach start a, movement_of orders (step_of orders start a) walk, there, moves_by orders walk_reach start a (omega arith) legal.1, rest, refl)
+    let here = has_moved parts orders walk_reach start a (omega arith) there legal.1 in
+    let rest = legal_moves parts orders n (step_of parts orders start a) walk (here.count ∙ count) legal.2 in
+    (step_of parts orders start a, amount_of parts orders walk_reach start a, movement_of parts orders (step_of parts orders start a) walk, there, moves_by parts orders walk_reach start a (omega arith) legal.1, rest, refl)
 
 -- in a book without orders no walk is legal but the empty one
-pub no_orders_no_walk : (n : ℕ) (start : List ℤ) (walk : List ℕ) → IsLegal n (is_unsettled []) (step_of []) start walk → movement_of [] start walk ≡ 0
-no_orders_no_walk n start [] legal = refl
-no_orders_no_walk n start (a ∷ walk) legal =
+pub no_orders_no_walk : (parts n : ℕ) (start : List ℤ) (walk : List ℕ) → IsLegal n (is_unsettled []) (step_of parts []) start walk → movement_of parts [] start walk ≡ 0
+no_orders_no_walk parts n start [] legal = refl
+no_orders_no_walk parts n start (a ∷ walk) legal =
     absurd (false≢true (sym (is_settled [] start a (unnamed_is_settled [] start a (λ k d inside. absurd (omega (arith, inside))))) ∙ legal.1))

@@ -142,12 +142,12 @@ wide_is (o ∷ orders) each is =
     (eqb_tells (length o.row) 1)
 
 -- one far move of each unsettled asset visits them all
-visited_once : (orders : List Order) (assets : List ℕ) (start : List ℤ) → AreVisited orders single_reach start assets (moved_once orders assets start)
-visited_once orders [] start = refl
-visited_once orders (a ∷ assets) start = (cond (is_unsettled orders start a) (moved orders single_reach start a) start, visit (is_unsettled orders start a) refl, visited_once orders assets (cond (is_unsettled orders start a) (moved orders single_reach start a) start))
+visited_once : (parts : ℕ) (orders : List Order) (assets : List ℕ) (start : List ℤ) → AreVisited parts orders single_reach start assets (moved_once parts orders assets start)
+visited_once parts orders [] start = refl
+visited_once parts orders (a ∷ assets) start = (cond (is_unsettled orders start a) (moved parts orders single_reach start a) start, visit (is_unsettled orders start a) refl, visited_once parts orders assets (cond (is_unsettled orders start a) (moved parts orders single_reach start a) start))
   where
-    visit : (b : Bool) → is_unsettled orders start a ≡ b → IsVisit orders single_reach start a (cond b (moved orders single_reach start a) start)
-    visit true e = inr (moved_is orders single_reach start a (omega arith) e)
+    visit : (b : Bool) → is_unsettled orders start a ≡ b → IsVisit parts orders single_reach start a (cond b (moved parts orders single_reach start a) start)
+    visit true e = inr (moved_is parts orders single_reach start a (omega arith) e)
     visit false e = inl (settled_is orders start a e, refl)
 
 visits_all : (n : ℕ) → visits n 0 ≡ range_with_len 0 n
@@ -157,11 +157,11 @@ small_price : (p : ℤ) → IsWithin (2 ^ 60) p → IsPrice p
 small_price p within = omega (arith, ints, within.0, within.1)
 
 -- moves keep the number of prices
-visited_count : (orders : List Order) (assets : List ℕ) (start stop : List ℤ) → AreVisited orders single_reach start assets stop → length stop ≡ length start
-visited_count orders [] start stop same = ap length same
-visited_count orders (a ∷ assets) start stop visits =
-    visited_count orders assets visits.0 stop visits.2
-    ∙ ⊎_elim (λ stays. ap length stays.1) (λ moves. length-move orders single_reach start a moves.0 visits.0 moves.1) visits.1
+visited_count : (parts : ℕ) (orders : List Order) (assets : List ℕ) (start stop : List ℤ) → AreVisited parts orders single_reach start assets stop → length stop ≡ length start
+visited_count parts orders [] start stop same = ap length same
+visited_count parts orders (a ∷ assets) start stop visits =
+    visited_count parts orders assets visits.0 stop visits.2
+    ∙ ⊎_elim (λ stays. ap length stays.1) (λ moves. length-move parts orders single_reach start a moves.0 visits.0 moves.1) visits.1
 
 -- ---- the prices that the own rule reaches
 
@@ -171,58 +171,58 @@ record AreRightPrices (orders : List Order) (start prices : List ℤ) : Type 0 w
   unnamed : (asset : ℕ) → IsUnnamed orders asset → price_of prices asset ≡ price_of start asset
   settled : (asset : ℕ) → asset < length start → IsSettled orders prices asset
 
-all_visited : (orders : List Order) (start : List ℤ) (budget : ℕ) (end : List ℤ) → ArePricesOf true orders start budget end → AreVisited orders single_reach start (range_with_len 0 (length start)) end
-all_visited orders start budget end own =
-    let visits_of = visited_once orders (visits (length start) 0) start in
+all_visited : (parts : ℕ) (orders : List Order) (start : List ℤ) (budget : ℕ) (end : List ℤ) → ArePricesOf parts true orders start budget end → AreVisited parts orders single_reach start (range_with_len 0 (length start)) end
+all_visited parts orders start budget end own =
+    let visits_of = visited_once parts orders (visits (length start) 0) start in
     rw (own, ← visits_all (length start)) visits_of
 
 -- one far move of each unsettled asset settles them all
-pub settles_once : (orders : List Order) (start : List ℤ) (budget : ℕ) (end : List ℤ) → are_single orders ≡ true → All IsOrder orders → All (IsWithin (2 ^ 60)) start → ArePricesOf true orders start budget end → IsSettledOnce orders start end
-settles_once orders start budget end is each range own =
-    settles_single orders single_reach (λ k d inside. record { limits = (each k d inside).terms; lawful = (each k d inside).row }) (single_each orders is) (omega arith) start end range (all_visited orders start budget end own)
+pub settles_once : (parts : ℕ) → 1 ≤ parts → (orders : List Order) (start : List ℤ) (budget : ℕ) (end : List ℤ) → are_single orders ≡ true → All IsOrder orders → All (IsWithin (2 ^ 60)) start → ArePricesOf parts true orders start budget end → IsSettledOnce orders start end
+settles_once parts whole orders start budget end is each range own =
+    settles_single parts whole orders single_reach (λ k d inside. record { limits = (each k d inside).terms; lawful = (each k d inside).row }) (single_each orders is) (omega arith) start end range (all_visited parts orders start budget end own)
 
-prices_are_right : (single : Bool) (orders : List Order) (start : List ℤ) (budget : ℕ) (end : List ℤ) → are_single orders ≡ single → All IsOrder orders → All (IsWithin (2 ^ 60)) start → budget ≤ most_budget → ArePricesOf single orders start budget end → AreRightPrices orders start end
-prices_are_right true orders start budget end is each range few own =
-    let once = settles_once orders start budget end is each range own in
+prices_are_right : (parts : ℕ) → 1 ≤ parts → (single : Bool) (orders : List Order) (start : List ℤ) (budget : ℕ) (end : List ℤ) → are_single orders ≡ single → All IsOrder orders → All (IsWithin (2 ^ 60)) start → budget ≤ most_budget → ArePricesOf parts single orders start budget end → AreRightPrices orders start end
+prices_are_right parts whole true orders start budget end is each range few own =
+    let once = settles_once parts whole orders start budget end is each range own in
     record {
-      count = visited_count orders (range_with_len 0 (length start)) start end (all_visited orders start budget end own);
+      count = visited_count parts orders (range_with_len 0 (length start)) start end (all_visited parts orders start budget end own);
       small = λ k d inside. small_price (slice_index_or end k d) (once.range k d inside);
       unnamed = λ asset none. once.kept asset (unnamed_is_settled orders start asset none);
       settled = once.settled;
     }
-prices_are_right false orders start budget end is each range few own =
+prices_are_right parts whole false orders start budget end is each range few own =
     let walk = own.0 in
     let n = length start in
-    let legal = in_turn-legal n (is_unsettled orders) (step_of orders) 0 start walk (omega arith) own.1.in_turn in
-    let walked = has_walked orders n start walk refl legal in
+    let legal = in_turn-legal n (is_unsettled orders) (step_of parts orders) 0 start walk (omega arith) own.1.in_turn in
+    let walked = has_walked parts orders n start walk refl legal in
     let at_start : AreWithin (2 ^ 60) start = λ k d inside. let one = range k d inside in near (slice_index_or start k d) one in
     rw own.2 (record {
       count = walked.count;
       small = λ k d inside. let one = walked.range (2 ^ 60) at_start k d inside in let length_most = own.1.within in omega (arith, one, length_most, few);
       unnamed = walked.unnamed;
-      settled = λ asset inside. settled_is orders (end_of orders start walk) asset (own.1.settles asset inside);
+      settled = λ asset inside. settled_is orders (end_of parts orders start walk) asset (own.1.settles asset inside);
     })
   where
     near : (p : ℤ) → IsWithin (2 ^ 60) p → unsigned_abs p ≤ 2 ^ 60
     near p within = omega (arith, ints, within.0, within.1)
 
 -- there is one for each asset
-pub own_prices_count : (orders : List Order) (start : List ℤ) (budget : ℕ) (end : List ℤ) → All IsOrder orders → All (IsWithin (2 ^ 60)) start → budget ≤ most_budget
-    → ArePricesOf (are_single orders) orders start budget end → length end ≡ length start
-own_prices_count orders start budget end each range few own = (prices_are_right (are_single orders) orders start budget end refl each range few own).count
+pub own_prices_count : (parts : ℕ) → 1 ≤ parts → (orders : List Order) (start : List ℤ) (budget : ℕ) (end : List ℤ) → All IsOrder orders → All (IsWithin (2 ^ 60)) start → budget ≤ most_budget
+    → ArePricesOf parts (are_single orders) orders start budget end → length end ≡ length start
+own_prices_count parts whole orders start budget end each range few own = (prices_are_right parts whole (are_single orders) orders start budget end refl each range few own).count
 
 -- an own outcome is a right one
-pub own_is_right : (orders : List Order) (start : List ℤ) (budget : ℕ) (o : Outcome) → All IsOrder orders → All (IsWithin (2 ^ 60)) start → budget ≤ most_budget → IsOwnOutcome orders start budget o → IsRightOutcome orders start budget o
-own_is_right orders start budget (Cleared c) each range few own =
-    let prices = prices_are_right (are_single orders) orders start budget c.prices refl each range few own.0 in
+pub own_is_right : (parts : ℕ) → 1 ≤ parts → (orders : List Order) (start : List ℤ) (budget : ℕ) (o : Outcome) → All IsOrder orders → All (IsWithin (2 ^ 60)) start → budget ≤ most_budget → IsOwnOutcome parts orders start budget o → IsRightOutcome parts orders start budget o
+own_is_right parts whole orders start budget (Cleared c) each range few own =
+    let prices = prices_are_right parts whole (are_single orders) orders start budget c.prices refl each range few own.0 in
     subst (IsRightClearing orders start) (sym own.1) (right_at orders start c.prices (rates_by_choice (length start) orders c.prices) each (choices_are_roundings orders each (length start) c.prices) prices.count prices.small prices.unnamed prices.settled)
-own_is_right orders start budget (Skipped s) each range few own =
+own_is_right parts whole orders start budget (Skipped s) each range few own =
     let n = length start in
     let trace = own.1 in
     record {
       wide = wide_is orders each own.0;
-      legal = in_turn-legal n (is_unsettled orders) (step_of orders) 0 start s.trace (omega arith) trace.in_turn;
+      legal = in_turn-legal n (is_unsettled orders) (step_of parts orders) 0 start s.trace (omega arith) trace.in_turn;
       whole = trace.whole;
-      unsettled = λ settled. trace.none (end_of orders start s.trace) (s.trace, own_walk n (is_unsettled orders) (step_of orders) start budget s.trace trace.in_turn settled (omega (arith, trace.whole)), refl);
+      unsettled = λ settled. trace.none (end_of parts orders start s.trace) (s.trace, own_walk n (is_unsettled orders) (step_of parts orders) start budget s.trace trace.in_turn settled (omega (arith, trace.whole)), refl);
       duals = own.2;
     }

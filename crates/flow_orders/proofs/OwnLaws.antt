@@ -26,10 +26,10 @@ pub own_outcomes_are_right : OwnOutcomesAreRight
 own_outcomes_are_right = own_is_right
 
 pub one_asset_books_clear : OneAssetBooksClear
-one_asset_books_clear orders start budget (Cleared c) each is range own =
-    let once = settles_once orders start budget c.prices is each range (subst (λ single. ArePricesOf single orders start budget c.prices) is own.0) in
+one_asset_books_clear parts whole orders start budget (Cleared c) each is range own =
+    let once = settles_once parts whole orders start budget c.prices is each range (subst (λ single. ArePricesOf parts single orders start budget c.prices) is own.0) in
     (once.range, λ asset settled. once.kept asset (settled_is orders start asset settled))
-one_asset_books_clear orders start budget (Skipped s) each is range own = absurd (false≢true (sym own.0 ∙ is))
+one_asset_books_clear parts whole orders start budget (Skipped s) each is range own = absurd (false≢true (sym own.0 ∙ is))
 
 -- the residuals of orders and rates are those of the trades
 residuals_are : (orders : List Order) (rates : List ℕ) (asset : ℕ) → left_by (λ o asset. weight_in o.row asset) orders rates asset ≡ residual (trades orders rates) asset
@@ -48,4 +48,4 @@ chosen_rates_are_no_worse n orders prices =
     omega (arith, least, one, two)
 
 pub one_walk_of_each_length : OneWalkOfEachLength
-one_walk_of_each_length orders start v w one other same = one_of_each_length (length start) (is_unsettled orders) (step_of orders) 0 start v w one other same
+one_walk_of_each_length parts orders start v w one other same = one_of_each_length (length start) (is_unsettled orders) (step_of parts orders) 0 start v w one other same

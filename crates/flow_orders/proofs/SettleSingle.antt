@@ -56,14 +56,14 @@ module _ (orders : List Order) (single : All IsSingle orders) where
       }
 
 -- a visit leaves a settled asset as it is, and moves one that isn't
-abbrev pub IsVisit : List Order → ℕ → List ℤ → ℕ → List ℤ → Type 0
-IsVisit orders reach prices asset next =
-    (IsSettled orders prices asset × (next ≡ prices)) ⊎ ((d : ℕ) × IsMove orders prices asset reach d next)
+abbrev pub IsVisit : ℕ → List Order → ℕ → List ℤ → ℕ → List ℤ → Type 0
+IsVisit parts orders reach prices asset next =
+    (IsSettled orders prices asset × (next ≡ prices)) ⊎ ((d : ℕ) × IsMove parts orders prices asset reach d next)
 
 -- the assets of a list are visited in turn
-abbrev pub AreVisited : List Order → ℕ → List ℤ → List ℕ → List ℤ → Type 0
-AreVisited orders reach start [] stop = stop ≡ start
-AreVisited orders reach start (asset ∷ assets) stop = (next : List ℤ) × IsVisit orders reach start asset next × AreVisited orders reach next assets stop
+abbrev pub AreVisited : ℕ → List Order → ℕ → List ℤ → List ℕ → List ℤ → Type 0
+AreVisited parts orders reach start [] stop = stop ≡ start
+AreVisited parts orders reach start (asset ∷ assets) stop = (next : List ℤ) × IsVisit parts orders reach start asset next × AreVisited parts orders reach next assets stop
 
 -- what a visit does
 pub record HasVisited (orders : List Order) (prices : List ℤ) (asset : ℕ) (next : List ℤ) : Type 0 where
@@ -73,9 +73,9 @@ pub record HasVisited (orders : List Order) (prices : List ℤ) (asset : ℕ) (n
   pub others : (b : ℕ) → b ≢ asset → price_of next b ≡ price_of prices b
   pub kept : IsSettled orders prices asset → next ≡ prices
 
-module _ (orders : List Order) (reach : ℕ) (sound : All IsSound orders) (single : All IsSingle orders) (far : 2 ^ 61 ≤ reach) where
+module _ (parts : ℕ) (some : 1 ≤ parts) (orders : List Order) (reach : ℕ) (sound : All IsSound orders) (single : All IsSingle orders) (far : 2 ^ 61 ≤ reach) where
   -- a visit settles its asset, and touches no other
-  pub visit_settles : (prices : List ℤ) (asset : ℕ) (next : List ℤ) → asset < length prices → All (IsWithin (2 ^ 60)) prices → IsVisit orders reach prices asset next → HasVisited orders prices asset next
+  pub visit_settles : (prices : List ℤ) (asset : ℕ) (next : List ℤ) → asset < length prices → All (IsWithin (2 ^ 60)) prices → IsVisit parts orders reach prices asset next → HasVisited orders prices asset next
   visit_settles prices asset next within range visit =
       let start : IsWithin (2 ^ 60) (price_of prices asset) = range asset (pos 0) within in
       elim visit [
@@ -88,22 +88,22 @@ module _ (orders : List Order) (reach : ℕ) (sound : All IsSound orders) (singl
         }
         | inr moves ↦ elim moves.1 [
           | inl rise ↦
-              let end = rise_ends_within orders prices asset reach sound single within moves.0 rise.0 in
+              let end = rise_ends_within parts some orders prices asset reach sound single within moves.0 rise.0 in
               record {
-                settled = rw rise.1 (rise_settles orders prices asset reach sound single within moves.0 start far rise.0);
+                settled = rw rise.1 (rise_settles parts some orders prices asset reach sound single within moves.0 start far rise.0);
                 range = rw rise.1 (All-set (IsWithin (2 ^ 60)) prices asset (price_of prices asset +ℤ pos moves.0) (omega (arith, ints, start), end) range);
-                count = length-move orders reach prices asset moves.0 next (inl rise);
+                count = length-move parts orders reach prices asset moves.0 next (inl rise);
                 others = λ b apart. ap (λ p. price_of p b) rise.1 ∙ get_or-set_other prices asset b (price_of prices asset +ℤ pos moves.0) (pos 0) apart;
-                kept = λ settled. absurd (moved_unsettled orders prices asset reach moves.0 next (inl rise) settled);
+                kept = λ settled. absurd (moved_unsettled parts orders prices asset reach moves.0 next (inl rise) settled);
               }
           | inr fall ↦
-              let end = fall_ends_within orders prices asset reach sound single within moves.0 fall.0 in
+              let end = fall_ends_within parts some orders prices asset reach sound single within moves.0 fall.0 in
               record {
-                settled = rw fall.1 (fall_settles orders prices asset reach sound single within moves.0 start far fall.0);
+                settled = rw fall.1 (fall_settles parts some orders prices asset reach sound single within moves.0 start far fall.0);
                 range = rw fall.1 (All-set (IsWithin (2 ^ 60)) prices asset (price_of prices asset -ℤ pos moves.0) (end, omega (arith, ints, start)) range);
-                count = length-move orders reach prices asset moves.0 next (inr fall);
+                count = length-move parts orders reach prices asset moves.0 next (inr fall);
                 others = λ b apart. ap (λ p. price_of p b) fall.1 ∙ get_or-set_other prices asset b (price_of prices asset -ℤ pos moves.0) (pos 0) apart;
-                kept = λ settled. absurd (moved_unsettled orders prices asset reach moves.0 next (inr fall) settled);
+                kept = λ settled. absurd (moved_unsettled parts orders prices asset reach moves.0 next (inr fall) settled);
               }
         ]
       ]
@@ -117,14 +117,14 @@ module _ (orders : List Order) (reach : ℕ) (sound : All IsSound orders) (singl
       ]
 
   -- visits leave all prices within 2^60
-  pub visits_within : (assets : List ℕ) (start stop : List ℤ) → All (λ a. a < length start) assets → All (IsWithin (2 ^ 60)) start → AreVisited orders reach start assets stop → All (IsWithin (2 ^ 60)) stop
+  pub visits_within : (assets : List ℕ) (start stop : List ℤ) → All (λ a. a < length start) assets → All (IsWithin (2 ^ 60)) start → AreVisited parts orders reach start assets stop → All (IsWithin (2 ^ 60)) stop
   visits_within [] start stop priced range same = rw same range
   visits_within (asset ∷ assets) start stop priced range (next, visit, visits) =
       let visited = visit_settles start asset next (priced 0 asset (omega arith)) range visit in
       visits_within assets next stop (λ k d inside. subst (λ n. get_or assets k d < n) (sym visited.count) (priced (suc k) d (omega (arith, inside)))) visited.range visits
 
   -- an asset that was settled keeps its price
-  pub visits_keep : (assets : List ℕ) (start stop : List ℤ) (b : ℕ) → All (λ a. a < length start) assets → All (IsWithin (2 ^ 60)) start → AreVisited orders reach start assets stop → IsSettled orders start b → price_of stop b ≡ price_of start b
+  pub visits_keep : (assets : List ℕ) (start stop : List ℤ) (b : ℕ) → All (λ a. a < length start) assets → All (IsWithin (2 ^ 60)) start → AreVisited parts orders reach start assets stop → IsSettled orders start b → price_of stop b ≡ price_of start b
   visits_keep [] start stop b priced range same settled = ap (λ p. price_of p b) same
   visits_keep (asset ∷ assets) start stop b priced range (next, visit, visits) settled =
       let visited = visit_settles start asset next (priced 0 asset (omega arith)) range visit in
@@ -132,7 +132,7 @@ module _ (orders : List Order) (reach : ℕ) (sound : All IsSound orders) (singl
       visits_keep assets next stop b (λ k d inside. subst (λ n. get_or assets k d < n) (sym visited.count) (priced (suc k) d (omega (arith, inside)))) visited.range visits (settled_own orders single start next b (sym here) settled) ∙ here
 
   -- an asset that was settled or is visited is settled after the visits
-  pub visits_settle : (assets : List ℕ) (start stop : List ℤ) (b : ℕ) → All (λ a. a < length start) assets → All (IsWithin (2 ^ 60)) start → AreVisited orders reach start assets stop → IsSettled orders start b ⊎ Contains assets b → IsSettled orders stop b
+  pub visits_settle : (assets : List ℕ) (start stop : List ℤ) (b : ℕ) → All (λ a. a < length start) assets → All (IsWithin (2 ^ 60)) start → AreVisited parts orders reach start assets stop → IsSettled orders start b ⊎ Contains assets b → IsSettled orders stop b
   visits_settle [] start stop b priced range same (inl settled) = rw same settled
   visits_settle [] start stop b priced range same (inr (k, inside, at_k)) = absurd (omega (arith, inside))
   visits_settle (asset ∷ assets) start stop b priced range (next, visit, visits) reason =
@@ -167,11 +167,11 @@ pub record IsSettledOnce (orders : List Order) (start stop : List ℤ) : Type 0 
   pub range : All (IsWithin (2 ^ 60)) stop
   pub kept : (a : ℕ) → IsSettled orders start a → price_of stop a ≡ price_of start a
 
-pub settles_single : (orders : List Order) (reach : ℕ) → All IsSound orders → All IsSingle orders → 2 ^ 61 ≤ reach → (start stop : List ℤ) → All (IsWithin (2 ^ 60)) start → AreVisited orders reach start (range_with_len 0 (length start)) stop → IsSettledOnce orders start stop
-settles_single orders reach sound single far start stop range visits =
+pub settles_single : (parts : ℕ) → 1 ≤ parts → (orders : List Order) (reach : ℕ) → All IsSound orders → All IsSingle orders → 2 ^ 61 ≤ reach → (start stop : List ℤ) → All (IsWithin (2 ^ 60)) start → AreVisited parts orders reach start (range_with_len 0 (length start)) stop → IsSettledOnce orders start stop
+settles_single parts some orders reach sound single far start stop range visits =
     let priced : All (λ a. a < length start) (range_with_len 0 (length start)) = λ k d inside. let one = in_range_below 0 (length start) k d inside in omega (arith, one) in
     record {
-      settled = λ a below. visits_settle orders reach sound single far (range_with_len 0 (length start)) start stop a priced range visits (inr (in_range 0 (length start) a (omega arith) (omega (arith, below))));
-      range = visits_within orders reach sound single far (range_with_len 0 (length start)) start stop priced range visits;
-      kept = λ a settled. visits_keep orders reach sound single far (range_with_len 0 (length start)) start stop a priced range visits settled;
+      settled = λ a below. visits_settle parts some orders reach sound single far (range_with_len 0 (length start)) start stop a priced range visits (inr (in_range 0 (length start) a (omega arith) (omega (arith, below))));
+      range = visits_within parts some orders reach sound single far (range_with_len 0 (length start)) start stop priced range visits;
+      kept = λ a settled. visits_keep parts some orders reach sound single far (range_with_len 0 (length start)) start stop a priced range visits settled;
     }

@@ -10,44 +10,44 @@ use Rattle.weight_rows.specs.declared.entries.Entry.{Entry}
 use Rattle.list_sums.specs.Sums.{int_sum_by}
 use Rattle.weight_rows.specs.Rows.{IsLawfulRow, weight_in, price_of, portfolio_price}
 use Rattle.weight_rows.proofs.RowLawProofs.{price_follows_one_price}
-use Rattle.demand_curve.specs.Demand.{Terms, IsWithinLimits, scaled_demand, floor_rate}
+use Rattle.demand_curve.specs.Demand.{Terms, IsWithinLimits, scaled_demand, floor_in}
 use Rattle.demand_curve.proofs.DemandLaws.{demand_is_cut_at_limits}
-use Rattle.demand_curve.proofs.RoundingLaws.{roundings_enclose_demand}
+use Rattle.demand_curve.proofs.Parts.{parts_enclose_demand}
 use Rattle.demand_curve.proofs.Limits.{span_least}
 use Rattle.flow_orders.specs.Orders.{terms_of}
 use Rattle.list_sums.proofs.SumLemmas.{int_sum_by-same_all}
-use Rattle.flow_orders.specs.Excess.{low_part, high_part}
+use Rattle.flow_orders.specs.Excess.{low_part, high_part, low_part_in, high_part_in}
 use Rattle.flow_orders.specs.Orders.{Order}
 use Rattle.flow_orders.proofs.Book.{IsSound, IsSettled}
-use Rattle.flow_orders.specs.Excess.{low_excess, high_excess}
+use Rattle.flow_orders.specs.Excess.{low_excess, high_excess, low_excess_in, high_excess_in}
 
 -- an order that names one asset
 abbrev pub IsSingle : Order → Type 0
 IsSingle o = length o.row ≡ 1
 
 -- nothing is asked for at or above the high limit
-pub no_floor : (t : Terms) → IsWithinLimits t → (c : ℤ) → pos (2 ^ 60) ≤ℤ c → floor_rate t c ≡ 0
-no_floor t h c above =
+pub no_floor : (parts : ℕ) (t : Terms) → IsWithinLimits t → (c : ℤ) → pos (2 ^ 60) ≤ℤ c → floor_in parts t c ≡ 0
+no_floor parts t h c above =
     let past : t.high ≤ℤ c = omega (arith, ints, h.high_in_range, above) in
     let none : scaled_demand t c ≡ 0 = (demand_is_cut_at_limits t h c).none_above past in
-    omega (arith, none, (roundings_enclose_demand t h c).floor_below, mul-le-mul_left (floor_rate t c) (span_least t h))
+    omega (arith, ap (λ y. parts * y) none, (parts_enclose_demand parts t h c).floor_below, mul-le-mul_left (floor_in parts t c) (span_least t h))
 
 -- from a price of 2^60 on no order buys, so its low part is at most 0
-low_part-none : (w : ℤ) (t : Terms) → IsWithinLimits t → (p : ℤ) → pos (2 ^ 60) ≤ℤ p → low_part w t (w *ℤ p) ≤ℤ pos 0
-low_part-none (pos zero) t h p high = omega (arith, ints)
-low_part-none (pos (suc n)) t h p high =
+low_part-none : (parts : ℕ) (w : ℤ) (t : Terms) → IsWithinLimits t → (p : ℤ) → pos (2 ^ 60) ≤ℤ p → low_part_in parts w t (w *ℤ p) ≤ℤ pos 0
+low_part-none parts (pos zero) t h p high = omega (arith, ints)
+low_part-none parts (pos (suc n)) t h p high =
     let sides : down p ≤ up p = omega (arith, ints, high) in
     let above : pos (2 ^ 60) ≤ℤ (pos (suc n) *ℤ p) = omega (arith, ints, high, mul-le-mul_left n sides) in
-    omega (arith, ints, ap (λ y. suc n * y) (no_floor t h (pos (suc n) *ℤ p) above))
-low_part-none (negsuc n) t h p high = omega (arith, ints)
+    omega (arith, ints, ap (λ y. suc n * y) (no_floor parts t h (pos (suc n) *ℤ p) above))
+low_part-none parts (negsuc n) t h p high = omega (arith, ints)
 
 -- down to a price of -2^60 no order sells, so its high part is at least 0
-high_part-none : (w : ℤ) (t : Terms) → IsWithinLimits t → (p : ℤ) → p ≤ℤ neg_ℤ (pos (2 ^ 60)) → pos 0 ≤ℤ high_part w t (w *ℤ p)
-high_part-none (pos n) t h p low = omega (arith, ints)
-high_part-none (negsuc n) t h p low =
+high_part-none : (parts : ℕ) (w : ℤ) (t : Terms) → IsWithinLimits t → (p : ℤ) → p ≤ℤ neg_ℤ (pos (2 ^ 60)) → pos 0 ≤ℤ high_part_in parts w t (w *ℤ p)
+high_part-none parts (pos n) t h p low = omega (arith, ints)
+high_part-none parts (negsuc n) t h p low =
     let sides : up p ≤ down p = omega (arith, ints, low) in
     let above : pos (2 ^ 60) ≤ℤ (negsuc n *ℤ p) = omega (arith, ints, low, mul-le-mul_left n sides) in
-    omega (arith, ints, ap (λ y. suc n * y) (no_floor t h (negsuc n *ℤ p) above))
+    omega (arith, ints, ap (λ y. suc n * y) (no_floor parts t h (negsuc n *ℤ p) above))
 
 -- a row of one entry has no weight of the asset, or its price is that of the asset
 pub one_price : (row : List Entry) (prices : List ℤ) (asset : ℕ) → length row ≡ 1 → (weight_in row asset ≡ pos 0) ⊎ (portfolio_price row prices ≡ weight_in row asset *ℤ price_of prices asset)
@@ -89,27 +89,27 @@ module _ {X : Type 0} (f : X → ℤ) where
       omega (arith, ints, head, int_sum_by-not_below xs (λ k d inside. h (suc k) d (omega (arith, inside))))
 
 -- at a price of 2^60 or more the low excess is at most 0
-pub low_excess-none : (orders : List Order) (prices : List ℤ) (asset : ℕ) → All IsSound orders → All IsSingle orders → pos (2 ^ 60) ≤ℤ price_of prices asset → low_excess orders prices asset ≤ℤ pos 0
-low_excess-none orders prices asset sound single high =
-    int_sum_by-not_above (λ o. low_part (weight_in o.row asset) (terms_of o) (portfolio_price o.row prices)) orders
+pub low_excess-none : (parts : ℕ) (orders : List Order) (prices : List ℤ) (asset : ℕ) → All IsSound orders → All IsSingle orders → pos (2 ^ 60) ≤ℤ price_of prices asset → low_excess_in parts orders prices asset ≤ℤ pos 0
+low_excess-none parts orders prices asset sound single high =
+    int_sum_by-not_above (λ o. low_part_in parts (weight_in o.row asset) (terms_of o) (portfolio_price o.row prices)) orders
     (λ k d inside.
     let o : Order = slice_index_or orders k d in
     let h : IsSound o = sound k d inside in
     ⊎_elim
     (λ none. rw none (omega (arith, ints)))
-    (λ own. rw own (low_part-none (weight_in o.row asset) (terms_of o) h.limits (price_of prices asset) high))
+    (λ own. rw own (low_part-none parts (weight_in o.row asset) (terms_of o) h.limits (price_of prices asset) high))
     (one_price o.row prices asset (single k d inside)))
 
 -- at a price of -2^60 or less the high excess is at least 0
-pub high_excess-none : (orders : List Order) (prices : List ℤ) (asset : ℕ) → All IsSound orders → All IsSingle orders → price_of prices asset ≤ℤ neg_ℤ (pos (2 ^ 60)) → pos 0 ≤ℤ high_excess orders prices asset
-high_excess-none orders prices asset sound single low =
-    int_sum_by-not_below (λ o. high_part (weight_in o.row asset) (terms_of o) (portfolio_price o.row prices)) orders
+pub high_excess-none : (parts : ℕ) (orders : List Order) (prices : List ℤ) (asset : ℕ) → All IsSound orders → All IsSingle orders → price_of prices asset ≤ℤ neg_ℤ (pos (2 ^ 60)) → pos 0 ≤ℤ high_excess_in parts orders prices asset
+high_excess-none parts orders prices asset sound single low =
+    int_sum_by-not_below (λ o. high_part_in parts (weight_in o.row asset) (terms_of o) (portfolio_price o.row prices)) orders
     (λ k d inside.
     let o : Order = slice_index_or orders k d in
     let h : IsSound o = sound k d inside in
     ⊎_elim
     (λ none. rw none (omega (arith, ints)))
-    (λ own. rw own (high_part-none (weight_in o.row asset) (terms_of o) h.limits (price_of prices asset) low))
+    (λ own. rw own (high_part-none parts (weight_in o.row asset) (terms_of o) h.limits (price_of prices asset) low))
     (one_price o.row prices asset (single k d inside)))
 
 -- another asset's price leaves the price of an order that names this asset alone

@@ -6,7 +6,7 @@ use Rattle.std.proofs.lemmas.Bool.{false≢true}
 use Rattle.std.proofs.lemmas.List.Elements.{All-from_recursion}
 use Rattle.weight_rows.specs.declared.entries.Entry.{Entry}
 use Rattle.weight_rows.specs.Rows.{IsLawfulRow, IsLawfulWeight, IsPrice, IsPricedBy, price_of, weight_in, portfolio_price}
-use Rattle.demand_curve.specs.Demand.{Terms, IsWithin, span, line, scaled_demand, floor_rate, ceil_rate, IsRounding, loss, scaled_dual, dual_floor}
+use Rattle.demand_curve.specs.Demand.{Terms, IsWithin, span, line, scaled_demand, floor_rate, ceil_rate, floor_in, ceil_in, IsRounding, loss, scaled_dual, dual_floor}
 use Rattle.demand_curve.specs.Numbers.{distance}
 use Rattle.demand_curve.specs.Welfare.{scaled_welfare}
 use Rattle.flow_orders.specs.Orders.{Order, IsOrder, terms_of, price_of_ticks}
@@ -90,11 +90,11 @@ steep_published = refl
 
 -- ---- no order
 
-no_orders_clear : IsOwnOutcome [] (pos 0 ∷ []) 1 (Cleared (record { prices = pos 0 ∷ []; fills = []; residuals = pos 0 ∷ []; gap = pos 0 }))
+no_orders_clear : IsOwnOutcome 1 [] (pos 0 ∷ []) 1 (Cleared (record { prices = pos 0 ∷ []; fills = []; residuals = pos 0 ∷ []; gap = pos 0 }))
 unfolding is_unsettled steepness
 no_orders_clear = (refl, refl)
 
-no_assets_clear : IsOwnOutcome [] [] 1 (Cleared (record { prices = []; fills = []; residuals = []; gap = pos 0 }))
+no_assets_clear : IsOwnOutcome 1 [] [] 1 (Cleared (record { prices = []; fills = []; residuals = []; gap = pos 0 }))
 no_assets_clear = (refl, refl)
 
 -- ---- a buyer who has one unit left in the second batch
@@ -183,20 +183,20 @@ pair_is_lawful =
 sound : (orders : List Order) → All IsOrder orders → All IsSound orders
 sound orders all k d inside = record { limits = (all k d inside).terms; lawful = (all k d inside).row }
 
-pair_move : (moved pair single_reach (pos 0 ∷ []) 0 ≡ pos 429410830255 ∷ []) × (amount_of pair single_reach (pos 0 ∷ []) 0 ≡ 429410830255)
-unfolding steepness weight_in portfolio_price floor_rate ceil_rate scaled_demand line span distance
-pair_move = rises_to pair single_reach (pos 0 ∷ []) 0 429410830254 (sound pair pair_is_lawful) (omega arith) (omega arith) refl refl refl
+pair_move : (moved 1 pair single_reach (pos 0 ∷ []) 0 ≡ pos 429410830255 ∷ []) × (amount_of 1 pair single_reach (pos 0 ∷ []) 0 ≡ 429410830255)
+unfolding steepness weight_in portfolio_price floor_rate ceil_rate floor_in ceil_in scaled_demand line span distance
+pair_move = rises_to 1 pair single_reach (pos 0 ∷ []) 0 429410830254 (sound pair pair_is_lawful) (omega arith) (omega arith) refl refl refl
 
 abbrev pub chosen_published : Clearing
 chosen_published =
     record { prices = pos 429410830255 ∷ []; fills = record { order = 1; rate = 500 } ∷ record { order = 2; rate = 500 } ∷ []; residuals = pos 0 ∷ []; gap = pos 85899346 }
 
-pub own : IsOwnOutcome pair (pos 0 ∷ []) 10 (Cleared chosen_published)
+pub own : IsOwnOutcome 1 pair (pos 0 ∷ []) 10 (Cleared chosen_published)
 unfolding is_unsettled steepness weight_in portfolio_price floor_rate ceil_rate scaled_demand loss line span distance
 own = (sym pair_move.0, refl)
 
 chosen_are_right : IsRightClearing pair (pos 0 ∷ []) chosen_published
-chosen_are_right = own_outcomes_are_right pair (pos 0 ∷ []) 10 (Cleared chosen_published) pair_is_lawful (All-from_recursion (IsWithin (2 ^ 60)) (pos 0 ∷ []) ((omega (arith, ints), omega (arith, ints)), tt)) (omega arith) own
+chosen_are_right = own_outcomes_are_right 1 (omega arith) pair (pos 0 ∷ []) 10 (Cleared chosen_published) pair_is_lawful (All-from_recursion (IsWithin (2 ^ 60)) (pos 0 ∷ []) ((omega (arith, ints), omega (arith, ints)), tt)) (omega arith) own
 
 -- a price that the program doesn't publish: all demands are whole there, and the gap is 0
 abbrev even_published : Clearing
@@ -306,17 +306,38 @@ wide_is_lawful =
     }
 
 -- the three moves
-move_1 : (moved wide_book walk_reach (pos 0 ∷ pos 0 ∷ []) 0 ≡ pos 394965192541 ∷ pos 0 ∷ []) × (amount_of wide_book walk_reach (pos 0 ∷ pos 0 ∷ []) 0 ≡ 394965192541)
-unfolding steepness weight_in portfolio_price floor_rate ceil_rate scaled_demand line span distance
-move_1 = rises_to wide_book walk_reach (pos 0 ∷ pos 0 ∷ []) 0 394965192540 (sound wide_book wide_is_lawful) (omega arith) (omega arith) refl refl refl
+move_1 : (moved 1 wide_book walk_reach (pos 0 ∷ pos 0 ∷ []) 0 ≡ pos 394965192541 ∷ pos 0 ∷ []) × (amount_of 1 wide_book walk_reach (pos 0 ∷ pos 0 ∷ []) 0 ≡ 394965192541)
+unfolding steepness weight_in portfolio_price floor_rate ceil_rate floor_in ceil_in scaled_demand line span distance
+move_1 = rises_to 1 wide_book walk_reach (pos 0 ∷ pos 0 ∷ []) 0 394965192540 (sound wide_book wide_is_lawful) (omega arith) (omega arith) refl refl refl
 
-move_2 : moved wide_book walk_reach (pos 394965192541 ∷ pos 0 ∷ []) 1 ≡ pos 394965192541 ∷ pos 393161306276 ∷ []
-unfolding steepness weight_in portfolio_price floor_rate ceil_rate scaled_demand line span distance
-move_2 = (rises_to wide_book walk_reach (pos 394965192541 ∷ pos 0 ∷ []) 1 393161306275 (sound wide_book wide_is_lawful) (omega arith) (omega arith) refl refl refl).0
+move_2 : moved 1 wide_book walk_reach (pos 394965192541 ∷ pos 0 ∷ []) 1 ≡ pos 394965192541 ∷ pos 393161306276 ∷ []
+unfolding steepness weight_in portfolio_price floor_rate ceil_rate floor_in ceil_in scaled_demand line span distance
+move_2 = (rises_to 1 wide_book walk_reach (pos 394965192541 ∷ pos 0 ∷ []) 1 393161306275 (sound wide_book wide_is_lawful) (omega arith) (omega arith) refl refl refl).0
 
-move_3 : moved wide_book walk_reach (pos 394965192541 ∷ pos 393161306276 ∷ []) 0 ≡ pos 393590803005 ∷ pos 393161306276 ∷ []
-unfolding steepness weight_in portfolio_price floor_rate ceil_rate scaled_demand line span distance
-move_3 = (falls_to wide_book walk_reach (pos 394965192541 ∷ pos 393161306276 ∷ []) 0 1374389535 (sound wide_book wide_is_lawful) (omega arith) (omega arith) refl refl refl refl).0
+move_3 : moved 1 wide_book walk_reach (pos 394965192541 ∷ pos 393161306276 ∷ []) 0 ≡ pos 393590803005 ∷ pos 393161306276 ∷ []
+unfolding steepness weight_in portfolio_price floor_rate ceil_rate floor_in ceil_in scaled_demand line span distance
+move_3 = (falls_to 1 wide_book walk_reach (pos 394965192541 ∷ pos 393161306276 ∷ []) 0 1374389535 (sound wide_book wide_is_lawful) (omega arith) (omega arith) refl refl refl refl).0
+
+-- the same moves by 256 parts of a unit end nearer to where the excess is the steepness
+fine_pair_move : (moved 256 pair single_reach (pos 0 ∷ []) 0 ≡ pos 429453444383 ∷ []) × (amount_of 256 pair single_reach (pos 0 ∷ []) 0 ≡ 429453444383)
+unfolding steepness weight_in portfolio_price floor_rate ceil_rate floor_in ceil_in scaled_demand line span distance
+fine_pair_move = rises_to 256 pair single_reach (pos 0 ∷ []) 0 429453444382 (sound pair pair_is_lawful) (omega arith) (omega arith) refl refl refl
+
+fine_move_1 : (moved 256 wide_book walk_reach (pos 0 ∷ pos 0 ∷ []) 0 ≡ pos 395050756342 ∷ pos 0 ∷ []) × (amount_of 256 wide_book walk_reach (pos 0 ∷ pos 0 ∷ []) 0 ≡ 395050756342)
+unfolding steepness weight_in portfolio_price floor_rate ceil_rate floor_in ceil_in scaled_demand line span distance
+fine_move_1 = rises_to 256 wide_book walk_reach (pos 0 ∷ pos 0 ∷ []) 0 395050756341 (sound wide_book wide_is_lawful) (omega arith) (omega arith) refl refl refl
+
+fine_move_2 : moved 256 wide_book walk_reach (pos 395050756342 ∷ pos 0 ∷ []) 1 ≡ pos 395050756342 ∷ pos 393256600863 ∷ []
+unfolding steepness weight_in portfolio_price floor_rate ceil_rate floor_in ceil_in scaled_demand line span distance
+fine_move_2 = (rises_to 256 wide_book walk_reach (pos 395050756342 ∷ pos 0 ∷ []) 1 393256600862 (sound wide_book wide_is_lawful) (omega arith) (omega arith) refl refl refl).0
+
+fine_move_3 : moved 256 wide_book walk_reach (pos 395050756342 ∷ pos 393256600863 ∷ []) 0 ≡ pos 393437459251 ∷ pos 393256600863 ∷ []
+unfolding steepness weight_in portfolio_price floor_rate ceil_rate floor_in ceil_in scaled_demand line span distance
+fine_move_3 = (falls_to 256 wide_book walk_reach (pos 395050756342 ∷ pos 393256600863 ∷ []) 0 1613297090 (sound wide_book wide_is_lawful) (omega arith) (omega arith) refl refl refl refl).0
+
+fine_settled : (is_unsettled wide_book (pos 393437459251 ∷ pos 393256600863 ∷ []) 0 ≡ false) × (is_unsettled wide_book (pos 393437459251 ∷ pos 393256600863 ∷ []) 1 ≡ false)
+unfolding is_unsettled steepness weight_in portfolio_price floor_rate ceil_rate scaled_demand line span distance
+fine_settled = (refl, refl)
 
 -- the three places of the walk
 abbrev at_0 : List ℤ
@@ -332,10 +353,10 @@ abbrev pub at_3 : List ℤ
 at_3 = pos 393590803005 ∷ pos 393161306276 ∷ []
 
 abbrev InTurn : ℕ → List ℤ → List ℕ → Type 0
-InTurn next prices walk = IsInTurnFrom 2 (is_unsettled wide_book) (step_of wide_book) next prices walk
+InTurn next prices walk = IsInTurnFrom 2 (is_unsettled wide_book) (step_of 1 wide_book) next prices walk
 
 abbrev SettlesFrom : List ℤ → List ℕ → Type 0
-SettlesFrom prices walk = Settles 2 (is_unsettled wide_book) (step_of wide_book) prices walk
+SettlesFrom prices walk = Settles 2 (is_unsettled wide_book) (step_of 1 wide_book) prices walk
 
 -- whose turn it is
 first_turn : first_that (is_unsettled wide_book at_0) (visits 2 0) ≡ Some 0
@@ -358,18 +379,18 @@ still_unsettled : (is_unsettled wide_book at_0 0 ≡ true) × (is_unsettled wide
 unfolding is_unsettled steepness weight_in portfolio_price floor_rate ceil_rate scaled_demand line span distance
 still_unsettled = (refl, refl, refl)
 
-turn : (walk : List ℕ) (next a : ℕ) (p q : List ℤ) → step_of wide_book p a ≡ q → first_that (is_unsettled wide_book p) (visits 2 next) ≡ Some a → InTurn (a + 1) q walk → InTurn next p (a ∷ walk)
+turn : (walk : List ℕ) (next a : ℕ) (p q : List ℤ) → step_of 1 wide_book p a ≡ q → first_that (is_unsettled wide_book p) (visits 2 next) ≡ Some a → InTurn (a + 1) q walk → InTurn next p (a ∷ walk)
 turn walk next a p q move first rest = (first, subst (λ r. InTurn (a + 1) r walk) (sym move) rest)
 
 same_asset : (a c : ℕ) → Some a ≡ Some c → a ≡ c
 same_asset a c e = cc
 
-after_turn : (walk : List ℕ) (next a c : ℕ) (p q : List ℤ) → step_of wide_book p c ≡ q → first_that (is_unsettled wide_book p) (visits 2 next) ≡ Some c
+after_turn : (walk : List ℕ) (next a c : ℕ) (p q : List ℤ) → step_of 1 wide_book p c ≡ q → first_that (is_unsettled wide_book p) (visits 2 next) ≡ Some c
     → InTurn next p (a ∷ walk) → SettlesFrom p (a ∷ walk) → InTurn (c + 1) q walk × SettlesFrom q walk
 after_turn walk next a c p q move first in_turn settles =
     let same = same_asset a c (sym in_turn.0 ∙ first) in (
-      subst (λ r. InTurn (c + 1) r walk) move (subst (λ b. InTurn (b + 1) (step_of wide_book p b) walk) same in_turn.1),
-      subst (λ r. SettlesFrom r walk) move (subst (λ b. SettlesFrom (step_of wide_book p b) walk) same settles),
+      subst (λ r. InTurn (c + 1) r walk) move (subst (λ b. InTurn (b + 1) (step_of 1 wide_book p b) walk) same in_turn.1),
+      subst (λ r. SettlesFrom r walk) move (subst (λ b. SettlesFrom (step_of 1 wide_book p b) walk) same settles),
     )
 
 -- no shorter walk in turn settles all assets
@@ -384,11 +405,11 @@ at_least_3 (a ∷ b ∷ []) in_turn settles =
     absurd (false≢true (sym (two.1 0 (omega arith)) ∙ still_unsettled.2))
 at_least_3 (a ∷ b ∷ c ∷ walk) in_turn settles = omega arith
 
-walk_of_3 : walk_end (step_of wide_book) at_0 (0 ∷ 1 ∷ 0 ∷ []) ≡ at_3
-walk_of_3 = ap (λ p. step_of wide_book (step_of wide_book p 1) 0) move_1.0 ∙ ap (λ p. step_of wide_book p 0) move_2 ∙ move_3
+walk_of_3 : walk_end (step_of 1 wide_book) at_0 (0 ∷ 1 ∷ 0 ∷ []) ≡ at_3
+walk_of_3 = ap (λ p. step_of 1 wide_book (step_of 1 wide_book p 1) 0) move_1.0 ∙ ap (λ p. step_of 1 wide_book p 0) move_2 ∙ move_3
 
 -- with a budget of 3 the batch clears where the third move ends
-wide_clears : IsOwnOutcome wide_book at_0 3 (Cleared (record {
+wide_clears : IsOwnOutcome 1 wide_book at_0 3 (Cleared (record {
   prices = at_3;
   fills = record { order = 1; rate = 79 } ∷ record { order = 2; rate = 81 } ∷ record { order = 3; rate = 78 } ∷ [];
   residuals = neg_ℤ (pos 2) ∷ pos 1 ∷ [];
@@ -422,7 +443,7 @@ duals_of_1 : skipped_after_1 ≡ record { trace = 0 ∷ []; start_dual = pos (du
 unfolding portfolio_price dual_floor scaled_dual scaled_demand line span distance
 duals_of_1 = refl
 
-wide_is_skipped : IsOwnOutcome wide_book at_0 1 (Skipped skipped_after_1)
+wide_is_skipped : IsOwnOutcome 1 wide_book at_0 1 (Skipped skipped_after_1)
 wide_is_skipped = (
   refl,
   record {
@@ -437,17 +458,17 @@ wide_is_skipped = (
 wide_start : All (IsWithin (2 ^ 60)) at_0
 wide_start = All-from_recursion (IsWithin (2 ^ 60)) at_0 ((omega (arith, ints), omega (arith, ints)), ((omega (arith, ints), omega (arith, ints)), tt))
 
-skipped_is_right : IsRightOutcome wide_book at_0 1 (Skipped skipped_after_1)
-skipped_is_right = own_outcomes_are_right wide_book at_0 1 (Skipped skipped_after_1) wide_is_lawful wide_start (omega arith) wide_is_skipped
+skipped_is_right : IsRightOutcome 1 wide_book at_0 1 (Skipped skipped_after_1)
+skipped_is_right = own_outcomes_are_right 1 (omega arith) wide_book at_0 1 (Skipped skipped_after_1) wide_is_lawful wide_start (omega arith) wide_is_skipped
 
 -- the movement of the walk of one move
-movement_is : movement_of wide_book at_0 (0 ∷ []) ≡ 394965192541
+movement_is : movement_of 1 wide_book at_0 (0 ∷ []) ≡ 394965192541
 movement_is = rw move_1.1 refl
 
 -- a walk that begins with the other asset isn't the program's own, but it is right as well
-other_move : moved wide_book walk_reach at_0 1 ≡ pos 0 ∷ pos 394965192541 ∷ []
-unfolding steepness weight_in portfolio_price floor_rate ceil_rate scaled_demand line span distance
-other_move = (rises_to wide_book walk_reach at_0 1 394965192540 (sound wide_book wide_is_lawful) (omega arith) (omega arith) refl refl refl).0
+other_move : moved 1 wide_book walk_reach at_0 1 ≡ pos 0 ∷ pos 394965192541 ∷ []
+unfolding steepness weight_in portfolio_price floor_rate ceil_rate floor_in ceil_in scaled_demand line span distance
+other_move = (rises_to 1 wide_book walk_reach at_0 1 394965192540 (sound wide_book wide_is_lawful) (omega arith) (omega arith) refl refl refl).0
 
 other_facts : (is_unsettled wide_book at_0 1 ≡ true) × (is_unsettled wide_book (pos 0 ∷ pos 394965192541 ∷ []) 0 ≡ true)
 unfolding is_unsettled steepness weight_in portfolio_price floor_rate ceil_rate scaled_demand line span distance
@@ -460,7 +481,7 @@ duals_of_other : skipped_after_other ≡ record { trace = 1 ∷ []; start_dual =
 unfolding portfolio_price dual_floor scaled_dual scaled_demand line span distance
 duals_of_other = refl
 
-other_is_right : IsRightOutcome wide_book at_0 1 (Skipped skipped_after_other)
+other_is_right : IsRightOutcome 1 wide_book at_0 1 (Skipped skipped_after_other)
 other_is_right = record {
   wide = (basket, (0, omega arith, refl), omega arith);
   legal = (omega arith, other_facts.0, tt);
@@ -469,7 +490,7 @@ other_is_right = record {
   duals = duals_of_other ∙ ap (λ p. record { trace = 1 ∷ []; start_dual = pos (dual_of wide_book at_0); end_dual = pos (dual_of wide_book p) }) (sym other_move);
 }
 
-other_is_not_own : ¬ IsOwnOutcome wide_book at_0 1 (Skipped skipped_after_other)
+other_is_not_own : ¬ IsOwnOutcome 1 wide_book at_0 1 (Skipped skipped_after_other)
 other_is_not_own own = omega (arith, same_asset 1 0 (sym own.1.in_turn.0 ∙ first_turn))
 
 -- a clearing that leaves out an order, even one that trades nothing, is wrong
@@ -555,11 +576,11 @@ second_is_lawful =
       ),
     )
 
-second_falls : moved second_book single_reach (pos 429410830255 ∷ []) 0 ≡ pos 386804754677 ∷ []
-unfolding steepness weight_in portfolio_price floor_rate ceil_rate scaled_demand line span distance
-second_falls = (falls_to second_book single_reach (pos 429410830255 ∷ []) 0 42606075577 (sound second_book second_is_lawful) (omega arith) (omega arith) refl refl refl refl).0
+second_falls : moved 1 second_book single_reach (pos 429410830255 ∷ []) 0 ≡ pos 386804754677 ∷ []
+unfolding steepness weight_in portfolio_price floor_rate ceil_rate floor_in ceil_in scaled_demand line span distance
+second_falls = (falls_to 1 second_book single_reach (pos 429410830255 ∷ []) 0 42606075577 (sound second_book second_is_lawful) (omega arith) (omega arith) refl refl refl refl).0
 
-second_own : IsOwnOutcome second_book (pos 429410830255 ∷ []) 10 (Cleared (record {
+second_own : IsOwnOutcome 1 second_book (pos 429410830255 ∷ []) 10 (Cleared (record {
   prices = pos 386804754677 ∷ [];
   fills = record { order = 1; rate = 1 } ∷ record { order = 2; rate = 2 } ∷ [];
   residuals = neg_ℤ (pos 1) ∷ [];

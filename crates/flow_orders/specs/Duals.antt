@@ -20,6 +20,6 @@ abbrev pub exact_dual : ℕ → List Order → List ℤ → ℕ
 exact_dual N orders prices = sum_by (λ o. share N (terms_of o) * scaled_dual (terms_of o) (price_for prices o)) orders
 
 -- the movement of a walk: the sum of the amounts moved
-abbrev pub movement_of : List Order → List ℤ → List ℕ → ℕ
-movement_of orders prices [] = 0
-movement_of orders prices (asset ∷ walk) = amount_of orders walk_reach prices asset + movement_of orders (step_of orders prices asset) walk
+abbrev pub movement_of : ℕ → List Order → List ℤ → List ℕ → ℕ
+movement_of parts orders prices [] = 0
+movement_of parts orders prices (asset ∷ walk) = amount_of parts orders walk_reach prices asset + movement_of parts orders (step_of parts orders prices asset) walk

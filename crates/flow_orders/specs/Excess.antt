@@ -4,7 +4,7 @@ use Rattle.std.specs.List.{sum_by}
 use Rattle.std.specs.Int.{div_ceil}
 use Rattle.list_sums.specs.Sums.{int_sum_by}
 use Rattle.weight_rows.specs.Rows.{weight_in, portfolio_price}
-use Rattle.demand_curve.specs.Demand.{Terms, floor_rate, ceil_rate}
+use Rattle.demand_curve.specs.Demand.{Terms, floor_rate, ceil_rate, floor_in, ceil_in}
 use Rattle.flow_orders.specs.Orders.{Order, terms_of}
 
 -- the price of an order's portfolio
@@ -29,6 +29,24 @@ low_excess orders prices asset = int_sum_by (λ o. low_part (weight_in o.row ass
 abbrev pub high_excess : List Order → List ℤ → ℕ → ℤ
 high_excess orders prices asset = int_sum_by (λ o. high_part (weight_in o.row asset) (terms_of o) (price_for prices o)) orders
 
+-- a weight times the demand in parts of a unit, rounded down where the weight buys and up where it sells
+abbrev pub low_part_in : ℕ → ℤ → Terms → ℤ → ℤ
+low_part_in parts (pos n) t price = pos (n * floor_in parts t price)
+low_part_in parts (negsuc n) t price = neg_ℤ (pos (suc n * ceil_in parts t price))
+
+-- the same, rounded up where the weight buys and down where it sells
+abbrev pub high_part_in : ℕ → ℤ → Terms → ℤ → ℤ
+high_part_in parts (pos n) t price = pos (n * ceil_in parts t price)
+high_part_in parts (negsuc n) t price = neg_ℤ (pos (suc n * floor_in parts t price))
+
+-- the low excess of an asset in parts of a unit
+abbrev pub low_excess_in : ℕ → List Order → List ℤ → ℕ → ℤ
+low_excess_in parts orders prices asset = int_sum_by (λ o. low_part_in parts (weight_in o.row asset) (terms_of o) (price_for prices o)) orders
+
+-- the high excess of an asset in parts of a unit
+abbrev pub high_excess_in : ℕ → List Order → List ℤ → ℕ → ℤ
+high_excess_in parts orders prices asset = int_sum_by (λ o. high_part_in parts (weight_in o.row asset) (terms_of o) (price_for prices o)) orders
+
 -- the sum of the absolute weights of an asset
 abbrev pub spread : List Order → ℕ → ℕ
 spread orders asset = sum_by (λ o. unsigned_abs (weight_in o.row asset)) orders
@@ -48,6 +66,14 @@ is_above orders prices asset = int_lt (pos (steepness orders asset)) (low_excess
 -- the high excess is below minus the steepness, so the price is too high
 abbrev pub is_below : List Order → List ℤ → ℕ → Bool
 is_below orders prices asset = int_lt (high_excess orders prices asset) (neg_ℤ (pos (steepness orders asset)))
+
+-- the low excess in parts is above the steepness in parts
+abbrev pub is_above_in : ℕ → List Order → List ℤ → ℕ → Bool
+is_above_in parts orders prices asset = int_lt (pos (parts * steepness orders asset)) (low_excess_in parts orders prices asset)
+
+-- the high excess in parts is below minus the steepness in parts
+abbrev pub is_below_in : ℕ → List Order → List ℤ → ℕ → Bool
+is_below_in parts orders prices asset = int_lt (high_excess_in parts orders prices asset) (neg_ℤ (pos (parts * steepness orders asset)))
 
 -- an asset is unsettled where its price is too low or too high, and settled where it is neither
 unfoldable pub is_unsettled : List Order → List ℤ → ℕ → Bool

@@ -1,39 +1,41 @@
 -- What holds of books of orders, walks and outcomes.
-use Rattle.std.specs.Prelude.{◌≡◌, ℕ, ℤ, pos, ◌+◌, ◌*◌, ◌/◌, ◌^◌, ◌≤◌, ◌+ℤ◌, ◌-ℤ◌, ◌*ℤ◌, ◌<ℤ◌, ◌≤ℤ◌, unsigned_abs, true, List, length, map, All}
+use Rattle.std.specs.Prelude.{◌≡◌, ℕ, ℤ, pos, ◌+◌, ◌*◌, ◌/◌, ◌^◌, ◌≤◌, ◌<◌, ◌↔◌, ◌+ℤ◌, ◌-ℤ◌, ◌*ℤ◌, ◌<ℤ◌, ◌≤ℤ◌, unsigned_abs, true, false, List, length, map, All}
 use Rattle.std.specs.List.{range_with_len, sum_by}
 use Rattle.list_sums.specs.Sums.{int_sum_by}
 use Rattle.weight_rows.specs.Rows.{price_of, IsPricedBy}
 use Rattle.demand_curve.specs.Demand.{IsWithin, span}
 use Rattle.demand_curve.specs.Numbers.{rounded_up}
 use Rattle.flow_orders.specs.Orders.{Order, IsOrder, terms_of}
-use Rattle.flow_orders.specs.Excess.{is_unsettled, residual_bound}
+use Rattle.flow_orders.specs.Excess.{low_excess, high_excess, low_excess_in, high_excess_in, is_above, is_below, is_above_in, is_below_in, is_unsettled, residual_bound}
+use Rattle.flow_orders.specs.Moves.{rise_of, fall_of, moved, amount_of}
 use Rattle.flow_orders.specs.Turns.{IsInTurn}
 use Rattle.flow_orders.specs.Choice.{absolute_sum}
 use Rattle.flow_orders.specs.Trades.{trades, residual}
-use Rattle.flow_orders.specs.Outcomes.{Outcome, Fill, Clearing, Skipping, dual_of, step_of, IsLegalFrom, end_of, IsRightOutcome, IsRightClearing, IsRightSkip, most_budget}
+use Rattle.flow_orders.specs.Outcomes.{Outcome, Fill, Clearing, Skipping, dual_of, step_of, IsLegalFrom, end_of, skipping_at, IsRightOutcome, IsRightClearing, IsRightSkip, most_budget}
 use Rattle.flow_orders.specs.Welfare.{IsCommon, welfare, IsBalanced, IsOptimalWithin}
 use Rattle.flow_orders.specs.Duals.{IsCommonPart, exact_dual, movement_of}
 use Rattle.flow_orders.specs.Own.{are_single, floor_rates, rates_by_choice, IsOwnOutcome, ClearsNear}
+use Rattle.flow_orders.specs.Units.{rise_by_units, fall_by_units, moved_by_units, amount_by_units, end_by_units, movement_by_units, IsLegalByUnits, skipping_by_units, IsRightByUnits, IsOwnByUnits}
 
 -- a batch has at most one own outcome
 abbrev pub OneOwnOutcome : Type 0
-OneOwnOutcome = (orders : List Order) (start : List ℤ) (budget : ℕ) (o p : Outcome)
-    → IsOwnOutcome orders start budget o → IsOwnOutcome orders start budget p → o ≡ p
+OneOwnOutcome = (parts : ℕ) (orders : List Order) (start : List ℤ) (budget : ℕ) (o p : Outcome)
+    → IsOwnOutcome parts orders start budget o → IsOwnOutcome parts orders start budget p → o ≡ p
 
 -- and there is one
 abbrev pub EveryBatchHasAnOwnOutcome : Type 0
-EveryBatchHasAnOwnOutcome = (orders : List Order) (start : List ℤ) (budget : ℕ) → (o : Outcome) × IsOwnOutcome orders start budget o
+EveryBatchHasAnOwnOutcome = (parts : ℕ) (orders : List Order) (start : List ℤ) (budget : ℕ) → (o : Outcome) × IsOwnOutcome parts orders start budget o
 
 -- which is a right one
 abbrev pub OwnOutcomesAreRight : Type 0
-OwnOutcomesAreRight = (orders : List Order) (start : List ℤ) (budget : ℕ) (o : Outcome)
+OwnOutcomesAreRight = (parts : ℕ) → 1 ≤ parts → (orders : List Order) (start : List ℤ) (budget : ℕ) (o : Outcome)
     → All IsOrder orders → All (IsWithin (2 ^ 60)) start → budget ≤ most_budget
-    → IsOwnOutcome orders start budget o → IsRightOutcome orders start budget o
+    → IsOwnOutcome parts orders start budget o → IsRightOutcome parts orders start budget o
 
 -- where every order names one asset, an own outcome is a clearing at prices within 2^60, and an asset that was settled keeps its price
 abbrev pub OneAssetBooksClear : Type 0
-OneAssetBooksClear = (orders : List Order) (start : List ℤ) (budget : ℕ) (o : Outcome)
-    → All IsOrder orders → are_single orders ≡ true → All (IsWithin (2 ^ 60)) start → IsOwnOutcome orders start budget o → ClearsNear orders start o
+OneAssetBooksClear = (parts : ℕ) → 1 ≤ parts → (orders : List Order) (start : List ℤ) (budget : ℕ) (o : Outcome)
+    → All IsOrder orders → are_single orders ≡ true → All (IsWithin (2 ^ 60)) start → IsOwnOutcome parts orders start budget o → ClearsNear orders start o
 
 -- rates that are chosen leave no larger sum of absolute residuals than all demands rounded down
 abbrev pub ChosenRatesAreNoWorse : Type 0
@@ -42,24 +44,63 @@ ChosenRatesAreNoWorse = (n : ℕ) (orders : List Order) (prices : List ℤ)
 
 -- there is at most one walk in turn of each length
 abbrev pub OneWalkOfEachLength : Type 0
-OneWalkOfEachLength = (orders : List Order) (start : List ℤ) (v w : List ℕ)
-    → IsInTurn (length start) (is_unsettled orders) (step_of orders) start v → IsInTurn (length start) (is_unsettled orders) (step_of orders) start w
+OneWalkOfEachLength = (parts : ℕ) (orders : List Order) (start : List ℤ) (v w : List ℕ)
+    → IsInTurn (length start) (is_unsettled orders) (step_of parts orders) start v → IsInTurn (length start) (is_unsettled orders) (step_of parts orders) start w
     → length v ≡ length w → v ≡ w
+
+-- a move of an unsettled asset lowers the exact dual by at least its amount
+abbrev pub MovesLowerTheDual : Type 0
+MovesLowerTheDual = (parts : ℕ) → 1 ≤ parts → (N : ℕ) (orders : List Order) (reach : ℕ) (prices : List ℤ) (asset : ℕ)
+    → All IsOrder orders → IsCommonPart N orders → 1 ≤ reach → asset < length prices → is_unsettled orders prices asset ≡ true
+    → exact_dual N orders (moved parts orders reach prices asset) + N * amount_of parts orders reach prices asset ≤ exact_dual N orders prices
+
+-- and leaves it settled where the reach didn't end the move
+abbrev pub MovesWithinReachSettle : Type 0
+MovesWithinReachSettle = (parts : ℕ) → 1 ≤ parts → (orders : List Order) (reach : ℕ) (prices : List ℤ) (asset : ℕ)
+    → All IsOrder orders → asset < length prices → is_unsettled orders prices asset ≡ true → amount_of parts orders reach prices asset < reach
+    → is_unsettled orders (moved parts orders reach prices asset) asset ≡ false
+
+-- excess in parts lies within excess in whole units
+pub record IsNarrowed (parts : ℕ) (orders : List Order) (prices : List ℤ) (asset : ℕ) : Type 0 where
+  pub low : (pos parts *ℤ low_excess orders prices asset) ≤ℤ low_excess_in parts orders prices asset
+  pub between : low_excess_in parts orders prices asset ≤ℤ high_excess_in parts orders prices asset
+  pub high : high_excess_in parts orders prices asset ≤ℤ (pos parts *ℤ high_excess orders prices asset)
+
+-- at all prices
+abbrev pub PartsNarrowExcess : Type 0
+PartsNarrowExcess = (parts : ℕ) (orders : List Order) (prices : List ℤ) (asset : ℕ) → All IsOrder orders → IsNarrowed parts orders prices asset
+
+-- with one part moves, walks and outcomes are those by whole units
+pub record OnePartIsWholeUnits : Type 0 where
+  pub low : (orders : List Order) (prices : List ℤ) (asset : ℕ) → low_excess_in 1 orders prices asset ≡ low_excess orders prices asset
+  pub high : (orders : List Order) (prices : List ℤ) (asset : ℕ) → high_excess_in 1 orders prices asset ≡ high_excess orders prices asset
+  pub above : (orders : List Order) (prices : List ℤ) (asset : ℕ) → is_above_in 1 orders prices asset ≡ is_above orders prices asset
+  pub below : (orders : List Order) (prices : List ℤ) (asset : ℕ) → is_below_in 1 orders prices asset ≡ is_below orders prices asset
+  pub rise : (orders : List Order) (reach : ℕ) (prices : List ℤ) (asset : ℕ) → rise_of 1 orders reach prices asset ≡ rise_by_units orders reach prices asset
+  pub fall : (orders : List Order) (reach : ℕ) (prices : List ℤ) (asset : ℕ) → fall_of 1 orders reach prices asset ≡ fall_by_units orders reach prices asset
+  pub prices : (orders : List Order) (reach : ℕ) (prices : List ℤ) (asset : ℕ) → moved 1 orders reach prices asset ≡ moved_by_units orders reach prices asset
+  pub amount : (orders : List Order) (reach : ℕ) (prices : List ℤ) (asset : ℕ) → amount_of 1 orders reach prices asset ≡ amount_by_units orders reach prices asset
+  pub end : (orders : List Order) (start : List ℤ) (walk : List ℕ) → end_of 1 orders start walk ≡ end_by_units orders start walk
+  pub movement : (orders : List Order) (start : List ℤ) (walk : List ℕ) → movement_of 1 orders start walk ≡ movement_by_units orders start walk
+  pub legal : (orders : List Order) (start : List ℤ) (walk : List ℕ) → IsLegalFrom 1 orders start walk ↔ IsLegalByUnits orders start walk
+  pub skip : (orders : List Order) (start : List ℤ) (walk : List ℕ) → skipping_at 1 orders start walk ≡ skipping_by_units orders start walk
+  pub right : (orders : List Order) (start : List ℤ) (budget : ℕ) (o : Outcome) → IsRightOutcome 1 orders start budget o ↔ IsRightByUnits orders start budget o
+  pub own : (orders : List Order) (start : List ℤ) (budget : ℕ) (o : Outcome) → IsOwnOutcome 1 orders start budget o ↔ IsOwnByUnits orders start budget o
 
 -- a legal walk lowers the exact dual by at least its movement, which is a grain at least for each move; and so its movement is bounded
 pub record WalksLowerTheDual : Type 0 where
   pub common : (orders : List Order) → All IsOrder orders → (N : ℕ) × IsCommonPart N orders
-  pub exact : (N : ℕ) (orders : List Order) (start : List ℤ) (walk : List ℕ)
-      → All IsOrder orders → IsCommonPart N orders → IsLegalFrom orders start walk
-      → exact_dual N orders (end_of orders start walk) + N * movement_of orders start walk ≤ exact_dual N orders start
-  pub moves : (orders : List Order) (start : List ℤ) (walk : List ℕ) → IsLegalFrom orders start walk → length walk ≤ movement_of orders start walk
-  pub bounded : (orders : List Order) (start : List ℤ) (walk : List ℕ) → All IsOrder orders → IsLegalFrom orders start walk
-      → movement_of orders start walk ≤ dual_of orders start + length orders
+  pub exact : (parts : ℕ) → 1 ≤ parts → (N : ℕ) (orders : List Order) (start : List ℤ) (walk : List ℕ)
+      → All IsOrder orders → IsCommonPart N orders → IsLegalFrom parts orders start walk
+      → exact_dual N orders (end_of parts orders start walk) + N * movement_of parts orders start walk ≤ exact_dual N orders start
+  pub moves : (parts : ℕ) (orders : List Order) (start : List ℤ) (walk : List ℕ) → IsLegalFrom parts orders start walk → length walk ≤ movement_of parts orders start walk
+  pub bounded : (parts : ℕ) → 1 ≤ parts → (orders : List Order) (start : List ℤ) (walk : List ℕ) → All IsOrder orders → IsLegalFrom parts orders start walk
+      → movement_of parts orders start walk ≤ dual_of orders start + length orders
 
 -- a right skip lowers the dual floor by more than its movement less the number of orders, and moves a grain at least for each move of the budget
 abbrev pub RightSkipsLowerTheDual : Type 0
-RightSkipsLowerTheDual = (orders : List Order) (start : List ℤ) (budget : ℕ) (s : Skipping) → All IsOrder orders → IsRightSkip orders start budget s
-    → ((s.end_dual +ℤ pos (movement_of orders start s.trace)) <ℤ (s.start_dual +ℤ pos (length orders))) × (budget ≤ movement_of orders start s.trace)
+RightSkipsLowerTheDual = (parts : ℕ) → 1 ≤ parts → (orders : List Order) (start : List ℤ) (budget : ℕ) (s : Skipping) → All IsOrder orders → IsRightSkip parts orders start budget s
+    → ((s.end_dual +ℤ pos (movement_of parts orders start s.trace)) <ℤ (s.start_dual +ℤ pos (length orders))) × (budget ≤ movement_of parts orders start s.trace)
 
 -- no balanced rates beat the rates of a right clearing by more than its gap
 abbrev pub RightClearingsAreOptimal : Type 0

@@ -9,6 +9,7 @@ pub mod Trades
 pub mod Residuals
 pub mod Outcomes
 pub mod Own
+pub mod Units
 pub mod Welfare
 pub mod Duals
 pub mod Laws

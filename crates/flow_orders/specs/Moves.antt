@@ -1,9 +1,9 @@
--- A move of one asset's price.
+-- A move of one asset's price. Where it ends is told by excess in parts of a unit; how many parts there are is a number of the version.
 use Rattle.std.specs.Prelude.{ℕ, ◌^◌, Bool, not, if◌then◌else◌, ℤ, pos, ◌+ℤ◌, ◌-ℤ◌, List, Option, Some, None, slice_set}
 use Rattle.std.specs.List.{range_with_len}
 use Rattle.weight_rows.specs.Rows.{price_of}
 use Rattle.flow_orders.specs.Orders.{Order}
-use Rattle.flow_orders.specs.Excess.{is_above, is_below}
+use Rattle.flow_orders.specs.Excess.{is_above, is_below, is_above_in, is_below_in}
 use Rattle.flow_orders.specs.Walks.{first_that}
 
 -- a number that was found, else another one
@@ -23,25 +23,25 @@ risen prices asset d = slice_set prices asset (price_of prices asset +ℤ pos d)
 abbrev pub fallen : List ℤ → ℕ → ℕ → List ℤ
 fallen prices asset d = slice_set prices asset (price_of prices asset -ℤ pos d)
 
--- by how much the price of an asset that is above rises
-abbrev pub rise_of : List Order → ℕ → List ℤ → ℕ → ℕ
-rise_of orders reach prices asset = least_amount reach (λ d. not (is_above orders (risen prices asset d) asset))
+-- by how much the price of an asset that is above rises: to where its low excess in parts is no longer above
+abbrev pub rise_of : ℕ → List Order → ℕ → List ℤ → ℕ → ℕ
+rise_of parts orders reach prices asset = least_amount reach (λ d. not (is_above_in parts orders (risen prices asset d) asset))
 
--- by how much the price of an asset that is below falls
-abbrev pub fall_of : List Order → ℕ → List ℤ → ℕ → ℕ
-fall_of orders reach prices asset = least_amount reach (λ d. not (is_below orders (fallen prices asset d) asset))
+-- by how much the price of an asset that is below falls: to where its high excess in parts is no longer below
+abbrev pub fall_of : ℕ → List Order → ℕ → List ℤ → ℕ → ℕ
+fall_of parts orders reach prices asset = least_amount reach (λ d. not (is_below_in parts orders (fallen prices asset d) asset))
 
 -- the prices after a move of an asset by at most `reach`
-unfoldable pub moved : List Order → ℕ → List ℤ → ℕ → List ℤ
-moved orders reach prices asset =
-    if is_above orders prices asset then risen prices asset (rise_of orders reach prices asset) else
-    (if is_below orders prices asset then fallen prices asset (fall_of orders reach prices asset) else prices)
+unfoldable pub moved : ℕ → List Order → ℕ → List ℤ → ℕ → List ℤ
+moved parts orders reach prices asset =
+    if is_above orders prices asset then risen prices asset (rise_of parts orders reach prices asset) else
+    (if is_below orders prices asset then fallen prices asset (fall_of parts orders reach prices asset) else prices)
 
 -- the amount of that move
-unfoldable pub amount_of : List Order → ℕ → List ℤ → ℕ → ℕ
-amount_of orders reach prices asset =
-    if is_above orders prices asset then rise_of orders reach prices asset else
-    (if is_below orders prices asset then fall_of orders reach prices asset else 0)
+unfoldable pub amount_of : ℕ → List Order → ℕ → List ℤ → ℕ → ℕ
+amount_of parts orders reach prices asset =
+    if is_above orders prices asset then rise_of parts orders reach prices asset else
+    (if is_below orders prices asset then fall_of parts orders reach prices asset else 0)
 
 -- the reach of a move in a walk
 abbrev pub walk_reach : ℕ

@@ -32,9 +32,9 @@ pub data Outcome : Type 0 where
   Cleared : Clearing → Outcome
   Skipped : Skipping → Outcome
 
--- a rule by which batches may end: orders, start prices, budget and outcome go together
+-- a rule by which batches may end: parts of a unit, orders, start prices, budget and outcome go together
 abbrev pub BatchRule : Type 1
-BatchRule = List Order → List ℤ → ℕ → Outcome → Type 0
+BatchRule = ℕ → List Order → List ℤ → ℕ → Outcome → Type 0
 
 -- what the orders trade
 abbrev pub trades_of : List Order → List Fill → List Trade
@@ -65,24 +65,24 @@ abbrev pub most_budget : ℕ
 most_budget = 65536
 
 -- the prices after a move in a walk
-abbrev pub step_of : List Order → List ℤ → ℕ → List ℤ
-step_of orders prices asset = moved orders walk_reach prices asset
+abbrev pub step_of : ℕ → List Order → List ℤ → ℕ → List ℤ
+step_of parts orders prices asset = moved parts orders walk_reach prices asset
 
 -- a walk from these prices is legal
-abbrev pub IsLegalFrom : List Order → List ℤ → List ℕ → Type 0
-IsLegalFrom orders start walk = IsLegal (length start) (is_unsettled orders) (step_of orders) start walk
+abbrev pub IsLegalFrom : ℕ → List Order → List ℤ → List ℕ → Type 0
+IsLegalFrom parts orders start walk = IsLegal (length start) (is_unsettled orders) (step_of parts orders) start walk
 
 -- the prices at the end of a walk
-abbrev pub end_of : List Order → List ℤ → List ℕ → List ℤ
-end_of orders start walk = walk_end (step_of orders) start walk
+abbrev pub end_of : ℕ → List Order → List ℤ → List ℕ → List ℤ
+end_of parts orders start walk = walk_end (step_of parts orders) start walk
 
 -- all assets are settled at the end of a walk
-abbrev pub EndsSettled : List Order → List ℤ → List ℕ → Type 0
-EndsSettled orders start walk = AreSettled (length start) (is_unsettled orders) (end_of orders start walk)
+abbrev pub EndsSettled : ℕ → List Order → List ℤ → List ℕ → Type 0
+EndsSettled parts orders start walk = AreSettled (length start) (is_unsettled orders) (end_of parts orders start walk)
 
 -- what is published of a walk that reached no prices
-abbrev pub skipping_at : List Order → List ℤ → List ℕ → Skipping
-skipping_at orders start walk = record { trace = walk; start_dual = pos (dual_of orders start); end_dual = pos (dual_of orders (end_of orders start walk)) }
+abbrev pub skipping_at : ℕ → List Order → List ℤ → List ℕ → Skipping
+skipping_at parts orders start walk = record { trace = walk; start_dual = pos (dual_of orders start); end_dual = pos (dual_of orders (end_of parts orders start walk)) }
 
 -- no order names an asset
 abbrev pub IsUnnamed : List Order → ℕ → Type 0
@@ -100,14 +100,14 @@ pub record IsRightClearing (orders : List Order) (start : List ℤ) (c : Clearin
   pub gap_is : c.gap ≡ gap_of c.prices (trades_of orders c.fills)
 
 -- A skip is right: a legal walk of the whole budget that leaves some asset unsettled, in a book where some order names two assets or more.
-pub record IsRightSkip (orders : List Order) (start : List ℤ) (budget : ℕ) (s : Skipping) : Type 0 where
+pub record IsRightSkip (parts : ℕ) (orders : List Order) (start : List ℤ) (budget : ℕ) (s : Skipping) : Type 0 where
   pub wide : IsWide orders
-  pub legal : IsLegalFrom orders start s.trace
+  pub legal : IsLegalFrom parts orders start s.trace
   pub whole : length s.trace ≡ budget
-  pub unsettled : ¬ EndsSettled orders start s.trace
-  pub duals : s ≡ skipping_at orders start s.trace
+  pub unsettled : ¬ EndsSettled parts orders start s.trace
+  pub duals : s ≡ skipping_at parts orders start s.trace
 
--- a right outcome of a batch of these orders, from the start prices, with this budget
+-- a right outcome, by so many parts, of a batch of these orders, from the start prices, with this budget
 abbrev pub IsRightOutcome : BatchRule
-IsRightOutcome orders start budget (Cleared c) = IsRightClearing orders start c
-IsRightOutcome orders start budget (Skipped s) = IsRightSkip orders start budget s
+IsRightOutcome parts orders start budget (Cleared c) = IsRightClearing orders start c
+IsRightOutcome parts orders start budget (Skipped s) = IsRightSkip parts orders start budget s

@@ -12,18 +12,18 @@ use Rattle.flow_orders.specs.Trades.{Trade, trades}
 use Rattle.flow_orders.specs.Outcomes.{Clearing, Outcome, BatchRule, Cleared, Skipped, fill_of, residuals_of, gap_of, step_of, skipping_at}
 
 -- the prices after one far move of each asset of a list that is unsettled when its turn comes
-abbrev pub moved_once : List Order → List ℕ → List ℤ → List ℤ
-moved_once orders [] prices = prices
-moved_once orders (a ∷ rest) prices = moved_once orders rest (if is_unsettled orders prices a then moved orders single_reach prices a else prices)
+abbrev pub moved_once : ℕ → List Order → List ℕ → List ℤ → List ℤ
+moved_once parts orders [] prices = prices
+moved_once parts orders (a ∷ rest) prices = moved_once parts orders rest (if is_unsettled orders prices a then moved parts orders single_reach prices a else prices)
 
 -- whether every order names one asset
 abbrev pub are_single : List Order → Bool
 are_single orders = list_all (λ o. length o.row == 1) orders
 
 -- the prices that the program's own rule reaches: each asset moved once where every order names one asset, else the end of a walk in turn
-abbrev pub ArePricesOf : Bool → List Order → List ℤ → ℕ → List ℤ → Type 0
-ArePricesOf true orders start budget end = end ≡ moved_once orders (visits (length start) 0) start
-ArePricesOf false orders start budget end = AreOwnPrices (length start) (is_unsettled orders) (step_of orders) start budget end
+abbrev pub ArePricesOf : ℕ → Bool → List Order → List ℤ → ℕ → List ℤ → Type 0
+ArePricesOf parts true orders start budget end = end ≡ moved_once parts orders (visits (length start) 0) start
+ArePricesOf parts false orders start budget end = AreOwnPrices (length start) (is_unsettled orders) (step_of parts orders) start budget end
 
 -- the demand of an order at prices, rounded down
 abbrev pub floor_at : List ℤ → Order → ℕ
@@ -47,13 +47,13 @@ clearing_at n prices ts = record { prices = prices; fills = map fill_of ts; resi
 
 -- the program's own outcome: at its own prices with the rates that it chooses, or the walk in turn of the whole budget
 abbrev pub IsOwnOutcome : BatchRule
-IsOwnOutcome orders start budget (Cleared c) =
-    ArePricesOf (are_single orders) orders start budget c.prices
+IsOwnOutcome parts orders start budget (Cleared c) =
+    ArePricesOf parts (are_single orders) orders start budget c.prices
     × (c ≡ clearing_at (length start) c.prices (trades orders (rates_by_choice (length start) orders c.prices)))
-IsOwnOutcome orders start budget (Skipped s) =
+IsOwnOutcome parts orders start budget (Skipped s) =
     (are_single orders ≡ false)
-    × IsOwnTrace (length start) (is_unsettled orders) (step_of orders) start budget s.trace
-    × (s ≡ skipping_at orders start s.trace)
+    × IsOwnTrace (length start) (is_unsettled orders) (step_of parts orders) start budget s.trace
+    × (s ≡ skipping_at parts orders start s.trace)
 
 -- a batch clears at prices within 2^60, and an asset that was settled keeps its price
 abbrev pub ClearsNear : List Order → List ℤ → Outcome → Type 0

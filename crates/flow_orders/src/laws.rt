@@ -1,5 +1,5 @@
 //! What holds of books of orders, whatever code there is. Each law is the contract of a function that does nothing.
-ghost use Rattle.flow_orders.specs.Laws.{OneOwnOutcome, EveryBatchHasAnOwnOutcome, OwnOutcomesAreRight, OneAssetBooksClear, ChosenRatesAreNoWorse, OneWalkOfEachLength, WalksLowerTheDual, RightSkipsLowerTheDual, RightClearingsAreOptimal, GapsAreBounded, CommonsExist, WelfareIsAsSaid};
+ghost use Rattle.flow_orders.specs.Laws.{OneOwnOutcome, EveryBatchHasAnOwnOutcome, OwnOutcomesAreRight, OneAssetBooksClear, ChosenRatesAreNoWorse, OneWalkOfEachLength, MovesLowerTheDual, MovesWithinReachSettle, PartsNarrowExcess, OnePartIsWholeUnits, WalksLowerTheDual, RightSkipsLowerTheDual, RightClearingsAreOptimal, GapsAreBounded, CommonsExist, WelfareIsAsSaid};
 
 /// A batch has at most one own outcome.
 pub fn one_own_outcome()
@@ -30,6 +30,26 @@ pub fn chosen_rates_are_no_worse()
 /// There is at most one walk in turn of each length.
 pub fn one_walk_of_each_length()
     ensures { OneWalkOfEachLength }
+{}
+
+/// A move of an unsettled asset lowers the exact dual by at least its amount, whatever the reach and the parts.
+pub fn moves_lower_the_dual()
+    ensures { MovesLowerTheDual }
+{}
+
+/// A move that the reach didn't end leaves its asset settled, by whole units.
+pub fn moves_within_reach_settle()
+    ensures { MovesWithinReachSettle }
+{}
+
+/// Excess in parts of a unit lies within excess in whole units.
+pub fn parts_narrow_excess()
+    ensures { PartsNarrowExcess }
+{}
+
+/// With one part moves, walks, skips and outcomes are those by whole units, as versions 1 and 2 have them.
+pub fn one_part_is_whole_units()
+    ensures { OnePartIsWholeUnits }
 {}
 
 /// A legal walk lowers the exact dual by at least its movement, which is at least a grain for each move.

@@ -37,6 +37,11 @@ empty_market version = record { version = version; tickers = []; balances = no_b
 abbrev pub cut_price : ℤ → ℤ
 cut_price price = int_max (neg_ℤ (pos (2 ^ 60))) (int_min (pos (2 ^ 60)) price)
 
+-- how many parts of a unit say where a move ends, in each version
+abbrev pub parts_of : Version → ℕ
+parts_of One = 1
+parts_of Two = 1
+
 -- the prices at which a batch starts
 abbrev pub start_prices : Market → List ℤ
 start_prices market = map cut_price market.last_prices

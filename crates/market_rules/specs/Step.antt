@@ -17,7 +17,7 @@ use Rattle.flow_orders.specs.Orders.{Order, most_orders, most_cap, AreLimits, Is
 use Rattle.flow_orders.specs.Outcomes.{Outcome, BatchRule, Cleared, Skipped, trades_of, most_budget}
 use Rattle.flow_orders.specs.Trades.{staying, going_on}
 use Rattle.order_book.specs.Book.{HasOrder, without}
-use Rattle.market_rules.specs.Market.{Market, most_batches, start_prices, free_money, free_units, usable_money, usable_units}
+use Rattle.market_rules.specs.Market.{Market, most_batches, parts_of, start_prices, free_money, free_units, usable_money, usable_units}
 use Rattle.fill_caps.specs.Settlement.{settled_balances, settled_exchange}
 
 -- ---- refusals
@@ -133,10 +133,10 @@ after_batch m (Skipped s) = record m { orders = going_on (m.batches + 1) m.order
 abbrev pub gives : Answer Outcome → Market → Answer Outcome → Market → Type 0
 gives given made answer new = (answer ≡ given) × (new ≡ made)
 
--- a batch is held: it ends by the rule, its outcome is answered, and the market is the one after it
+-- a batch is held: it ends by the rule and the version's parts, its outcome is answered, and the market is the one after it
 abbrev pub holds_batch : BatchRule → Market → ℕ → Answer Outcome → Market → Type 0
 holds_batch Rule m budget answer new =
-    (outcome : Outcome) × Rule m.orders (start_prices m) budget outcome × gives (Batch (m.batches + 1) outcome) (after_batch m outcome) answer new
+    (outcome : Outcome) × Rule (parts_of m.version) m.orders (start_prices m) budget outcome × gives (Batch (m.batches + 1) outcome) (after_batch m outcome) answer new
 
 -- what an accepted command is answered, and the market after it
 abbrev pub Accepts : BatchRule → Market → Command → Answer Outcome → Market → Type 0
