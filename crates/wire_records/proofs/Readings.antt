@@ -222,19 +222,19 @@ reading_some version r small =
     ]
 
 -- each version but the first has all commands
-all_tags : (version : Version) → version ≢ One → most_tag version ≡ 12
-all_tags One later = absurd (later refl)
-all_tags Two later = refl
-all_tags Three later = refl
+later_tags : (version : Version) → version ≢ One → most_tag version ≡ 12
+later_tags One later = absurd (later refl)
+later_tags Two later = refl
+later_tags Three later = refl
 
 -- what is read in whatever version is read in a version that has all commands
 pub seen_in_later : (version : Version) (r : Record) (read : Result Command BodyFault) → version ≢ One → IsRead r read ↔ IsReadAs version r read
 seen_in_later version r (Ok c) later =
-    (λ s. let tag = tag_of-range c in let is = tag_is c r s in ((omega (arith, is, tag.0), omega (arith, is, tag.1, all_tags version later)), s), λ both. both.1)
+    (λ s. let tag = tag_of-range c in let is = tag_is c r s in ((omega (arith, is, tag.0), omega (arith, is, tag.1, later_tags version later)), s), λ both. both.1)
 seen_in_later version r (Err UnknownTag) later =
-    let all = all_tags version later in (λ p tag. p (tag.0, omega (arith, tag.1, all)), λ p tag. p (tag.0, omega (arith, tag.1, all)))
+    let all = later_tags version later in (λ p tag. p (tag.0, omega (arith, tag.1, all)), λ p tag. p (tag.0, omega (arith, tag.1, all)))
 seen_in_later version r (Err BadBody) later =
-    let all = all_tags version later in
+    let all = later_tags version later in
     (λ p. ((p.0.0, omega (arith, p.0.1, all)), p.1), λ p. ((p.0.0, omega (arith, p.0.1, all)), p.1))
 
 -- how long an account and an amount of money are
