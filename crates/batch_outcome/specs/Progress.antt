@@ -4,8 +4,8 @@ use Rattle.flow_orders.specs.Orders.{Order}
 use Rattle.flow_orders.specs.Outcomes.{Skipping, end_of}
 use Rattle.flow_orders.specs.Duals.{IsCommonPart, exact_dual, movement_of}
 
--- The walk, by so many parts, lowers the exact dual by its movement at least, which is a grain at least for each move; so its two dual floors
--- differ by more than its movement less the number of orders.
+-- The walk, by so many parts, lowers the exact dual by its movement at least, which is a grain at least for each move; so its two
+-- dual floors differ by more than its movement less the number of orders.
 pub record LowersTheDual (parts : ℕ) (orders : List Order) (start : List ℤ) (s : Skipping) : Type 0 where
   pub exact : (N : ℕ) → IsCommonPart N orders
       → exact_dual N orders (end_of parts orders start s.trace) + N * movement_of parts orders start s.trace ≤ exact_dual N orders start

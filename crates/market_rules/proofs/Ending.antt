@@ -25,7 +25,7 @@ others_go_on batch orders k d inside =
 -- an order whose last batch isn't the one that is held is still in time after it
 pub still_in_time : (m n : Market) (o : Order) → n.version ≡ m.version → n.batches ≡ m.batches + 1 → o.last ≢ m.batches + 1 → IsInTime m o → IsInTime n o
 still_in_time m n o version batches other time =
-    elim time [ inl none ↦ inl none | inr some ↦ inr (version ∙ some.0, omega (arith, some.1, other, batches)) ]
+    elim time [ inl none ↦ inl none | inr some ↦ inr (λ one. some.0 (sym version ∙ one), omega (arith, some.1, other, batches)) ]
 
 pub all_in_time : (m : Market) (orders : List Order) → All (IsLiveOrder m) orders → All (IsInTime m) orders
 all_in_time m orders live k d inside = (live k d inside).in_time

@@ -7,7 +7,7 @@ use Rattle.flow_orders.specs.Own.{IsOwnOutcome}
 use Rattle.wire_records.specs.Commands.{Command, AddAsset, OpenAccount, DepositMoney, DepositAsset, WithdrawMoney, WithdrawAsset, PlaceOrder, CancelOrder, RunBatch, PlaceUntil, SetMoneyCredit, SetUnitCredit, Answer, Plain, Batch, Pair}
 use Rattle.wire_records.specs.declared.reply.Refusal.{Refusal}
 use Rattle.wire_records.specs.declared.reply.Reply.TheVariants.{Refused}
-use Rattle.market_rules.specs.Market.{Market, start_prices, empty_market}
+use Rattle.market_rules.specs.Market.{Market, parts_of, start_prices, empty_market}
 use Rattle.market_rules.specs.Step.{◌when◌else◌, ◌unless◌else◌, accept, FirstRefusal, Accepts, Serves, placed, after_batch, refusal_of, ServesRead}
 use Rattle.demand_curve.specs.Demand.{most_rate}
 use Rattle.wire_records.specs.declared.command.BodyFault.{BodyFault}
@@ -69,7 +69,7 @@ accepted_is_there m (PlaceUntil last r) = (_, _, (refl, refl))
 accepted_is_there m (SetMoneyCredit account ticks) = (_, _, (refl, refl))
 accepted_is_there m (SetUnitCredit account asset units) = (_, _, (refl, refl))
 accepted_is_there m (RunBatch budget) =
-    let own = own_is_there m.orders (start_prices m) budget in
+    let own = own_is_there (parts_of m.version) m.orders (start_prices m) budget in
     (Batch (m.batches + 1) own.0, after_batch m own.0, (own.0, own.1, (refl, refl)))
 
 -- every command has a step under the own rule, from any market

@@ -8,8 +8,7 @@ use Rattle.std.proofs.lemmas.List.{get_or_past}
 use Rattle.list_sums.proofs.SumLemmas.{int_sum_by-zeros}
 use Rattle.flow_accounts.specs.Balances.{Account, IsAccount, IsAsset, asset_count, grains, units_in, total_units_of, change_units}
 use Rattle.flow_accounts.proofs.Moves.{units_change, assets_start_at_zero}
-use Rattle.flow_orders.specs.Orders.{Order}
-use Rattle.flow_orders.specs.Outcomes.{Outcome, Cleared, Skipped, IsRightOutcome}
+use Rattle.flow_orders.specs.Outcomes.{Outcome, BatchRule, Cleared, Skipped, IsRightOutcome}
 use Rattle.wire_records.specs.Commands.{Command, AddAsset, OpenAccount, DepositMoney, DepositAsset, WithdrawMoney, WithdrawAsset, PlaceOrder, CancelOrder, RunBatch, PlaceUntil, SetMoneyCredit, SetUnitCredit, Answer, Pair}
 use Rattle.wire_records.specs.declared.reply.Refusal.{Refusal}
 use Rattle.market_rules.specs.Market.{Market, IsSound, empty_market, held_money, held_units}
@@ -59,7 +58,7 @@ batch_units : (asset : ℕ) (m : Market) (o : Outcome) → units_total asset (af
 batch_units asset m (Cleared c) = refl
 batch_units asset m (Skipped s) = refl
 
-module _ (Rule : List Order → List ℤ → ℕ → Outcome → Type 0) where
+module _ (Rule : BatchRule) where
   -- an accepted command adds its own amount of money
   accepted_money : (m : Market) (c : Command) (a : Answer Outcome) (n : Market) → Accepts Rule m c a n → money_total n ≡ money_total m +ℤ added_by money_added c a
   accepted_money m (AddAsset ticker) a n accepts = rw (accepts.0, accepts.1) (same _ _ _ refl refl)

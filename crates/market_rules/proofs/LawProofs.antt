@@ -7,7 +7,7 @@ use Rattle.flow_orders.specs.Orders.{Order, IsOrder}
 use Rattle.flow_orders.specs.Trades.{trades, after_fill, is_live, staying}
 use Rattle.flow_orders.proofs.TradeFacts.{All-trades}
 use Rattle.market_rules.proofs.Ending.{all_go_on, goes_on}
-use Rattle.market_rules.proofs.Versions.{not_both, step_version}
+use Rattle.market_rules.proofs.Versions.{some_parts, step_version}
 use Rattle.market_rules.proofs.Lawful.{sound_is_lawful}
 use Rattle.market_rules.proofs.OwnNeeds.{needs-filter}
 use Rattle.flow_orders.specs.Duals.{movement_of}
@@ -16,7 +16,7 @@ use Rattle.wire_records.specs.Commands.{Command, AddAsset, OpenAccount, DepositM
 use Rattle.wire_records.specs.declared.reply.Refusal.{Refusal}
 use Rattle.wire_records.specs.declared.reply.Reply.{Reply}
 use Rattle.wire_records.specs.declared.reply.Reply.TheVariants.{Done, Asset as AssetAdded, Account as AccountOpened, Order as OrderPlaced, Refused}
-use Rattle.market_rules.specs.Market.{Market, IsSound, IsInTime, IsNoCredit, start_prices}
+use Rattle.market_rules.specs.Market.{Market, IsSound, IsInTime, IsNoCredit, parts_of, start_prices}
 use Rattle.wire_records.specs.declared.command.BodyFault.{BodyFault}
 use Rattle.flow_orders.specs.Own.{IsOwnOutcome}
 use Rattle.market_rules.specs.Step.{FirstRefusal, Accepts, Answers, Serves, ServesRead, after_batch}
@@ -43,7 +43,7 @@ use Rattle.market_rules.proofs.OwnIsLegal.{own_journal_is_legal}
 pub record IsBatch (Rule : BatchRule) (old : Market) (command : Command) (number : ℕ) (outcome : Outcome) (new : Market) : Type 0 where
   pub budget : ℕ
   pub command_is : command ≡ RunBatch budget
-  pub ruled : Rule old.orders (start_prices old) budget outcome
+  pub ruled : Rule (parts_of old.version) old.orders (start_prices old) budget outcome
   pub number_is : number ≡ old.batches + 1
   pub made : new ≡ after_batch old outcome
 
@@ -221,7 +221,7 @@ orders_end_in_time = record {
 
 -- an order without a last batch
 no_last : (m : Market) (o : Order) → m.version ≡ One → IsInTime m o → o.last ≡ 0
-no_last m o one time = elim time [ inl none ↦ none | inr some ↦ absurd (not_both m.version one some.0) ]
+no_last m o one time = elim time [ inl none ↦ none | inr some ↦ absurd (some.0 one) ]
 
 -- a list of zeros has 0 at each place, and past its end
 zeros_at : (xs : List ℕ) (k : ℕ) → All (λ (u : ℕ). u ≡ 0) xs → slice_index_or xs k 0 ≡ 0
@@ -331,10 +331,10 @@ cleared_batches_are_optimal old command number c new sound serves =
 
 -- what a right skip lowers, of a sound market's orders
 skip_lowers : (old : Market) (command : Command) (number : ℕ) (s : Skipping) (new : Market) → IsSound old → Serves IsRightOutcome old command (Batch number (Skipped s)) new
-    → ((s.end_dual +ℤ pos (movement_of old.orders (start_prices old) s.trace)) <ℤ (s.start_dual +ℤ pos (length old.orders))) × (length s.trace ≤ movement_of old.orders (start_prices old) s.trace) × (1 ≤ 1)
+    → ((s.end_dual +ℤ pos (movement_of (parts_of old.version) old.orders (start_prices old) s.trace)) <ℤ (s.start_dual +ℤ pos (length old.orders))) × (length s.trace ≤ movement_of (parts_of old.version) old.orders (start_prices old) s.trace) × (1 ≤ 1)
 skip_lowers old command number s new sound serves =
     let right = (batch_of IsRightOutcome old command number (Skipped s) new serves).ruled in
-    let lowers = right_skips_lower_the_dual old.orders (start_prices old) _ s (λ k d inside. (sound.live k d inside).order) right in
+    let lowers = right_skips_lower_the_dual (parts_of old.version) (some_parts old.version) old.orders (start_prices old) _ s (λ k d inside. (sound.live k d inside).order) right in
     (lowers.0, omega (arith, lowers.1, right.whole), omega arith)
 
 pub skips_lower_the_dual : SkipsLowerTheDual
@@ -354,8 +354,8 @@ large_budgets_clear old budget number (Skipped s) new sound large serves =
     let batch = batch_of IsRightOutcome old (RunBatch budget) number (Skipped s) new serves in
     let right = batch.ruled in
     let each : All IsOrder old.orders = λ k d inside. (sound.live k d inside).order in
-    let lowers = right_skips_lower_the_dual old.orders (start_prices old) batch.budget s each right in
-    let bounded = walks_lower_the_dual.bounded old.orders (start_prices old) s.trace each right.legal in
+    let lowers = right_skips_lower_the_dual (parts_of old.version) (some_parts old.version) old.orders (start_prices old) batch.budget s each right in
+    let bounded = walks_lower_the_dual.bounded (parts_of old.version) (some_parts old.version) old.orders (start_prices old) s.trace each right.legal in
     absurd (omega (arith, large, lowers.1, bounded, right.whole, same_budget budget batch.budget batch.command_is))
 
 pub every_command_is_served : EveryCommandIsServed

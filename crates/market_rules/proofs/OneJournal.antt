@@ -1,8 +1,7 @@
 -- Records have one own journal, and sequences of steps compose.
-use Rattle.std.proofs.Common.{◌≡◌, ℕ, ℤ, List, [], ◌∷◌, ◌++◌, Result, Ok, Err, refl, sym, ap, subst, ◌∙◌}
+use Rattle.std.proofs.Common.{◌≡◌, List, [], ◌∷◌, ◌++◌, Result, Ok, Err, refl, sym, ap, subst, ◌∙◌}
 use Rattle.std.specs.Prelude.{map}
-use Rattle.flow_orders.specs.Orders.{Order}
-use Rattle.flow_orders.specs.Outcomes.{Outcome}
+use Rattle.flow_orders.specs.Outcomes.{Outcome, BatchRule}
 use Rattle.flow_orders.specs.Own.{IsOwnOutcome}
 use Rattle.wire_records.specs.Commands.{Command, Answer, Pair}
 use Rattle.market_rules.specs.Market.{Market, empty_market}
@@ -14,7 +13,7 @@ use Rattle.market_rules.proofs.OneStep.{one_market, one_service, own_has_one}
 
 -- records that are read in one way
 module _ {R : Type 0} (Reads : Version → R → Result Command BodyFault → Type 0) (one_reading : (version : Version) (r : R) (a b : Result Command BodyFault) → Reads version r a → Reads version r b → a ≡ b) where
-  module _ (Rule : List Order → List ℤ → ℕ → Outcome → Type 0) where
+  module _ (Rule : BatchRule) where
     read_market : (old : Market) (read : Result Command BodyFault) (a : Answer Outcome) (x y : Market) → ServesRead Rule old read a x → ServesRead Rule old read a y → x ≡ y
     read_market old (Ok c) a x y first other = one_market Rule old c a x y first other
     read_market old (Err r) a x y first other = first.1 ∙ sym other.1

@@ -1,11 +1,10 @@
 -- A step has one outcome: old market, command and answer determine the new market, and a command that is no batch gets one answer.
-use Rattle.std.proofs.Common.{◌≡◌, ◌+◌, ℕ, ℤ, List, Option, Some, None, inl, inr, sym, ap, ◌∙◌}
-use Rattle.flow_orders.specs.Orders.{Order}
-use Rattle.flow_orders.specs.Outcomes.{Outcome}
+use Rattle.std.proofs.Common.{◌≡◌, ◌+◌, ℕ, Option, Some, None, inl, inr, sym, ap, ◌∙◌}
+use Rattle.flow_orders.specs.Outcomes.{Outcome, BatchRule}
 use Rattle.flow_orders.specs.Own.{IsOwnOutcome}
 use Rattle.wire_records.specs.Commands.{Command, AddAsset, OpenAccount, DepositMoney, DepositAsset, WithdrawMoney, WithdrawAsset, PlaceOrder, CancelOrder, RunBatch, PlaceUntil, SetMoneyCredit, SetUnitCredit, Answer, Batch}
 use Rattle.wire_records.specs.declared.reply.Refusal.{Refusal}
-use Rattle.market_rules.specs.Market.{Market, start_prices}
+use Rattle.market_rules.specs.Market.{Market, parts_of, start_prices}
 use Rattle.market_rules.specs.Step.{◌when◌else◌, ◌unless◌else◌, accept, FirstRefusal, Accepts, Answers, Serves, after_batch}
 use Rattle.flow_orders.proofs.OneOwn.{one_own}
 
@@ -45,7 +44,7 @@ one_first m (SetMoneyCredit account ticks) = one_unless _ _ _ (one_when _ _ _ (o
 one_first m (SetUnitCredit account asset units) = one_unless _ _ _ (one_unless _ _ _ (one_when _ _ _ (one_when _ _ _ one_accept)))
 
 -- how a batch may end
-module _ (Rule : List Order → List ℤ → ℕ → Outcome → Type 0) where
+module _ (Rule : BatchRule) where
   -- an accepted command that got the same answer made the same market
   accepted_market : (m : Market) (c : Command) (a : Answer Outcome) (x y : Market) → Accepts Rule m c a x → Accepts Rule m c a y → x ≡ y
   accepted_market m (AddAsset ticker) a x y first other = first.1 ∙ sym other.1
@@ -76,7 +75,7 @@ module _ (Rule : List Order → List ℤ → ℕ → Outcome → Type 0) where
 
   -- a batch may end in one way only
   abbrev pub HasOneOutcome : Market → Command → Type 0
-  HasOneOutcome m (RunBatch budget) = (o p : Outcome) → Rule m.orders (start_prices m) budget o → Rule m.orders (start_prices m) budget p → o ≡ p
+  HasOneOutcome m (RunBatch budget) = (o p : Outcome) → Rule (parts_of m.version) m.orders (start_prices m) budget o → Rule (parts_of m.version) m.orders (start_prices m) budget p → o ≡ p
   HasOneOutcome m _ = Unit {0}
 
   accepted_once : (m : Market) (c : Command) (a b : Answer Outcome) (x y : Market) → HasOneOutcome m c → Accepts Rule m c a x → Accepts Rule m c b y → (a ≡ b) × (x ≡ y)
@@ -117,4 +116,4 @@ own_has_one m (CancelOrder account number) = tt
 own_has_one m (PlaceUntil last r) = tt
 own_has_one m (SetMoneyCredit account ticks) = tt
 own_has_one m (SetUnitCredit account asset units) = tt
-own_has_one m (RunBatch budget) = one_own m.orders (start_prices m) budget
+own_has_one m (RunBatch budget) = one_own (parts_of m.version) m.orders (start_prices m) budget

@@ -8,13 +8,14 @@ use Rattle.flow_orders.specs.Outcomes.{Outcome, IsRightOutcome}
 use Rattle.flow_orders.specs.Own.{IsOwnOutcome}
 use Rattle.wire_records.specs.Commands.{Command, AddAsset, OpenAccount, DepositMoney, DepositAsset, WithdrawMoney, WithdrawAsset, PlaceOrder, CancelOrder, RunBatch, PlaceUntil, SetMoneyCredit, SetUnitCredit, Answer, Pair}
 use Rattle.wire_records.specs.declared.reply.Refusal.{Refusal}
-use Rattle.market_rules.specs.Market.{Market, IsSound, start_prices, cut_price, empty_market}
+use Rattle.market_rules.specs.Market.{Market, IsSound, parts_of, start_prices, cut_price, empty_market}
 use Rattle.market_rules.specs.Step.{FirstRefusal, Accepts, Answers, Serves, ServesRead}
 use Rattle.wire_records.specs.declared.command.BodyFault.{BodyFault}
 use Rattle.wire_records.specs.declared.version.Version.{Version}
 use Rattle.market_rules.specs.Journal.{Step, Follows, IsJournal}
 use Rattle.market_rules.proofs.Accepted.{past_unless}
 use Rattle.market_rules.proofs.Soundness.{ReadsOwn, sound_step, sound-empty}
+use Rattle.market_rules.proofs.Versions.{some_parts}
 use Rattle.flow_orders.proofs.OwnIsRight.{own_is_right}
 
 cut_within : (p : ℤ) → IsWithin (2 ^ 60) (cut_price p)
@@ -36,7 +37,7 @@ accepted_right m (PlaceUntil last r) a n sound none accepts = accepts
 accepted_right m (SetMoneyCredit account ticks) a n sound none accepts = accepts
 accepted_right m (SetUnitCredit account asset units) a n sound none accepts = accepts
 accepted_right m (RunBatch budget) a n sound none accepts =
-    (accepts.0, own_is_right m.orders (start_prices m) budget accepts.0 (λ k d inside. (sound.live k d inside).order) (start_within m) (past_unless none).0.1 accepts.1, accepts.2)
+    (accepts.0, own_is_right (parts_of m.version) (some_parts m.version) m.orders (start_prices m) budget accepts.0 (λ k d inside. (sound.live k d inside).order) (start_within m) (past_unless none).0.1 accepts.1, accepts.2)
 
 -- an own step of a sound market is a step
 pub own_served_is_right : (m : Market) (c : Command) (a : Answer Outcome) (n : Market) → IsSound m → Serves IsOwnOutcome m c a n → Serves IsRightOutcome m c a n

@@ -11,13 +11,14 @@ use Rattle.flow_orders.specs.Own.{IsOwnOutcome}
 use Rattle.flow_orders.proofs.GapBound.{gaps_are_bounded}
 use Rattle.flow_orders.proofs.OwnLaws.{one_asset_books_clear}
 use Rattle.flow_orders.proofs.WalkLaws.{walks_lower_the_dual}
-use Rattle.market_rules.specs.Market.{Market, IsSound, start_prices}
+use Rattle.market_rules.specs.Market.{Market, IsSound, parts_of, start_prices}
 use Rattle.market_rules.specs.Step.{Serves, ServesRead}
 use Rattle.market_rules.specs.Journal.{Step, Follows, fills_of}
 use Rattle.market_rules.specs.Promises.{HoldsBatch, KeepsPromises, ClearNear}
 use Rattle.market_rules.proofs.OneJournal.{follows-parts, journal_market}
 use Rattle.market_rules.proofs.OwnIsLegal.{own_follows_are_right, start_within}
 use Rattle.market_rules.proofs.Soundness.{sound_follows}
+use Rattle.market_rules.proofs.Versions.{some_parts}
 use Rattle.market_rules.proofs.Fills.{fills_within_cap, live_fills_within_cap}
 use Rattle.market_rules.proofs.LawProofs.{batch_of, batches_keep_totals, cleared_batches_are_optimal, skips_only_end_orders, orders_end_in_time, batch_count, skips_lower_the_dual}
 
@@ -44,10 +45,10 @@ module _ {start : Market} {pairs : List (Pair Record Outcome)} (begins : IsSound
       subst (λ r. ServesRead IsRightOutcome old r (Batch batch.number outcome) new) same batch.made.served
 
   -- and a skip's walk has as many moves
-  right_skip : (old : Market) (s : Skipping) (new : Market) (batch : HoldsBatch IsReadAs start pairs old (Skipped s) new) → IsRightSkip old.orders (start_prices old) batch.budget s
+  right_skip : (old : Market) (s : Skipping) (new : Market) (batch : HoldsBatch IsReadAs start pairs old (Skipped s) new) → IsRightSkip (parts_of old.version) old.orders (start_prices old) batch.budget s
   right_skip old s new batch =
       let held = batch_of IsRightOutcome old (RunBatch batch.budget) batch.number (Skipped s) new (right_step old (Skipped s) new batch) in
-      subst (λ n. IsRightSkip old.orders (start_prices old) n s) (sym (same_budget batch.budget held.budget held.command_is)) held.ruled
+      subst (λ n. IsRightSkip (parts_of old.version) old.orders (start_prices old) n s) (sym (same_budget batch.budget held.budget held.command_is)) held.ruled
 
 module _ (start : Market) (pairs : List (Pair Record Outcome)) (market : Market) (begins : IsSound start) (legal : Follows IsReadAs IsRightOutcome start pairs market) where
   pub legal_journal_keeps_promises : KeepsPromises IsReadAs start pairs
@@ -63,8 +64,8 @@ module _ (start : Market) (pairs : List (Pair Record Outcome)) (market : Market)
         let sound = sound_before begins old (Skipped s) new batch in
         let right = right_skip begins old s new batch in
         record {
-          exact = λ N common. walks_lower_the_dual.exact N old.orders (start_prices old) s.trace (λ k d inside. (sound.live k d inside).order) common right.legal;
-          moves = walks_lower_the_dual.moves old.orders (start_prices old) s.trace right.legal;
+          exact = λ N common. walks_lower_the_dual.exact (parts_of old.version) (some_parts old.version) N old.orders (start_prices old) s.trace (λ k d inside. (sound.live k d inside).order) common right.legal;
+          moves = walks_lower_the_dual.moves (parts_of old.version) old.orders (start_prices old) s.trace right.legal;
           floors = skips_lower_the_dual.movement old (RunBatch batch.budget) batch.number s new sound (right_step begins old (Skipped s) new batch);
         };
     stays = λ old new s batch. skips_only_end_orders old (RunBatch batch.budget) batch.number s new (right_step begins old (Skipped s) new batch);
@@ -87,7 +88,7 @@ module _ (start : Market) (pairs : List (Pair Record Outcome)) (market : Market)
 
 module _ (start : Market) (pairs : List (Pair Record Outcome)) (market : Market) (begins : IsSound start) (steps : Follows IsReadAs IsOwnOutcome start pairs market) where
   -- the batch is one by the program's own rule
-  own_step : (old : Market) (outcome : Outcome) (new : Market) → HoldsBatch IsReadAs start pairs old outcome new → (budget : ℕ) × IsOwnOutcome old.orders (start_prices old) budget outcome
+  own_step : (old : Market) (outcome : Outcome) (new : Market) → HoldsBatch IsReadAs start pairs old outcome new → (budget : ℕ) × IsOwnOutcome (parts_of old.version) old.orders (start_prices old) budget outcome
   own_step old outcome new batch =
       let pair : Pair Record Outcome = record { asked = batch.asked; answer = Batch batch.number outcome } in
       let parts = follows-parts IsReadAs reading_unique IsOwnOutcome start market batch.before (pair ∷ batch.after) (subst (λ ps. Follows IsReadAs IsOwnOutcome start ps market) batch.stands steps) in
@@ -103,4 +104,4 @@ module _ (start : Market) (pairs : List (Pair Record Outcome)) (market : Market)
   own_journal_clears_near old new outcome batch single =
       let own = own_step old outcome new batch in
       let sound = sound_before begins old outcome new batch in
-      one_asset_books_clear old.orders (start_prices old) own.0 outcome (λ k d inside. (sound.live k d inside).order) single (start_within old) own.1
+      one_asset_books_clear (parts_of old.version) (some_parts old.version) old.orders (start_prices old) own.0 outcome (λ k d inside. (sound.live k d inside).order) single (start_within old) own.1

@@ -10,9 +10,8 @@ use Rattle.flow_accounts.specs.Lawful.{money_limit, unit_limit, most_credit, IsL
 use Rattle.flow_accounts.proofs.Credits.{money_credit_is_set, unit_credit_is_set, credits_keep_law}
 use Rattle.flow_accounts.proofs.Grown.{lawful-no_credit}
 use Rattle.fill_caps.proofs.Needs.{own_not_negative}
-use Rattle.wire_records.specs.declared.version.Version.TheVariants.{Two}
+use Rattle.wire_records.specs.declared.version.Version.TheVariants.{One}
 use Rattle.market_rules.proofs.Ending.{all_in_time}
-use Rattle.market_rules.proofs.Versions.{not_both}
 use Rattle.flow_accounts.proofs.Moves.{money_changes, units_change, accounts_open_empty}
 use Rattle.flow_orders.specs.Orders.{Order, needed_money, needed_units, money_need, unit_need}
 use Rattle.fill_caps.specs.Covers.{CoversNeeds}
@@ -147,17 +146,17 @@ sound-units m account asset amount sound there is_asset covers limit =
     (omega (arith, ints, totals.money, sound.widths.total_money))
     (All-set (λ units. units ≤ℤ unit_limit) b.total_units asset _ limit sound.widths.total_units)
 
--- an account gets credit in money, in a market of version Two
-pub sound-money_credit : (m : Market) (account ticks : ℕ) → IsSound m → m.version ≡ Two → IsAccount m.balances account → ticks ≤ most_credit
+-- an account gets credit in money, in a market of another version than One
+pub sound-money_credit : (m : Market) (account ticks : ℕ) → IsSound m → m.version ≢ One → IsAccount m.balances account → ticks ≤ most_credit
     → needed_money m.orders account ≤ℤ (money_of m.balances account +ℤ grains ticks) → IsSound (with_balances m (set_money_credit m.balances account ticks))
-sound-money_credit m account ticks sound two there most covers =
+sound-money_credit m account ticks sound later there most covers =
     let b = m.balances in
     let new = set_money_credit b account ticks in
     let lawful = sound_is_lawful m sound in
     let sets = money_credit_is_set b account ticks lawful there in
     let after = credits_keep_law.money b account ticks (needed_money m.orders account) (own_not_negative money_need account m.orders) lawful (record { account_there = there; within_limit = most; covers = covers }) in
     sound-balances m new sound refl refl sound.one_each.accounts after.one_credit_each
-    (record { lawful = after.credits; none = λ one. absurd (not_both m.version one two) })
+    (record { lawful = after.credits; none = λ one. absurd (later one) })
     (record {
       money = λ k is_there.
           ⊎_elim
@@ -170,16 +169,16 @@ sound-money_credit m account ticks sound two there most covers =
     sound.widths.total_money sound.widths.total_units
 
 -- and in an asset
-pub sound-unit_credit : (m : Market) (account asset units : ℕ) → IsSound m → m.version ≡ Two → IsAccount m.balances account → IsAsset m.balances asset → units ≤ most_credit
+pub sound-unit_credit : (m : Market) (account asset units : ℕ) → IsSound m → m.version ≢ One → IsAccount m.balances account → IsAsset m.balances asset → units ≤ most_credit
     → needed_units m.orders account asset ≤ℤ (units_of m.balances account asset +ℤ pos units) → IsSound (with_balances m (set_unit_credit m.balances account asset units))
-sound-unit_credit m account asset units sound two there is_asset most covers =
+sound-unit_credit m account asset units sound later there is_asset most covers =
     let b = m.balances in
     let new = set_unit_credit b account asset units in
     let lawful = sound_is_lawful m sound in
     let sets = unit_credit_is_set b account asset units lawful there is_asset in
     let after = credits_keep_law.units b account asset units (needed_units m.orders account asset) (own_not_negative (unit_need asset) account m.orders) lawful (record { account_there = there; asset_there = is_asset; within_limit = most; covers = covers }) in
     sound-balances m new sound refl refl sound.one_each.accounts after.one_credit_each
-    (record { lawful = after.credits; none = λ one. absurd (not_both m.version one two) })
+    (record { lawful = after.credits; none = λ one. absurd (later one) })
     (record {
       money = λ k is_there. omega (arith, ints, sets.money_credits k, sound.covered.money k is_there);
       units = λ k s is_there is_asset_now.

@@ -14,7 +14,7 @@ use Rattle.flow_orders.specs.Excess.{price_for, residual_bound}
 use Rattle.flow_orders.specs.Outcomes.{Clearing, Fill, Outcome, Cleared, Skipped, trades_of, IsRightClearing, IsRightOutcome}
 use Rattle.flow_orders.specs.Trades.{Trade, trader, residual, residual_cost, after_fill, is_live, staying, going_on}
 use Rattle.fill_caps.specs.Settlement.{settled_balances, settled_exchange}
-use Rattle.market_rules.specs.Market.{Market, IsSound, IsLiveOrder, IsInTime, start_prices, most_batches}
+use Rattle.market_rules.specs.Market.{Market, IsSound, IsLiveOrder, IsInTime, parts_of, start_prices, most_batches}
 use Rattle.market_rules.specs.Step.{after_batch}
 use Rattle.fill_caps.specs.Settles.{Settles}
 use Rattle.flow_orders.proofs.TradeFacts.{IsAllowed, before_fills, after_fills}
@@ -206,6 +206,6 @@ sound-skipped m sound more =
     }
 
 -- a batch with a right outcome
-pub sound-batch : (m : Market) (outcome : Outcome) (budget : ℕ) → IsSound m → m.batches < most_batches → IsRightOutcome m.orders (start_prices m) budget outcome → IsSound (after_batch m outcome)
+pub sound-batch : (m : Market) (outcome : Outcome) (budget : ℕ) → IsSound m → m.batches < most_batches → IsRightOutcome (parts_of m.version) m.orders (start_prices m) budget outcome → IsSound (after_batch m outcome)
 sound-batch m (Cleared c) budget sound more right = sound_settled m c (trades_of m.orders c.fills) refl sound right more
 sound-batch m (Skipped s) budget sound more right = sound-skipped m sound more

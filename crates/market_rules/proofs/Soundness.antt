@@ -18,7 +18,7 @@ use Rattle.wire_records.specs.Versions.{IsOfVersion}
 use Rattle.market_rules.specs.Journal.{Step, Follows}
 use Rattle.market_rules.proofs.Accepted.{past_when, past_unless, not_below, not_least, not_above}
 use Rattle.market_rules.proofs.SoundBalances.{sound-money, sound-units, sound-money_credit, sound-unit_credit, sound-opened}
-use Rattle.market_rules.proofs.Versions.{two_of}
+use Rattle.market_rules.proofs.Versions.{not_one}
 use Rattle.market_rules.proofs.SoundOrders.{sound-ticker, sound-order, sound-without, placed_is_order}
 use Rattle.market_rules.proofs.SoundBatch.{sound-batch}
 
@@ -93,12 +93,12 @@ sound-accepted m (PlaceUntil last r) a n of sound none accepts =
     let seven = past_when six.1 in
     let eight = past_unless seven.1 in
     subst IsSound (sym accepts.1) (sound-order m (placed m last r) sound (placed_is_order m last r two.0 three.0 four.0 five.0) refl one.0 six.0 (not_least 16384 (length m.orders) seven.0) eight.0
-    (inr (two_of m.version of.1, not_least last m.batches time.0)))
+    (inr (not_one m.version of.1, not_least last m.batches time.0)))
 sound-accepted m (SetMoneyCredit account ticks) a n of sound none accepts =
     let one = past_unless none in
     let two = past_when one.1 in
     let three = past_when two.1 in
-    let version = two_of m.version (omega (arith, of.1)) in
+    let version = not_one m.version (omega (arith, of.1)) in
     let covers : pos 0 ≤ℤ (money_of m.balances account -ℤ needed_money m.orders account +ℤ grains ticks) = not_below _ _ three.0 in
     subst IsSound (sym accepts.1) (sound-money_credit m account ticks sound version one.0 (not_above most_credit ticks two.0) (omega (arith, ints, covers)))
 sound-accepted m (SetUnitCredit account asset units) a n of sound none accepts =
@@ -106,7 +106,7 @@ sound-accepted m (SetUnitCredit account asset units) a n of sound none accepts =
     let two = past_unless one.1 in
     let three = past_when two.1 in
     let four = past_when three.1 in
-    let version = two_of m.version (omega (arith, of.1)) in
+    let version = not_one m.version (omega (arith, of.1)) in
     let covers : pos 0 ≤ℤ (units_of m.balances account asset -ℤ needed_units m.orders account asset +ℤ pos units) = not_below _ _ four.0 in
     subst IsSound (sym accepts.1) (sound-unit_credit m account asset units sound version one.0 two.0 (not_above most_credit units three.0) (omega (arith, ints, covers)))
 

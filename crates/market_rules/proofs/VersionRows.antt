@@ -7,7 +7,7 @@ use Rattle.std.proofs.lemmas.Int.{ints}
 use Rattle.std.proofs.lemmas.List.Elements.{All-from_recursion}
 use Rattle.weight_rows.specs.declared.entries.Entry.{Entry}
 use Rattle.weight_rows.specs.Rows.{IsLawfulRow, IsLawfulWeight, IsPrice, price_of, weight_in, portfolio_price}
-use Rattle.demand_curve.specs.Demand.{IsRounding, most_rate, scaled_demand, line, span, loss, dual_floor, scaled_dual, floor_rate, ceil_rate}
+use Rattle.demand_curve.specs.Demand.{IsRounding, most_rate, scaled_demand, line, span, loss, dual_floor, scaled_dual, floor_rate, ceil_rate, floor_in, ceil_in}
 use Rattle.demand_curve.specs.Numbers.{distance}
 use Rattle.wire_records.specs.declared.version.Version.TheVariants.{Two}
 use Rattle.wire_records.specs.Commands.{Request, PlaceOrder, PlaceUntil, SetMoneyCredit, SetUnitCredit, WithdrawMoney, WithdrawAsset, CancelOrder, RunBatch, Plain, Batch}
@@ -181,11 +181,11 @@ pair_is_sound last =
       ),
     )
 
-pair_moves : (last : ℕ) → moved (pair_until last) single_reach (pos 0 ∷ []) 0 ≡ pos 429410830255 ∷ []
-unfolding steepness weight_in portfolio_price floor_rate ceil_rate scaled_demand line span distance
-pair_moves last = (rises_to (pair_until last) single_reach (pos 0 ∷ []) 0 429410830254 (pair_is_sound last) (omega arith) (omega arith) refl refl refl).0
+pair_moves : (last : ℕ) → moved 1 (pair_until last) single_reach (pos 0 ∷ []) 0 ≡ pos 429410830255 ∷ []
+unfolding steepness weight_in portfolio_price floor_rate ceil_rate floor_in ceil_in scaled_demand line span distance
+pair_moves last = (rises_to 1 (pair_until last) single_reach (pos 0 ∷ []) 0 429410830254 (pair_is_sound last) (omega arith) (omega arith) refl refl refl).0
 
-pair_is_own : (last : ℕ) → IsOwnOutcome (pair_until last) (pos 0 ∷ []) 10 (Cleared even_clearing)
+pair_is_own : (last : ℕ) → IsOwnOutcome 1 (pair_until last) (pos 0 ∷ []) 10 (Cleared even_clearing)
 unfolding is_unsettled steepness weight_in portfolio_price floor_rate ceil_rate scaled_demand loss line span distance
 pair_is_own last = (sym (pair_moves last), refl)
 
@@ -264,11 +264,11 @@ seller_is_sound =
       tt,
     )
 
-seller_moves : moved (seller_left ∷ []) single_reach (pos 429410830255 ∷ []) 0 ≡ pos 386718855331 ∷ []
-unfolding steepness weight_in portfolio_price floor_rate ceil_rate scaled_demand line span distance
-seller_moves = (falls_to (seller_left ∷ []) single_reach (pos 429410830255 ∷ []) 0 42691974923 seller_is_sound (omega arith) (omega arith) refl refl refl refl).0
+seller_moves : moved 1 (seller_left ∷ []) single_reach (pos 429410830255 ∷ []) 0 ≡ pos 386718855331 ∷ []
+unfolding steepness weight_in portfolio_price floor_rate ceil_rate floor_in ceil_in scaled_demand line span distance
+seller_moves = (falls_to 1 (seller_left ∷ []) single_reach (pos 429410830255 ∷ []) 0 42691974923 seller_is_sound (omega arith) (omega arith) refl refl refl refl).0
 
-seller_is_own : IsOwnOutcome (seller_left ∷ []) (pos 429410830255 ∷ []) 10 (Cleared lone_clearing)
+seller_is_own : IsOwnOutcome 1 (seller_left ∷ []) (pos 429410830255 ∷ []) 10 (Cleared lone_clearing)
 unfolding is_unsettled steepness weight_in portfolio_price floor_rate ceil_rate scaled_demand loss line span distance
 seller_is_own = (sym seller_moves, refl)
 
@@ -486,9 +486,9 @@ wide_is_sound =
       lawful = row_of_one asset (neg_ℤ (pos 1)) (omega arith, omega arith);
     }
 
-move : moved wide_until walk_reach (pos 0 ∷ pos 0 ∷ []) 0 ≡ pos 394965192541 ∷ pos 0 ∷ []
-unfolding steepness weight_in portfolio_price floor_rate ceil_rate scaled_demand line span distance
-move = (rises_to wide_until walk_reach (pos 0 ∷ pos 0 ∷ []) 0 394965192540 wide_is_sound (omega arith) (omega arith) refl refl refl).0
+move : moved 1 wide_until walk_reach (pos 0 ∷ pos 0 ∷ []) 0 ≡ pos 394965192541 ∷ pos 0 ∷ []
+unfolding steepness weight_in portfolio_price floor_rate ceil_rate floor_in ceil_in scaled_demand line span distance
+move = (rises_to 1 wide_until walk_reach (pos 0 ∷ pos 0 ∷ []) 0 394965192540 wide_is_sound (omega arith) (omega arith) refl refl refl).0
 
 unsettled_facts : (is_unsettled wide_until (pos 0 ∷ pos 0 ∷ []) 0 ≡ true) × (is_unsettled wide_until (pos 394965192541 ∷ pos 0 ∷ []) 1 ≡ true)
 unfolding is_unsettled steepness weight_in portfolio_price floor_rate ceil_rate scaled_demand line span distance
@@ -501,7 +501,7 @@ duals : skipped ≡ record { trace = 0 ∷ []; start_dual = pos (dual_of wide_un
 unfolding portfolio_price dual_floor scaled_dual scaled_demand line span distance
 duals = refl
 
-skip_is_right : IsRightOutcome wide_until (pos 0 ∷ pos 0 ∷ []) 1 (Skipped skipped)
+skip_is_right : IsRightOutcome 1 wide_until (pos 0 ∷ pos 0 ∷ []) 1 (Skipped skipped)
 skip_is_right = record {
   wide = (order_of 1 0 basket_bought, (0, omega arith, refl), omega arith);
   legal = (omega arith, unsettled_facts.0, tt);
@@ -518,7 +518,7 @@ first_turn = refl
 same_asset : (a c : ℕ) → Some a ≡ Some c → a ≡ c
 same_asset a c e = cc
 
-skip_is_own : IsOwnOutcome wide_until (pos 0 ∷ pos 0 ∷ []) 1 (Skipped skipped)
+skip_is_own : IsOwnOutcome 1 wide_until (pos 0 ∷ pos 0 ∷ []) 1 (Skipped skipped)
 skip_is_own = (
   refl,
   record {
@@ -529,11 +529,11 @@ skip_is_own = (
   skip_is_right.duals,
 )
   where
-    unsettled_within : (walk : List ℕ) → IsInTurnFrom 2 (is_unsettled wide_until) (step_of wide_until) 0 (pos 0 ∷ pos 0 ∷ []) walk → Settles 2 (is_unsettled wide_until) (step_of wide_until) (pos 0 ∷ pos 0 ∷ []) walk → length walk ≤ 1 → ⊥
+    unsettled_within : (walk : List ℕ) → IsInTurnFrom 2 (is_unsettled wide_until) (step_of 1 wide_until) 0 (pos 0 ∷ pos 0 ∷ []) walk → Settles 2 (is_unsettled wide_until) (step_of 1 wide_until) (pos 0 ∷ pos 0 ∷ []) walk → length walk ≤ 1 → ⊥
     unsettled_within [] in_turn settles few = false≢true (sym (settles 0 (omega arith)) ∙ unsettled_facts.0)
     unsettled_within (a ∷ []) in_turn settles few =
         let first = same_asset a 0 (sym in_turn.0 ∙ first_turn) in
-        let moves = subst (λ b. Settles 2 (is_unsettled wide_until) (step_of wide_until) (pos 0 ∷ pos 0 ∷ []) (b ∷ [])) first settles in
+        let moves = subst (λ b. Settles 2 (is_unsettled wide_until) (step_of 1 wide_until) (pos 0 ∷ pos 0 ∷ []) (b ∷ [])) first settles in
         false≢true (sym (subst (λ p. is_unsettled wide_until p 1 ≡ false) move (moves 1 (omega arith))) ∙ unsettled_facts.1)
     unsettled_within (a ∷ c ∷ walk) in_turn settles few = absurd (omega (arith, few))
 

@@ -1,5 +1,5 @@
--- A step keeps the market's version.
-use Rattle.std.proofs.Common.{◌≡◌, ◌≤◌, List, [], ◌∷◌, Option, Some, None, Result, Ok, Err, refl, ap, sym, ◌∙◌, arith}
+-- What holds of versions, and that a step keeps the market's.
+use Rattle.std.proofs.Common.{◌≡◌, ◌≢◌, ◌≤◌, List, [], ◌∷◌, Option, Some, None, Result, Ok, Err, refl, ap, ◌∙◌, arith}
 use Rattle.wire_records.specs.Commands.{Command, AddAsset, OpenAccount, DepositMoney, DepositAsset, WithdrawMoney, WithdrawAsset, PlaceOrder, CancelOrder, RunBatch, PlaceUntil, SetMoneyCredit, SetUnitCredit, Answer, Pair}
 use Rattle.wire_records.specs.declared.command.BodyFault.{BodyFault}
 use Rattle.wire_records.specs.declared.reply.Refusal.{Refusal}
@@ -7,20 +7,22 @@ use Rattle.wire_records.specs.declared.version.Version.{Version}
 use Rattle.wire_records.specs.declared.version.Version.TheVariants.{One, Two}
 use Rattle.wire_records.specs.Versions.{most_tag}
 use Rattle.flow_orders.specs.Outcomes.{Outcome, BatchRule, Cleared, Skipped}
-use Rattle.market_rules.specs.Market.{Market}
+use Rattle.market_rules.specs.Market.{Market, parts_of}
 use Rattle.market_rules.specs.Step.{Accepts, Answers, ServesRead, after_batch}
 use Rattle.market_rules.specs.Journal.{Step, Follows}
 
--- a version with tags above 9 is Two
-pub two_of : (version : Version) → 10 ≤ most_tag version → version ≡ Two
-two_of One few = absurd (omega (arith, few))
-two_of Two few = refl
+-- a version with tags above 9 isn't One
+pub not_one : (version : Version) → 10 ≤ most_tag version → version ≢ One
+not_one version most one = let few = ap most_tag one in omega (arith, most, few)
 
-one_two : One ≡ Two → ⊥
-one_two e = cc
+-- moves end by one part of a unit at least, and by 256 at most
+pub some_parts : (version : Version) → 1 ≤ parts_of version
+some_parts One = omega arith
+some_parts Two = omega arith
 
-pub not_both : (version : Version) → version ≡ One → version ≡ Two → ⊥
-not_both version one two = one_two (sym one ∙ two)
+pub few_parts : (version : Version) → parts_of version ≤ 256
+few_parts One = omega arith
+few_parts Two = omega arith
 
 batch_version : (m : Market) (o : Outcome) → (after_batch m o).version ≡ m.version
 batch_version m (Cleared c) = refl

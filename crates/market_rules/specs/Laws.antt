@@ -18,7 +18,7 @@ use Rattle.flow_orders.specs.Trades.{staying, going_on}
 use Rattle.flow_orders.specs.Duals.{movement_of}
 use Rattle.flow_orders.specs.Own.{IsOwnOutcome}
 use Rattle.flow_orders.specs.Welfare.{IsOptimalWithin}
-use Rattle.market_rules.specs.Market.{Market, empty_market, IsSound, start_prices, held_money, held_units, free_money, free_units, usable_money, usable_units}
+use Rattle.market_rules.specs.Market.{Market, empty_market, IsSound, parts_of, start_prices, held_money, held_units, free_money, free_units, usable_money, usable_units}
 use Rattle.market_rules.specs.Step.{Serves, after_batch}
 use Rattle.market_rules.specs.Journal.{Step, Follows, IsJournal, money_added, units_added, AddTogether, Places, HoldsDeposits, fills_of}
 use Rattle.market_rules.specs.Promises.{KeepsPromises, ClearNear}
@@ -152,7 +152,7 @@ ClearedBatchesAreOptimal = (old : Market) (command : Command) (number : ℕ) (c 
 pub record SkipsLowerTheDual : Type 0 where
   pub movement : (old : Market) (command : Command) (number : ℕ) (s : Skipping) (new : Market)
       → IsSound old → Serves IsRightOutcome old command (Batch number (Skipped s)) new
-      → (s.end_dual +ℤ pos (movement_of old.orders (start_prices old) s.trace)) <ℤ (s.start_dual +ℤ pos (length old.orders))
+      → (s.end_dual +ℤ pos (movement_of (parts_of old.version) old.orders (start_prices old) s.trace)) <ℤ (s.start_dual +ℤ pos (length old.orders))
   pub moves : (old : Market) (command : Command) (number : ℕ) (s : Skipping) (new : Market)
       → IsSound old → Serves IsRightOutcome old command (Batch number (Skipped s)) new
       → (s.end_dual +ℤ pos (length s.trace)) <ℤ (s.start_dual +ℤ pos (length old.orders))

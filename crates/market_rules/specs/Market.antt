@@ -1,5 +1,5 @@
 -- The market: what is kept from one command to the next, and what holds of it at all times.
-use Rattle.std.specs.Prelude.{◌≡◌, ◌⊎◌, ℕ, ◌*◌, ◌^◌, ◌<◌, ◌≤◌, ℤ, pos, neg_ℤ, ◌+ℤ◌, ◌-ℤ◌, ◌≤ℤ◌, unsigned_abs, List, [], map, length, All, AllPairs}
+use Rattle.std.specs.Prelude.{◌≡◌, ◌≢◌, ◌⊎◌, ℕ, ◌*◌, ◌^◌, ◌<◌, ◌≤◌, ℤ, pos, neg_ℤ, ◌+ℤ◌, ◌-ℤ◌, ◌≤ℤ◌, unsigned_abs, List, [], map, length, All, AllPairs}
 use Rattle.std.specs.Int.{int_min, int_max}
 use Rattle.weight_rows.specs.Rows.{IsPrice}
 use Rattle.ticker_table.specs.Tickers.{AreTickers}
@@ -78,9 +78,9 @@ pub record HasOneEach (m : Market) : Type 0 where
   pub exchange : length m.exchange.units ≡ asset_count m.balances
   pub credits : length m.balances.credits ≡ account_count m.balances
 
--- an order that has a last batch in a market of version Two alone, and then one that is still to come
+-- an order has no last batch, or, in a market of another version than One, one that is still to come
 abbrev pub IsInTime : Market → Order → Type 0
-IsInTime m o = (o.last ≡ 0) ⊎ ((m.version ≡ Two) × (m.batches < o.last))
+IsInTime m o = (o.last ≡ 0) ⊎ ((m.version ≢ One) × (m.batches < o.last))
 
 -- a live order of a market: it is within the limits, its number was given out, its account and its assets are there, and its last
 -- batch is still to come

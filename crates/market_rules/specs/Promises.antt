@@ -11,7 +11,7 @@ use Rattle.flow_orders.specs.Own.{are_single, ClearsNear}
 use Rattle.flow_orders.specs.Welfare.{IsOptimalWithin}
 use Rattle.batch_outcome.specs.GapBound.{gap_bound}
 use Rattle.batch_outcome.specs.Progress.{LowersTheDual}
-use Rattle.market_rules.specs.Market.{Market, start_prices, held_money, held_units}
+use Rattle.market_rules.specs.Market.{Market, parts_of, start_prices, held_money, held_units}
 use Rattle.market_rules.specs.Journal.{Step, Follows, Places, fills_of}
 
 -- what accounts and exchange hold together is the same, of money and of each asset
@@ -43,12 +43,12 @@ module _ {R : Type 0} (Reads : Version → R → Result Command BodyFault → Ty
     pub optimal : (old new : Market) (c : Clearing) → HoldsBatch pairs old (Cleared c) new → IsOptimalWithin c.gap old.orders (map (λ (f : Fill). f.rate) c.fills)
     -- The gap is at most what all roundings can lose, and what residuals within their bounds can cost.
     pub bounded : (old new : Market) (c : Clearing) → HoldsBatch pairs old (Cleared c) new → c.gap ≤ℤ pos (gap_bound old.orders c.prices)
-    -- Of each batch that was skipped: some live order names two assets or more, its walk is legal and has as many moves as the
-    -- budget, some asset is unsettled at the end, and the two numbers are the dual floors at the walk's ends.
-    pub skipped : (old new : Market) (s : Skipping) (batch : HoldsBatch pairs old (Skipped s) new) → IsRightSkip old.orders (start_prices old) batch.budget s
+    -- Of each batch that was skipped: some live order names two assets or more, its walk is legal by the version's parts and has
+    -- as many moves as the budget, some asset is unsettled at the end, and the two numbers are the dual floors at the walk's ends.
+    pub skipped : (old new : Market) (s : Skipping) (batch : HoldsBatch pairs old (Skipped s) new) → IsRightSkip (parts_of old.version) old.orders (start_prices old) batch.budget s
     -- Its walk lowers the exact dual by at least its movement, a grain at least for each move, and so its dual floors differ by
     -- more than its movement less the number of orders.
-    pub progress : (old new : Market) (s : Skipping) → HoldsBatch pairs old (Skipped s) new → LowersTheDual old.orders (start_prices old) s
+    pub progress : (old new : Market) (s : Skipping) → HoldsBatch pairs old (Skipped s) new → LowersTheDual (parts_of old.version) old.orders (start_prices old) s
     -- The orders leave whose last batch it was, one batch more was held, and all else stays: balances, fills and last prices.
     pub stays : (old new : Market) (s : Skipping) → HoldsBatch pairs old (Skipped s) new → new ≡ record old { orders = going_on (old.batches + 1) old.orders; batches = old.batches + 1 }
     -- No order trades after its last batch, nor stays after it, whether it cleared or was skipped.
