@@ -1,9 +1,9 @@
 -- What is tested of the parts of a market. Balances and the other parts are said apart, as they are read apart.
-use Rattle.std.specs.Prelude.{◌≡◌, ◌⊎◌, ℕ, ◌*◌, ◌^◌, ◌<◌, ◌≤◌, ℤ, pos, ◌+ℤ◌, ◌≤ℤ◌, ◌<ℤ◌, unsigned_abs, List, [], length, slice_index_or, All, AllPairs}
+use Rattle.std.specs.Prelude.{◌≡◌, ◌≢◌, ◌⊎◌, ℕ, ◌*◌, ◌^◌, ◌<◌, ◌≤◌, ℤ, pos, ◌+ℤ◌, ◌≤ℤ◌, ◌<ℤ◌, unsigned_abs, List, [], length, slice_index_or, All, AllPairs}
 use Rattle.weight_rows.specs.declared.entries.Entry.{Entry}
 use Rattle.weight_rows.specs.Rows.{IsLawfulRow, IsPrice, price_of}
 use Rattle.wire_records.specs.declared.version.Version.{Version}
-use Rattle.wire_records.specs.declared.version.Version.TheVariants.{One, Two}
+use Rattle.wire_records.specs.declared.version.Version.TheVariants.{One, Two, Three}
 use Rattle.demand_curve.specs.Demand.{most_rate}
 use Rattle.flow_accounts.specs.Balances.{Balances, IsAccount, IsAsset, account_count, asset_count, grains, money_of, units_of, units_in, money_with_credit, units_with_credit, money_credit_of, unit_credit_of, total_units_of}
 use Rattle.flow_accounts.specs.Lawful.{most_accounts, most_assets, most_credit, IsMoneyTotal, IsUnitTotal}
@@ -20,6 +20,7 @@ use Rattle.market_parts.specs.Parts.{ReadOrder, Parts, numbers_of}
 abbrev pub most_credit_in : Version → ℕ
 most_credit_in One = 0
 most_credit_in Two = most_credit
+most_credit_in Three = most_credit
 
 -- money and the credit in it, which is at most so many ticks
 pub record IsSoundMoney (most : ℕ) (money : ℤ) (ticks : ℕ) : Type 0 where
@@ -102,9 +103,9 @@ no_order = record { number = 0; account = 0; low = pos 0; high = pos 0; rate = 0
 abbrev pub order_at : Parts → ℕ → ReadOrder
 order_at p place = slice_index_or p.orders place no_order
 
--- a last batch: none, or in version Two one that is still to come
+-- a last batch: none, or, in another version than One, one that is still to come
 abbrev pub IsStillToCome : Version → ℕ → ℕ → Type 0
-IsStillToCome version batches last = (last ≡ 0) ⊎ ((version ≡ Two) × (batches < last))
+IsStillToCome version batches last = (last ≡ 0) ⊎ ((version ≢ One) × (batches < last))
 
 -- an order that may trade: its limits, its rate and its cap, of which something is left
 pub record HasSoundTerms (o : OrderParts) : Type 0 where

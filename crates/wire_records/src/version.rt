@@ -1,5 +1,5 @@
 //! The versions of command files and journals.
-ghost use Rattle.std.specs.Prelude.{◌≢◌, ◌↔◌, IfSome, IfNone, IsTrue};
+ghost use Rattle.std.specs.Prelude.{◌≢◌, ◌↔◌, IsTrue, MatchOption};
 
 /// A version of the formats. Each has all commands of those before it.
 #[derive(Clone, Copy, PartialEq, Eq)]
@@ -29,8 +29,7 @@ impl Version {
 
     /// The version of a number; `None` exactly where no version has it.
     pub fn of_number(number: u8) -> Option<Version>
-        ensures found { IfSome result (λ version. number_of version ≡ number) }
-        ensures none { IfNone result ((version : Version) → number_of version ≢ number) }
+        ensures { MatchOption result ((version : Version) → number ≢ number_of version) (λ version. number ≡ number_of version) }
     {
         match number {
             1 => Some(Version::One),
