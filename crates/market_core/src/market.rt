@@ -1,5 +1,5 @@
 //! The market of a run, and what a command makes of it.
-ghost use Rattle.std.specs.Prelude.{◌≡◌, ◌≢◌, ℕ, ◌+◌, ◌<◌, ◌^◌, IfOk, OnErr, MatchResult, None, SomeIff, length};
+ghost use Rattle.std.specs.Prelude.{◌≡◌, ◌≢◌, ℕ, ◌+◌, ◌<◌, ◌≤◌, ◌^◌, IfOk, OnErr, MatchResult, None, SomeIff, length};
 ghost use Rattle.std.specs.Borrow.{sem};
 ghost use Rattle.std.specs.Result.{ForErr};
 ghost use Rattle.wire_records.specs.Commands.{AddAsset, OpenAccount, DepositMoney, DepositAsset, WithdrawMoney, WithdrawAsset, PlaceOrder, CancelOrder, RunBatch, SetMoneyCredit, SetUnitCredit, Plain};
@@ -12,6 +12,7 @@ ghost use Rattle.market_core.specs.Private.{refusal_for, ticker_refusal, IsAnswe
 use crate::prices::LastPrices;
 use flow_accounts::{AccountFault, Accounts};
 use flow_orders::Order;
+use market_rules::parts_of;
 use order_book::Book;
 use residual_account::ResidualAccount;
 use std::alloc::Global;
@@ -93,7 +94,7 @@ impl Market {
     ghost use Rattle.weight_rows.specs.Rows.{price_of};
     ghost use Rattle.flow_accounts.specs.Balances.{IsAsset};
     ghost use Rattle.flow_orders.specs.Own.{IsOwnOutcome};
-    ghost use Rattle.market_rules.specs.Market.{empty_market, IsSound};
+    ghost use Rattle.market_rules.specs.Market.{empty_market, parts_of, IsSound};
     ghost use Rattle.market_rules.specs.Step.{FirstRefusal, Serves};
     ghost use Rattle.market_rules.specs.Wanting.{MayWant};
     ghost use Rattle.market_core.specs.Listing.{StaysAsListed};
@@ -195,6 +196,15 @@ impl Market {
         ensures sound { IsSound self.now }
     {
         self.version
+    }
+
+    /// In how many parts of a unit it is said where a move of a price ends, by the version: from 1, which is in whole units,
+    /// to 256.
+    pub fn parts(&self) -> u16
+        ensures value { result ≡ parts_of self.now.version }
+        ensures few { (1 ≤ result) × (result ≤ 256) }
+    {
+        parts_of(self.version)
     }
 
     /// The allocator of its collections.
