@@ -60,10 +60,10 @@ found_behind test (x ∷ xs) ys none =
 pub near_of : (start : List ℤ) → All (IsWithin (2 ^ 60)) start → AreWithin (2 ^ 60) start
 near_of start range k d inside = let one = range k d inside in omega (arith, ints, one)
 
-pub legal_near : (orders : List Order) (start : List ℤ) (walk : List ℕ) → All (IsWithin (2 ^ 60)) start → IsLegalFrom orders start walk → length walk ≤ 65536
-    → AreWithin (2 ^ 60 + 2 ^ 61) (end_of orders start walk)
-legal_near orders start walk range legal few k d inside =
-    let one = (has_walked orders (length start) start walk refl legal).range (2 ^ 60) (near_of start range) k d inside in
+pub legal_near : (parts : ℕ) (orders : List Order) (start : List ℤ) (walk : List ℕ) → All (IsWithin (2 ^ 60)) start → IsLegalFrom parts orders start walk → length walk ≤ 65536
+    → AreWithin (2 ^ 60 + 2 ^ 61) (end_of parts orders start walk)
+legal_near parts orders start walk range legal few k d inside =
+    let one = (has_walked parts orders (length start) start walk refl legal).range (2 ^ 60) (near_of start range) k d inside in
     omega (arith, one, few)
 
 -- what a look for the next unsettled asset answers
@@ -84,40 +84,40 @@ next_before orders prices next found other first none second =
     second ∙ ap (λ n. first_that (is_unsettled orders prices) (range_with_len 0 n)) all ∙ sym (found_behind (is_unsettled orders prices) (range_with_len next (length prices - next)) (range_with_len 0 next) (sym first ∙ none))
 
 -- the moves so far are a walk in turn, and the next asset is looked for behind the one moved last
-pub record IsSearching (orders : List Order) (start : List ℤ) (now : List Order) (prices : List ℤ) (next : ℕ) (walk : List ℕ) : Type 0 where
+pub record IsSearching (parts : ℕ) (orders : List Order) (start : List ℤ) (now : List Order) (prices : List ℤ) (next : ℕ) (walk : List ℕ) : Type 0 where
   pub same : now ≡ orders
-  pub in_turn : IsInTurn (length start) (is_unsettled orders) (step_of orders) start walk
-  pub end : prices ≡ end_of orders start walk
-  pub behind : next ≡ next_after (length start) (is_unsettled orders) (step_of orders) 0 walk
+  pub in_turn : IsInTurn (length start) (is_unsettled orders) (step_of parts orders) start walk
+  pub end : prices ≡ end_of parts orders start walk
+  pub behind : next ≡ next_after (length start) (is_unsettled orders) (step_of parts orders) 0 walk
 
-module _ (orders : List Order) (start : List ℤ) where
+module _ (parts : ℕ) (orders : List Order) (start : List ℤ) where
   -- before the first move
-  pub none_moved : (walk : List ℕ) → walk ≡ [] → IsSearching orders start orders start 0 walk
+  pub none_moved : (walk : List ℕ) → walk ≡ [] → IsSearching parts orders start orders start 0 walk
   none_moved walk empty = rw empty (record { same = refl; in_turn = tt; end = refl; behind = refl })
 
-module _ (orders : List Order) (start : List ℤ) (now : List Order) (prices : List ℤ) (next : ℕ) (walk : List ℕ) (so_far : IsSearching orders start now prices next walk) where
-  pub legal_so_far : IsLegalFrom orders start walk
-  legal_so_far = in_turn-legal (length start) (is_unsettled orders) (step_of orders) 0 start walk (omega arith) so_far.in_turn
+module _ (parts : ℕ) (orders : List Order) (start : List ℤ) (now : List Order) (prices : List ℤ) (next : ℕ) (walk : List ℕ) (so_far : IsSearching parts orders start now prices next walk) where
+  pub legal_so_far : IsLegalFrom parts orders start walk
+  legal_so_far = in_turn-legal (length start) (is_unsettled orders) (step_of parts orders) 0 start walk (omega arith) so_far.in_turn
 
   count_so_far : length prices ≡ length start
-  count_so_far = ap length so_far.end ∙ (has_walked orders (length start) start walk refl legal_so_far).count
+  count_so_far = ap length so_far.end ∙ (has_walked parts orders (length start) start walk refl legal_so_far).count
 
   -- the next asset is looked for from one that is there, or behind the last one
   pub next_so_far : next ≤ length prices
   next_so_far =
-      let there = next_after-there (length start) (is_unsettled orders) (step_of orders) 0 start walk (omega arith) so_far.in_turn in
+      let there = next_after-there (length start) (is_unsettled orders) (step_of parts orders) 0 start walk (omega arith) so_far.in_turn in
       omega (arith, there, so_far.behind, count_so_far)
 
   -- the price of an asset is near enough for a move
   pub near_so_far : (asset : ℕ) → All (IsWithin (2 ^ 60)) start → length walk ≤ 65536 → asset < length prices → unsigned_abs (price_of prices asset) ≤ 2 ^ 60 + 2 ^ 61
   near_so_far asset range few inside =
-      subst (AreWithin (2 ^ 60 + 2 ^ 61)) (sym so_far.end) (legal_near orders start walk range legal_so_far few) asset (pos 0) inside
+      subst (AreWithin (2 ^ 60 + 2 ^ 61)) (sym so_far.end) (legal_near parts orders start walk range legal_so_far few) asset (pos 0) inside
 
   -- what is found, in the words of the walk
   found_in_turn : (found : Option ℕ) → IsNext now prices next found
-      → first_that (is_unsettled orders (end_of orders start walk)) (visits (length start) (next_after (length start) (is_unsettled orders) (step_of orders) 0 walk)) ≡ found
+      → first_that (is_unsettled orders (end_of parts orders start walk)) (visits (length start) (next_after (length start) (is_unsettled orders) (step_of parts orders) 0 walk)) ≡ found
   found_in_turn found first =
-      subst (λ p. first_that (is_unsettled orders p) (visits (length start) (next_after (length start) (is_unsettled orders) (step_of orders) 0 walk)) ≡ found) so_far.end
+      subst (λ p. first_that (is_unsettled orders p) (visits (length start) (next_after (length start) (is_unsettled orders) (step_of parts orders) 0 walk)) ≡ found) so_far.end
       (subst (λ k. first_that (is_unsettled orders prices) (visits (length start) k) ≡ found) so_far.behind
       (subst (λ n. first_that (is_unsettled orders prices) (visits n next) ≡ found) count_so_far
       (subst (λ o. first_that (is_unsettled o prices) (visits (length prices) next) ≡ found) so_far.same (sym first))))
@@ -128,38 +128,38 @@ module _ (orders : List Order) (start : List ℤ) (now : List Order) (prices : L
     found_unsettled asset some = first_that-passes (is_unsettled now prices) (visits (length prices) next) asset (sym first ∙ some)
 
     -- one move more
-    pub one_more_moved : (after : List Order) (moved : List ℤ) (asset : ℕ) → found ≡ Some asset → after ≡ now → moved ≡ step_of now prices asset
-        → IsSearching orders start after moved (asset + 1) (walk ++ asset ∷ [])
+    pub one_more_moved : (after : List Order) (moved : List ℤ) (asset : ℕ) → found ≡ Some asset → after ≡ now → moved ≡ step_of parts now prices asset
+        → IsSearching parts orders start after moved (asset + 1) (walk ++ asset ∷ [])
     one_more_moved after moved asset some same move =
         let n = length start in
         record {
           same = same ∙ so_far.same;
-          in_turn = in_turn-push n (is_unsettled orders) (step_of orders) 0 start walk asset so_far.in_turn (found_in_turn found first ∙ some);
-          end = move ∙ ap (λ o. step_of o prices asset) so_far.same ∙ ap (λ p. step_of orders p asset) so_far.end ∙ sym (walk_end-push n (is_unsettled orders) (step_of orders) start walk asset);
-          behind = sym (next_after-push n (is_unsettled orders) (step_of orders) 0 walk asset);
+          in_turn = in_turn-push n (is_unsettled orders) (step_of parts orders) 0 start walk asset so_far.in_turn (found_in_turn found first ∙ some);
+          end = move ∙ ap (λ o. step_of parts o prices asset) so_far.same ∙ ap (λ p. step_of parts orders p asset) so_far.end ∙ sym (walk_end-push n (is_unsettled orders) (step_of parts orders) start walk asset);
+          behind = sym (next_after-push n (is_unsettled orders) (step_of parts orders) 0 walk asset);
         }
 
     -- where none is found all are settled
-    pub ends_settled : (budget : ℕ) → found ≡ None → length walk ≤ budget → IsOwnWalk (length start) (is_unsettled orders) (step_of orders) start budget walk
+    pub ends_settled : (budget : ℕ) → found ≡ None → length walk ≤ budget → IsOwnWalk (length start) (is_unsettled orders) (step_of parts orders) start budget walk
     ends_settled budget none within =
         let n = length start in
-        let there = next_after-there n (is_unsettled orders) (step_of orders) 0 start walk (omega arith) so_far.in_turn in
-        let settled = (visits-order n (next_after n (is_unsettled orders) (step_of orders) 0 walk) there).covers (is_unsettled orders (end_of orders start walk)) (found_in_turn found first ∙ none) in
-        own_walk n (is_unsettled orders) (step_of orders) start budget walk so_far.in_turn settled within
+        let there = next_after-there n (is_unsettled orders) (step_of parts orders) 0 start walk (omega arith) so_far.in_turn in
+        let settled = (visits-order n (next_after n (is_unsettled orders) (step_of parts orders) 0 walk) there).covers (is_unsettled orders (end_of parts orders start walk)) (found_in_turn found first ∙ none) in
+        own_walk n (is_unsettled orders) (step_of parts orders) start budget walk so_far.in_turn settled within
 
     -- where one is found not all are
-    unsettled_left : (asset : ℕ) → found ≡ Some asset → ¬ EndsSettled orders start walk
+    unsettled_left : (asset : ℕ) → found ≡ Some asset → ¬ EndsSettled parts orders start walk
     unsettled_left asset some settled =
         let n = length start in
-        let behind = next_after n (is_unsettled orders) (step_of orders) 0 walk in
-        let there = next_after-there n (is_unsettled orders) (step_of orders) 0 start walk (omega arith) so_far.in_turn in
+        let behind = next_after n (is_unsettled orders) (step_of parts orders) 0 walk in
+        let there = next_after-there n (is_unsettled orders) (step_of parts orders) 0 start walk (omega arith) so_far.in_turn in
         let here = found_in_turn found first ∙ some in
-        let test = is_unsettled orders (end_of orders start walk) in
+        let test = is_unsettled orders (end_of parts orders start walk) in
         let inside = (visits-order n behind there).within test asset here in
         false≢true (sym (settled asset inside) ∙ first_that-passes test (visits n behind) asset here)
 
     pub ends_spent : (budget asset : ℕ) → found ≡ Some asset → length walk ≡ budget
-        → IsOwnTrace (length start) (is_unsettled orders) (step_of orders) start budget walk × (¬ EndsSettled orders start walk)
+        → IsOwnTrace (length start) (is_unsettled orders) (step_of parts orders) start budget walk × (¬ EndsSettled parts orders start walk)
     ends_spent budget asset some whole =
         let unsettled = unsettled_left asset some in
-        (own_trace (length start) (is_unsettled orders) (step_of orders) start budget walk so_far.in_turn whole unsettled, unsettled)
+        (own_trace (length start) (is_unsettled orders) (step_of parts orders) start budget walk so_far.in_turn whole unsettled, unsettled)

@@ -18,11 +18,11 @@ use Rattle.coordinate_search.specs.declared.retracing.Retraced.TheVariants.{Lega
 use Rattle.coordinate_search.specs.Search.{IsRetraced, IsLowered, made_of}
 
 -- a move lowers it by the amount moved
-pub move_lowers : (orders : List Order) (prices : List ℤ) (asset reach : ℕ) (next : List ℤ) → All IsOrder orders → asset < length prices → 1 ≤ reach → is_unsettled orders prices asset ≡ true
-    → next ≡ moved orders reach prices asset → IsLowered orders prices (unsigned_abs (price_of next asset -ℤ price_of prices asset)) next
-move_lowers orders prices asset reach next each within some unsettled made N common =
-    let move = moved_is orders reach prices asset some unsettled in
-    let lowered = move_lowers_dual N orders common.1 (λ k d inside. let o = each k d inside in record { limits = o.terms; lawful = o.row }) prices asset reach move.0 (moved orders reach prices asset) within move.1 in
+pub move_lowers : (parts : ℕ) → 1 ≤ parts → (orders : List Order) (prices : List ℤ) (asset reach : ℕ) (next : List ℤ) → All IsOrder orders → asset < length prices → 1 ≤ reach → is_unsettled orders prices asset ≡ true
+    → next ≡ moved parts orders reach prices asset → IsLowered orders prices (unsigned_abs (price_of next asset -ℤ price_of prices asset)) next
+move_lowers parts whole orders prices asset reach next each within some unsettled made N common =
+    let move = moved_is parts orders reach prices asset some unsettled in
+    let lowered = move_lowers_dual parts whole N orders common.1 (λ k d inside. let o = each k d inside in record { limits = o.terms; lawful = o.row }) prices asset reach move.0 (moved parts orders reach prices asset) within move.1 in
     let amount : unsigned_abs (price_of next asset -ℤ price_of prices asset) ≡ move.0 =
     ⊎_elim
     (λ rise. let higher = ap (λ p. price_of p asset) (made ∙ rise.1) ∙ price_of-risen prices asset move.0 within in omega (arith, ints, higher))
@@ -32,19 +32,19 @@ move_lowers orders prices asset reach next each within some unsettled made N com
     (subst (λ p. exact_dual N orders p + N * move.0 ≤ exact_dual N orders prices) (sym made) lowered)
 
 -- a legal walk lowers it by its movement
-pub walk_lowers : (orders : List Order) (start : List ℤ) (walk : List ℕ) (end : List ℤ) → All IsOrder orders → IsLegalFrom orders start walk → end ≡ end_of orders start walk
-    → IsLowered orders start (movement_of orders start walk) end
-walk_lowers orders start walk end each legal ends N common =
-    subst (λ p. exact_dual N orders p + N * movement_of orders start walk ≤ exact_dual N orders start) (sym ends) (walks_lower_the_dual.exact N orders start walk each common legal)
+pub walk_lowers : (parts : ℕ) → 1 ≤ parts → (orders : List Order) (start : List ℤ) (walk : List ℕ) (end : List ℤ) → All IsOrder orders → IsLegalFrom parts orders start walk → end ≡ end_of parts orders start walk
+    → IsLowered orders start (movement_of parts orders start walk) end
+walk_lowers parts whole orders start walk end each legal ends N common =
+    subst (λ p. exact_dual N orders p + N * movement_of parts orders start walk ≤ exact_dual N orders start) (sym ends) (walks_lower_the_dual.exact parts whole N orders start walk each common legal)
 
 -- so do the moves that were made again
-pub retrace_lowers : (result : Retraced) (orders : List Order) (start : List ℤ) (walk : List ℕ) (end : List ℤ) → All IsOrder orders → IsRetraced result orders start walk end
-    → IsLowered orders start (movement_of orders start (made_of result walk)) end
-retrace_lowers Legal orders start walk end each made = walk_lowers orders start walk end each made.0 made.1
-retrace_lowers (Illegal place) orders start walk end each made = walk_lowers orders start (take place walk) end each made.0.before made.1
+pub retrace_lowers : (parts : ℕ) → 1 ≤ parts → (result : Retraced) (orders : List Order) (start : List ℤ) (walk : List ℕ) (end : List ℤ) → All IsOrder orders → IsRetraced parts result orders start walk end
+    → IsLowered orders start (movement_of parts orders start (made_of result walk)) end
+retrace_lowers parts whole Legal orders start walk end each made = walk_lowers parts whole orders start walk end each made.0 made.1
+retrace_lowers parts whole (Illegal place) orders start walk end each made = walk_lowers parts whole orders start (take place walk) end each made.0.before made.1
 
 -- and those of a search so far
-pub search_lowers : (orders : List Order) (start : List ℤ) (now : List Order) (prices : List ℤ) (next : ℕ) (walk : List ℕ) → IsSearching orders start now prices next walk → All IsOrder now
-    → IsLowered orders start (movement_of orders start walk) prices
-search_lowers orders start now prices next walk so_far each =
-    walk_lowers orders start walk prices (subst (All IsOrder) so_far.same each) (legal_so_far orders start now prices next walk so_far) so_far.end
+pub search_lowers : (parts : ℕ) → 1 ≤ parts → (orders : List Order) (start : List ℤ) (now : List Order) (prices : List ℤ) (next : ℕ) (walk : List ℕ) → IsSearching parts orders start now prices next walk → All IsOrder now
+    → IsLowered orders start (movement_of parts orders start walk) prices
+search_lowers parts whole orders start now prices next walk so_far each =
+    walk_lowers parts whole orders start walk prices (subst (All IsOrder) so_far.same each) (legal_so_far parts orders start now prices next walk so_far) so_far.end

@@ -20,10 +20,10 @@ use Rattle.flow_orders.proofs.OwnIsRight.{settles_once}
 use Rattle.coordinate_search.proofs.Ends.{all_sound}
 
 -- the assets before this one are settled: what is left to do leads where the whole leads
-pub record IsSettling (orders : List Order) (start prices : List ℤ) (asset : ℕ) : Type 0 where
+pub record IsSettling (parts : ℕ) (orders : List Order) (start prices : List ℤ) (asset : ℕ) : Type 0 where
   pub count : length prices ≡ length start
   pub range : All (IsWithin (2 ^ 60)) prices
-  pub rest : moved_once orders (range_with_len asset (length start - asset)) prices ≡ moved_once orders (visits (length start) 0) start
+  pub rest : moved_once parts orders (range_with_len asset (length start - asset)) prices ≡ moved_once parts orders (visits (length start) 0) start
 
 -- where every order names one asset, each does
 single_each : (orders : List Order) → are_single orders ≡ true → All IsSingle orders
@@ -40,24 +40,24 @@ single_all (o ∷ orders) all =
     rw one (single_all orders (λ k d inside. all (suc k) d (omega (arith, inside))))
 
 -- a turn is a visit
-visit_of : (orders : List Order) (prices : List ℤ) (asset : ℕ) (b : Bool) → is_unsettled orders prices asset ≡ b → IsVisit orders single_reach prices asset (cond b (moved orders single_reach prices asset) prices)
-visit_of orders prices asset true e = inr (moved_is orders single_reach prices asset (omega arith) e)
-visit_of orders prices asset false e = inl (settled_is orders prices asset e, refl)
+visit_of : (parts : ℕ) (orders : List Order) (prices : List ℤ) (asset : ℕ) (b : Bool) → is_unsettled orders prices asset ≡ b → IsVisit parts orders single_reach prices asset (cond b (moved parts orders single_reach prices asset) prices)
+visit_of parts orders prices asset true e = inr (moved_is parts orders single_reach prices asset (omega arith) e)
+visit_of parts orders prices asset false e = inl (settled_is orders prices asset e, refl)
 
-module _ (orders : List Order) (single : are_single orders ≡ true) (each : All IsOrder orders) (start : List ℤ) where
-  pub none_settled : All (IsWithin (2 ^ 60)) start → IsSettling orders start start 0
+module _ (parts : ℕ) (whole : 1 ≤ parts) (orders : List Order) (single : are_single orders ≡ true) (each : All IsOrder orders) (start : List ℤ) where
+  pub none_settled : All (IsWithin (2 ^ 60)) start → IsSettling parts orders start start 0
   none_settled range = record {
     count = refl;
     range = range;
-    rest = ap (λ l. moved_once orders l start) (sym (append-nil (range_with_len 0 (length start - 0))));
+    rest = ap (λ l. moved_once parts orders l start) (sym (append-nil (range_with_len 0 (length start - 0))));
   }
 
   -- one asset more
-  pub one_more_settled : (prices next : List ℤ) (asset : ℕ) → asset < length start → IsSettling orders start prices asset
-      → next ≡ cond (is_unsettled orders prices asset) (moved orders single_reach prices asset) prices → IsSettling orders start next (asset + 1)
+  pub one_more_settled : (prices next : List ℤ) (asset : ℕ) → asset < length start → IsSettling parts orders start prices asset
+      → next ≡ cond (is_unsettled orders prices asset) (moved parts orders single_reach prices asset) prices → IsSettling parts orders start next (asset + 1)
   one_more_settled prices next asset inside before turn =
-      let visited = visit_settles orders single_reach (all_sound orders each) (single_each orders single) (omega arith) prices asset _ (omega (arith, inside, before.count)) before.range
-      (visit_of orders prices asset (is_unsettled orders prices asset) refl) in
+      let visited = visit_settles parts whole orders single_reach (all_sound orders each) (single_each orders single) (omega arith) prices asset _ (omega (arith, inside, before.count)) before.range
+      (visit_of parts orders prices asset (is_unsettled orders prices asset) refl) in
       let left : length start - asset ≡ suc (length start - (asset + 1)) = omega (arith, inside) in
       rw turn (record {
         count = visited.count ∙ before.count;
@@ -66,16 +66,16 @@ module _ (orders : List Order) (single : are_single orders ≡ true) (each : All
       })
 
   -- all assets
-  pub all_settled : (prices : List ℤ) (asset : ℕ) → length start ≤ asset → IsSettling orders start prices asset → prices ≡ moved_once orders (visits (length start) 0) start
+  pub all_settled : (prices : List ℤ) (asset : ℕ) → length start ≤ asset → IsSettling parts orders start prices asset → prices ≡ moved_once parts orders (visits (length start) 0) start
   all_settled prices asset past before =
       let none : length start - asset ≡ 0 = omega (arith, past) in
       rw none at before.rest
 
-  pub AreSettled-all : All (IsWithin (2 ^ 60)) start → (prices : List ℤ) (asset : ℕ) → length start ≤ asset → IsSettling orders start prices asset → AreSettled (length prices) (is_unsettled orders) prices
+  pub AreSettled-all : All (IsWithin (2 ^ 60)) start → (prices : List ℤ) (asset : ℕ) → length start ≤ asset → IsSettling parts orders start prices asset → AreSettled (length prices) (is_unsettled orders) prices
   AreSettled-all range prices asset past before a inside =
-      is_settled orders prices a ((settles_once orders start 0 prices single each range (all_settled prices asset past before)).settled a (omega (arith, inside, before.count)))
+      is_settled orders prices a ((settles_once parts whole orders start 0 prices single each range (all_settled prices asset past before)).settled a (omega (arith, inside, before.count)))
 
-  pub kept : All (IsWithin (2 ^ 60)) start → (prices : List ℤ) (asset : ℕ) → length start ≤ asset → IsSettling orders start prices asset
+  pub kept : All (IsWithin (2 ^ 60)) start → (prices : List ℤ) (asset : ℕ) → length start ≤ asset → IsSettling parts orders start prices asset
       → (a : ℕ) → is_unsettled orders start a ≡ false → price_of prices a ≡ price_of start a
   kept range prices asset past before a settled =
-      (settles_once orders start 0 prices single each range (all_settled prices asset past before)).kept a (settled_is orders start a settled)
+      (settles_once parts whole orders start 0 prices single each range (all_settled prices asset past before)).kept a (settled_is orders start a settled)

@@ -11,20 +11,20 @@ use Rattle.coordinate_search.specs.declared.retracing.Retraced.{Retraced}
 use Rattle.coordinate_search.specs.declared.retracing.Retraced.TheVariants.{Legal, Illegal}
 
 -- a search of a book ended with this walk: the shortest one in turn that settles all assets, or the one in turn of the whole budget that leaves some unsettled
-abbrev pub IsFound : Found → List Order → List ℤ → ℕ → List ℕ → Type 0
-IsFound Settled orders start budget walk = IsOwnWalk (length start) (is_unsettled orders) (step_of orders) start budget walk
-IsFound Spent orders start budget walk = IsOwnTrace (length start) (is_unsettled orders) (step_of orders) start budget walk × (¬ EndsSettled orders start walk)
+abbrev pub IsFound : ℕ → Found → List Order → List ℤ → ℕ → List ℕ → Type 0
+IsFound parts Settled orders start budget walk = IsOwnWalk (length start) (is_unsettled orders) (step_of parts orders) start budget walk
+IsFound parts Spent orders start budget walk = IsOwnTrace (length start) (is_unsettled orders) (step_of parts orders) start budget walk × (¬ EndsSettled parts orders start walk)
 
 -- the moves before a place are legal, and with the one at the place they aren't
-pub record IsFirstIllegal (orders : List Order) (start : List ℤ) (walk : List ℕ) (place : ℕ) : Type 0 where
+pub record IsFirstIllegal (parts : ℕ) (orders : List Order) (start : List ℤ) (walk : List ℕ) (place : ℕ) : Type 0 where
   pub inside : place < length walk
-  pub before : IsLegalFrom orders start (take place walk)
-  pub refused : ¬ IsLegalFrom orders start (take (place + 1) walk)
+  pub before : IsLegalFrom parts orders start (take place walk)
+  pub refused : ¬ IsLegalFrom parts orders start (take (place + 1) walk)
 
 -- a walk from a start was made again as far as it is legal, and led to these prices
-abbrev pub IsRetraced : Retraced → List Order → List ℤ → List ℕ → List ℤ → Type 0
-IsRetraced Legal orders start walk end = IsLegalFrom orders start walk × (end ≡ end_of orders start walk)
-IsRetraced (Illegal place) orders start walk end = IsFirstIllegal orders start walk place × (end ≡ end_of orders start (take place walk))
+abbrev pub IsRetraced : ℕ → Retraced → List Order → List ℤ → List ℕ → List ℤ → Type 0
+IsRetraced parts Legal orders start walk end = IsLegalFrom parts orders start walk × (end ≡ end_of parts orders start walk)
+IsRetraced parts (Illegal place) orders start walk end = IsFirstIllegal parts orders start walk place × (end ≡ end_of parts orders start (take place walk))
 
 -- a move of this asset at these prices is legal
 abbrev pub IsMovable : List Order → List ℤ → ℕ → Type 0

@@ -1,5 +1,5 @@
 //! The move of one asset's price.
-ghost use Rattle.std.specs.Prelude.{◌≡◌, ◌^◌, ◌<◌, ◌≤◌, ◌≤ℤ◌, ◌+ℤ◌, ◌-ℤ◌, pos, neg_ℤ, true, length, slice_set, unsigned_abs, All};
+ghost use Rattle.std.specs.Prelude.{◌≡◌, ◌*◌, ◌^◌, ◌<◌, ◌≤◌, ◌≤ℤ◌, ◌+ℤ◌, ◌-ℤ◌, pos, neg_ℤ, true, length, slice_set, unsigned_abs, All};
 ghost use Rattle.weight_rows.specs.Rows.{IsPrice, price_of};
 ghost use Rattle.flow_orders.specs.Orders.{IsOrder};
 ghost use Rattle.flow_orders.specs.Excess.{is_above, is_below, is_unsettled, steepness};
@@ -14,11 +14,13 @@ use single_bisect::{greatest_true, least_true};
 /// Moves the price of an asset that isn't settled, by at most `reach` grains.
 ///
 /// Where its low excess is above the steepness, the price rises by the least amount from 1 to `reach` at which it no
-/// longer is, else by `reach`. Where the high excess is below minus the steepness, the price falls in the same way. The
-/// other prices stay.
+/// longer is in parts of a unit, else by `reach`. Where the high excess is below minus the steepness, the price falls in
+/// the same way. The other prices stay. There are 1 to 256 parts.
 ///
 /// It goes over the orders that name the asset, and then over ever fewer of them, and takes no memory.
-pub fn step(work: &mut Workspace<'_>, asset: u16, reach: i64)
+pub fn step(work: &mut Workspace<'_>, parts: u16, asset: u16, reach: i64)
+    requires some_parts { 1 ≤ parts }
+    requires few_parts { parts ≤ 256 }
     requires asset { asset < length work.old.prices }
     requires unsettled { is_unsettled work.old.orders work.old.prices asset ≡ true }
     requires some { pos 1 ≤ℤ reach }
@@ -26,35 +28,38 @@ pub fn step(work: &mut Workspace<'_>, asset: u16, reach: i64)
     requires room_below { neg_ℤ (pos (2 ^ 62)) ≤ℤ (price_of work.old.prices asset -ℤ reach) }
     requires room_above { (price_of work.old.prices asset +ℤ reach) ≤ℤ pos (2 ^ 62) }
     ensures orders { work.new.orders ≡ work.old.orders }
-    ensures moved { work.new.prices ≡ moved work.old.orders (unsigned_abs reach) work.old.prices asset }
+    ensures moved { work.new.prices ≡ moved parts work.old.orders (unsigned_abs reach) work.old.prices asset }
 
     // Each grain of the move lowers the exact dual by a grain at least.
     ensures lowers { IsLowered work.old.orders work.old.prices
         (unsigned_abs (price_of work.new.prices asset -ℤ price_of work.old.prices asset)) work.new.prices }
 {
-    let end = end_of_move(work, asset, reach);
+    let end = end_of_move(work, parts, asset, reach);
     work.set_price(asset, end);
 }
 
 // The price at which a move ends.
-fn end_of_move(work: &mut Workspace<'_>, asset: u16, reach: i64) -> i64
+fn end_of_move(work: &mut Workspace<'_>, parts: u16, asset: u16, reach: i64) -> i64
+    requires some_parts { 1 ≤ parts }
+    requires few_parts { parts ≤ 256 }
     requires asset { asset < length work.old.prices }
     requires unsettled { is_unsettled work.old.orders work.old.prices asset ≡ true }
     requires some { pos 1 ≤ℤ reach }
     requires far { reach ≤ℤ pos (2 ^ 61) }
     requires room_below { neg_ℤ (pos (2 ^ 62)) ≤ℤ (price_of work.old.prices asset -ℤ reach) }
     requires room_above { (price_of work.old.prices asset +ℤ reach) ≤ℤ pos (2 ^ 62) }
-    ensures moved { slice_set work.old.prices asset result ≡ moved work.old.orders (unsigned_abs reach) work.old.prices asset }
+    ensures moved { slice_set work.old.prices asset result ≡ moved parts work.old.orders (unsigned_abs reach) work.old.prices asset }
     ensures range { IsPrice result }
     ensures stays { work.new ≡ work.old }
     ensures priced { ArePriced work.old.orders work.old.prices }
 {
     let price = price_in(work, asset);
     let steepness = work.steepness(asset);
+    let bound = work.steepness_in(parts, asset);
     if steepness < work.excess(asset).low {
-        return end_of_rise(work, asset, steepness, price, reach);
+        return end_of_rise(work, parts, asset, bound, price, reach);
     }
-    end_of_fall(work, asset, -steepness, price, reach)
+    end_of_fall(work, parts, asset, -bound, price, reach)
 }
 
 // The price of an asset.
@@ -68,24 +73,34 @@ fn price_in(work: &Workspace<'_>, asset: u16) -> i64
 }
 
 // The price at which a rise from a price by `reach` at most ends.
-fn end_of_rise(work: &mut Workspace<'_>, asset: u16, bound: i64, price: i64, reach: i64) -> i64
+fn end_of_rise(
+    work: &mut Workspace<'_>,
+    parts: u16,
+    asset: u16,
+    bound: i64,
+    price: i64,
+    reach: i64,
+) -> i64
+    requires some_parts { 1 ≤ parts }
+    requires few_parts { parts ≤ 256 }
     requires asset { asset < length work.old.prices }
     requires above { is_above work.old.orders work.old.prices asset ≡ true }
-    requires bound { bound ≡ pos (steepness work.old.orders asset) }
+    requires bound { bound ≡ pos (parts * steepness work.old.orders asset) }
     requires price { price ≡ price_of work.old.prices asset }
     requires range { IsPrice price }
     requires far { reach ≤ℤ pos (2 ^ 61) }
     requires some { pos 1 ≤ℤ reach }
     requires room { (price +ℤ reach) ≤ℤ pos (2 ^ 62) }
     requires each { All IsOrder work.old.orders }
-    ensures moved { slice_set work.old.prices asset result ≡ moved work.old.orders (unsigned_abs reach) work.old.prices asset }
+    ensures moved { slice_set work.old.prices asset result ≡ moved parts work.old.orders (unsigned_abs reach) work.old.prices asset }
     ensures range { IsPrice result }
     ensures stays { work.new ≡ work.old }
 {
-    let bracket = work.narrow_rise(asset, reach.unsigned_abs());
+    let bracket = work.narrow_rise(parts, asset, reach.unsigned_abs());
     let last = price + reach;
     let mut rise = Rise {
         work,
+        parts,
         asset,
         bound,
         first: price,
@@ -100,24 +115,34 @@ fn end_of_rise(work: &mut Workspace<'_>, asset: u16, bound: i64, price: i64, rea
 }
 
 // The price at which a fall from a price by `reach` at most ends.
-fn end_of_fall(work: &mut Workspace<'_>, asset: u16, bound: i64, price: i64, reach: i64) -> i64
+fn end_of_fall(
+    work: &mut Workspace<'_>,
+    parts: u16,
+    asset: u16,
+    bound: i64,
+    price: i64,
+    reach: i64,
+) -> i64
+    requires some_parts { 1 ≤ parts }
+    requires few_parts { parts ≤ 256 }
     requires asset { asset < length work.old.prices }
     requires below { is_below work.old.orders work.old.prices asset ≡ true }
-    requires bound { bound ≡ neg_ℤ (pos (steepness work.old.orders asset)) }
+    requires bound { bound ≡ neg_ℤ (pos (parts * steepness work.old.orders asset)) }
     requires price { price ≡ price_of work.old.prices asset }
     requires range { IsPrice price }
     requires far { reach ≤ℤ pos (2 ^ 61) }
     requires some { pos 1 ≤ℤ reach }
     requires room { neg_ℤ (pos (2 ^ 62)) ≤ℤ (price -ℤ reach) }
     requires each { All IsOrder work.old.orders }
-    ensures moved { slice_set work.old.prices asset result ≡ moved work.old.orders (unsigned_abs reach) work.old.prices asset }
+    ensures moved { slice_set work.old.prices asset result ≡ moved parts work.old.orders (unsigned_abs reach) work.old.prices asset }
     ensures range { IsPrice result }
     ensures stays { work.new ≡ work.old }
 {
-    let bracket = work.narrow_fall(asset, reach.unsigned_abs());
+    let bracket = work.narrow_fall(parts, asset, reach.unsigned_abs());
     let first = price - reach;
     let mut fall = Fall {
         work,
+        parts,
         asset,
         bound,
         first,

@@ -1,5 +1,5 @@
 //! The questions whether a move of an asset's price has ended at a place.
-ghost use Rattle.std.specs.Prelude.{◌≡◌, ◌^◌, ◌<◌, ◌≤ℤ◌, pos, neg_ℤ, length};
+ghost use Rattle.std.specs.Prelude.{◌≡◌, ◌*◌, ◌^◌, ◌<◌, ◌≤◌, ◌≤ℤ◌, pos, neg_ℤ, length};
 ghost use Rattle.flow_orders.specs.Excess.{steepness};
 ghost use Rattle.coordinate_search.specs.Ends.{has_risen, has_fallen};
 
@@ -10,21 +10,24 @@ use single_bisect::Probe;
 #[derive(Drop)]
 pub(crate) struct Rise<'a> {
     pub(crate) work: &'a Workspace<'a>,
+    pub(crate) parts: u16,
     pub(crate) asset: u16,
-    // The steepness of the asset.
+    // The steepness of the asset, in parts.
     pub(crate) bound: i64,
     pub(crate) first: i64,
     pub(crate) last: i64,
     pub(crate) asks: u64,
+    ghost some_parts: { 1 ≤ parts },
+    ghost few_parts: { parts ≤ 256 },
     ghost there: { asset < length work.now.prices },
-    ghost bound_is: { bound ≡ pos (steepness work.now.orders asset) },
+    ghost bound_is: { bound ≡ pos (parts * steepness work.now.orders asset) },
     ghost least: { neg_ℤ (pos (2 ^ 62)) ≤ℤ first },
     ghost most: { last ≤ℤ pos (2 ^ 62) },
     ghost ends: { first ≤ℤ last },
 }
 
 impl<'a> Probe for Rise<'a> {
-    ghost test = { λ r place. has_risen r.work.now.orders r.work.now.prices r.asset r.first r.last place };
+    ghost test = { λ r place. has_risen r.parts r.work.now.orders r.work.now.prices r.asset r.first r.last place };
 
     ghost asked = { λ r. r.asks };
 
@@ -33,7 +36,9 @@ impl<'a> Probe for Rise<'a> {
         if self.last <= place {
             return true;
         }
-        let excess = self.work.excess_at(self.asset, place.max(self.first));
+        let excess = self
+            .work
+            .excess_at(self.parts, self.asset, place.max(self.first));
         excess.low <= self.bound
     }
 }
@@ -42,21 +47,24 @@ impl<'a> Probe for Rise<'a> {
 #[derive(Drop)]
 pub(crate) struct Fall<'a> {
     pub(crate) work: &'a Workspace<'a>,
+    pub(crate) parts: u16,
     pub(crate) asset: u16,
-    // Minus the steepness of the asset.
+    // Minus the steepness of the asset, in parts.
     pub(crate) bound: i64,
     pub(crate) first: i64,
     pub(crate) last: i64,
     pub(crate) asks: u64,
+    ghost some_parts: { 1 ≤ parts },
+    ghost few_parts: { parts ≤ 256 },
     ghost there: { asset < length work.now.prices },
-    ghost bound_is: { bound ≡ neg_ℤ (pos (steepness work.now.orders asset)) },
+    ghost bound_is: { bound ≡ neg_ℤ (pos (parts * steepness work.now.orders asset)) },
     ghost least: { neg_ℤ (pos (2 ^ 62)) ≤ℤ first },
     ghost most: { last ≤ℤ pos (2 ^ 62) },
     ghost ends: { first ≤ℤ last },
 }
 
 impl<'a> Probe for Fall<'a> {
-    ghost test = { λ f place. has_fallen f.work.now.orders f.work.now.prices f.asset f.first f.last place };
+    ghost test = { λ f place. has_fallen f.parts f.work.now.orders f.work.now.prices f.asset f.first f.last place };
 
     ghost asked = { λ f. f.asks };
 
@@ -65,7 +73,9 @@ impl<'a> Probe for Fall<'a> {
         if place <= self.first {
             return true;
         }
-        let excess = self.work.excess_at(self.asset, place.min(self.last));
+        let excess = self
+            .work
+            .excess_at(self.parts, self.asset, place.min(self.last));
         self.bound <= excess.high
     }
 }

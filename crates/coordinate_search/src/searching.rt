@@ -27,7 +27,8 @@ pub enum Found {
     Spent,
 }
 
-/// Searches for prices at which all assets are settled, by at most `budget` moves of at most 2^45 grains each.
+/// Searches for prices at which all assets are settled, by at most `budget` moves of at most 2^45 grains each, which end
+/// by excess in parts of a unit, 1 to 256 of them.
 ///
 /// The assets are visited in turn: 0 to the last one, and again from 0. One that is settled is passed over, and each
 /// other one is moved and its number appended to `trace`. The search ends as soon as all are settled, also where the
@@ -36,29 +37,31 @@ pub enum Found {
 /// The prices are within 2^60 grains of 0 at the start, and no price moves further than 2^61 grains from there. `trace`
 /// is empty and has room for `budget` bytes. Before each move, and at the end, each asset is looked at once at most. No
 /// memory is taken.
-pub fn search(work: &mut Workspace<'_>, budget: u32, trace: &mut Vec<u8>) -> Found
+pub fn search(work: &mut Workspace<'_>, parts: u16, budget: u32, trace: &mut Vec<u8>) -> Found
+    requires some_parts { 1 ≤ parts }
+    requires few_parts { parts ≤ 256 }
     requires empty { trace.old.items ≡ [] }
     requires room { budget ≤ vec_capacity trace.old }
     requires most { budget ≤ most_budget }
     requires start { All (IsWithin (2 ^ 60)) work.old.prices }
     ensures orders { work.new.orders ≡ work.old.orders }
-    ensures prices { work.new.prices ≡ end_of work.old.orders work.old.prices trace.new.items }
+    ensures prices { work.new.prices ≡ end_of parts work.old.orders work.old.prices trace.new.items }
     ensures in_turn { IsInTurn (length work.old.prices) (is_unsettled work.old.orders)
-        (step_of work.old.orders) work.old.prices trace.new.items }
-    ensures legal { IsLegalFrom work.old.orders work.old.prices trace.new.items }
-    ensures found { IsFound result work.old.orders work.old.prices budget trace.new.items }
+        (step_of parts work.old.orders) work.old.prices trace.new.items }
+    ensures legal { IsLegalFrom parts work.old.orders work.old.prices trace.new.items }
+    ensures found { IsFound parts result work.old.orders work.old.prices budget trace.new.items }
     ensures capacity { vec_capacity trace.new ≡ vec_capacity trace.old }
 
     // Each grain of the walk lowers the exact dual by a grain at least.
     ensures lowers { IsLowered work.old.orders work.old.prices
-        (movement_of work.old.orders work.old.prices trace.new.items) work.new.prices }
+        (movement_of parts work.old.orders work.old.prices trace.new.items) work.new.prices }
 {
     let mut next = 0;
     for _made in 0..budget {
         match next_unsettled(work, next) {
             None => return Found::Settled,
             Some(asset) => {
-                make_move(work, asset);
+                make_move(work, parts, asset);
                 trace.push_reserved(asset as u8);
                 next = asset + 1;
             }
@@ -102,12 +105,14 @@ fn unsettled_between(work: &Workspace<'_>, first: u16, end: u16) -> Option<u16>
 }
 
 // Makes the move of an asset in a walk.
-pub(crate) fn make_move(work: &mut Workspace<'_>, asset: u16)
+pub(crate) fn make_move(work: &mut Workspace<'_>, parts: u16, asset: u16)
+    requires some_parts { 1 ≤ parts }
+    requires few_parts { parts ≤ 256 }
     requires asset { asset < length work.old.prices }
     requires unsettled { is_unsettled work.old.orders work.old.prices asset ≡ true }
     requires near { unsigned_abs (price_of work.old.prices asset) ≤ 2 ^ 60 + 2 ^ 61 }
     ensures orders { work.new.orders ≡ work.old.orders }
-    ensures prices { work.new.prices ≡ step_of work.old.orders work.old.prices asset }
+    ensures prices { work.new.prices ≡ step_of parts work.old.orders work.old.prices asset }
 {
-    step(work, asset, REACH);
+    step(work, parts, asset, REACH);
 }

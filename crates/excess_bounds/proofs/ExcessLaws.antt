@@ -11,11 +11,11 @@ use Rattle.flow_orders.specs.Orders.{Order, IsOrder, terms_of}
 use Rattle.flow_orders.specs.Duals.{share}
 use Rattle.flow_orders.proofs.Book.{IsSound}
 use Rattle.flow_orders.proofs.BookSums.{price_one_more}
-use Rattle.flow_orders.proofs.Progress.{low_excess-below, high_excess-above, true_excess_step, excess_after_rise, excess_after_fall}
+use Rattle.flow_orders.proofs.Progress.{low_excess-below, high_excess-above, low_excess_in-below, high_excess_in-above, true_excess_step, excess_after_rise, excess_after_fall}
 use Rattle.flow_orders.proofs.SingleMoves.{price_of-risen, price_of-fallen}
 use Rattle.flow_orders.proofs.Moving.{moved_is}
 use Rattle.flow_orders.specs.Moves.{moved}
-use Rattle.excess_bounds.specs.Laws.{true_excess, ExcessIsEnclosed, GrainsMoveExcessLittle, MovesLeaveExcess}
+use Rattle.excess_bounds.specs.Laws.{true_excess, ExcessIsEnclosed, PartsEncloseExcess, GrainsMoveExcessLittle, MovesLeaveExcess}
 
 all_sound : (orders : List Order) → All IsOrder orders → All IsSound orders
 all_sound orders each k d inside = let o = each k d inside in record { limits = o.terms; lawful = o.row }
@@ -24,6 +24,11 @@ pub excess_is_enclosed : ExcessIsEnclosed
 excess_is_enclosed N orders prices asset each common =
     let sound = all_sound orders each in
     (low_excess-below N orders common.1 sound prices asset, high_excess-above N orders common.1 sound prices asset)
+
+pub parts_enclose_excess : PartsEncloseExcess
+parts_enclose_excess parts N orders prices asset each common =
+    let sound = all_sound orders each in
+    (low_excess_in-below N orders common.1 sound parts prices asset, high_excess_in-above N orders common.1 sound parts prices asset)
 
 -- a grain more of an asset of weight w doesn't raise what an order asks for of it
 no_more : (w : ℤ) (t : Terms) → IsWithinLimits t → (c : ℤ) (k : ℕ) → (w *ℤ pos (k * scaled_demand t (c +ℤ w))) ≤ℤ (w *ℤ pos (k * scaled_demand t c))
@@ -54,17 +59,17 @@ grains_move_excess_little N orders prices asset x each common within =
     }
 
 pub moves_leave_excess : MovesLeaveExcess
-moves_leave_excess N orders prices asset reach each common within some unsettled =
+moves_leave_excess parts whole N orders prices asset reach each common within some unsettled =
     let sound = all_sound orders each in
-    let move = moved_is orders reach prices asset some unsettled in
-    let next = moved orders reach prices asset in
+    let move = moved_is parts orders reach prices asset some unsettled in
+    let next = moved parts orders reach prices asset in
     ⊎_elim
     (λ rise.
     let higher : price_of next asset ≡ price_of prices asset +ℤ pos move.0 = ap (λ p. price_of p asset) rise.1 ∙ price_of-risen prices asset move.0 within in
     let least = rise.0.least in
-    inl (omega (arith, ints, higher, least), subst (λ p. pos N ≤ℤ true_excess N orders p asset) (sym rise.1) (excess_after_rise N orders common.1 sound prices asset reach move.0 within rise.0)))
+    inl (omega (arith, ints, higher, least), subst (λ p. pos N ≤ℤ (pos parts *ℤ true_excess N orders p asset)) (sym rise.1) (excess_after_rise parts whole N orders common.1 sound prices asset reach move.0 within rise.0)))
     (λ fall.
     let lower : price_of next asset ≡ price_of prices asset -ℤ pos move.0 = ap (λ p. price_of p asset) fall.1 ∙ price_of-fallen prices asset move.0 within in
     let least = fall.0.least in
-    inr (omega (arith, ints, lower, least), subst (λ p. true_excess N orders p asset ≤ℤ neg_ℤ (pos N)) (sym fall.1) (excess_after_fall N orders common.1 sound prices asset reach move.0 within fall.0)))
+    inr (omega (arith, ints, lower, least), subst (λ p. (pos parts *ℤ true_excess N orders p asset) ≤ℤ neg_ℤ (pos N)) (sym fall.1) (excess_after_fall parts whole N orders common.1 sound prices asset reach move.0 within fall.0)))
     move.1

@@ -1,7 +1,6 @@
 -- What is kept of each order and of each asset, at the prices of the assets.
 use Rattle.std.proofs.Common.{◌≡◌, ℕ, ◌+◌, ◌*◌, ◌<◌, ℤ, pos, ◌+ℤ◌, ◌-ℤ◌, ◌*ℤ◌, List, [], ◌∷◌, ◌++◌, length, map, set, take, drop, get_or, refl, ap, sym, ◌∙◌, append-nil, arith}
 use Rattle.std.specs.Prelude.{All}
-use Rattle.std.proofs.lemmas.Int.{ints}
 use Rattle.std.proofs.lemmas.List.{take_all, drop_all, length-set, get_or-map, length-map, map_more}
 use Rattle.std.proofs.lemmas.List.FromFn.{get_or-map-range_with_len, length-map-range_with_len}
 use Rattle.std.proofs.lemmas.List.Elements.{All-set}
@@ -9,14 +8,13 @@ use Rattle.list_sums.specs.Sums.{int_sum_by}
 use Rattle.weight_rows.specs.Rows.{weight_in, price_of, IsPrice}
 use Rattle.weight_rows.proofs.RowLawProofs.{price_follows_one_price, weights_are_small}
 use Rattle.weight_rows.proofs.RowLemmas.{price_is_bounded}
-use Rattle.demand_curve.specs.Demand.{Terms, floor_rate, ceil_rate}
+use Rattle.demand_curve.specs.Demand.{Terms, floor_rate, ceil_rate, floor_in, ceil_in}
 use Rattle.flow_orders.specs.Orders.{Order, terms_of}
-use Rattle.flow_orders.specs.Excess.{price_for, low_part, high_part, low_excess, high_excess}
-use Rattle.flow_orders.proofs.BookSums.{own_price}
+use Rattle.flow_orders.specs.Excess.{price_for, low_part, high_part, low_part_in, high_part_in, low_excess, high_excess, low_excess_in, high_excess_in}
 use Rattle.excess_bounds.specs.declared.columns.Cell.{Cell}
 use Rattle.excess_bounds.specs.Columns.{column_of}
 use Rattle.excess_bounds.specs.Quotes.{Quote, quote_at}
-use Rattle.excess_bounds.specs.Private.{quote_in, no_quote, low_in, high_in, StaysInRange, requoted, CanRequote, IsColumn, IsKept}
+use Rattle.excess_bounds.specs.Private.{quote_in, no_quote, low_now, high_now, low_after, high_after, StaysInRange, requoted, CanRequote, IsColumn, IsKept}
 use Rattle.excess_bounds.proofs.ColumnSums.{is_light, all_cells, column_length, column_sum}
 use Rattle.excess_bounds.proofs.Requoting.{Follows, column_requoted}
 
@@ -93,11 +91,11 @@ module _ (orders : List Order) (prices : List ℤ) (quotes : List Quote) (column
         let f = follows k d inside in
         rw (at, quote_is k d inside) (ap (part (weight_in o.row asset) (terms_of o)) (sym f.price)))
 
-    pub low_is : int_sum_by (low_in quotes amount) (column_of orders asset) ≡ low_excess orders (set prices asset price) asset
-    low_is = sum_is low_part (λ t c. ap pos (none (floor_rate t c)))
+    pub low_is : (parts : ℕ) → int_sum_by (low_after parts quotes amount) (column_of orders asset) ≡ low_excess_in parts orders (set prices asset price) asset
+    low_is parts = sum_is (low_part_in parts) (λ t c. ap pos (none (floor_in parts t c)))
 
-    pub high_is : int_sum_by (high_in quotes amount) (column_of orders asset) ≡ high_excess orders (set prices asset price) asset
-    high_is = sum_is high_part (λ t c. ap pos (none (ceil_rate t c)))
+    pub high_is : (parts : ℕ) → int_sum_by (high_after parts quotes amount) (column_of orders asset) ≡ high_excess_in parts orders (set prices asset price) asset
+    high_is parts = sum_is (high_part_in parts) (λ t c. ap pos (none (ceil_in parts t c)))
 
     -- what is requoted is kept at the next prices
     pub can_requote : CanRequote quotes (column_of orders asset) amount
@@ -122,12 +120,20 @@ module _ (orders : List Order) (prices : List ℤ) (quotes : List Quote) (column
   pub own_in_range : IsPrice (price_of prices asset)
   own_in_range = kept.priced.range asset (pos 0) there
 
-  no_amount : pos 0 ≡ price_of prices asset -ℤ price_of prices asset
-  no_amount = omega (arith, ints)
-
   -- the sums at the prices themselves
-  pub low_now : int_sum_by (low_in quotes (pos 0)) (column_of orders asset) ≡ low_excess orders prices asset
-  low_now = low_is (price_of prices asset) (pos 0) own_in_range no_amount ∙ ap (λ p. low_excess orders p asset) (own_price prices asset)
+  sum_now : (part : ℤ → Terms → ℤ → ℤ) → ((t : Terms) (c : ℤ) → part (pos 0) t c ≡ pos 0)
+      → int_sum_by (λ c. part c.weight (quote_in quotes c.place).terms (quote_in quotes c.place).price) (column_of orders asset)
+      ≡ int_sum_by (λ o. part (weight_in o.row asset) (terms_of o) (price_for prices o)) orders
+  sum_now part nothing =
+      column_sum asset
+      (λ o. part (weight_in o.row asset) (terms_of o) (price_for prices o))
+      (λ c. part c.weight (quote_in quotes c.place).terms (quote_in quotes c.place).price)
+      0 orders
+      (λ o none. rw none (nothing (terms_of o) (price_for prices o)))
+      (λ k d inside. let at : 0 + k ≡ k = omega arith in rw (at, quote_is k d inside) refl)
 
-  pub high_now : int_sum_by (high_in quotes (pos 0)) (column_of orders asset) ≡ high_excess orders prices asset
-  high_now = high_is (price_of prices asset) (pos 0) own_in_range no_amount ∙ ap (λ p. high_excess orders p asset) (own_price prices asset)
+  pub low_is_now : int_sum_by (low_now quotes) (column_of orders asset) ≡ low_excess orders prices asset
+  low_is_now = sum_now low_part (λ t c. ap pos (none (floor_rate t c)))
+
+  pub high_is_now : int_sum_by (high_now quotes) (column_of orders asset) ≡ high_excess orders prices asset
+  high_is_now = sum_now high_part (λ t c. ap pos (none (ceil_rate t c)))

@@ -7,12 +7,12 @@ use Rattle.list_sums.specs.Sums.{int_sum_by}
 use Rattle.weight_rows.specs.Rows.{price_of, IsPrice}
 use Rattle.demand_curve.specs.Demand.{Terms}
 use Rattle.flow_orders.specs.Orders.{Order}
-use Rattle.flow_orders.specs.Excess.{low_part, high_part, low_excess, high_excess}
+use Rattle.flow_orders.specs.Excess.{low_part_in, high_part_in, low_excess_in, high_excess_in}
 use Rattle.flow_orders.specs.Moves.{risen, fallen}
 use Rattle.excess_bounds.specs.declared.columns.Cell.{Cell}
 use Rattle.excess_bounds.specs.Columns.{column_of}
 use Rattle.excess_bounds.specs.Quotes.{Quote}
-use Rattle.excess_bounds.specs.Private.{quote_in, low_in, high_in, IsKept}
+use Rattle.excess_bounds.specs.Private.{quote_in, low_after, high_after, IsKept}
 use Rattle.excess_bounds.specs.Steps.{asked_after, turned, CanMove}
 use Rattle.excess_bounds.proofs.Kept.{own_in_range, stay_in_range, low_is, high_is}
 
@@ -26,17 +26,17 @@ neg_moved : (w : ℤ) (m : ℕ) → neg_ℤ w *ℤ pos m ≡ w *ℤ neg_ℤ (pos
 neg_moved w zero = omega (arith, ints)
 neg_moved w (suc k) = neg_times w (suc k) ∙ sym (*ℤ-negsuc w k)
 
-turned_part : (w : ℤ) (t : Terms) (c : ℤ) → low_part (neg_ℤ w) t c ≡ neg_ℤ (high_part w t c)
-turned_part (pos zero) t c = omega (arith, ints)
-turned_part (pos (suc n)) t c = refl
-turned_part (negsuc n) t c = omega (arith, ints)
+turned_part : (parts : ℕ) (w : ℤ) (t : Terms) (c : ℤ) → low_part_in parts (neg_ℤ w) t c ≡ neg_ℤ (high_part_in parts w t c)
+turned_part parts (pos zero) t c = omega (arith, ints)
+turned_part parts (pos (suc n)) t c = refl
+turned_part parts (negsuc n) t c = omega (arith, ints)
 
-asked_turned : (quotes : List Quote) (m : ℕ) (cells : List Cell) → asked_after quotes true cells m ≡ neg_ℤ (int_sum_by (high_in quotes (neg_ℤ (pos m))) cells)
-asked_turned quotes m [] = refl
-asked_turned quotes m (c ∷ cells) =
+asked_turned : (parts : ℕ) (quotes : List Quote) (m : ℕ) (cells : List Cell) → asked_after parts quotes true cells m ≡ neg_ℤ (int_sum_by (high_after parts quotes (neg_ℤ (pos m))) cells)
+asked_turned parts quotes m [] = refl
+asked_turned parts quotes m (c ∷ cells) =
     let q = quote_in quotes c.place in
-    let here : low_in quotes (pos m) (turned true c) ≡ neg_ℤ (high_in quotes (neg_ℤ (pos m)) c) = rw (neg_moved c.weight m) (turned_part c.weight q.terms (q.price +ℤ c.weight *ℤ neg_ℤ (pos m))) in
-    omega (arith, ints, here, asked_turned quotes m cells)
+    let here : low_after parts quotes (pos m) (turned true c) ≡ neg_ℤ (high_after parts quotes (neg_ℤ (pos m)) c) = rw (neg_moved c.weight m) (turned_part parts c.weight q.terms (q.price +ℤ c.weight *ℤ neg_ℤ (pos m))) in
+    omega (arith, ints, here, asked_turned parts quotes m cells)
 
 module _ (orders : List Order) (prices : List ℤ) (quotes : List Quote) (columns : List (List Cell)) (kept : IsKept orders prices quotes columns) (asset : ℕ) (there : asset < length prices) (reach : ℕ) where
   own : IsPrice (price_of prices asset)
@@ -52,8 +52,8 @@ module _ (orders : List Order) (prices : List ℤ) (quotes : List Quote) (column
     pub can_rise : All (CanMove quotes false reach) (column_of orders asset)
     can_rise k d inside m within = stay_in_range orders prices quotes columns kept asset there (price_of prices asset +ℤ pos m) (pos m) (risen_in_range m within) (risen_by m) k d inside
 
-    pub asked_risen : (m : ℕ) → m ≤ reach → asked_after quotes false (column_of orders asset) m ≡ low_excess orders (risen prices asset m) asset
-    asked_risen m within = low_is orders prices quotes columns kept asset there (price_of prices asset +ℤ pos m) (pos m) (risen_in_range m within) (risen_by m)
+    pub asked_risen : (parts m : ℕ) → m ≤ reach → asked_after parts quotes false (column_of orders asset) m ≡ low_excess_in parts orders (risen prices asset m) asset
+    asked_risen parts m within = low_is orders prices quotes columns kept asset there (price_of prices asset +ℤ pos m) (pos m) (risen_in_range m within) (risen_by m) parts
 
   module _ (room : neg_ℤ (pos (2 ^ 62)) ≤ℤ (price_of prices asset -ℤ pos reach)) where
     fallen_in_range : (m : ℕ) → m ≤ reach → IsPrice (price_of prices asset -ℤ pos m)
@@ -67,7 +67,7 @@ module _ (orders : List Order) (prices : List ℤ) (quotes : List Quote) (column
         let stays = stay_in_range orders prices quotes columns kept asset there (price_of prices asset -ℤ pos m) (neg_ℤ (pos m)) (fallen_in_range m within) (fallen_by m) k d inside in
         rw neg_moved stays
 
-    pub asked_fallen : (m : ℕ) → m ≤ reach → asked_after quotes true (column_of orders asset) m ≡ neg_ℤ (high_excess orders (fallen prices asset m) asset)
-    asked_fallen m within =
-        asked_turned quotes m (column_of orders asset)
-        ∙ ap neg_ℤ (high_is orders prices quotes columns kept asset there (price_of prices asset -ℤ pos m) (neg_ℤ (pos m)) (fallen_in_range m within) (fallen_by m))
+    pub asked_fallen : (parts m : ℕ) → m ≤ reach → asked_after parts quotes true (column_of orders asset) m ≡ neg_ℤ (high_excess_in parts orders (fallen prices asset m) asset)
+    asked_fallen parts m within =
+        asked_turned parts quotes m (column_of orders asset)
+        ∙ ap neg_ℤ (high_is orders prices quotes columns kept asset there (price_of prices asset -ℤ pos m) (neg_ℤ (pos m)) (fallen_in_range m within) (fallen_by m) parts)

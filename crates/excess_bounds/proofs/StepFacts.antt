@@ -12,10 +12,11 @@ use Rattle.list_sums.specs.Sums.{int_sum_by}
 use Rattle.list_sums.proofs.Products.{*ℤ-add, unsigned_abs-add}
 use Rattle.list_sums.proofs.SumLemmas.{int_sum_by_more, int_sum_by-push, int_sum_by-map_same}
 use Rattle.weight_rows.specs.Rows.{most_weight}
-use Rattle.demand_curve.specs.Demand.{Terms, IsWithinLimits, floor_rate, ceil_rate}
+use Rattle.demand_curve.specs.Demand.{Terms, IsWithinLimits, span, floor_rate, ceil_rate, floor_in, ceil_in}
 use Rattle.demand_curve.specs.Curve.{terms}
-use Rattle.demand_curve.proofs.RoundingLaws.{roundings_enclose_demand}
-use Rattle.flow_orders.specs.Excess.{low_part}
+use Rattle.demand_curve.proofs.RoundingLaws.{at_most_from_times, roundings_enclose_demand}
+use Rattle.demand_curve.proofs.Parts.{parts_enclose_demand}
+use Rattle.flow_orders.specs.Excess.{low_part_in}
 use Rattle.flow_orders.proofs.BookLaws.{low_part-falls}
 use Rattle.excess_bounds.specs.declared.columns.Cell.{Cell}
 use Rattle.excess_bounds.specs.declared.narrowing.Bracket.{Bracket}
@@ -23,7 +24,7 @@ use Rattle.excess_bounds.specs.declared.steps.Step.{Step}
 use Rattle.excess_bounds.specs.Parts.{part_by_sign}
 use Rattle.excess_bounds.specs.Brackets.{IsBracket}
 use Rattle.excess_bounds.specs.Quotes.{Quote}
-use Rattle.excess_bounds.specs.Private.{quote_in, no_quote, low_in}
+use Rattle.excess_bounds.specs.Private.{quote_in, no_quote, low_after}
 use Rattle.excess_bounds.specs.Steps.{part_after, looked, closed, still_open, settled_sum, CanLook, IsSmall, IsStep, IsNarrowed, turned, asked_after, CanMove}
 
 -- ---- one step
@@ -36,7 +37,7 @@ part_falls : (s : Step) (m d : ℕ) → part_after (m + d) s ≤ℤ part_after m
 part_falls s m d =
     let whole : pos (m + d) ≡ pos m +ℤ pos d = omega (arith, ints) in
     let moved : s.price +ℤ s.weight *ℤ pos (m + d) ≡ s.price +ℤ s.weight *ℤ pos m +ℤ s.weight *ℤ pos d = rw whole (omega (arith, ints, *ℤ-add s.weight (pos m) (pos d))) in
-    subst (λ c. low_part s.weight (terms s.curve) c ≤ℤ part_after m s) (sym moved) (low_part-falls s.weight (terms s.curve) s.curve.within_limits (s.price +ℤ s.weight *ℤ pos m) d)
+    subst (λ c. low_part_in s.parts s.weight (terms s.curve) c ≤ℤ part_after m s) (sym moved) (low_part-falls s.parts s.weight (terms s.curve) s.curve.within_limits (s.price +ℤ s.weight *ℤ pos m) d)
 
 falls_to : (s : Step) (m n : ℕ) → m ≤ n → part_after n s ≤ℤ part_after m s
 falls_to s m n h =
@@ -44,29 +45,49 @@ falls_to s m n h =
     rw whole at (part_falls s m (n - m))
 
 -- and no order asks for less than its room allows
-least_below : (w : ℤ) (t : Terms) → IsWithinLimits t → (c : ℤ) → part_by_sign w 0 t.room ≤ℤ low_part w t c
-least_below (pos n) t h c = omega (arith, ints)
-least_below (negsuc n) t h c = omega (arith, ints, mul-le-mul_left (suc n) (roundings_enclose_demand t h c).within_room)
+least_below : (parts : ℕ) (w : ℤ) (t : Terms) → IsWithinLimits t → (c : ℤ) → part_by_sign w 0 (parts * t.room) ≤ℤ low_part_in parts w t c
+least_below parts (pos n) t h c = omega (arith, ints)
+least_below parts (negsuc n) t h c = omega (arith, ints, mul-le-mul_left (suc n) (parts_enclose_demand parts t h c).within_room)
 
-part_is : (w : ℤ) (t : Terms) (c : ℤ) → part_by_sign w (floor_rate t c) (ceil_rate t c) ≡ low_part w t c
-part_is (pos n) t c = refl
-part_is (negsuc n) t c = refl
+-- of its parts of a unit one is that of a demand rounded down, and no other is more than that of one rounded up
+floor_most : (others : ℕ) (t : Terms) → IsWithinLimits t → (c : ℤ) → floor_in (suc others) t c ≤ floor_rate t c + others * ceil_rate t c
+floor_most others t h c =
+    let whole = roundings_enclose_demand t h c in
+    at_most_from_times (floor_in (suc others) t c) (floor_rate t c + others * ceil_rate t c) (span t)
+    (omega (arith, (parts_enclose_demand (suc others) t h c).floor_below, whole.floor_near, mul-le-mul_left others whole.ceil_above))
+
+ceil_least : (others : ℕ) (t : Terms) → IsWithinLimits t → (c : ℤ) → ceil_rate t c + others * floor_rate t c ≤ ceil_in (suc others) t c
+ceil_least others t h c =
+    let whole = roundings_enclose_demand t h c in
+    at_most_from_times (ceil_rate t c + others * floor_rate t c) (ceil_in (suc others) t c) (span t)
+    (omega (arith, (parts_enclose_demand (suc others) t h c).ceil_above, whole.ceil_near, mul-le-mul_left others whole.floor_below))
+
+-- so whole units tell the most that it asks for
+most_above : (others : ℕ) (w : ℤ) (t : Terms) → IsWithinLimits t → (c : ℤ)
+    → low_part_in (suc others) w t c ≤ℤ part_by_sign w (floor_rate t c + others * ceil_rate t c) (ceil_rate t c + others * floor_rate t c)
+most_above others (pos n) t h c = omega (arith, ints, mul-le-mul_left n (floor_most others t h c))
+most_above others (negsuc n) t h c = omega (arith, ints, mul-le-mul_left (suc n) (ceil_least others t h c))
 
 -- the step of an order before the move
-pub first_step : (s : Step) (q : Quote) (w : ℤ) (reach : ℕ) → terms s.curve ≡ q.terms → s.price ≡ q.price → s.weight ≡ w
-    → s.first ≡ part_by_sign w (floor_rate q.terms q.price) (ceil_rate q.terms q.price) → s.last ≡ part_by_sign w 0 q.terms.room → IsSmall s
-    → unsigned_abs w ≤ most_weight → ((m : ℕ) → m ≤ reach → unsigned_abs (q.price +ℤ w *ℤ pos m) ≤ 2 ^ 78)
-    → IsStep 0 reach s × ((m : ℕ) → part_after m s ≡ low_part w q.terms (q.price +ℤ w *ℤ pos m))
-first_step s q w reach terms_are price_is weight_is first_is last_is small light stays =
-    let part : (m : ℕ) → part_after m s ≡ low_part w q.terms (q.price +ℤ w *ℤ pos m) = λ m. rw (terms_are, price_is, weight_is) refl in
-    let start : part_after 0 s ≡ s.first = part 0 ∙ ap (low_part w q.terms) (no_move q.price w) ∙ sym (part_is w q.terms q.price) ∙ sym first_is in
-    let limits : IsWithinLimits q.terms = rw terms_are at s.curve.within_limits in (
+pub first_step : (s : Step) (q : Quote) (parts : ℕ) (w : ℤ) (reach : ℕ) → terms s.curve ≡ q.terms → s.price ≡ q.price → s.parts ≡ parts → s.weight ≡ w
+    → s.first ≡ part_by_sign w (floor_rate q.terms q.price + (parts - 1) * ceil_rate q.terms q.price) (ceil_rate q.terms q.price + (parts - 1) * floor_rate q.terms q.price)
+    → s.last ≡ part_by_sign w 0 (parts * q.terms.room) → IsSmall s
+    → 1 ≤ parts → parts ≤ 256 → unsigned_abs w ≤ most_weight → ((m : ℕ) → m ≤ reach → unsigned_abs (q.price +ℤ w *ℤ pos m) ≤ 2 ^ 78)
+    → IsStep 0 reach s × ((m : ℕ) → part_after m s ≡ low_part_in parts w q.terms (q.price +ℤ w *ℤ pos m))
+first_step s q parts w reach terms_are price_is parts_are weight_is first_is last_is small some few light stays =
+    let part : (m : ℕ) → part_after m s ≡ low_part_in parts w q.terms (q.price +ℤ w *ℤ pos m) = λ m. rw (terms_are, price_is, parts_are, weight_is) refl in
+    let limits : IsWithinLimits q.terms = rw terms_are at s.curve.within_limits in
+    let one : suc (parts - 1) ≡ parts = omega (arith, some) in
+    let most = rw one at (most_above (parts - 1) w q.terms limits q.price) in
+    let start : part_after 0 s ≤ℤ s.first = rw (first_is, part 0, no_move q.price w) most in (
       record {
+        some = rw parts_are some;
+        few = rw parts_are few;
         light = rw weight_is light;
         stays = λ m inside. rw (price_is, weight_is) (stays m inside);
         within = λ m least most. (
-          rw (last_is, part m) (least_below w q.terms limits (q.price +ℤ w *ℤ pos m)),
-          rw start at (falls_to s 0 m (omega arith)),
+          rw (last_is, part m) (least_below parts w q.terms limits (q.price +ℤ w *ℤ pos m)),
+          omega (arith, ints, start, falls_to s 0 m (omega arith)),
         );
         small = small;
       },
@@ -75,12 +96,14 @@ first_step s q w reach terms_are price_is weight_is first_is last_is small light
 
 pub can_look : (low high amount : ℕ) (s : Step) → amount ≤ high → IsStep low high s → CanLook amount s
 can_look low high amount s inside step = record {
+  some = step.some;
+  few = step.few;
   light = step.light;
   start = rw (no_move s.price s.weight) at (step.stays 0 (omega arith));
   stays = step.stays amount inside;
 }
 
-between : (x low high : ℤ) → low ≤ℤ x → x ≤ℤ high → unsigned_abs low ≤ 2 ^ 36 → unsigned_abs high ≤ 2 ^ 36 → unsigned_abs x ≤ 2 ^ 36
+between : (x low high : ℤ) → low ≤ℤ x → x ≤ℤ high → unsigned_abs low ≤ 2 ^ 44 → unsigned_abs high ≤ 2 ^ 44 → unsigned_abs x ≤ 2 ^ 44
 between x low high from to least most = omega (arith, ints, from, to, least, most)
 
 pub looked_small : (low high mid : ℕ) (s : Step) → low ≤ mid → mid ≤ high → IsStep low high s → IsSmall (looked mid s)
@@ -92,6 +115,8 @@ closed_low : (low high mid : ℕ) (s : Step) → low ≤ mid → mid ≤ high �
 closed_low low high mid s from to step =
     let small = looked_small low high mid s from to step in
     record {
+      some = step.some;
+      few = step.few;
       light = step.light;
       stays = step.stays;
       within = λ m least most. ((step.within m (omega (arith, from, least)) most).0, falls_to s mid m least);
@@ -102,6 +127,8 @@ closed_high : (low high mid : ℕ) (s : Step) → low ≤ mid → mid ≤ high �
 closed_high low high mid s from to step =
     let small = looked_small low high mid s from to step in
     record {
+      some = step.some;
+      few = step.few;
       light = step.light;
       stays = λ m inside. step.stays m (omega (arith, inside, to));
       within = λ m least most. (falls_to s m mid most, (step.within m least (omega (arith, most, to))).1);
@@ -147,7 +174,7 @@ module _ (low high : ℕ) where
       (λ other. rw other (cons (IsStep low high) s (still_open steps) (head (IsStep low high) s steps all) rest))
       (cases_Bool (int_eq s.first s.last))
 
-  open_room : (steps : List Step) → All (IsStep low high) steps → unsigned_abs (settled_sum steps) + length (still_open steps) * 2 ^ 36 ≤ length steps * 2 ^ 36
+  open_room : (steps : List Step) → All (IsStep low high) steps → unsigned_abs (settled_sum steps) + length (still_open steps) * 2 ^ 44 ≤ length steps * 2 ^ 44
   open_room [] all = omega arith
   open_room (s ∷ steps) all =
       let rest = open_room steps (tail (IsStep low high) s steps all) in
@@ -224,7 +251,7 @@ module _ (asked : ℕ → ℤ) where
       )
 
   pub turn_room : (steps : List Step) (rest : ℤ) (most low high mid : ℕ) (is_low : Bool) → IsNarrowed asked steps rest most low high → low < mid → mid < high
-      → unsigned_abs (rest +ℤ settled_sum (map (closed is_low) (map (looked mid) steps))) ≤ most * 2 ^ 36
+      → unsigned_abs (rest +ℤ settled_sum (map (closed is_low) (map (looked mid) steps))) ≤ most * 2 ^ 44
   turn_room steps rest most low high mid true narrowed above below =
       omega (arith, (closing steps rest most low high mid true mid high narrowed (omega (arith, above)) (omega arith) (λ s h. closed_low low high mid s (omega (arith, above)) (omega (arith, below)) h)).room)
   turn_room steps rest most low high mid false narrowed above below =
@@ -265,26 +292,27 @@ turned_place true c = refl
 turned_place false c = refl
 
 -- the step of one cell more
-pub begin_more : (quotes : List Quote) (falls : Bool) (cells : List Cell) (i : ℕ) (d t : Cell) (reach : ℕ) (steps next : List Step) (s : Step) (q : Quote)
-    → i < length cells → All (λ c. c.place < length quotes) cells → All (CanMove quotes falls reach) cells
-    → IsNarrowed (asked_after quotes falls (take i cells)) steps (pos 0) i 0 reach
+pub begin_more : (parts : ℕ) (quotes : List Quote) (falls : Bool) (cells : List Cell) (i : ℕ) (d t : Cell) (reach : ℕ) (steps next : List Step) (s : Step) (q : Quote)
+    → 1 ≤ parts → parts ≤ 256 → i < length cells → All (λ c. c.place < length quotes) cells → All (CanMove quotes falls reach) cells
+    → IsNarrowed (asked_after parts quotes falls (take i cells)) steps (pos 0) i 0 reach
     → t ≡ turned falls (get_or cells i d) → unsigned_abs t.weight ≤ most_weight → q ≡ get_or quotes t.place q
-    → terms s.curve ≡ q.terms → s.price ≡ q.price → s.weight ≡ t.weight
-    → s.first ≡ part_by_sign t.weight (floor_rate q.terms q.price) (ceil_rate q.terms q.price) → s.last ≡ part_by_sign t.weight 0 q.terms.room → IsSmall s
+    → terms s.curve ≡ q.terms → s.price ≡ q.price → s.parts ≡ parts → s.weight ≡ t.weight
+    → s.first ≡ part_by_sign t.weight (floor_rate q.terms q.price + (parts - 1) * ceil_rate q.terms q.price) (ceil_rate q.terms q.price + (parts - 1) * floor_rate q.terms q.price)
+    → s.last ≡ part_by_sign t.weight 0 (parts * q.terms.room) → IsSmall s
     → next ≡ steps ++ s ∷ []
-    → IsNarrowed (asked_after quotes falls (take (i + 1) cells)) next (pos 0) (i + 1) 0 reach
-begin_more quotes falls cells i d t reach steps next s q within there moves before t_is light q_is terms_are price_is weight_is first_is last_is small next_is =
+    → IsNarrowed (asked_after parts quotes falls (take (i + 1) cells)) next (pos 0) (i + 1) 0 reach
+begin_more parts quotes falls cells i d t reach steps next s q some few within there moves before t_is light q_is terms_are price_is parts_are weight_is first_is last_is small next_is =
     let c : Cell = get_or cells i d in
     let place : t.place ≡ c.place = ap (λ (x : Cell). x.place) t_is ∙ turned_place falls c in
     let inside : t.place < length quotes = omega (arith, place, there i d within) in
     let quote : q ≡ quote_in quotes t.place = q_is ∙ get_or_default quotes t.place q no_quote inside in
     let stays : (m : ℕ) → m ≤ reach → unsigned_abs (q.price +ℤ t.weight *ℤ pos m) ≤ 2 ^ 78 = λ m h. rw (quote, t_is) (moves i d within m h) in
-    let step = first_step s q t.weight reach terms_are price_is weight_is first_is last_is small light stays in
+    let step = first_step s q parts t.weight reach terms_are price_is parts_are weight_is first_is last_is small some few light stays in
     rw next_is
-    (add_open (asked_after quotes falls (take i cells)) (asked_after quotes falls (take (i + 1) cells)) steps (pos 0) i 0 reach s before step.0
+    (add_open (asked_after parts quotes falls (take i cells)) (asked_after parts quotes falls (take (i + 1) cells)) steps (pos 0) i 0 reach s before step.0
     (λ m.
-    let part : part_after m s ≡ low_in quotes (pos m) (turned falls c) = step.1 m ∙ rw (quote, t_is) refl in
-    int_sum_by_more (λ c. low_in quotes (pos m) (turned falls c)) cells i d within ∙ ap (λ x. asked_after quotes falls (take i cells) m +ℤ x) (sym part)))
+    let part : part_after m s ≡ low_after parts quotes (pos m) (turned falls c) = step.1 m ∙ rw (quote, t_is) refl in
+    int_sum_by_more (λ c. low_after parts quotes (pos m) (turned falls c)) cells i d within ∙ ap (λ x. asked_after parts quotes falls (take i cells) m +ℤ x) (sym part)))
 
 -- the steps before a place are kept where they are open
 pub record IsClosing (is_low : Bool) (steps now : List Step) (kept at : ℕ) (rest : ℤ) : Type 0 where
@@ -292,7 +320,7 @@ pub record IsClosing (is_low : Bool) (steps now : List Step) (kept at : ℕ) (re
   pub sum : rest +ℤ settled_sum (map (closed is_low) (drop at now)) ≡ settled_sum (map (closed is_low) steps)
   pub each : All IsSmall now
   pub behind : kept ≤ at
-  pub small : unsigned_abs rest ≤ at * 2 ^ 36
+  pub small : unsigned_abs rest ≤ at * 2 ^ 44
 
 closed_small : (is_low : Bool) (s : Step) → IsSmall s → IsSmall (closed is_low s)
 closed_small true s h = record { first = h.here; last = h.last; here = h.here }

@@ -5,7 +5,7 @@ use Rattle.list_sums.specs.Sums.{int_sum_by}
 use Rattle.weight_rows.specs.Rows.{weight_in, price_of}
 use Rattle.demand_curve.specs.Demand.{scaled_demand}
 use Rattle.flow_orders.specs.Orders.{Order, IsOrder, terms_of}
-use Rattle.flow_orders.specs.Excess.{price_for, low_excess, high_excess, steepness, is_unsettled}
+use Rattle.flow_orders.specs.Excess.{price_for, low_excess, high_excess, low_excess_in, high_excess_in, steepness, is_unsettled}
 use Rattle.flow_orders.specs.Moves.{moved}
 use Rattle.flow_orders.specs.Duals.{share, IsCommonPart}
 use Rattle.excess_bounds.specs.declared.columns.Cell.{Cell}
@@ -35,6 +35,12 @@ ExcessIsEnclosed = (N : ℕ) (orders : List Order) (prices : List ℤ) (asset : 
     → ((pos N *ℤ low_excess orders prices asset) ≤ℤ true_excess N orders prices asset)
     × (true_excess N orders prices asset ≤ℤ (pos N *ℤ high_excess orders prices asset))
 
+-- and so it is in parts of a unit
+abbrev pub PartsEncloseExcess : Type 0
+PartsEncloseExcess = (parts N : ℕ) (orders : List Order) (prices : List ℤ) (asset : ℕ) → All IsOrder orders → IsCommonPart N orders
+    → ((pos N *ℤ low_excess_in parts orders prices asset) ≤ℤ (pos parts *ℤ true_excess N orders prices asset))
+    × ((pos parts *ℤ true_excess N orders prices asset) ≤ℤ (pos N *ℤ high_excess_in parts orders prices asset))
+
 -- the true excess at a price x of the asset, and at x + 1
 pub record MovesLittle (N : ℕ) (orders : List Order) (prices : List ℤ) (asset : ℕ) (x : ℤ) : Type 0 where
   pub no_rise : true_excess N orders (slice_set prices asset (x +ℤ pos 1)) asset ≤ℤ true_excess N orders (slice_set prices asset x) asset
@@ -46,14 +52,14 @@ abbrev pub GrainsMoveExcessLittle : Type 0
 GrainsMoveExcessLittle = (N : ℕ) (orders : List Order) (prices : List ℤ) (asset : ℕ) (x : ℤ)
     → All IsOrder orders → IsCommonPart N orders → asset < length prices → MovesLittle N orders prices asset x
 
--- the price of an asset rose, and the true excess is still a unit or more; or it fell, and the true excess is still minus a unit or less
-abbrev pub LeavesExcess : ℕ → List Order → List ℤ → ℕ → List ℤ → Type 0
-LeavesExcess N orders prices asset next =
-    ((price_of prices asset <ℤ price_of next asset) × (pos N ≤ℤ true_excess N orders next asset))
-    ⊎ ((price_of next asset <ℤ price_of prices asset) × (true_excess N orders next asset ≤ℤ neg_ℤ (pos N)))
+-- the price of an asset rose, and the true excess is still a part of a unit or more; or it fell, and the true excess is still minus a part or less
+abbrev pub LeavesExcess : ℕ → ℕ → List Order → List ℤ → ℕ → List ℤ → Type 0
+LeavesExcess parts N orders prices asset next =
+    ((price_of prices asset <ℤ price_of next asset) × (pos N ≤ℤ (pos parts *ℤ true_excess N orders next asset)))
+    ⊎ ((price_of next asset <ℤ price_of prices asset) × ((pos parts *ℤ true_excess N orders next asset) ≤ℤ neg_ℤ (pos N)))
 
--- a move of an asset that isn't settled leaves a unit of true excess at least in the direction moved
+-- a move of an asset that isn't settled leaves a part of a unit of true excess at least in the direction moved
 abbrev pub MovesLeaveExcess : Type 0
-MovesLeaveExcess = (N : ℕ) (orders : List Order) (prices : List ℤ) (asset reach : ℕ)
+MovesLeaveExcess = (parts : ℕ) → 1 ≤ parts → (N : ℕ) (orders : List Order) (prices : List ℤ) (asset reach : ℕ)
     → All IsOrder orders → IsCommonPart N orders → asset < length prices → 1 ≤ reach → is_unsettled orders prices asset ≡ true
-    → LeavesExcess N orders prices asset (moved orders reach prices asset)
+    → LeavesExcess parts N orders prices asset (moved parts orders reach prices asset)

@@ -5,7 +5,7 @@ use Rattle.std.specs.Int.{div_ceil}
 use Rattle.weight_rows.specs.declared.entries.Entry.{Entry}
 use Rattle.weight_rows.specs.Rows.{most_weight}
 use Rattle.flow_orders.specs.Orders.{Order, most_orders}
-use Rattle.flow_orders.specs.Excess.{low_part, high_part}
+use Rattle.flow_orders.specs.Excess.{low_part, high_part, low_part_in, high_part_in}
 use Rattle.excess_bounds.specs.declared.columns.Cell.{Cell}
 use Rattle.excess_bounds.specs.Workspace.{ArePriced}
 use Rattle.excess_bounds.specs.Quotes.{Quote, quote_at}
@@ -19,13 +19,21 @@ no_quote = record { terms = record { low = pos 0; high = pos 0; rate = 0; room =
 abbrev pub quote_in : List Quote → ℕ → Quote
 quote_in quotes place = slice_index_or quotes place no_quote
 
--- what the order of a cell asks for of the cell's asset, once that asset's price has moved by an amount
-abbrev pub low_in : List Quote → ℤ → Cell → ℤ
-low_in quotes amount c = let q = quote_in quotes c.place in low_part c.weight q.terms (q.price +ℤ c.weight *ℤ amount)
+-- what the order of a cell asks for of the cell's asset, in units
+abbrev pub low_now : List Quote → Cell → ℤ
+low_now quotes c = let q = quote_in quotes c.place in low_part c.weight q.terms q.price
 
 -- the same, rounded up where the weight buys and down where it sells
-abbrev pub high_in : List Quote → ℤ → Cell → ℤ
-high_in quotes amount c = let q = quote_in quotes c.place in high_part c.weight q.terms (q.price +ℤ c.weight *ℤ amount)
+abbrev pub high_now : List Quote → Cell → ℤ
+high_now quotes c = let q = quote_in quotes c.place in high_part c.weight q.terms q.price
+
+-- what it asks for in parts of a unit, once that asset's price has moved by an amount
+abbrev pub low_after : ℕ → List Quote → ℤ → Cell → ℤ
+low_after parts quotes amount c = let q = quote_in quotes c.place in low_part_in parts c.weight q.terms (q.price +ℤ c.weight *ℤ amount)
+
+-- the same, rounded up where the weight buys and down where it sells
+abbrev pub high_after : ℕ → List Quote → ℤ → Cell → ℤ
+high_after parts quotes amount c = let q = quote_in quotes c.place in high_part_in parts c.weight q.terms (q.price +ℤ c.weight *ℤ amount)
 
 -- the price of the portfolio of a cell's order stays in range as the asset's price moves by an amount
 abbrev pub StaysInRange : List Quote → ℤ → Cell → Type 0

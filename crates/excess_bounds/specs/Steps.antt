@@ -4,25 +4,25 @@ use Rattle.std.specs.Ordering.{int_eq}
 use Rattle.list_sums.specs.Sums.{int_sum_by}
 use Rattle.weight_rows.specs.Rows.{most_weight}
 use Rattle.demand_curve.specs.Curve.{terms}
-use Rattle.flow_orders.specs.Excess.{low_part}
+use Rattle.flow_orders.specs.Excess.{low_part_in}
 use Rattle.excess_bounds.specs.declared.columns.Cell.{Cell}
 use Rattle.excess_bounds.specs.declared.steps.Step.{Step}
 use Rattle.excess_bounds.specs.Quotes.{Quote}
-use Rattle.excess_bounds.specs.Private.{low_in, StaysInRange}
+use Rattle.excess_bounds.specs.Private.{low_after, StaysInRange}
 
--- what a step asks for after an amount
+-- what a step asks for after an amount, in its parts of a unit
 abbrev pub part_after : ℕ → Step → ℤ
-part_after amount s = low_part s.weight (terms s.curve) (s.price +ℤ s.weight *ℤ pos amount)
+part_after amount s = low_part_in s.parts s.weight (terms s.curve) (s.price +ℤ s.weight *ℤ pos amount)
 
 -- a step that was looked at after an amount
 abbrev pub looked : ℕ → Step → Step
-looked amount s = record { curve = s.curve; price = s.price; weight = s.weight; pull = s.pull; first = s.first; last = s.last; here = part_after amount s }
+looked amount s = record { curve = s.curve; price = s.price; parts = s.parts; weight = s.weight; pull = s.pull; first = s.first; last = s.last; here = part_after amount s }
 
 -- a step whose low end, or high end, is what was looked at last
 abbrev pub closed : Bool → Step → Step
 closed is_low s =
-    if is_low then record { curve = s.curve; price = s.price; weight = s.weight; pull = s.pull; first = s.here; last = s.last; here = s.here } else
-    record { curve = s.curve; price = s.price; weight = s.weight; pull = s.pull; first = s.first; last = s.here; here = s.here }
+    if is_low then record { curve = s.curve; price = s.price; parts = s.parts; weight = s.weight; pull = s.pull; first = s.here; last = s.last; here = s.here } else
+    record { curve = s.curve; price = s.price; parts = s.parts; weight = s.weight; pull = s.pull; first = s.first; last = s.here; here = s.here }
 
 -- the steps that may still ask for less at the high end than at the low one
 abbrev pub still_open : List Step → List Step
@@ -34,20 +34,24 @@ abbrev pub settled_sum : List Step → ℤ
 settled_sum [] = pos 0
 settled_sum (s ∷ steps) = if int_eq s.first s.last then s.first +ℤ settled_sum steps else settled_sum steps
 
--- no weight is too large, and the price stays in range up to an amount
+-- there are 1 to 256 parts, no weight is too large, and the price stays in range up to an amount
 pub record CanLook (amount : ℕ) (s : Step) : Type 0 where
+  pub some : 1 ≤ s.parts
+  pub few : s.parts ≤ 256
   pub light : unsigned_abs s.weight ≤ most_weight
   pub start : unsigned_abs s.price ≤ 2 ^ 78
   pub stays : unsigned_abs (s.price +ℤ s.weight *ℤ pos amount) ≤ 2 ^ 78
 
 -- the ends of a step are small
 pub record IsSmall (s : Step) : Type 0 where
-  pub first : unsigned_abs s.first ≤ 2 ^ 36
-  pub last : unsigned_abs s.last ≤ 2 ^ 36
-  pub here : unsigned_abs s.here ≤ 2 ^ 36
+  pub first : unsigned_abs s.first ≤ 2 ^ 44
+  pub last : unsigned_abs s.last ≤ 2 ^ 44
+  pub here : unsigned_abs s.here ≤ 2 ^ 44
 
 -- a step after amounts from a low one to a high one
 pub record IsStep (low high : ℕ) (s : Step) : Type 0 where
+  pub some : 1 ≤ s.parts
+  pub few : s.parts ≤ 256
   pub light : unsigned_abs s.weight ≤ most_weight
   pub stays : (m : ℕ) → m ≤ high → unsigned_abs (s.price +ℤ s.weight *ℤ pos m) ≤ 2 ^ 78
   pub within : (m : ℕ) → low ≤ m → m ≤ high → (s.last ≤ℤ part_after m s) × (part_after m s ≤ℤ s.first)
@@ -57,15 +61,15 @@ pub record IsStep (low high : ℕ) (s : Step) : Type 0 where
 pub record IsNarrowed (asked : ℕ → ℤ) (steps : List Step) (rest : ℤ) (most low high : ℕ) : Type 0 where
   pub sum : (m : ℕ) → low ≤ m → m ≤ high → asked m ≡ rest +ℤ int_sum_by (part_after m) steps
   pub each : All (IsStep low high) steps
-  pub room : unsigned_abs rest + length steps * 2 ^ 36 ≤ most * 2 ^ 36
+  pub room : unsigned_abs rest + length steps * 2 ^ 44 ≤ most * 2 ^ 44
 
 -- a cell, or where the price falls the one of the opposite weight
 abbrev pub turned : Bool → Cell → Cell
 turned falls c = if falls then record { place = c.place; weight = neg_ℤ c.weight } else c
 
--- what the orders of a column ask for after an amount
-abbrev pub asked_after : List Quote → Bool → List Cell → ℕ → ℤ
-asked_after quotes falls cells amount = int_sum_by (λ c. low_in quotes (pos amount) (turned falls c)) cells
+-- what the orders of a column ask for after an amount, in parts of a unit
+abbrev pub asked_after : ℕ → List Quote → Bool → List Cell → ℕ → ℤ
+asked_after parts quotes falls cells amount = int_sum_by (λ c. low_after parts quotes (pos amount) (turned falls c)) cells
 
 -- the price of a cell's order stays in range up to a reach
 abbrev pub CanMove : List Quote → Bool → ℕ → Cell → Type 0

@@ -1,5 +1,5 @@
 //! What holds of the column of an asset, and of its excess as its price moves. Each law is the contract of a function that does nothing.
-ghost use Rattle.excess_bounds.specs.Laws.{ColumnsListOrders, ExcessIsEnclosed, GrainsMoveExcessLittle, MovesLeaveExcess};
+ghost use Rattle.excess_bounds.specs.Laws.{ColumnsListOrders, ExcessIsEnclosed, PartsEncloseExcess, GrainsMoveExcessLittle, MovesLeaveExcess};
 
 /// The column of an asset has a cell for each order that names the asset, with its place and its weight, and no others;
 /// the places ascend.
@@ -12,13 +12,18 @@ pub fn excess_is_enclosed()
     ensures { ExcessIsEnclosed }
 {}
 
+/// In parts of a unit the true excess lies between the low and the high excess in parts.
+pub fn parts_enclose_excess()
+    ensures { PartsEncloseExcess }
+{}
+
 /// A grain more of an asset's price doesn't raise its true excess, and lowers it by at most the steepness.
 pub fn grains_move_excess_little()
     ensures { GrainsMoveExcessLittle }
 {}
 
-/// After a move of an asset that wasn't settled, its true excess is still a unit at least in the direction moved: prices rise
-/// only while more is asked for than there is, and fall only while more is offered.
+/// After a move of an asset that wasn't settled, its true excess is still a part of a unit at least in the direction moved:
+/// prices rise only while more is asked for than there is, and fall only while more is offered.
 pub fn moves_leave_excess()
     ensures { MovesLeaveExcess }
 {}

@@ -1,9 +1,9 @@
 //! The working state of one batch's search for prices: its orders, and one price for each asset.
 //!
 //! A [`Workspace`] answers how much of an asset the orders ask for at its prices, bought less sold, as an [`Excess`]: a
-//! lower and an upper bound in whole units. It answers the same with one price changed, and whether the asset is
-//! settled. [`Workspace::narrow_rise`] and its like tell between which two amounts, a [`Bracket`], a move of a price
-//! ends. [`Workspace::quotes`] are its orders at its prices, a [`Quote`] each: whoever rounds demands or measures what that
+//! lower and an upper bound in whole units. It answers the same with one price changed, in parts of a unit, and whether the
+//! asset is settled. [`Workspace::narrow_rise`] and its like tell between which two amounts, a [`Bracket`], a move of a price
+//! ends, by parts of a unit. [`Workspace::quotes`] are its orders at its prices, a [`Quote`] each: whoever rounds demands or measures what that
 //! loses computes neither price nor demand again, and [`Workspace::into_quoted`] gives them away with the prices. The words
 //! are those of `flow_orders`; [`laws`] has what holds as a price moves.
 //!
@@ -17,7 +17,7 @@
 //! The excess at the prices costs one pass over the asset's column, without a division. The excess at another price of
 //! the asset costs such a pass, and for each order of the column a multiplication and at most one division. To set a price
 //! costs the same. To narrow a move down costs two such passes, and then ever shorter ones. Spread and steepness take
-//! constant time.
+//! constant time. How many parts there are changes none of it: a demand in parts takes the same one division.
 #![tactic(auto)]
 
 mod columns;

@@ -24,7 +24,7 @@ pub struct Bracket {
     pub high: u64,
 }
 
-// What steps ask for together, in units, and how fast that falls: 2^40 times the units for each grain, about.
+// What steps ask for together, in parts of a unit, and how fast that falls: 2^40 times the parts for each grain, about.
 #[derive(Clone, Copy)]
 struct Seen {
     sum: i64,
@@ -34,8 +34,10 @@ struct Seen {
 // A bracket is narrowed down at most so often. Each other time at least it is halved.
 const MOST_TURNS: u32 = 160;
 
-// Narrows down after which amount, of at most `reach`, the orders of a column ask for no more than the bound.
+// Narrows down after which amount, of at most `reach`, the orders of a column ask for no more than the bound, both in parts of
+// a unit.
 pub(crate) fn narrow(
+    parts: u16,
     quotes: &[Quote],
     cells: &[Cell],
     falls: bool,
@@ -43,16 +45,18 @@ pub(crate) fn narrow(
     bound: i64,
     reach: u64,
 ) -> Bracket
+    requires some_parts { 1 ≤ parts }
+    requires few_parts { parts ≤ 256 }
     requires column { IsColumn cells.now }
     requires there { All (λ c. c.place < length quotes.now) cells.now }
     requires moves { All (CanMove quotes.now falls reach) cells.now }
     requires room { length cells.now ≤ vec_capacity steps.old }
     requires some { 0 < reach }
     requires most { reach ≤ 2 ^ 62 }
-    ensures bracket { IsBracket (asked_after quotes.now falls cells.now) bound reach result.low result.high }
+    ensures bracket { IsBracket (asked_after parts quotes.now falls cells.now) bound reach result.low result.high }
     ensures capacity { vec_capacity steps.new ≡ vec_capacity steps.old }
 {
-    let seen = begin(quotes, cells, falls, reach, steps);
+    let seen = begin(parts, quotes, cells, falls, reach, steps);
     let mut rest = 0;
     let mut bracket = Bracket {
         low: 0,
@@ -105,12 +109,21 @@ fn is_above(asked: i64, bound: i64) -> bool
 }
 
 // The steps of a column's orders before the move, and what they do.
-fn begin(quotes: &[Quote], cells: &[Cell], falls: bool, reach: u64, steps: &mut Vec<Step>) -> Seen
+fn begin(
+    parts: u16,
+    quotes: &[Quote],
+    cells: &[Cell],
+    falls: bool,
+    reach: u64,
+    steps: &mut Vec<Step>,
+) -> Seen
+    requires some_parts { 1 ≤ parts }
+    requires few_parts { parts ≤ 256 }
     requires column { IsColumn cells.now }
     requires there { All (λ c. c.place < length quotes.now) cells.now }
     requires moves { All (CanMove quotes.now falls reach) cells.now }
     requires room { length cells.now ≤ vec_capacity steps.old }
-    ensures narrowed { IsNarrowed (asked_after quotes.now falls cells.now) steps.new.items (pos 0) (length cells.now) 0 reach }
+    ensures narrowed { IsNarrowed (asked_after parts quotes.now falls cells.now) steps.new.items (pos 0) (length cells.now) 0 reach }
     ensures capacity { vec_capacity steps.new ≡ vec_capacity steps.old }
 {
     let mut sum = 0i64;
@@ -118,7 +131,7 @@ fn begin(quotes: &[Quote], cells: &[Cell], falls: bool, reach: u64, steps: &mut 
     steps.clear();
     for cell in cells {
         let cell = cell.turned(falls);
-        let step = quotes[cell.place as usize].step(cell);
+        let step = quotes[cell.place as usize].step(parts, cell);
         sum = sum.wrapping_add(step.first);
         slope = slope.saturating_add(step.pull_now());
         steps.push_reserved(step);
@@ -133,7 +146,7 @@ fn ask(steps: &mut Vec<Step>, amount: u64) -> Seen
     requires amount { amount ≤ 2 ^ 62 }
     ensures steps { steps.new.items ≡ map (looked amount) steps.old.items }
     ensures sum { result.sum ≡ int_sum_by (part_after amount) steps.old.items }
-    ensures bound { unsigned_abs result.sum ≤ length steps.old.items * 2 ^ 36 }
+    ensures bound { unsigned_abs result.sum ≤ length steps.old.items * 2 ^ 44 }
     ensures capacity { vec_capacity steps.new ≡ vec_capacity steps.old }
 {
     let mut sum = 0;
@@ -182,7 +195,7 @@ struct Guess {
 }
 
 impl Guess {
-    // Where so many units are missing at the low end.
+    // Where so much is missing at the low end.
     fn from_low(missing: u64, slope: u64) -> Guess {
         Guess {
             is_from_low: true,
@@ -191,8 +204,8 @@ impl Guess {
         }
     }
 
-    // After a bracket has become a smaller one, at the end of which so many units are missing, or too many. Where it was
-    // not halved the next one is.
+    // After a bracket has become a smaller one, at the end of which so much is missing, or too much. Where it was not halved
+    // the next one is.
     fn next(before: Bracket, next: Bracket, is_from_low: bool, missing: u64, slope: u64) -> Guess
         requires before { before.low ≤ before.high }
         requires next { next.low ≤ next.high }
@@ -223,10 +236,10 @@ impl Guess {
     }
 }
 
-// Twice the grains over which so many units are asked for less, 1 to 2^62.
-fn distance(units: u64, slope: u64) -> u64
+// Twice the grains over which so much less is asked for, 1 to 2^62.
+fn distance(missing: u64, slope: u64) -> u64
     ensures { 0 < result }
 {
-    let grains = (u128::from(units) << 41) / u128::from(slope.max(1));
+    let grains = (u128::from(missing) << 41) / u128::from(slope.max(1));
     grains.clamp(1, 1 << 62) as u64
 }

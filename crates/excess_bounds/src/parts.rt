@@ -1,31 +1,31 @@
-//! What orders ask for of an asset, rounded both ways.
-ghost use Rattle.std.specs.Prelude.{◌≡◌, ◌^◌, ◌<◌, ◌≤◌, ◌+ℤ◌, ◌*ℤ◌, pos, length, unsigned_abs, All};
+//! What orders ask for of an asset, rounded both ways, in whole units or in parts of one.
+ghost use Rattle.std.specs.Prelude.{◌≡◌, ◌+◌, ◌-◌, ◌*◌, ◌^◌, ◌<◌, ◌≤◌, ◌+ℤ◌, ◌*ℤ◌, length, unsigned_abs, All};
 ghost use Rattle.list_sums.specs.Sums.{int_sum_by};
 ghost use Rattle.weight_rows.specs.Rows.{most_weight};
 ghost use Rattle.demand_curve.specs.Demand.{most_rate};
 ghost use Rattle.excess_bounds.specs.Parts.{part_by_sign};
-ghost use Rattle.excess_bounds.specs.Private.{IsColumn, StaysInRange, low_in, high_in};
+ghost use Rattle.excess_bounds.specs.Private.{IsColumn, StaysInRange, low_now, high_now, low_after, high_after};
 
 use crate::columns::Cell;
 use crate::quotes::Quote;
-use demand_curve::Roundings;
+use demand_curve::{PartRoundings, Roundings};
 
-/// How much of an asset orders ask for, bought less sold, in whole units: at least the low bound and at most the high
-/// one. The low bound rounds purchases down and sales up, the high one the other way round.
+/// How much of an asset orders ask for, bought less sold, in whole units or in parts of one: at least the low bound and at
+/// most the high one. The low bound rounds purchases down and sales up, the high one the other way round.
 #[derive(Clone, Copy, PartialEq, Eq)]
 pub struct Excess {
-    /// The low bound, in units.
+    /// The low bound.
     pub low: i64,
-    /// The high bound, in units.
+    /// The high bound.
     pub high: i64,
 }
 
-// The excess of the asset of a column.
+// The excess of the asset of a column, in units.
 pub(crate) fn excess_of(quotes: &[Quote], cells: &[Cell]) -> Excess
     requires column { IsColumn cells.now }
     requires there { All (λ c. c.place < length quotes.now) cells.now }
-    ensures low { result.low ≡ int_sum_by (low_in quotes.now (pos 0)) cells.now }
-    ensures high { result.high ≡ int_sum_by (high_in quotes.now (pos 0)) cells.now }
+    ensures low { result.low ≡ int_sum_by (low_now quotes.now) cells.now }
+    ensures high { result.high ≡ int_sum_by (high_now quotes.now) cells.now }
     ensures low_bound { unsigned_abs result.low ≤ 2 ^ 50 }
     ensures high_bound { unsigned_abs result.high ≤ 2 ^ 50 }
 {
@@ -39,55 +39,59 @@ pub(crate) fn excess_of(quotes: &[Quote], cells: &[Cell]) -> Excess
     Excess { low, high }
 }
 
-// The excess of the asset of a column once its price has moved by an amount.
-pub(crate) fn excess_after(quotes: &[Quote], cells: &[Cell], amount: i128) -> Excess
+// The excess of the asset of a column in parts of a unit, once its price has moved by an amount.
+pub(crate) fn excess_after(parts: u16, quotes: &[Quote], cells: &[Cell], amount: i128) -> Excess
+    requires some { 1 ≤ parts }
+    requires few { parts ≤ 256 }
     requires column { IsColumn cells.now }
     requires there { All (λ c. c.place < length quotes.now) cells.now }
     requires amount { unsigned_abs amount ≤ 2 ^ 63 }
     requires stays { All (StaysInRange quotes.now amount) cells.now }
-    ensures low { result.low ≡ int_sum_by (low_in quotes.now amount) cells.now }
-    ensures high { result.high ≡ int_sum_by (high_in quotes.now amount) cells.now }
-    ensures low_bound { unsigned_abs result.low ≤ 2 ^ 50 }
-    ensures high_bound { unsigned_abs result.high ≤ 2 ^ 50 }
+    ensures low { result.low ≡ int_sum_by (low_after parts quotes.now amount) cells.now }
+    ensures high { result.high ≡ int_sum_by (high_after parts quotes.now amount) cells.now }
+    ensures low_bound { unsigned_abs result.low ≤ 2 ^ 58 }
+    ensures high_bound { unsigned_abs result.high ≤ 2 ^ 58 }
 {
     let mut low = 0;
     let mut high = 0;
     for cell in cells {
-        let part = part_after(quotes, *cell, amount);
+        let part = part_after(parts, quotes, *cell, amount);
         low += part.low;
         high += part.high;
     }
     Excess { low, high }
 }
 
-// What the order of a cell asks for of the cell's asset.
+// What the order of a cell asks for of the cell's asset, in units.
 fn part_now(quotes: &[Quote], cell: Cell) -> Excess
     requires there { cell.place < length quotes.now }
     requires light { unsigned_abs cell.weight ≤ most_weight }
-    ensures low { result.low ≡ low_in quotes.now (pos 0) cell }
-    ensures high { result.high ≡ high_in quotes.now (pos 0) cell }
+    ensures low { result.low ≡ low_now quotes.now cell }
+    ensures high { result.high ≡ high_now quotes.now cell }
     ensures low_bound { unsigned_abs result.low ≤ 2 ^ 36 }
     ensures high_bound { unsigned_abs result.high ≤ 2 ^ 36 }
 {
     part_of(cell.weight, quotes[cell.place as usize].demand())
 }
 
-// What it asks for once the asset's price has moved by an amount.
-fn part_after(quotes: &[Quote], cell: Cell, amount: i128) -> Excess
+// What it asks for in parts of a unit, once the asset's price has moved by an amount.
+fn part_after(parts: u16, quotes: &[Quote], cell: Cell, amount: i128) -> Excess
+    requires some { 1 ≤ parts }
+    requires few { parts ≤ 256 }
     requires there { cell.place < length quotes.now }
     requires light { unsigned_abs cell.weight ≤ most_weight }
     requires amount { unsigned_abs amount ≤ 2 ^ 63 }
     requires stays { StaysInRange quotes.now amount cell }
-    ensures low { result.low ≡ low_in quotes.now amount cell }
-    ensures high { result.high ≡ high_in quotes.now amount cell }
-    ensures low_bound { unsigned_abs result.low ≤ 2 ^ 36 }
-    ensures high_bound { unsigned_abs result.high ≤ 2 ^ 36 }
+    ensures low { result.low ≡ low_after parts quotes.now amount cell }
+    ensures high { result.high ≡ high_after parts quotes.now amount cell }
+    ensures low_bound { unsigned_abs result.low ≤ 2 ^ 44 }
+    ensures high_bound { unsigned_abs result.high ≤ 2 ^ 44 }
 {
     let quote = &quotes[cell.place as usize];
-    part_of(cell.weight, quote.demand_after(cell.weight, amount))
+    part_in(cell.weight, quote.demand_after(parts, cell.weight, amount))
 }
 
-// What an order asks for of an asset of this weight.
+// What an order asks for of an asset of this weight, in units.
 fn part_of(weight: i32, demand: Roundings) -> Excess
     requires weight { unsigned_abs weight ≤ most_weight }
     requires floor { demand.floor ≤ most_rate }
@@ -97,43 +101,100 @@ fn part_of(weight: i32, demand: Roundings) -> Excess
     ensures low_bound { unsigned_abs result.low ≤ 2 ^ 36 }
     ensures high_bound { unsigned_abs result.high ≤ 2 ^ 36 }
 {
-    let weight = i64::from(weight);
     Excess {
         low: units(weight, demand.floor, demand.ceil),
         high: units(weight, demand.ceil, demand.floor),
     }
 }
 
+// What it asks for in parts of a unit.
+fn part_in(weight: i32, demand: PartRoundings) -> Excess
+    requires weight { unsigned_abs weight ≤ most_weight }
+    requires floor { demand.floor ≤ 256 * most_rate }
+    requires ceil { demand.ceil ≤ 256 * most_rate }
+    ensures low { result.low ≡ part_by_sign weight demand.floor demand.ceil }
+    ensures high { result.high ≡ part_by_sign weight demand.ceil demand.floor }
+    ensures low_bound { unsigned_abs result.low ≤ 2 ^ 44 }
+    ensures high_bound { unsigned_abs result.high ≤ 2 ^ 44 }
+{
+    Excess {
+        low: units_in(weight, demand.floor, demand.ceil),
+        high: units_in(weight, demand.ceil, demand.floor),
+    }
+}
+
 // A weight times a rate: the first one where the weight buys, the second where it sells.
-fn units(weight: i64, bought: u32, sold: u32) -> i64
+fn units(weight: i32, bought: u32, sold: u32) -> i64
     requires weight { unsigned_abs weight ≤ most_weight }
     requires bought { bought ≤ most_rate }
     requires sold { sold ≤ most_rate }
     ensures value { result ≡ part_by_sign weight bought sold }
     ensures bound { unsigned_abs result ≤ 2 ^ 36 }
 {
-    weight * i64::from(if weight < 0 { sold } else { bought })
+    i64::from(weight) * i64::from(if weight < 0 { sold } else { bought })
+}
+
+// The same of rates in parts of a unit.
+fn units_in(weight: i32, bought: u64, sold: u64) -> i64
+    requires weight { unsigned_abs weight ≤ most_weight }
+    requires bought { bought ≤ 256 * most_rate }
+    requires sold { sold ≤ 256 * most_rate }
+    ensures value { result ≡ part_by_sign weight bought sold }
+    ensures bound { unsigned_abs result ≤ 2 ^ 44 }
+{
+    i64::from(weight) * (if weight < 0 { sold } else { bought }) as i64
 }
 
 // The low part of an asset of this weight.
-pub(crate) fn low_units(weight: i32, demand: Roundings) -> i64
+pub(crate) fn low_parts(weight: i32, demand: PartRoundings) -> i64
+    requires weight { unsigned_abs weight ≤ most_weight }
+    requires floor { demand.floor ≤ 256 * most_rate }
+    requires ceil { demand.ceil ≤ 256 * most_rate }
+    ensures value { result ≡ part_by_sign weight demand.floor demand.ceil }
+    ensures bound { unsigned_abs result ≤ 2 ^ 44 }
+{
+    units_in(weight, demand.floor, demand.ceil)
+}
+
+// The most that an order of this demand, in units, asks for of an asset of this weight, in parts: of one unit it may ask for
+// less than a whole one. With one part it is the low part.
+pub(crate) fn most_parts(parts: u16, weight: i32, demand: Roundings) -> i64
+    requires some { 1 ≤ parts }
+    requires few { parts ≤ 256 }
     requires weight { unsigned_abs weight ≤ most_weight }
     requires floor { demand.floor ≤ most_rate }
     requires ceil { demand.ceil ≤ most_rate }
-    ensures value { result ≡ part_by_sign weight demand.floor demand.ceil }
-    ensures bound { unsigned_abs result ≤ 2 ^ 36 }
+    ensures value { result ≡ part_by_sign weight (demand.floor + (parts - 1) * demand.ceil) (demand.ceil + (parts - 1) * demand.floor) }
+    ensures bound { unsigned_abs result ≤ 2 ^ 44 }
 {
-    units(i64::from(weight), demand.floor, demand.ceil)
+    units_in(
+        weight,
+        in_parts(parts, demand.floor, demand.ceil),
+        in_parts(parts, demand.ceil, demand.floor),
+    )
 }
 
-// The least that an order of this room asks for of an asset of this weight.
-pub(crate) fn least_units(weight: i32, room: u32) -> i64
+// One unit's part of the first rate, and all other parts of the second.
+fn in_parts(parts: u16, first: u32, others: u32) -> u64
+    requires some { 1 ≤ parts }
+    requires few { parts ≤ 256 }
+    requires first { first ≤ most_rate }
+    requires others { others ≤ most_rate }
+    ensures value { result ≡ first + (parts - 1) * others }
+    ensures most { result ≤ 256 * most_rate }
+{
+    u64::from(first) + u64::from(parts - 1) * u64::from(others)
+}
+
+// The least that an order of this room, in units, asks for of an asset of this weight, in parts.
+pub(crate) fn least_parts(parts: u16, weight: i32, room: u32) -> i64
+    requires few { parts ≤ 256 }
     requires weight { unsigned_abs weight ≤ most_weight }
     requires room { room ≤ most_rate }
-    ensures value { result ≡ part_by_sign weight 0 room }
-    ensures bound { unsigned_abs result ≤ 2 ^ 36 }
+    ensures value { result ≡ part_by_sign weight 0 (parts * room) }
+    ensures bound { unsigned_abs result ≤ 2 ^ 44 }
 {
-    units(i64::from(weight), 0, room)
+    units_in(weight, 0, u64::from(parts) * u64::from(room))
 }
 
 // The price of a portfolio after that of an asset of this weight has moved by an amount.

@@ -1,7 +1,7 @@
 //! Each order at the price of its portfolio.
-ghost use Rattle.std.specs.Prelude.{◌≡◌, ℤ, ◌^◌, ◌<◌, ◌≤◌, ◌+ℤ◌, ◌*ℤ◌, length, map, unsigned_abs, All, IfOk};
+ghost use Rattle.std.specs.Prelude.{◌≡◌, ℤ, ◌+◌, ◌-◌, ◌*◌, ◌^◌, ◌<◌, ◌≤◌, ◌+ℤ◌, ◌*ℤ◌, length, map, unsigned_abs, All, IfOk};
 ghost use Rattle.weight_rows.specs.Rows.{most_weight, IsPrice, IsPricedBy};
-ghost use Rattle.demand_curve.specs.Demand.{floor_rate, ceil_rate, most_rate};
+ghost use Rattle.demand_curve.specs.Demand.{floor_rate, ceil_rate, floor_in, ceil_in, most_rate};
 ghost use Rattle.demand_curve.specs.Curve.{terms};
 ghost use Rattle.flow_orders.specs.Orders.{IsOrder, most_orders};
 ghost use Rattle.excess_bounds.specs.Parts.{part_by_sign};
@@ -11,9 +11,9 @@ ghost use Rattle.excess_bounds.specs.Private.{quote_in, requoted, CanRequote};
 ghost use Rattle.excess_bounds.specs.Steps.{IsSmall};
 
 use crate::columns::Cell;
-use crate::parts::{least_units, low_units, price_after};
+use crate::parts::{least_parts, most_parts, price_after};
 use crate::steps::Step;
-use demand_curve::{Curve, Roundings};
+use demand_curve::{Curve, PartRoundings, Roundings};
 use flow_orders::Order;
 use std::alloc::{AllocError, Global};
 use std::marker::Model;
@@ -102,18 +102,20 @@ impl Quote {
         self.demand
     }
 
-    // The demand after the price of an asset of this weight has moved by an amount.
-    pub(crate) fn demand_after(&self, weight: i32, amount: i128) -> Roundings
+    // The demand in parts of a unit, after the price of an asset of this weight has moved by an amount.
+    pub(crate) fn demand_after(&self, parts: u16, weight: i32, amount: i128) -> PartRoundings
+        requires some { 1 ≤ parts }
+        requires few { parts ≤ 256 }
         requires weight { unsigned_abs weight ≤ most_weight }
         requires amount { unsigned_abs amount ≤ 2 ^ 63 }
         requires stays { unsigned_abs (self.now.price +ℤ weight *ℤ amount) ≤ 2 ^ 78 }
-        ensures floor { result.floor ≡ floor_rate self.now.terms (self.now.price +ℤ weight *ℤ amount) }
-        ensures ceil { result.ceil ≡ ceil_rate self.now.terms (self.now.price +ℤ weight *ℤ amount) }
-        ensures floor_most { result.floor ≤ most_rate }
-        ensures ceil_most { result.ceil ≤ most_rate }
+        ensures floor { result.floor ≡ floor_in parts self.now.terms (self.now.price +ℤ weight *ℤ amount) }
+        ensures ceil { result.ceil ≡ ceil_in parts self.now.terms (self.now.price +ℤ weight *ℤ amount) }
+        ensures floor_most { result.floor ≤ 256 * most_rate }
+        ensures ceil_most { result.ceil ≤ 256 * most_rate }
     {
         self.curve
-            .roundings(price_after(self.price, weight, amount))
+            .roundings_in(parts, price_after(self.price, weight, amount))
     }
 
     // The order after the price of a cell's asset has moved by an amount.
@@ -130,23 +132,30 @@ impl Quote {
         )
     }
 
-    // The step of the order for a cell's asset, before a move.
-    pub(crate) fn step(&self, cell: Cell) -> Step
-        requires { unsigned_abs cell.weight ≤ most_weight }
+    // The step of the order for a cell's asset, before a move. What it asks for in parts is told by whole units here, without
+    // a division.
+    pub(crate) fn step(&self, parts: u16, cell: Cell) -> Step
+        requires some { 1 ≤ parts }
+        requires few { parts ≤ 256 }
+        requires light { unsigned_abs cell.weight ≤ most_weight }
         ensures terms { terms result.curve ≡ self.now.terms }
         ensures price { result.price ≡ self.now.price }
+        ensures parts { result.parts ≡ parts }
         ensures weight { result.weight ≡ cell.weight }
-        ensures first { result.first ≡ part_by_sign cell.weight (floor_rate self.now.terms self.now.price) (ceil_rate self.now.terms self.now.price) }
-        ensures last { result.last ≡ part_by_sign cell.weight 0 self.now.terms.room }
+        ensures first { result.first ≡ part_by_sign cell.weight
+            (floor_rate self.now.terms self.now.price + (parts - 1) * ceil_rate self.now.terms self.now.price)
+            (ceil_rate self.now.terms self.now.price + (parts - 1) * floor_rate self.now.terms self.now.price) }
+        ensures last { result.last ≡ part_by_sign cell.weight 0 (parts * self.now.terms.room) }
         ensures small { IsSmall result }
     {
         Step {
             curve: self.curve,
             price: self.price,
+            parts,
             weight: cell.weight,
             pull: self.pull,
-            first: low_units(cell.weight, self.demand),
-            last: least_units(cell.weight, self.curve.room),
+            first: most_parts(parts, cell.weight, self.demand),
+            last: least_parts(parts, cell.weight, self.curve.room),
             here: 0,
         }
     }

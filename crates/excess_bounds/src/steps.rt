@@ -4,7 +4,7 @@ ghost use Rattle.std.specs.Ordering.{int_eq};
 ghost use Rattle.weight_rows.specs.Rows.{most_weight};
 ghost use Rattle.excess_bounds.specs.Steps.{CanLook, looked, closed, part_after};
 
-use crate::parts::{low_units, price_after};
+use crate::parts::{low_parts, price_after};
 use demand_curve::Curve;
 
 // An order that may ask for less of the asset after a high amount than after a low one.
@@ -13,11 +13,13 @@ pub(crate) struct Step {
     pub(crate) curve: Curve,
     // The price of its portfolio before the move.
     pub(crate) price: i128,
+    // In so many parts of a unit it counts what it asks for.
+    pub(crate) parts: u16,
     // The asset's weight, turned where the asset's price falls.
     pub(crate) weight: i32,
     // How fast the demand falls where it isn't cut.
     pub(crate) pull: u32,
-    // It asks for at most so much after the low amount, in units, and for at least so much after the high one.
+    // It asks for at most so much after the low amount, in parts, and for at least so much after the high one.
     pub(crate) first: i64,
     pub(crate) last: i64,
     // What it asks for after the amount that was looked at last.
@@ -30,23 +32,23 @@ impl Step {
         requires can { CanLook amount self }
         requires amount { amount ≤ 2 ^ 62 }
         ensures step { result ≡ looked amount self }
-        ensures small { unsigned_abs result.here ≤ 2 ^ 36 }
+        ensures small { unsigned_abs result.here ≤ 2 ^ 44 }
     {
         Step {
-            here: self.units_after(amount),
+            here: self.parts_after(amount),
             ..self
         }
     }
 
     // What it asks for after an amount.
-    fn units_after(&self, amount: u64) -> i64
+    fn parts_after(&self, amount: u64) -> i64
         requires can { CanLook amount self.now }
         requires amount { amount ≤ 2 ^ 62 }
-        ensures units { result ≡ part_after amount self.now }
-        ensures small { unsigned_abs result ≤ 2 ^ 36 }
+        ensures parts { result ≡ part_after amount self.now }
+        ensures small { unsigned_abs result ≤ 2 ^ 44 }
     {
         let price = price_after(self.price, self.weight, i128::from(amount));
-        low_units(self.weight, self.curve.roundings(price))
+        low_parts(self.weight, self.curve.roundings_in(self.parts, price))
     }
 
     // What was looked at last, taken as an end of the bracket.
@@ -73,15 +75,17 @@ impl Step {
         self.first == self.last
     }
 
-    // How fast what it asks for falls, where it asks for so much: not at all where that is cut.
-    fn pull_at(&self, units: i64) -> u64 {
-        let size = u64::from(self.weight.unsigned_abs());
+    // How fast what it asks for falls, where it asks for so many parts: not at all where that is cut.
+    fn pull_at(&self, asked: i64) -> u64 {
+        let size = u64::from(self.weight.unsigned_abs()).wrapping_mul(u64::from(self.parts));
         let full = size.wrapping_mul(u64::from(self.curve.room));
-        let part = units.unsigned_abs();
+        let part = asked.unsigned_abs();
         if part == 0 || full <= part {
             return 0;
         }
-        size.wrapping_mul(size).wrapping_mul(u64::from(self.pull))
+        let weight = u64::from(self.weight.unsigned_abs());
+        size.wrapping_mul(weight)
+            .saturating_mul(u64::from(self.pull))
     }
 
     pub(crate) fn pull_now(&self) -> u64 {

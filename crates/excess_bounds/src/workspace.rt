@@ -1,9 +1,9 @@
 //! The orders of a batch and the prices of its search.
-ghost use Rattle.std.specs.Prelude.{◌≡◌, ◌^◌, ◌<◌, ◌≤◌, ◌≤ℤ◌, ◌+ℤ◌, ◌-ℤ◌, ◌↔◌, pos, neg_ℤ, false, length, slice_set, unsigned_abs, map, All, IsTrue, IfOk};
+ghost use Rattle.std.specs.Prelude.{◌≡◌, ◌*◌, ◌^◌, ◌<◌, ◌≤◌, ◌≤ℤ◌, ◌+ℤ◌, ◌-ℤ◌, ◌↔◌, pos, neg_ℤ, false, length, slice_set, unsigned_abs, map, All, IsTrue, IfOk};
 ghost use Rattle.std.specs.List.{range_with_len};
 ghost use Rattle.weight_rows.specs.Rows.{IsPrice, IsPricedBy, price_of};
 ghost use Rattle.flow_orders.specs.Orders.{IsOrder, most_orders};
-ghost use Rattle.flow_orders.specs.Excess.{low_excess, high_excess, spread, steepness, is_unsettled};
+ghost use Rattle.flow_orders.specs.Excess.{low_excess, high_excess, low_excess_in, high_excess_in, spread, steepness, is_unsettled};
 ghost use Rattle.excess_bounds.specs.Workspace.{most_prices};
 ghost use Rattle.flow_orders.specs.Moves.{risen, fallen};
 ghost use Rattle.excess_bounds.specs.Brackets.{IsBracket};
@@ -151,62 +151,75 @@ impl<'a> Workspace<'a> {
         excess_of(&self.quotes, self.cells(asset))
     }
 
-    /// The excess of an asset with this one price in place, in units: both bounds are within 2^50 of 0. The prices stay.
-    /// It costs one pass over the asset's column, with at most one division for each order.
-    pub fn excess_at(&self, asset: u16, price: i64) -> Excess
+    /// The excess of an asset with this one price in place, in parts of a unit, 1 to 256 of them: both bounds are within 2^58
+    /// of 0. The prices stay. It costs one pass over the asset's column, with at most one division for each order.
+    pub fn excess_at(&self, parts: u16, asset: u16, price: i64) -> Excess
+        requires some { 1 ≤ parts }
+        requires few { parts ≤ 256 }
         requires asset { asset < length self.now.prices }
         requires price { IsPrice price }
         ensures low { result.low
-            ≡ low_excess self.now.orders (slice_set self.now.prices asset price) asset }
+            ≡ low_excess_in parts self.now.orders (slice_set self.now.prices asset price) asset }
         ensures high { result.high
-            ≡ high_excess self.now.orders (slice_set self.now.prices asset price) asset }
-        ensures low_bound { unsigned_abs result.low ≤ 2 ^ 50 }
-        ensures high_bound { unsigned_abs result.high ≤ 2 ^ 50 }
+            ≡ high_excess_in parts self.now.orders (slice_set self.now.prices asset price) asset }
+        ensures low_bound { unsigned_abs result.low ≤ 2 ^ 58 }
+        ensures high_bound { unsigned_abs result.high ≤ 2 ^ 58 }
     {
-        excess_after(&self.quotes, self.cells(asset), self.amount(asset, price))
+        excess_after(
+            parts,
+            &self.quotes,
+            self.cells(asset),
+            self.amount(asset, price),
+        )
     }
 
-    /// Two amounts between which a rise of an asset's price by at most `reach` grains ends: where its low excess is no longer
-    /// above the steepness, or after `reach`. They lie side by side in all cases tried; the contract doesn't say so. It costs
-    /// two passes over the asset's column, each with at most one division for each order, and passes over ever fewer orders
-    /// of it.
-    pub fn narrow_rise(&mut self, asset: u16, reach: u64) -> Bracket
+    /// Two amounts between which a rise of an asset's price by at most `reach` grains ends: where its low excess in parts of a
+    /// unit, 1 to 256 of them, is no longer above the steepness in parts, or after `reach`. They lie side by side in all cases
+    /// tried; the contract doesn't say so. It costs two passes over the asset's column, each with at most one division for each
+    /// order, and passes over ever fewer orders of it.
+    pub fn narrow_rise(&mut self, parts: u16, asset: u16, reach: u64) -> Bracket
+        requires some_parts { 1 ≤ parts }
+        requires few_parts { parts ≤ 256 }
         requires asset { asset < length self.old.prices }
         requires some { 0 < reach }
         requires far { reach ≤ 2 ^ 61 }
         requires room { (price_of self.old.prices asset +ℤ pos reach) ≤ℤ pos (2 ^ 62) }
         ensures stays { self.new ≡ self.old }
-        ensures bracket { IsBracket (λ d. low_excess self.old.orders (risen self.old.prices asset d) asset)
-            (pos (steepness self.old.orders asset)) reach result.low result.high }
+        ensures bracket { IsBracket (λ d. low_excess_in parts self.old.orders (risen self.old.prices asset d) asset)
+            (pos (parts * steepness self.old.orders asset)) reach result.low result.high }
     {
-        let column = &self.columns[usize::from(asset)];
+        let bound = self.steepness_in(parts, asset);
         narrow(
+            parts,
             &self.quotes,
-            column.cells(),
+            self.columns[usize::from(asset)].cells(),
             false,
             &mut self.steps,
-            column.steepness(),
+            bound,
             reach,
         )
     }
 
     /// The same of a fall, which ends where the high excess is no longer below minus the steepness.
-    pub fn narrow_fall(&mut self, asset: u16, reach: u64) -> Bracket
+    pub fn narrow_fall(&mut self, parts: u16, asset: u16, reach: u64) -> Bracket
+        requires some_parts { 1 ≤ parts }
+        requires few_parts { parts ≤ 256 }
         requires asset { asset < length self.old.prices }
         requires some { 0 < reach }
         requires far { reach ≤ 2 ^ 61 }
         requires room { neg_ℤ (pos (2 ^ 62)) ≤ℤ (price_of self.old.prices asset -ℤ pos reach) }
         ensures stays { self.new ≡ self.old }
-        ensures bracket { IsBracket (λ d. neg_ℤ (high_excess self.old.orders (fallen self.old.prices asset d) asset))
-            (pos (steepness self.old.orders asset)) reach result.low result.high }
+        ensures bracket { IsBracket (λ d. neg_ℤ (high_excess_in parts self.old.orders (fallen self.old.prices asset d) asset))
+            (pos (parts * steepness self.old.orders asset)) reach result.low result.high }
     {
-        let column = &self.columns[usize::from(asset)];
+        let bound = self.steepness_in(parts, asset);
         narrow(
+            parts,
             &self.quotes,
-            column.cells(),
+            self.columns[usize::from(asset)].cells(),
             true,
             &mut self.steps,
-            column.steepness(),
+            bound,
             reach,
         )
     }
@@ -228,6 +241,16 @@ impl<'a> Workspace<'a> {
         ensures most { result ≤ℤ pos (2 ^ 30) }
     {
         self.columns[usize::from(asset)].steepness()
+    }
+
+    /// The steepness of an asset in parts of a unit, at most 256 of them. Constant time.
+    pub fn steepness_in(&self, parts: u16, asset: u16) -> i64
+        requires few { parts ≤ 256 }
+        requires asset { asset < length self.now.prices }
+        ensures value { result ≡ pos (parts * steepness self.now.orders asset) }
+        ensures most { result ≤ℤ pos (2 ^ 38) }
+    {
+        i64::from(parts) * self.steepness(asset)
     }
 
     /// Whether an asset is settled at the prices: its low excess is at most its steepness, and its high excess at least
@@ -278,7 +301,7 @@ impl<'a> Workspace<'a> {
 
 // Whether the low bound is at most the steepness, and the high one at least minus that.
 fn is_near(excess: Excess, steepness: i64) -> bool
-    requires { unsigned_abs steepness ≤ 2 ^ 30 }
+    requires { unsigned_abs steepness ≤ 2 ^ 38 }
     ensures { IsTrue result ↔ ((excess.low ≤ℤ steepness) × (neg_ℤ steepness ≤ℤ excess.high)) }
 {
     excess.low <= steepness && -steepness <= excess.high

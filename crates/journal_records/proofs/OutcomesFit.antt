@@ -1,17 +1,15 @@
 -- The numbers of a right outcome fit their widths.
-use Rattle.std.proofs.Common.{◌≡◌, ℕ, suc, ◌+◌, ◌*◌, ◌^◌, ◌<◌, ◌≤◌, ℤ, pos, negsuc, neg_ℤ, ◌+ℤ◌, ◌-ℤ◌, ◌*ℤ◌, ◌≤ℤ◌, ◌<ℤ◌, List, [], ◌∷◌, map, length, drop, refl, ap, sym, ◌∙◌, arith}
+use Rattle.std.proofs.Common.{◌≡◌, ℕ, suc, ◌*◌, ◌^◌, ◌<◌, ◌≤◌, ℤ, pos, negsuc, ◌+ℤ◌, ◌-ℤ◌, ◌*ℤ◌, ◌<ℤ◌, List, [], ◌∷◌, map, length, drop, ap, sym, ◌∙◌, arith}
 use Rattle.std.specs.Prelude.{Bool, All, unsigned_abs, slice_index_or}
 use Rattle.std.specs.List.{range_with_len, sum_by}
-use Rattle.std.proofs.Math.Nat.{mul-le-mul}
 use Rattle.std.proofs.lemmas.Int.{ints}
 use Rattle.std.proofs.lemmas.List.{length-map}
 use Rattle.std.proofs.lemmas.List.Elements.{All-nil, All-cons, All-head, All-tail}
 use Rattle.std.proofs.lemmas.List.FromFn.{length-range_with_len, length-map-range_with_len, get_or-range_with_len, get_or-map-range_with_len}
 use Rattle.list_sums.proofs.Products.{unsigned_abs-mul_le}
 use Rattle.list_sums.proofs.SumLemmas.{unsigned_abs-int_sum_by}
-use Rattle.wire_fields.specs.Numbers.{IsUnsigned, IsSigned}
+use Rattle.wire_fields.specs.Numbers.{IsSigned}
 use Rattle.wire_records.specs.Records.{AreBytes}
-use Rattle.wire_records.specs.Commands.{Batch}
 use Rattle.weight_rows.specs.Rows.{IsPrice, price_of}
 use Rattle.weight_rows.proofs.RowLemmas.{price_is_bounded}
 use Rattle.demand_curve.specs.Demand.{IsWithin, IsRounding, loss, dual_floor}
@@ -22,12 +20,12 @@ use Rattle.flow_orders.specs.Orders.{Order, IsOrder, terms_of, most_orders}
 use Rattle.flow_orders.specs.Excess.{price_for, residual_bound}
 use Rattle.flow_orders.specs.Walks.{IsLegal}
 use Rattle.flow_orders.specs.Trades.{Trade, trades, residual, residual_cost}
-use Rattle.flow_orders.specs.Outcomes.{Fill, Clearing, Skipping, Outcome, Cleared, Skipped, trades_of, dual_of, end_of, IsRightClearing, IsRightSkip, IsRightOutcome, most_budget}
+use Rattle.flow_orders.specs.Outcomes.{Fill, Clearing, Skipping, Cleared, Skipped, trades_of, dual_of, end_of, IsRightClearing, IsRightSkip, most_budget}
 use Rattle.flow_orders.specs.Duals.{movement_of}
 use Rattle.flow_orders.proofs.Book.{IsSound}
 use Rattle.flow_orders.proofs.Ranges.{sum_by-most, spread-most, steepness-most}
 use Rattle.flow_orders.proofs.WalkLaws.{right_skips_lower_the_dual}
-use Rattle.journal_records.specs.Replies.{IsAnswer, IsFill, IsClearing, IsSkipping, IsWithinLimits}
+use Rattle.journal_records.specs.Replies.{IsFill, IsClearing, IsSkipping}
 use Rattle.journal_records.specs.Laws.{RightOutcomesFit}
 
 -- a number in range
@@ -148,22 +146,22 @@ dual_fits z n is most = rw is (omega (arith, ints), omega (arith, ints, most))
 below : (e f m n : ℕ) → (pos e +ℤ pos m) <ℤ (pos f +ℤ pos n) → f ≤ 2 ^ 117 → n ≤ most_orders → e ≤ 2 ^ 118
 below e f m n less most few = omega (arith, ints, less, most, few)
 
-skipping_fits : (orders : List Order) (start : List ℤ) (budget : ℕ) → All IsOrder orders → length orders ≤ most_orders → length start ≤ 64 → All IsPrice start → budget ≤ most_budget
-    → (s : Skipping) → IsRightSkip orders start budget s → IsSkipping s
-skipping_fits orders start budget each few assets small moves s right =
+skipping_fits : (parts : ℕ) → 1 ≤ parts → (orders : List Order) (start : List ℤ) (budget : ℕ) → All IsOrder orders → length orders ≤ most_orders → length start ≤ 64 → All IsPrice start → budget ≤ most_budget
+    → (s : Skipping) → IsRightSkip parts orders start budget s → IsSkipping s
+skipping_fits parts some orders start budget each few assets small moves s right =
     let first : s.start_dual ≡ pos (dual_of orders start) = ap (λ (x : Skipping). x.start_dual) right.duals in
-    let last : s.end_dual ≡ pos (dual_of orders (end_of orders start s.trace)) = ap (λ (x : Skipping). x.end_dual) right.duals in
+    let last : s.end_dual ≡ pos (dual_of orders (end_of parts orders start s.trace)) = ap (λ (x : Skipping). x.end_dual) right.duals in
     let most = dual_most orders start each few small in
-    let lower = (right_skips_lower_the_dual orders start budget s each right).0 in
+    let lower = (right_skips_lower_the_dual parts some orders start budget s each right).0 in
     record {
       start_dual = dual_fits s.start_dual _ first (omega (arith, most));
-      end_dual = dual_fits s.end_dual _ last (below _ _ (movement_of orders start s.trace) (length orders) (rw (first, last) at lower) most few);
+      end_dual = dual_fits s.end_dual _ last (below _ _ (movement_of parts orders start s.trace) (length orders) (rw (first, last) at lower) most few);
       steps = omega (arith, right.whole, moves);
       trace = walk_within (length start) _ _ start s.trace assets right.legal;
     }
 
 pub right_outcomes_fit : RightOutcomesFit
-right_outcomes_fit orders start budget number (Cleared c) each few numbered assets small moves batch right =
+right_outcomes_fit parts some orders start budget number (Cleared c) each few numbered assets small moves batch right =
     ((omega (arith, batch), clearing_fits orders start each few numbered assets c right), (omega (arith, right.one_price_each, assets), omega (arith, fill_count orders start each few numbered assets c right, few)))
-right_outcomes_fit orders start budget number (Skipped s) each few numbered assets small moves batch right =
-    ((omega (arith, batch), skipping_fits orders start budget each few assets small moves s right), omega (arith, right.whole, moves))
+right_outcomes_fit parts some orders start budget number (Skipped s) each few numbered assets small moves batch right =
+    ((omega (arith, batch), skipping_fits parts some orders start budget each few assets small moves s right), omega (arith, right.whole, moves))

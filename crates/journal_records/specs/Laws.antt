@@ -46,13 +46,13 @@ abbrev pub BatchRepliesFit : Type 0
 BatchRepliesFit =
     (number : ℕ) (outcome : Outcome) → IsAnswer (Batch number outcome) → IsWithinLimits outcome → IsRecord most_reply_body (answer_record (Batch number outcome))
 
--- The numbers of a right outcome fit their widths, and it is within the limits: of few lawful orders with numbers below 2^64, at
+-- The numbers of a right outcome, by whatever parts, fit their widths, and it is within the limits: of few lawful orders with numbers below 2^64, at
 -- few start prices within their range.
 abbrev pub RightOutcomesFit : Type 0
 RightOutcomesFit =
-    (orders : List Order) (start : List ℤ) (budget number : ℕ) (outcome : Outcome)
+    (parts : ℕ) → 1 ≤ parts → (orders : List Order) (start : List ℤ) (budget number : ℕ) (outcome : Outcome)
     → All IsOrder orders → length orders ≤ most_orders → All (λ (o : Order). o.number < 2 ^ 64) orders → length start ≤ 64 → All IsPrice start
-    → budget ≤ most_budget → number < 2 ^ 32 → IsRightOutcome orders start budget outcome → IsAnswer (Batch number outcome) × IsWithinLimits outcome
+    → budget ≤ most_budget → number < 2 ^ 32 → IsRightOutcome parts orders start budget outcome → IsAnswer (Batch number outcome) × IsWithinLimits outcome
 
 -- each list of bytes has exactly one reading as a journal
 abbrev pub OneJournalFile : Type 0

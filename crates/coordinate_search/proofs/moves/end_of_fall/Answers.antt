@@ -4,7 +4,7 @@ use Rattle.std.proofs.lemmas.Int.{ints, to_z-of_z, fits_signed_from_abs}
 use Rattle.single_bisect.specs.Places.{IsGreatestTrue}
 use Rattle.coordinate_search.specs.Ends.{has_fallen}
 use Rattle.coordinate_search.proofs.Ends.{fall_ends}
-use Rattle.coordinate_search.proofs.Between.{fall_closed_between, fallen_at_high, greatest_from_last}
+use Rattle.coordinate_search.proofs.Between.{fallen_in_range, fall_closed_between, fallen_at_high, greatest_from_last}
 use Rattle.coordinate_search.proofs.moves.end_of_fall.Goals as goal
 
 pub narrow_fall-bracket-requires-clause-asset : goal.narrow_fall-bracket-requires-clause-asset
@@ -62,6 +62,8 @@ invariant_of-fall c =
     let b = c.narrow_fall-bracket.ensures.bracket in
     let bound = to_z-of_z w64 c.args.bound c.ranges.bound in
     record {
+      some_parts = c.requires.some_parts;
+      few_parts = c.requires.few_parts;
       there = rw stays c.requires.asset;
       bound_is = rw (stays, bound) c.requires.bound;
       least = rw (price, reach, sum) room;
@@ -158,7 +160,7 @@ greatest_true-requires-clause-downwards c =
     let low = to_z-of_z w64 c.fallen-2.result (record { sfits = c.fallen-2.type_inv }) ∙ rw price at c.fallen-2.ensures in
     let far : c.args.price -ℤ c.args.reach ≡ c.args.price -ℤ pos c.unsigned_abs.result = omega (arith, ints, size, some) in
     rw (stays, price, reach, sum, high, low)
-    (fall_closed_between _ _ _ c.requires.each c.requires.asset c.unsigned_abs.result _ _ (c.args.price -ℤ c.args.reach) c.args.price c.requires.price far b)
+    (fall_closed_between _ _ _ _ c.requires.each c.requires.asset c.unsigned_abs.result _ _ (c.args.price -ℤ c.args.reach) c.args.price c.requires.price far b)
 
 pub greatest_true-requires-clause-true_at_low : goal.greatest_true-requires-clause-true_at_low
 greatest_true-requires-clause-true_at_low c =
@@ -175,7 +177,7 @@ greatest_true-requires-clause-true_at_low c =
     let low = to_z-of_z w64 c.fallen-2.result (record { sfits = c.fallen-2.type_inv }) ∙ rw price at c.fallen-2.ensures in
     let far : c.args.price -ℤ c.args.reach ≡ c.args.price -ℤ pos c.unsigned_abs.result = omega (arith, ints, size, some) in
     rw (stays, price, reach, sum, high)
-    (fallen_at_high _ _ _ c.requires.each c.requires.asset c.unsigned_abs.result _ _ (c.args.price -ℤ c.args.reach) c.args.price c.requires.price far b)
+    (fallen_at_high _ _ _ _ c.requires.each c.requires.asset c.unsigned_abs.result _ _ (c.args.price -ℤ c.args.reach) c.args.price c.requires.price far b)
 
 pub greatest_true-requires-clause-asks_left : goal.greatest_true-requires-clause-asks_left
 greatest_true-requires-clause-asks_left c =
@@ -196,25 +198,20 @@ returns-clause-moved c =
     let low = to_z-of_z w64 c.fallen-2.result (record { sfits = c.fallen-2.type_inv }) ∙ rw price at c.fallen-2.ensures in
     let far : c.args.price -ℤ c.args.reach ≡ c.args.price -ℤ pos c.unsigned_abs.result = omega (arith, ints, size, some) in
     let place = to_z-of_z w64 c.greatest_true.result (record { sfits = c.greatest_true.type_inv }) in
-    let found : IsGreatestTrue (has_fallen c.narrow_fall-bracket.new.self.orders c.narrow_fall-bracket.new.self.prices c.args.asset (to_z w64 (of_z w64 (to_z w64 (of_z w64 c.args.price) -ℤ to_z w64 (of_z w64 c.args.reach)))) (to_z w64 (of_z w64 c.args.price))) (to_z w64 (of_z w64 c.fallen-2.result)) c.greatest_true.result = c.greatest_true.ensures.greatest in
+    let found : IsGreatestTrue (has_fallen c.args.parts c.narrow_fall-bracket.new.self.orders c.narrow_fall-bracket.new.self.prices c.args.asset (to_z w64 (of_z w64 (to_z w64 (of_z w64 c.args.price) -ℤ to_z w64 (of_z w64 c.args.reach)))) (to_z w64 (of_z w64 c.args.price))) (to_z w64 (of_z w64 c.fallen-2.result)) c.greatest_true.result = c.greatest_true.ensures.greatest in
     let greatest = rw (stays, price, reach, sum, low) at found in
     let within = rw high at c.greatest_true.ensures.within in
     let whole : c.args.price -ℤ c.args.reach ≡ c.args.price -ℤ pos (unsigned_abs c.args.reach) = omega (arith, ints, some) in
     rw place
-    (fall_ends _ _ _ c.requires.each c.requires.asset (unsigned_abs c.args.reach) _ _ _ c.requires.below c.requires.price whole (omega (arith, ints, some))
-    (greatest_from_last _ _ _ c.requires.each c.requires.asset c.unsigned_abs.result _ _ (c.args.price -ℤ c.args.reach) c.args.price c.requires.price far b _ greatest)
+    (fall_ends _ _ _ _ c.requires.each c.requires.asset (unsigned_abs c.args.reach) _ _ _ c.requires.below c.requires.price whole (omega (arith, ints, some))
+    (greatest_from_last _ _ _ _ c.requires.each c.requires.asset c.unsigned_abs.result _ _ (c.args.price -ℤ c.args.reach) c.args.price c.requires.price far b _ greatest)
     (omega (arith, ints, within, far, b.most)))
 
 pub returns-clause-range : goal.returns-clause-range
 returns-clause-range c =
     let reach = to_z-of_z w64 c.args.reach c.ranges.reach in
     let size = rw reach at c.unsigned_abs.ensures.value in
-    let some = c.requires.some in
-    let range = c.requires.range in
-    let room = c.requires.room in
     let price = to_z-of_z w64 c.args.price c.ranges.price in
-    let sum = to_z-of_z w64 (c.args.price -ℤ c.args.reach) (fits_signed_from_abs w64 _ (omega (arith, ints, range, some, room))) in
-    let stays = c.narrow_fall-bracket.ensures.stays in
     let b = c.narrow_fall-bracket.ensures.bracket in
     let high = to_z-of_z w64 c.fallen.result (record { sfits = c.fallen.type_inv }) ∙ rw price at c.fallen.ensures in
     let low = to_z-of_z w64 c.fallen-2.result (record { sfits = c.fallen-2.type_inv }) ∙ rw price at c.fallen-2.ensures in
@@ -222,7 +219,7 @@ returns-clause-range c =
     let found = c.greatest_true.ensures.greatest.below in
     let below = rw low at found in
     let within = rw high at c.greatest_true.ensures.within in
-    rw place (omega (arith, ints, below, within, b.most, size, some, room, range))
+    rw place (fallen_in_range _ _ _ _ _ _ c.requires.range c.requires.some c.requires.room size b.most below within)
 
 pub returns-clause-stays : goal.returns-clause-stays
 returns-clause-stays c =

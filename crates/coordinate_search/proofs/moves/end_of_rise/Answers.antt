@@ -1,10 +1,10 @@
-use Rattle.std.proofs.Common.{◌≡◌, ◌∙◌, ◌^◌, ◌≤ℤ◌, pos, ◌+ℤ◌, to_z, of_z, w64, arith}
+use Rattle.std.proofs.Common.{◌≡◌, ◌∙◌, pos, ◌+ℤ◌, to_z, of_z, w64, arith}
 use Rattle.std.specs.Prelude.{unsigned_abs}
 use Rattle.std.proofs.lemmas.Int.{ints, to_z-of_z, fits_signed_from_abs}
 use Rattle.single_bisect.specs.Places.{IsLeastTrue}
 use Rattle.coordinate_search.specs.Ends.{has_risen}
 use Rattle.coordinate_search.proofs.Ends.{rise_ends}
-use Rattle.coordinate_search.proofs.Between.{rise_closed_between, risen_at_high, least_from_first}
+use Rattle.coordinate_search.proofs.Between.{risen_in_range, rise_closed_between, risen_at_high, least_from_first}
 use Rattle.coordinate_search.proofs.moves.end_of_rise.Goals as goal
 
 pub narrow_rise-bracket-requires-clause-asset : goal.narrow_rise-bracket-requires-clause-asset
@@ -62,6 +62,8 @@ invariant_of-rise c =
     let b = c.narrow_rise-bracket.ensures.bracket in
     let bound = to_z-of_z w64 c.args.bound c.ranges.bound in
     record {
+      some_parts = c.requires.some_parts;
+      few_parts = c.requires.few_parts;
       there = rw stays c.requires.asset;
       bound_is = rw (stays, bound) c.requires.bound;
       least = rw price (omega (arith, ints, range));
@@ -158,7 +160,7 @@ least_true-requires-clause-upwards c =
     let high = to_z-of_z w64 c.risen-2.result (record { sfits = c.risen-2.type_inv }) ∙ rw price at c.risen-2.ensures in
     let far : c.args.price +ℤ c.args.reach ≡ c.args.price +ℤ pos c.unsigned_abs.result = omega (arith, ints, size, some) in
     rw (stays, price, reach, sum, low, high)
-    (rise_closed_between _ _ _ c.requires.each c.requires.asset c.unsigned_abs.result _ _ c.args.price (c.args.price +ℤ c.args.reach) c.requires.price far b)
+    (rise_closed_between _ _ _ _ c.requires.each c.requires.asset c.unsigned_abs.result _ _ c.args.price (c.args.price +ℤ c.args.reach) c.requires.price far b)
 
 pub least_true-requires-clause-true_at_high : goal.least_true-requires-clause-true_at_high
 least_true-requires-clause-true_at_high c =
@@ -175,7 +177,7 @@ least_true-requires-clause-true_at_high c =
     let high = to_z-of_z w64 c.risen-2.result (record { sfits = c.risen-2.type_inv }) ∙ rw price at c.risen-2.ensures in
     let far : c.args.price +ℤ c.args.reach ≡ c.args.price +ℤ pos c.unsigned_abs.result = omega (arith, ints, size, some) in
     rw (stays, price, reach, sum, high)
-    (risen_at_high _ _ _ c.requires.each c.requires.asset c.unsigned_abs.result _ _ c.args.price (c.args.price +ℤ c.args.reach) c.requires.price far b)
+    (risen_at_high _ _ _ _ c.requires.each c.requires.asset c.unsigned_abs.result _ _ c.args.price (c.args.price +ℤ c.args.reach) c.requires.price far b)
 
 pub least_true-requires-clause-asks_left : goal.least_true-requires-clause-asks_left
 least_true-requires-clause-asks_left c =
@@ -196,25 +198,20 @@ returns-clause-moved c =
     let high = to_z-of_z w64 c.risen-2.result (record { sfits = c.risen-2.type_inv }) ∙ rw price at c.risen-2.ensures in
     let far : c.args.price +ℤ c.args.reach ≡ c.args.price +ℤ pos c.unsigned_abs.result = omega (arith, ints, size, some) in
     let place = to_z-of_z w64 c.least_true.result (record { sfits = c.least_true.type_inv }) in
-    let found : IsLeastTrue (has_risen c.narrow_rise-bracket.new.self.orders c.narrow_rise-bracket.new.self.prices c.args.asset (to_z w64 (of_z w64 c.args.price)) (to_z w64 (of_z w64 (to_z w64 (of_z w64 c.args.price) +ℤ to_z w64 (of_z w64 c.args.reach))))) (to_z w64 (of_z w64 c.risen.result)) c.least_true.result = c.least_true.ensures.least in
+    let found : IsLeastTrue (has_risen c.args.parts c.narrow_rise-bracket.new.self.orders c.narrow_rise-bracket.new.self.prices c.args.asset (to_z w64 (of_z w64 c.args.price)) (to_z w64 (of_z w64 (to_z w64 (of_z w64 c.args.price) +ℤ to_z w64 (of_z w64 c.args.reach))))) (to_z w64 (of_z w64 c.risen.result)) c.least_true.result = c.least_true.ensures.least in
     let least = rw (stays, price, reach, sum, low) at found in
     let within = rw high at c.least_true.ensures.within in
     let whole : c.args.price +ℤ c.args.reach ≡ c.args.price +ℤ pos (unsigned_abs c.args.reach) = omega (arith, ints, some) in
     rw place
-    (rise_ends _ _ _ c.requires.each c.requires.asset (unsigned_abs c.args.reach) _ _ _ c.requires.above c.requires.price whole (omega (arith, ints, some))
-    (least_from_first _ _ _ c.requires.each c.requires.asset c.unsigned_abs.result _ _ c.args.price (c.args.price +ℤ c.args.reach) c.requires.price far b _ least)
+    (rise_ends _ _ _ _ c.requires.each c.requires.asset (unsigned_abs c.args.reach) _ _ _ c.requires.above c.requires.price whole (omega (arith, ints, some))
+    (least_from_first _ _ _ _ c.requires.each c.requires.asset c.unsigned_abs.result _ _ c.args.price (c.args.price +ℤ c.args.reach) c.requires.price far b _ least)
     (omega (arith, ints, within, far, b.most)))
 
 pub returns-clause-range : goal.returns-clause-range
 returns-clause-range c =
     let reach = to_z-of_z w64 c.args.reach c.ranges.reach in
     let size = rw reach at c.unsigned_abs.ensures.value in
-    let some = c.requires.some in
-    let range = c.requires.range in
-    let room = c.requires.room in
     let price = to_z-of_z w64 c.args.price c.ranges.price in
-    let sum = to_z-of_z w64 (c.args.price +ℤ c.args.reach) (fits_signed_from_abs w64 _ (omega (arith, ints, range, some, room))) in
-    let stays = c.narrow_rise-bracket.ensures.stays in
     let b = c.narrow_rise-bracket.ensures.bracket in
     let low = to_z-of_z w64 c.risen.result (record { sfits = c.risen.type_inv }) ∙ rw price at c.risen.ensures in
     let high = to_z-of_z w64 c.risen-2.result (record { sfits = c.risen-2.type_inv }) ∙ rw price at c.risen-2.ensures in
@@ -222,8 +219,7 @@ returns-clause-range c =
     let found = c.least_true.ensures.least.above in
     let above = rw low at found in
     let within = rw high at c.least_true.ensures.within in
-    let top : (c.args.price +ℤ pos c.narrow_rise-bracket.result.high) ≤ℤ pos (2 ^ 62) = omega (arith, ints, b.most, size, some, room) in
-    rw place (omega (arith, ints, above, within, top, range))
+    rw place (risen_in_range _ _ _ _ _ _ c.requires.range c.requires.some c.requires.room size b.most above within)
 
 pub returns-clause-stays : goal.returns-clause-stays
 returns-clause-stays c =

@@ -12,7 +12,7 @@ pub returns-clause-orders : goal.returns-clause-orders
 returns-clause-orders c = rw c.end_of_move-end.ensures.stays at c.set_price.ensures.orders
 
 -- the prices are those of the definition's move
-moves : (c : goal.After-set_price) → c.set_price.new.self.prices ≡ moved c.args.work.now.orders (unsigned_abs c.args.reach) c.args.work.now.prices c.args.asset
+moves : (c : goal.After-set_price) → c.set_price.new.self.prices ≡ moved c.args.parts c.args.work.now.orders (unsigned_abs c.args.reach) c.args.work.now.prices c.args.asset
 moves c =
     let range = c.end_of_move-end.ensures.range in
     let same : to_z w64 (of_z w64 c.end_of_move-end.result) ≡ c.end_of_move-end.result = to_z-of_z w64 c.end_of_move-end.result (fits_signed_from_abs w64 c.end_of_move-end.result (omega (arith, ints, range))) in
@@ -24,4 +24,4 @@ returns-clause-moved c = moves c
 pub returns-clause-lowers : goal.returns-clause-lowers
 returns-clause-lowers c =
     let some = c.requires.some.le in
-    move_lowers c.args.work.now.orders c.args.work.now.prices c.args.asset (unsigned_abs c.args.reach) c.set_price.new.self.prices c.end_of_move-end.ensures.priced.each c.requires.asset (omega (arith, ints, some)) c.requires.unsettled (moves c)
+    move_lowers c.args.parts c.requires.some_parts c.args.work.now.orders c.args.work.now.prices c.args.asset (unsigned_abs c.args.reach) c.set_price.new.self.prices c.end_of_move-end.ensures.priced.each c.requires.asset (omega (arith, ints, some)) c.requires.unsettled (moves c)

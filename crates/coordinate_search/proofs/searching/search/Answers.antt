@@ -5,53 +5,53 @@ use Rattle.coordinate_search.proofs.InTurn.{next_so_far, legal_so_far, found_uns
 use Rattle.coordinate_search.proofs.searching.search.Goals as goal
 
 pub next_unsettled-requires : goal.next_unsettled-requires
-next_unsettled-requires c = record { next = next_so_far _ _ _ _ _ _ c.loop-made.invariant.0 }
+next_unsettled-requires c = record { next = next_so_far _ _ _ _ _ _ _ c.loop-made.invariant.0 }
 
 pub returns-in-None-clause-legal : goal.returns-in-None-clause-legal
-returns-in-None-clause-legal c = legal_so_far _ _ _ _ _ _ c.loop-made.invariant.0
+returns-in-None-clause-legal c = legal_so_far _ _ _ _ _ _ _ c.loop-made.invariant.0
 
 pub returns-in-None-clause-found : goal.returns-in-None-clause-found
 returns-in-None-clause-found c =
-    ends_settled _ _ _ _ _ _ c.loop-made.invariant.0 _ c.next_unsettled.ensures.first _ c.in-None.is (omega (arith, c.loop-made.invariant.1, c.loop-made-test.true))
+    ends_settled _ _ _ _ _ _ _ c.loop-made.invariant.0 _ c.next_unsettled.ensures.first _ c.in-None.is (omega (arith, c.loop-made.invariant.1, c.loop-made-test.true))
 
 pub make_move-requires-clause-unsettled : goal.make_move-requires-clause-unsettled
-make_move-requires-clause-unsettled c = found_unsettled _ _ _ _ _ _ c.loop-made.invariant.0 _ c.next_unsettled.ensures.first _ c.in-Some.is
+make_move-requires-clause-unsettled c = found_unsettled _ _ _ _ _ _ _ c.loop-made.invariant.0 _ c.next_unsettled.ensures.first _ c.in-Some.is
 
 pub make_move-requires-clause-near : goal.make_move-requires-clause-near
 make_move-requires-clause-near c =
-    near_so_far _ _ _ _ _ _ c.loop-made.invariant.0 _ c.requires.start (omega (arith, c.loop-made.invariant.1, c.loop-made-test.true, c.requires.most)) c.in-Some.ensures.there
+    near_so_far _ _ _ _ _ _ _ c.loop-made.invariant.0 _ c.requires.start (omega (arith, c.loop-made.invariant.1, c.loop-made-test.true, c.requires.most)) c.in-Some.ensures.there
 
 pub loop-made-preserved : goal.loop-made-preserved
 loop-made-preserved c =
     rw c.push_reserved.ensures.items (
-      one_more_moved _ _ _ _ _ _ c.loop-made.invariant.0 _ c.next_unsettled.ensures.first _ _ _ c.in-Some.is c.make_move.ensures.orders c.make_move.ensures.prices,
+      one_more_moved _ _ _ _ _ _ _ c.loop-made.invariant.0 _ c.next_unsettled.ensures.first _ _ _ c.in-Some.is c.make_move.ensures.orders c.make_move.ensures.prices,
       omega (arith, length-append c.loop-made.trace.items (c.in-Some.asset ∷ []), c.loop-made.invariant.1),
     )
 
 pub next_unsettled-requires-2 : goal.next_unsettled-requires-2
-next_unsettled-requires-2 c = record { next = next_so_far _ _ _ _ _ _ c.loop-made.invariant.0 }
+next_unsettled-requires-2 c = record { next = next_so_far _ _ _ _ _ _ _ c.loop-made.invariant.0 }
 
 pub returns-in-None-next_unsettled-clause-legal : goal.returns-in-None-next_unsettled-clause-legal
-returns-in-None-next_unsettled-clause-legal c = legal_so_far _ _ _ _ _ _ c.loop-made.invariant.0
+returns-in-None-next_unsettled-clause-legal c = legal_so_far _ _ _ _ _ _ _ c.loop-made.invariant.0
 
 pub returns-in-None-next_unsettled-clause-found : goal.returns-in-None-next_unsettled-clause-found
 returns-in-None-next_unsettled-clause-found c =
-    ends_settled _ _ _ _ _ _ c.loop-made.invariant.0 _ c.next_unsettled-2.ensures.first _ c.in-None-next_unsettled.is
+    ends_settled _ _ _ _ _ _ _ c.loop-made.invariant.0 _ c.next_unsettled-2.ensures.first _ c.in-None-next_unsettled.is
     (omega (arith, c.loop-made.invariant.1, c.loop-made.auto._made-end))
 
 pub returns-in-Some-next_unsettled-clause-legal : goal.returns-in-Some-next_unsettled-clause-legal
-returns-in-Some-next_unsettled-clause-legal c = legal_so_far _ _ _ _ _ _ c.loop-made.invariant.0
+returns-in-Some-next_unsettled-clause-legal c = legal_so_far _ _ _ _ _ _ _ c.loop-made.invariant.0
 
 pub returns-in-Some-next_unsettled-clause-found : goal.returns-in-Some-next_unsettled-clause-found
 returns-in-Some-next_unsettled-clause-found c =
-    ends_spent _ _ _ _ _ _ c.loop-made.invariant.0 _ c.next_unsettled-2.ensures.first _ _ c.in-Some-next_unsettled.is
+    ends_spent _ _ _ _ _ _ _ c.loop-made.invariant.0 _ c.next_unsettled-2.ensures.first _ _ c.in-Some-next_unsettled.is
     (omega (arith, c.loop-made.invariant.1, c.loop-made.auto._made-end, c.loop-made-test.false))
 
 pub returns-in-None-clause-lowers : goal.returns-in-None-clause-lowers
-returns-in-None-clause-lowers c = search_lowers _ _ _ _ _ _ c.loop-made.invariant.0 c.next_unsettled.ensures.each
+returns-in-None-clause-lowers c = search_lowers _ c.requires.some_parts _ _ _ _ _ _ c.loop-made.invariant.0 c.next_unsettled.ensures.each
 
 pub returns-in-None-next_unsettled-clause-lowers : goal.returns-in-None-next_unsettled-clause-lowers
-returns-in-None-next_unsettled-clause-lowers c = search_lowers _ _ _ _ _ _ c.loop-made.invariant.0 c.next_unsettled-2.ensures.each
+returns-in-None-next_unsettled-clause-lowers c = search_lowers _ c.requires.some_parts _ _ _ _ _ _ c.loop-made.invariant.0 c.next_unsettled-2.ensures.each
 
 pub returns-in-Some-next_unsettled-clause-lowers : goal.returns-in-Some-next_unsettled-clause-lowers
-returns-in-Some-next_unsettled-clause-lowers c = search_lowers _ _ _ _ _ _ c.loop-made.invariant.0 c.next_unsettled-2.ensures.each
+returns-in-Some-next_unsettled-clause-lowers c = search_lowers _ c.requires.some_parts _ _ _ _ _ _ c.loop-made.invariant.0 c.next_unsettled-2.ensures.each

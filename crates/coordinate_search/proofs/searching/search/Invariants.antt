@@ -4,4 +4,4 @@ use Rattle.coordinate_search.proofs.searching.search.Given as goal
 
 abbrev pub invariant-loop-made : goal.invariant-loop-made
 invariant-loop-made l =
-    IsSearching l.fn.work.orders l.fn.work.prices l.work.orders l.work.prices l.next l.trace.items × (length l.trace.items ≡ l._made)
+    IsSearching l.parts l.fn.work.orders l.fn.work.prices l.work.orders l.work.prices l.next l.trace.items × (length l.trace.items ≡ l._made)

@@ -27,7 +27,7 @@ loop-at-preserved c =
     let here = c.index.ensures ∙ mixed_at (looked c.args.amount) c.args.steps.now.items c.loop-at.steps.items c.loop-at.at c.index.result.now within c.loop-at.invariant.0 in
     let part = ap (λ (s : _). s.here) c.looked-step.ensures.step ∙ ap (part_after c.args.amount) here in (
       rw c.looked-step.ensures.step (map_over_more (looked c.args.amount) c.args.steps.now.items c.loop-at.steps.items c.loop-at.at c.index.result.now within c.loop-at.invariant.0 c.index.ensures),
-      one_more_summed _ _ _ _ _ c.index.result.now c.requires.few within c.loop-at.invariant.1 part c.looked-step.ensures.small,
+      one_more_summed _ _ _ _ _ _ c.index.result.now (omega arith) c.requires.few within c.loop-at.invariant.1 part c.looked-step.ensures.small,
       c.loop-at.invariant.2,
       c.loop-at.invariant.3,
     )
@@ -38,7 +38,7 @@ returns c =
     let all = c.loop-at.invariant in
     record {
       steps = all.0 ∙ rw (take_all c.loop-at.at c.args.steps.now.items past, drop_all c.loop-at.at c.args.steps.now.items past) (append-nil _);
-      sum = all_summed _ _ _ _ past all.1;
+      sum = all_summed _ _ _ _ _ past all.1;
       bound = omega (arith, all.1.bound, c.loop-at.auto.at-end, c.len-at-end.ensures);
       capacity = all.3;
     }

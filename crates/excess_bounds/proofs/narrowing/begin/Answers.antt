@@ -12,8 +12,8 @@ loop-cell-init c = (none_narrowed _ _ _ c.clear.ensures.items (λ m. refl), c.cl
 pub loop-cell-preserved : goal.loop-cell-preserved
 loop-cell-preserved c =
     let s = c.step-step.ensures in (
-      begin_more _ _ _ _ _ _ _ _ _ _ _ c.loop-cell-test.true c.requires.there c.requires.moves c.loop-cell.invariant.0 c.turned-cell.ensures.cell c.turned-cell.ensures.light c.index-quotes-cell.is
-          s.terms s.price s.weight s.first s.last s.small c.push_reserved.ensures.items,
+      begin_more _ _ _ _ _ _ _ _ _ _ _ _ c.requires.some_parts c.requires.few_parts c.loop-cell-test.true c.requires.there c.requires.moves c.loop-cell.invariant.0 c.turned-cell.ensures.cell c.turned-cell.ensures.light c.index-quotes-cell.is
+          s.terms s.price s.parts s.weight s.first s.last s.small c.push_reserved.ensures.items,
       c.push_reserved.ensures.capacity ∙ c.loop-cell.invariant.1,
     )
 

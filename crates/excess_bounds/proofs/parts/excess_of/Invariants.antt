@@ -1,8 +1,8 @@
-use Rattle.std.proofs.Common.{pos}
-use Rattle.excess_bounds.specs.Private.{low_in, high_in}
+use Rattle.std.proofs.Common.{◌^◌}
+use Rattle.excess_bounds.specs.Private.{low_now, high_now}
 use Rattle.excess_bounds.proofs.Sums.{IsSumBefore}
 use Rattle.excess_bounds.proofs.parts.excess_of.Given as goal
 
 abbrev pub invariant-loop-cell : goal.invariant-loop-cell
 invariant-loop-cell l =
-    IsSumBefore (low_in l.quotes (pos 0)) l.cells l.cell-index l.low × IsSumBefore (high_in l.quotes (pos 0)) l.cells l.cell-index l.high
+    IsSumBefore (2 ^ 36) (low_now l.quotes) l.cells l.cell-index l.low × IsSumBefore (2 ^ 36) (high_now l.quotes) l.cells l.cell-index l.high

@@ -1,5 +1,5 @@
 use Rattle.std.proofs.Common.{◌∙◌}
-use Rattle.excess_bounds.proofs.Kept.{are_there, low_now, high_now}
+use Rattle.excess_bounds.proofs.Kept.{are_there, low_is_now, high_is_now}
 use Rattle.excess_bounds.proofs.workspace.Workspace.excess.Goals as goal
 
 pub excess_of-requires-clause-there : goal.excess_of-requires-clause-there
@@ -13,11 +13,11 @@ returns-clause-low c =
     let there = rw (← c.self.view_is) at c.requires in
     let cells = rw (← c.self.view_is) at c.cells.ensures.value in
     let sum = rw (c.deref.ensures.value, cells) at c.excess_of.ensures.low in
-    rw (← c.self.view_is) (sum ∙ low_now _ _ _ _ c.self.invariant.0 c.args.asset there)
+    rw (← c.self.view_is) (sum ∙ low_is_now _ _ _ _ c.self.invariant.0 c.args.asset there)
 
 pub returns-clause-high : goal.returns-clause-high
 returns-clause-high c =
     let there = rw (← c.self.view_is) at c.requires in
     let cells = rw (← c.self.view_is) at c.cells.ensures.value in
     let sum = rw (c.deref.ensures.value, cells) at c.excess_of.ensures.high in
-    rw (← c.self.view_is) (sum ∙ high_now _ _ _ _ c.self.invariant.0 c.args.asset there)
+    rw (← c.self.view_is) (sum ∙ high_is_now _ _ _ _ c.self.invariant.0 c.args.asset there)

@@ -25,7 +25,7 @@ returns-clause-low c =
     let amount = rw (to_z-of_z w64 c.args.price c.ranges.price, ← c.self.view_is) at c.amount.ensures.value in
     let same = to_z-of_z w128 c.amount.result (record { sfits = c.amount.type_inv }) in
     let sum = rw (c.deref.ensures.value, cells, same) at c.excess_after.ensures.low in
-    rw (← c.self.view_is) (sum ∙ low_is _ _ _ _ c.self.invariant.0 c.args.asset there c.args.price c.amount.result c.requires.price amount)
+    rw (← c.self.view_is) (sum ∙ low_is _ _ _ _ c.self.invariant.0 c.args.asset there c.args.price c.amount.result c.requires.price amount c.args.parts)
 
 pub returns-clause-high : goal.returns-clause-high
 returns-clause-high c =
@@ -34,4 +34,4 @@ returns-clause-high c =
     let amount = rw (to_z-of_z w64 c.args.price c.ranges.price, ← c.self.view_is) at c.amount.ensures.value in
     let same = to_z-of_z w128 c.amount.result (record { sfits = c.amount.type_inv }) in
     let sum = rw (c.deref.ensures.value, cells, same) at c.excess_after.ensures.high in
-    rw (← c.self.view_is) (sum ∙ high_is _ _ _ _ c.self.invariant.0 c.args.asset there c.args.price c.amount.result c.requires.price amount)
+    rw (← c.self.view_is) (sum ∙ high_is _ _ _ _ c.self.invariant.0 c.args.asset there c.args.price c.amount.result c.requires.price amount c.args.parts)

@@ -1,14 +1,13 @@
-use Rattle.std.proofs.Common.{◌≡◌, length, w64, ap, ◌∙◌, arith, pos}
+use Rattle.std.proofs.Common.{◌≡◌, length, w64, ◌∙◌, arith}
 use Rattle.std.proofs.lemmas.Int.{to_z-of_z}
-use Rattle.excess_bounds.specs.Private.{steepness_in}
-use Rattle.excess_bounds.proofs.ColumnSums.{column_length, steepness_is}
+use Rattle.excess_bounds.proofs.ColumnSums.{column_length}
 use Rattle.excess_bounds.proofs.Kept.{columns_count, column_at, is_column, are_there}
 use Rattle.excess_bounds.proofs.StepFacts.{same_bracket}
 use Rattle.excess_bounds.proofs.Moves.{can_fall, asked_fallen}
 use Rattle.excess_bounds.proofs.workspace.Workspace.narrow_fall.Goals as goal
 
-pub index-column-requires : goal.index-column-requires
-index-column-requires c =
+pub index-requires : goal.index-requires
+index-requires c =
     let count : length c.self.inside.columns.items ≡ length c.self.inside.prices.items = columns_count _ _ _ _ c.self.invariant.0 in
     let there = rw (← c.self.view_is) at c.requires.asset in
     omega (arith, count, there, c.from.ensures)
@@ -18,8 +17,10 @@ narrow-requires c =
     let kept = c.self.invariant.0 in
     let there = rw (← c.self.view_is) at c.requires.asset in
     let room = rw (← c.self.view_is) at c.requires.room in
-    let cells = c.cells.ensures.value ∙ rw c.from.ensures at c.index-column.ensures ∙ column_at _ _ _ _ c.args.asset c.index-column.result.now kept there in
+    let cells = c.cells.ensures.value ∙ rw c.from.ensures at c.index.ensures ∙ column_at _ _ _ _ c.args.asset c.index.result.now kept there in
     record {
+      some_parts = c.requires.some_parts;
+      few_parts = c.requires.few_parts;
       column = rw cells (is_column _ _ _ _ kept c.args.asset there);
       there = rw (c.deref.ensures.value, cells) (are_there _ _ _ _ kept c.args.asset there);
       moves = rw (c.deref.ensures.value, cells) (can_fall _ _ _ _ kept c.args.asset there c.args.reach room);
@@ -33,8 +34,7 @@ returns-clause-bracket c =
     let kept = c.self.invariant.0 in
     let there = rw (← c.self.view_is) at c.requires.asset in
     let room = rw (← c.self.view_is) at c.requires.room in
-    let column = rw c.from.ensures at c.index-column.ensures ∙ column_at _ _ _ _ c.args.asset c.index-column.result.now kept there in
-    let same = to_z-of_z w64 c.steepness.result (record { sfits = c.steepness.type_inv }) in
-    let steep = same ∙ c.steepness.ensures.value ∙ ap (λ cells. pos (steepness_in cells)) column ∙ ap pos (steepness_is c.args.asset _) in
+    let column = rw c.from.ensures at c.index.ensures ∙ column_at _ _ _ _ c.args.asset c.index.result.now kept there in
+    let steep = to_z-of_z w64 c.steepness_in-bound.result (record { sfits = c.steepness_in-bound.type_inv }) ∙ rw (← c.self.view_is) at c.steepness_in-bound.ensures.value in
     let found = rw (c.deref.ensures.value, c.cells.ensures.value ∙ column, steep) at c.narrow.ensures.bracket in
-    rw (← c.self.view_is) (same_bracket _ _ _ _ _ _ (asked_fallen _ _ _ _ kept c.args.asset there c.args.reach room) found)
+    rw (← c.self.view_is) (same_bracket _ _ _ _ _ _ (asked_fallen _ _ _ _ kept c.args.asset there c.args.reach room c.args.parts) found)
