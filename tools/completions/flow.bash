@@ -14,7 +14,7 @@ _flow() {
         ;;
     esac
     [ "$COMP_CWORD" -ne 1 ] || words="run audit explain report statement checkpoint resume encode sample keep"
-    [ "$COMP_CWORD" -ne 2 ] || [ "$before" != encode ] || words=2
+    [ "$COMP_CWORD" -ne 2 ] || [ "$before" != encode ] || words="2 3"
     mapfile -t COMPREPLY < <(compgen -W "$words" -- "$word")
 }
 complete -F _flow flow ./flow

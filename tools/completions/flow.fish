@@ -15,3 +15,4 @@ complete -c flow -n 'test (count (commandline -opc)) -eq 1' -a sample -d 'a numb
 complete -c flow -n 'test (count (commandline -opc)) -eq 1' -a keep -d 'a command file: keep its journal in a file'
 complete -c flow -n 'test (count (commandline -opc)) -eq 2; and test (commandline -opc)[2] = keep' -F
 complete -c flow -n 'test (count (commandline -opc)) -eq 2; and test (commandline -opc)[2] = encode' -a 2 -d 'of version 2'
+complete -c flow -n 'test (count (commandline -opc)) -eq 2; and test (commandline -opc)[2] = encode' -a 3 -d 'of version 3'

@@ -3,17 +3,12 @@ use Rattle.std.proofs.Common.{◌≡◌, ◌+◌, ◌<◌, ◌^◌, ℕ, List, l
 use Rattle.std.proofs.lemmas.List.{drop_at}
 use Rattle.wire_records.specs.Grammars.{BeginsWith}
 use Rattle.wire_records.specs.declared.version.Version.{Version}
-use Rattle.wire_records.specs.declared.version.Version.TheVariants.{One, Two}
 use Rattle.wire_records.specs.Formats.{command_magic_of, commands}
+use Rattle.wire_records.proofs.RecordCode.{eight}
 use Rattle.journal_records.specs.Formats.{journal_magic_of}
 use Rattle.market_rules.specs.Market.{Market, empty_market}
 use Rattle.word_driver.specs.Private.{OpensAt}
 use Rattle.exchange_session.specs.Running.{run}
-
--- each magic has eight bytes
-pub eight : (version : Version) → length (command_magic_of version) ≡ 8
-eight One = refl
-eight Two = refl
 
 -- it is at the empty market of the version, and has written the magic of a journal of the version
 pub opens_at : (version : Version) (bytes body : List ℕ) (market : Market) (text : List ℕ) → BeginsWith commands.magics bytes version body → market ≡ empty_market version → text ≡ journal_magic_of version

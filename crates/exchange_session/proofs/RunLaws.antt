@@ -8,7 +8,7 @@ use Rattle.wire_records.specs.Versions.{IsReadAs}
 use Rattle.wire_records.specs.declared.command.BodyFault.{BodyFault}
 use Rattle.wire_records.specs.declared.command.BodyFault.TheVariants.{UnknownTag, BadBody}
 use Rattle.wire_records.specs.declared.version.Version.{Version}
-use Rattle.wire_records.specs.declared.version.Version.TheVariants.{One, Two}
+use Rattle.wire_records.specs.declared.version.Version.TheVariants.{One, Two, Three}
 use Rattle.wire_records.specs.Formats.{StatesOver, commands}
 use Rattle.wire_records.proofs.Fronts.{states_none-from_few, no_front-from_overlong}
 use Rattle.wire_records.proofs.Readings.{reading_unique}
@@ -32,7 +32,7 @@ use Rattle.word_driver.proofs.Denying.{not_denied, follows}
 use Rattle.exchange_session.specs.Serving.{AnswersOne}
 use Rattle.exchange_session.specs.Journals.{Journals}
 use Rattle.exchange_session.specs.Running.{run}
-use Rattle.exchange_session.proofs.Opening.{eight}
+use Rattle.wire_records.proofs.RecordCode.{eight}
 use Rattle.exchange_session.proofs.AnswersFit.{pair_fits, pairs_fit}
 
 -- no bytes state a length
@@ -132,13 +132,16 @@ CanBeRead asked = (version : Version) → (read : Result Command BodyFault) × I
 read_in : (version : Version) (asked : Record) → IsNotDenied ((read : Result Command BodyFault) × IsReadAs version asked read)
 read_in version asked none = none (Err UnknownTag, λ tag. none (Err BadBody, (tag, λ command spells. none (Ok command, (tag, spells)))))
 
--- what holds of both versions holds of each
-of_both : (P : Version → Type 0) → P One → P Two → (version : Version) → P version
-of_both P one two One = one
-of_both P one two Two = two
+-- what holds of all versions holds of each
+of_all : (P : Version → Type 0) → P One → P Two → P Three → (version : Version) → P version
+of_all P one two three One = one
+of_all P one two three Two = two
+of_all P one two three Three = three
 
 pub can_be_read : (asked : Record) → IsNotDenied (CanBeRead asked)
-can_be_read asked none = read_in One asked (λ one. read_in Two asked (λ two. none (of_both (λ version. (read : Result Command BodyFault) × IsReadAs version asked read) one two)))
+can_be_read asked none =
+    read_in One asked (λ one. read_in Two asked (λ two. read_in Three asked (λ three.
+    none (of_all (λ version. (read : Result Command BodyFault) × IsReadAs version asked read) one two three))))
 
 -- so each that is short enough has a step, from any sound market
 pub has_step : (s : Market) (asked : Record) → IsSound s → IsRecord 1024 asked → CanBeRead asked → (t : Market) × (text : List ℕ) × AnswersOne s asked t text

@@ -1,16 +1,15 @@
 //! `run` as a word: records in, pairs out.
 ghost use Rattle.std.specs.Prelude.{◌≡◌, ◌+◌, ◌^◌, ◌<◌};
 ghost use Rattle.wire_records.specs.declared.version.Version.TheVariants.{One};
-ghost use Rattle.journal_records.specs.Formats.{journal_magic_of};
 ghost use Rattle.market_rules.specs.Market.{empty_market};
 ghost use Rattle.exchange_session.specs.Running.{run};
 
 use crate::Session;
 use file_units::Front;
-use journal_records::{JOURNAL_MAGIC, JOURNAL_MAGIC_2};
+use journal_records::journal_magic;
 use market_core::Market;
 use std::alloc::Global;
-use wire_records::{Framed, MOST_BODY, Version, command_version, next_record};
+use wire_records::{Framed, MOST_BODY, command_version, next_record};
 use word_driver::{Halt, Never, ServesWord};
 
 // As many bytes has the longest record: 5, and 1,024 of its body.
@@ -18,16 +17,6 @@ const MOST_RECORD: usize = 1029;
 
 // As many bytes has the longest pair with a plain reply: 5 and 1,024 of the record, and 13 of the reply's.
 const MOST_PLAIN_PAIR: usize = 1042;
-
-// The magic of a journal of a version.
-fn magic_of(version: Version) -> [u8; 8]
-    ensures { result ≡ journal_magic_of version }
-{
-    match version {
-        Version::One => JOURNAL_MAGIC,
-        Version::Two => JOURNAL_MAGIC_2,
-    }
-}
 
 /// A run: it serves the records of a command file, one after the other, over a session of its own, whose market is of the
 /// file's version. Only the pair of a batch makes the buffer grow.
@@ -82,7 +71,7 @@ impl ServesWord for Run {
             None => false,
             Some(version) => {
                 self.session = Session::over(Market::new_in(self.alloc, version));
-                text.extend_from_slice(&magic_of(version)).unwrap();
+                text.extend_from_slice(&journal_magic(version)).unwrap();
                 true
             }
         }

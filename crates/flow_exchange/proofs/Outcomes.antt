@@ -22,7 +22,7 @@ use Rattle.batch_report.proofs.OneReport.{one_report}
 use Rattle.market_rules.proofs.OneJournal.{one_own_journal}
 use Rattle.exchange_session.specs.Journals.{Journals}
 use Rattle.journal_words.proofs.JournalLaws.{one_line}
-use Rattle.wire_records.specs.declared.version.Version.TheVariants.{One, Two}
+use Rattle.wire_records.specs.declared.version.Version.TheVariants.{One, Two, Three}
 use Rattle.flow_exchange.specs.declared.form.Form.{Form}
 use Rattle.flow_exchange.specs.declared.form.Form.TheVariants.{Run, Audit, Explain, Report, Encode, Sample, Statement, Checkpoint, Resume}
 use Rattle.flow_exchange.specs.declared.status.Status.{Status}
@@ -90,8 +90,12 @@ one_statement words n m a b =
 two_firsts : (words : List (List ℕ)) (x y v w : List ℕ) → mark x ≢ mark y → words ≡ x ∷ v ∷ [] → words ≡ y ∷ w ∷ [] → ⊥
 two_firsts words x y v w other a b = other (ap (λ (ws : List (List ℕ)). mark (get_or ws 0 [])) (sym a ∙ b))
 
-not_encode : (words : List (List ℕ)) (n : ℕ) → AskStatement words n → words ≡ codes "encode" ∷ codes "2" ∷ [] → ⊥
-not_encode words n a b = two_firsts words (codes "statement") (codes "encode") (decimal n) (codes "2") (λ e. omega (arith, e)) a.are b
+not_encode : {second : List ℕ} → (words : List (List ℕ)) (n : ℕ) → AskStatement words n → words ≡ codes "encode" ∷ second ∷ [] → ⊥
+not_encode {second} words n a b = two_firsts words (codes "statement") (codes "encode") (decimal n) second (λ e. omega (arith, e)) a.are b
+
+-- words with other second ones
+two_seconds : (words : List (List ℕ)) (x y v w : List ℕ) → mark v ≢ mark w → words ≡ x ∷ v ∷ [] → words ≡ y ∷ w ∷ [] → ⊥
+two_seconds words x y v w other a b = other (ap (λ (ws : List (List ℕ)). mark (get_or ws 1 [])) (sym a ∙ b))
 
 pub one_form : OneForm
 one_form words (Statement n) (Statement m) a b = one_statement words n m a b
@@ -101,6 +105,7 @@ one_form words (Statement n) Explain a b = absurd (one_or_two words b a.are)
 one_form words (Statement n) Report a b = absurd (one_or_two words b a.are)
 one_form words (Statement n) (Encode One) a b = absurd (one_or_two words b a.are)
 one_form words (Statement n) (Encode Two) a b = absurd (not_encode words n a b)
+one_form words (Statement n) (Encode Three) a b = absurd (not_encode words n a b)
 one_form words (Statement n) (Sample k p) a b = absurd (three_or_two words b.are a.are)
 one_form words (Statement n) Checkpoint a b = absurd (one_or_two words b a.are)
 one_form words (Statement n) Resume a b = absurd (one_or_two words b a.are)
@@ -112,6 +117,7 @@ one_form words Explain (Statement n) a b = absurd (one_or_two words a b.are)
 one_form words Report (Statement n) a b = absurd (one_or_two words a b.are)
 one_form words (Encode One) (Statement n) a b = absurd (one_or_two words a b.are)
 one_form words (Encode Two) (Statement n) a b = absurd (not_encode words n b a)
+one_form words (Encode Three) (Statement n) a b = absurd (not_encode words n b a)
 one_form words (Sample k p) (Statement n) a b = absurd (three_or_two words a.are b.are)
 one_form words (Sample n p) (Sample m q) a b = one_sample words n m p q a b
 one_form words (Sample n p) Run a b = absurd (three_or_one words a.are b)
@@ -120,48 +126,63 @@ one_form words (Sample n p) Explain a b = absurd (three_or_one words a.are b)
 one_form words (Sample n p) Report a b = absurd (three_or_one words a.are b)
 one_form words (Sample n p) (Encode One) a b = absurd (three_or_one words a.are b)
 one_form words (Sample n p) (Encode Two) a b = absurd (three_or_two words a.are b)
+one_form words (Sample n p) (Encode Three) a b = absurd (three_or_two words a.are b)
 one_form words Run (Sample n p) a b = absurd (three_or_one words b.are a)
 one_form words Audit (Sample n p) a b = absurd (three_or_one words b.are a)
 one_form words Explain (Sample n p) a b = absurd (three_or_one words b.are a)
 one_form words Report (Sample n p) a b = absurd (three_or_one words b.are a)
 one_form words (Encode One) (Sample n p) a b = absurd (three_or_one words b.are a)
 one_form words (Encode Two) (Sample n p) a b = absurd (three_or_two words b.are a)
+one_form words (Encode Three) (Sample n p) a b = absurd (three_or_two words b.are a)
 one_form words Run Run a b = refl
 one_form words Audit Audit a b = refl
 one_form words Explain Explain a b = refl
 one_form words Report Report a b = refl
 one_form words (Encode One) (Encode One) a b = refl
 one_form words (Encode Two) (Encode Two) a b = refl
+one_form words (Encode Three) (Encode Three) a b = refl
+one_form words (Encode Two) (Encode Three) a b = absurd (two_seconds words (codes "encode") (codes "encode") (codes "2") (codes "3") (λ e. omega (arith, e)) a b)
+one_form words (Encode Three) (Encode Two) a b = absurd (two_seconds words (codes "encode") (codes "encode") (codes "3") (codes "2") (λ e. omega (arith, e)) a b)
 one_form words (Encode One) (Encode Two) a b = absurd (one_or_two words a b)
+one_form words (Encode One) (Encode Three) a b = absurd (one_or_two words a b)
 one_form words (Encode Two) (Encode One) a b = absurd (one_or_two words b a)
+one_form words (Encode Three) (Encode One) a b = absurd (one_or_two words b a)
 one_form words Run Audit a b = absurd (two_words words (codes "run") (codes "audit") (λ e. omega (arith, e)) a b)
 one_form words Run Report a b = absurd (two_words words (codes "run") (codes "report") (λ e. omega (arith, e)) a b)
 one_form words Run (Encode One) a b = absurd (two_words words (codes "run") (codes "encode") (λ e. omega (arith, e)) a b)
 one_form words Run (Encode Two) a b = absurd (one_or_two words a b)
+one_form words Run (Encode Three) a b = absurd (one_or_two words a b)
 one_form words Audit Run a b = absurd (two_words words (codes "audit") (codes "run") (λ e. omega (arith, e)) a b)
 one_form words Audit Report a b = absurd (two_words words (codes "audit") (codes "report") (λ e. omega (arith, e)) a b)
 one_form words Audit (Encode One) a b = absurd (two_words words (codes "audit") (codes "encode") (λ e. omega (arith, e)) a b)
 one_form words Audit (Encode Two) a b = absurd (one_or_two words a b)
+one_form words Audit (Encode Three) a b = absurd (one_or_two words a b)
 one_form words Report Run a b = absurd (two_words words (codes "report") (codes "run") (λ e. omega (arith, e)) a b)
 one_form words Report Audit a b = absurd (two_words words (codes "report") (codes "audit") (λ e. omega (arith, e)) a b)
 one_form words Report (Encode One) a b = absurd (two_words words (codes "report") (codes "encode") (λ e. omega (arith, e)) a b)
 one_form words Report (Encode Two) a b = absurd (one_or_two words a b)
+one_form words Report (Encode Three) a b = absurd (one_or_two words a b)
 one_form words (Encode One) Run a b = absurd (two_words words (codes "encode") (codes "run") (λ e. omega (arith, e)) a b)
 one_form words (Encode Two) Run a b = absurd (one_or_two words b a)
+one_form words (Encode Three) Run a b = absurd (one_or_two words b a)
 one_form words (Encode One) Audit a b = absurd (two_words words (codes "encode") (codes "audit") (λ e. omega (arith, e)) a b)
 one_form words (Encode Two) Audit a b = absurd (one_or_two words b a)
+one_form words (Encode Three) Audit a b = absurd (one_or_two words b a)
 one_form words (Encode One) Report a b = absurd (two_words words (codes "encode") (codes "report") (λ e. omega (arith, e)) a b)
 one_form words (Encode Two) Report a b = absurd (one_or_two words b a)
+one_form words (Encode Three) Report a b = absurd (one_or_two words b a)
 one_form words Explain Run a b = absurd (two_words words (codes "explain") (codes "run") (λ e. omega (arith, e)) a b)
 one_form words Explain Audit a b = absurd (two_words words (codes "explain") (codes "audit") (λ e. omega (arith, e)) a b)
 one_form words Explain Report a b = absurd (two_words words (codes "explain") (codes "report") (λ e. omega (arith, e)) a b)
 one_form words Explain (Encode One) a b = absurd (two_words words (codes "explain") (codes "encode") (λ e. omega (arith, e)) a b)
 one_form words Explain (Encode Two) a b = absurd (one_or_two words a b)
+one_form words Explain (Encode Three) a b = absurd (one_or_two words a b)
 one_form words Run Explain a b = absurd (two_words words (codes "run") (codes "explain") (λ e. omega (arith, e)) a b)
 one_form words Audit Explain a b = absurd (two_words words (codes "audit") (codes "explain") (λ e. omega (arith, e)) a b)
 one_form words Report Explain a b = absurd (two_words words (codes "report") (codes "explain") (λ e. omega (arith, e)) a b)
 one_form words (Encode One) Explain a b = absurd (two_words words (codes "encode") (codes "explain") (λ e. omega (arith, e)) a b)
 one_form words (Encode Two) Explain a b = absurd (one_or_two words b a)
+one_form words (Encode Three) Explain a b = absurd (one_or_two words b a)
 one_form words Checkpoint Checkpoint a b = refl
 one_form words (Sample n p) Checkpoint a b = absurd (three_or_one words a.are b)
 one_form words Checkpoint (Sample n p) a b = absurd (three_or_one words b.are a)
@@ -194,6 +215,10 @@ one_form words Resume (Encode One) a b = absurd (two_words words (codes "resume"
 one_form words (Encode One) Resume a b = absurd (two_words words (codes "encode") (codes "resume") (λ e. omega (arith, e)) a b)
 one_form words Resume Checkpoint a b = absurd (two_words words (codes "resume") (codes "checkpoint") (λ e. omega (arith, e)) a b)
 one_form words Checkpoint Resume a b = absurd (two_words words (codes "checkpoint") (codes "resume") (λ e. omega (arith, e)) a b)
+one_form words Checkpoint (Encode Three) a b = absurd (one_or_two words a b)
+one_form words (Encode Three) Checkpoint a b = absurd (one_or_two words b a)
+one_form words Resume (Encode Three) a b = absurd (one_or_two words a b)
+one_form words (Encode Three) Resume a b = absurd (one_or_two words b a)
 
 -- records have one journal, and so one text
 journals_one : (version : Version) (records : List Record) (m n : Market) (x y : List ℕ) → Journals version records m x → Journals version records n y → x ≡ y

@@ -17,7 +17,7 @@ pub enum Form {
     Explain,
     /// `report`: a journal in, and its text out.
     Report,
-    /// `encode`, or `encode 2`: lines of JSON in, and the command file of their commands out, of this version.
+    /// `encode`, `encode 2` or `encode 3`: lines of JSON in, and the command file of their commands out, of this version.
     Encode(Version),
     /// `sample NUMBER ORDERS`: a line out on a sample of so many orders, 1 to 16,384, that are drawn from this number on.
     Sample { number: u64, orders: u32 },
@@ -71,6 +71,9 @@ pub(crate) fn form_of(words: &[String]) -> Option<Form>
     }
     if are_two(words, "encode", "2") {
         return Some(Form::Encode(Version::Two));
+    }
+    if are_two(words, "encode", "3") {
+        return Some(Form::Encode(Version::Three));
     }
     if is_word(words, "checkpoint") {
         return Some(Form::Checkpoint);

@@ -23,7 +23,7 @@ use Rattle.market_rules.proofs.Promised.{legal_journal_keeps_promises, own_journ
 use Rattle.batch_audit.specs.Legal.{IsLegalJournal}
 use Rattle.journal_replay.specs.declared.replaying.ReplayFault.{ReplayFault}
 use Rattle.journal_replay.specs.Replays.{IsReplayed}
-use Rattle.journal_replay.proofs.Replayed.{eight}
+use Rattle.journal_records.proofs.Files.{eight}
 use Rattle.journal_replay.proofs.LawProofs.{markets_are, one_replay}
 use Rattle.word_driver.specs.Word.{Goes}
 use Rattle.exchange_session.specs.Journals.{Journals}

@@ -16,7 +16,7 @@ use Rattle.market_rules.specs.Market.{Market, empty_market}
 use Rattle.market_rules.specs.Journal.{Follows}
 use Rattle.market_rules.proofs.LawProofs.{own_journals_are_legal, steps_number_one}
 use Rattle.batch_audit.specs.Legal.{IsLegalJournal}
-use Rattle.journal_replay.proofs.Replayed.{eight}
+use Rattle.journal_records.proofs.Files.{eight}
 use Rattle.exchange_session.specs.Journals.{Journals}
 use Rattle.flow_exchange.specs.declared.form.Form.TheVariants.{Audit}
 use Rattle.flow_exchange.specs.declared.status.Status.{Status}

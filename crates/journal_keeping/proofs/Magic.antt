@@ -10,7 +10,7 @@ use Rattle.wire_records.specs.Grammars.{BeginsWith}
 use Rattle.wire_records.specs.Reading as reading
 use Rattle.wire_records.specs.Formats.{commands}
 use Rattle.wire_records.specs.declared.version.Version.{Version}
-use Rattle.wire_records.specs.declared.version.Version.TheVariants.{One, Two}
+use Rattle.wire_records.specs.declared.version.Version.TheVariants.{One, Two, Three}
 use Rattle.file_units.proofs.Gone.{considered, within_limit}
 use Rattle.journal_keeping.specs.Keeping.{kept_version}
 use Rattle.journal_keeping.specs.Openings.{ReadsKept}
@@ -18,6 +18,9 @@ use Rattle.journal_keeping.specs.Beginning.{IsBehindMagic}
 
 pub one_is_other : (v : Version) → v ≡ One → ◌≡◌ {A = Option Version} (Some v) (Some Two) → ⊥
 one_is_other v one two = absurd cc
+
+pub three_is_other : (v : Version) → v ≡ Three → ◌≡◌ {A = Option Version} (Some v) (Some Two) → ⊥
+three_is_other v three two = absurd cc
 
 -- fewer than eight bytes have no magic
 short_has_none : (bytes body : List ℕ) → length bytes < 8 → ¬ BeginsWith commands.magics bytes kept_version body

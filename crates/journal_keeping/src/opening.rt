@@ -90,6 +90,7 @@ fn is_kept_file(bytes: &[u8]) -> bool
     match command_version(bytes) {
         Some(Version::Two) => true,
         Some(Version::One) => false,
+        Some(Version::Three) => false,
         None => false,
     }
 }

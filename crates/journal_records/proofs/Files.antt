@@ -1,5 +1,5 @@
 -- Journals are read in one way.
-use Rattle.std.proofs.Common.{◌≡◌, ◌≤◌, ◌++◌, ℕ, suc, List, [], ◌∷◌, map, length, get_or, inl, inr, refl, sym, ap, subst, ◌∙◌, arith}
+use Rattle.std.proofs.Common.{◌≡◌, ◌≤◌, ◌+◌, ◌++◌, ℕ, suc, List, [], ◌∷◌, map, length, get_or, inl, inr, refl, sym, ap, subst, ◌∙◌, arith}
 use Rattle.std.specs.Prelude.{All}
 use Rattle.std.specs.List.{flat_map}
 use Rattle.std.proofs.lemmas.List.Elements.{All-map}
@@ -8,6 +8,8 @@ use Rattle.wire_records.specs.Commands.{Answer, Pair}
 use Rattle.wire_records.specs.Grammars.{spell_all}
 use Rattle.wire_records.specs.Reading.{Reading, File, End, Reads}
 use Rattle.wire_records.specs.declared.version.Version.{Version}
+use Rattle.wire_records.specs.declared.version.Version.TheVariants.{One, Two, Three}
+use Rattle.wire_records.specs.Versions.{number_of}
 use Rattle.wire_records.specs.Formats.{records, EitherStatesOver}
 use Rattle.wire_records.proofs.Fronts.{states_none-from_few}
 use Rattle.wire_records.proofs.CodeLaws.{both_code}
@@ -20,9 +22,20 @@ use Rattle.journal_records.specs.Formats.{journal_magic_of, journals, journal_in
 use Rattle.journal_records.specs.Laws.{JournalIsFile, JournalIsRead, OneJournal}
 use Rattle.journal_records.proofs.Spelled.{answer_unique}
 
+-- each magic of a journal has eight bytes
+pub eight : (version : Version) → length (journal_magic_of version) ≡ 8
+eight One = refl
+eight Two = refl
+eight Three = refl
+
 -- the magics of journals
 pub journal_magics : AreMagics journal_magic_of
-journal_magics = record { some = omega arith; alike = refl; other = λ e. let last : 49 ≡ 50 = ap (λ (l : List ℕ). get_or l 7 0) e in omega (arith, last) }
+journal_magics = record { eight = eight; last = last_byte }
+  where
+    last_byte : (version : Version) → get_or (journal_magic_of version) 7 0 ≡ 48 + number_of version
+    last_byte One = refl
+    last_byte Two = refl
+    last_byte Three = refl
 
 -- journals can be read
 pub journals_readable : IsReadable journals

@@ -6,16 +6,17 @@ use Rattle.wire_records.specs.Commands.{Pair}
 use Rattle.wire_records.specs.Grammars.{both}
 use Rattle.wire_records.specs.Reading.{Format}
 use Rattle.wire_records.specs.declared.version.Version.{Version}
-use Rattle.wire_records.specs.declared.version.Version.TheVariants.{One, Two}
+use Rattle.wire_records.specs.declared.version.Version.TheVariants.{One, Two, Three}
 use Rattle.wire_records.specs.Formats.{magics, records, EitherStatesOver}
 use Rattle.flow_orders.specs.Outcomes.{Outcome}
 use Rattle.journal_records.specs.Replies.{answer_record, most_reply_body}
-use Rattle.journal_records.specs.Pairs.{pair_spelling, journal_magic, journal_magic_2}
+use Rattle.journal_records.specs.Pairs.{pair_spelling, journal_magic, journal_magic_2, journal_magic_3}
 
 -- the magic of a journal of each version
 abbrev pub journal_magic_of : Version → List ℕ
 journal_magic_of One = journal_magic
 journal_magic_of Two = journal_magic_2
+journal_magic_of Three = journal_magic_3
 
 -- the bytes of a journal of these pairs, in a version
 abbrev pub journal_in : Version → List (Pair Record Outcome) → List ℕ

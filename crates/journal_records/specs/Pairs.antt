@@ -20,9 +20,13 @@ pair_spelling pair = spelling pair.asked ++ spelling (answer_record pair.answer)
 abbrev pub journal_magic : List ℕ
 journal_magic = codes "FLOWJNL1"
 
--- and of one of version Two
+-- of one of version Two
 abbrev pub journal_magic_2 : List ℕ
 journal_magic_2 = codes "FLOWJNL2"
+
+-- and of one of version Three
+abbrev pub journal_magic_3 : List ℕ
+journal_magic_3 = codes "FLOWJNL3"
 
 -- the bytes of a journal of these pairs, in version One
 abbrev pub journal : List (Pair Record Outcome) → List ℕ

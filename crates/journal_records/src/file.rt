@@ -3,7 +3,7 @@ ghost use Rattle.std.specs.Prelude.{◌≡◌, ℕ, List, ◌↔◌, Some, IfNon
 ghost use Rattle.wire_records.specs.Grammars.{BeginsWith, BeginsWithNone};
 ghost use Rattle.wire_records.specs.declared.version.Version.{Version};
 ghost use Rattle.wire_records.specs.declared.version.Version.TheVariants.{One};
-ghost use Rattle.journal_records.specs.Formats.{journals};
+ghost use Rattle.journal_records.specs.Formats.{journals, journal_magic_of};
 
 use wire_records::Version;
 
@@ -13,8 +13,22 @@ pub const JOURNAL_MAGIC: [u8; 8] = *b"FLOWJNL1";
 /// The first 8 bytes of a journal of version Two.
 pub const JOURNAL_MAGIC_2: [u8; 8] = *b"FLOWJNL2";
 
+/// The first 8 bytes of a journal of version Three.
+pub const JOURNAL_MAGIC_3: [u8; 8] = *b"FLOWJNL3";
+
 /// The longest body of a reply's record in a journal, in bytes.
 pub const MOST_REPLY_BODY: u32 = 262_144;
+
+/// The first 8 bytes of a journal of a version.
+pub fn journal_magic(version: Version) -> [u8; 8]
+    ensures { result ≡ journal_magic_of version }
+{
+    match version {
+        Version::One => JOURNAL_MAGIC,
+        Version::Two => JOURNAL_MAGIC_2,
+        Version::Three => JOURNAL_MAGIC_3,
+    }
+}
 
 /// Whether the bytes begin as a journal of version One, so that pairs stand behind the first 8. Constant cost.
 pub fn is_journal(bytes: &[u8]) -> bool
@@ -34,6 +48,8 @@ pub fn journal_version(bytes: &[u8]) -> Option<Version>
         Some(Version::One)
     } else if bytes.starts_with(&JOURNAL_MAGIC_2) {
         Some(Version::Two)
+    } else if bytes.starts_with(&JOURNAL_MAGIC_3) {
+        Some(Version::Three)
     } else {
         None
     }

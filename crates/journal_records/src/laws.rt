@@ -2,10 +2,10 @@
 //! does nothing.
 ghost use Rattle.std.specs.Prelude.{◌≡◌};
 ghost use Rattle.journal_records.specs.Replies.{most_reply_body};
-ghost use Rattle.journal_records.specs.Pairs.{journal_magic, journal_magic_2};
+ghost use Rattle.journal_records.specs.Pairs.{journal_magic, journal_magic_2, journal_magic_3};
 ghost use Rattle.journal_records.specs.Laws.{OneAnswer, OnePair, PairFits, ClearedPairFits, SkippedPairFits, PlainRepliesFit, BatchRepliesFit, RightOutcomesFit, OneJournalFile, JournalIsFile, JournalIsRead, OneJournal};
 
-use crate::{JOURNAL_MAGIC, JOURNAL_MAGIC_2, MOST_REPLY_BODY};
+use crate::{JOURNAL_MAGIC, JOURNAL_MAGIC_2, JOURNAL_MAGIC_3, MOST_REPLY_BODY};
 
 /// A record spells at most one answer.
 pub fn one_answer()
@@ -73,5 +73,6 @@ pub fn journal_is_read()
 pub fn constant_is_named()
     ensures magic { JOURNAL_MAGIC ≡ journal_magic }
     ensures magic_2 { JOURNAL_MAGIC_2 ≡ journal_magic_2 }
+    ensures magic_3 { JOURNAL_MAGIC_3 ≡ journal_magic_3 }
     ensures most_reply_body { MOST_REPLY_BODY ≡ most_reply_body }
 {}

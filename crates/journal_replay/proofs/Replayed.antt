@@ -6,17 +6,12 @@ use Rattle.wire_records.specs.Commands.{Pair}
 use Rattle.wire_records.specs.Grammars.{BeginsWith}
 use Rattle.wire_records.specs.Reading.{Ending}
 use Rattle.wire_records.specs.declared.version.Version.{Version}
-use Rattle.wire_records.specs.declared.version.Version.TheVariants.{One, Two}
 use Rattle.file_units.proofs.Endings.{reads_alike}
 use Rattle.flow_orders.specs.Outcomes.{Outcome}
 use Rattle.journal_records.specs.Formats.{journal_magic_of, journals}
+use Rattle.journal_records.proofs.Files.{eight}
 use Rattle.market_rules.specs.Market.{Market}
 use Rattle.journal_replay.specs.Audits.{AuditsOn, Audits}
-
--- each magic has eight bytes
-pub eight : (version : Version) → length (journal_magic_of version) ≡ 8
-eight One = refl
-eight Two = refl
 
 -- bytes that begin as a journal of a version begin with its magic
 pub begins_with_magic : (version : Version) (bytes : List ℕ) → (body : List ℕ) × BeginsWith journals.magics bytes version body → take 8 bytes ≡ journal_magic_of version

@@ -7,11 +7,11 @@ use Rattle.wire_records.specs.Records.{Record}
 use Rattle.wire_records.specs.Commands.{Answer, Pair}
 use Rattle.wire_records.specs.Versions.{IsReadAs}
 use Rattle.wire_records.specs.declared.version.Version.{Version}
-use Rattle.wire_records.specs.declared.version.Version.TheVariants.{One, Two}
 use Rattle.word_driver.specs.Private.{IsOpened}
 use Rattle.flow_orders.specs.Outcomes.{Outcome, IsRightOutcome}
 use Rattle.journal_records.specs.Pairs.{IsPair}
 use Rattle.journal_records.specs.Formats.{journal_magic_of, journals, records_of}
+use Rattle.journal_records.proofs.Files.{eight}
 use Rattle.journal_records.proofs.Files.{journals_readable, short_at_end}
 use Rattle.journal_records.proofs.Spelled.{answer_unique}
 use Rattle.market_rules.specs.Market.{Market, empty_market, IsSound}
@@ -44,11 +44,6 @@ pub record IsExactWatch {S B : Type 0} (watch : Watch S B) : Type 0 where
   pub one_close : (m : Market) (n : ℕ) (s : S) (x y : List ℕ) → watch.Closes m n s x → watch.Closes m n s y → x ≡ y
   pub one_stop : (m : Market) (n : ℕ) (s : S) (b c : B) (x y : List ℕ) → watch.Stops m n s b x → watch.Stops m n s c y → (b ≡ c) × (x ≡ y)
   pub closes_or_stops : (m : Market) (n : ℕ) (s : S) (b : B) (x y : List ℕ) → watch.Closes m n s x → watch.Stops m n s b y → ⊥
-
--- each magic has eight bytes
-eight : (version : Version) → length (journal_magic_of version) ≡ 8
-eight One = refl
-eight Two = refl
 
 module _ {S B : Type 0} (watch : Watch S B) where
   abbrev watched : Market → ℕ → S → Watched S

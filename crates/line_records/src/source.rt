@@ -2,7 +2,6 @@
 ghost use Rattle.std.specs.Prelude.{◌≡◌, Err, IsTrue};
 ghost use Rattle.flow_io.specs.Faults.{Blames};
 ghost use Rattle.flow_io.specs.Changes.{change};
-ghost use Rattle.wire_records.specs.Formats.{command_magic_of};
 ghost use Rattle.word_driver.specs.Does.{Does};
 ghost use Rattle.line_records.specs.Tasks.{encoding};
 ghost use Rattle.line_records.specs.Private.{EncodesAll};
@@ -10,18 +9,8 @@ ghost use Rattle.line_records.specs.Private.{EncodesAll};
 use crate::encode::{EncodeFault, encode_lines};
 use flow_io::{ReadAllFault, Sink, Source, WholeInput, read_all};
 use std::alloc::Global;
-use wire_records::{COMMAND_MAGIC, COMMAND_MAGIC_2, Version};
+use wire_records::{Version, command_magic};
 use word_driver::Fault;
-
-// The magic of a command file.
-fn magic_of(version: Version) -> [u8; 8]
-    ensures { result ≡ command_magic_of version }
-{
-    match version {
-        Version::One => COMMAND_MAGIC,
-        Version::Two => COMMAND_MAGIC_2,
-    }
-}
 
 // Encodes the lines of the input.
 fn encode_all<K: Sink>(
@@ -61,7 +50,7 @@ pub fn encode_source<S: Source, K: Sink>(
         Err(ReadAllFault::Read) => return Err(Fault::Read),
         Err(ReadAllFault::Memory) => return Err(Fault::Memory),
     };
-    match out.write(&magic_of(version)) {
+    match out.write(&command_magic(version)) {
         Ok(()) => encode_all(alloc, version, &input, out),
         Err(_) => Err(Fault::Write),
     }

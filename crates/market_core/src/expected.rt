@@ -2,7 +2,7 @@
 ghost use Rattle.std.specs.Prelude.{◌≡◌, ℕ, ◌+◌, ◌<◌, ◌^◌, Ok, Err, IfOk, IfErr, length};
 ghost use Rattle.wire_records.specs.Commands.{AddAsset, OpenAccount, DepositMoney, DepositAsset, WithdrawMoney, WithdrawAsset, PlaceOrder, CancelOrder, RunBatch, PlaceUntil, SetMoneyCredit, SetUnitCredit};
 ghost use Rattle.wire_records.specs.CommandRecords.{IsCommand};
-ghost use Rattle.wire_records.specs.Versions.{most_tag, IsOfVersion, IsReadAs};
+ghost use Rattle.wire_records.specs.Versions.{IsOfVersion, IsReadAs};
 ghost use Rattle.wire_records.specs.Views.{command_of};
 ghost use Rattle.wire_records.specs.declared.command.BodyFault.{BodyFault as body_fault};
 ghost use Rattle.market_rules.specs.Step.{refusal_of};
@@ -12,17 +12,7 @@ use crate::Market;
 use crate::market::{refusal_of, reply_to, ticker_refusal};
 use crate::orders::cancel_reply;
 use flow_accounts::AccountFault;
-use wire_records::{BodyFault, CommandView, PlaceView, RecordView, Refusal, Reply, Version};
-
-// The highest tag of a command of a version.
-fn most_tag(version: Version) -> u8
-    ensures { result ≡ most_tag version }
-{
-    match version {
-        Version::One => 9,
-        Version::Two => 12,
-    }
-}
+use wire_records::{BodyFault, CommandView, PlaceView, RecordView, Refusal, Reply};
 
 // The refusal of a record that can't be served.
 fn body_refusal(fault: BodyFault) -> Refusal
@@ -42,7 +32,7 @@ impl Market {
         ensures command { IfOk result (λ command. IsReadAs self.now.version asked.now (Ok (command_of command))) }
         ensures fault { IfErr result (λ refusal. (why : body_fault) × IsReadAs self.now.version asked.now (Err why) × (refusal ≡ refusal_of why)) }
     {
-        if asked.tag() > most_tag(self.version) {
+        if asked.tag() > self.version.most_tag() {
             return Err(Refusal::UnknownTag);
         }
         match asked.command() {

@@ -2,7 +2,7 @@
 use Rattle.std.specs.Prelude.{◌≡◌, ℕ, ◌<◌, ◌^◌, ℤ, List, [], map, length, slice_get, Option, option_map}
 use Rattle.weight_rows.specs.declared.entries.Entry.{Entry}
 use Rattle.wire_records.specs.declared.version.Version.{Version}
-use Rattle.wire_records.specs.declared.version.Version.TheVariants.{One, Two}
+use Rattle.wire_records.specs.Versions.{number_of}
 use Rattle.flow_accounts.specs.Balances.{Account, Balances, asset_count}
 use Rattle.flow_orders.specs.Orders.{Order, price_of_ticks}
 use Rattle.market_rules.specs.Market.{Market, IsSound}
@@ -36,11 +36,6 @@ pub record HasOneForEach (p : Parts) : Type 0 where
   pub tickers : length p.tickers ≡ asset_count p.balances
   pub exchange : length p.exchange.units ≡ asset_count p.balances
   pub prices : length p.last_prices ≡ asset_count p.balances
-
--- the number of a version
-abbrev pub number_of : Version → ℕ
-number_of One = 1
-number_of Two = 2
 
 -- the order that was read, with its limits in grains
 abbrev pub order_of : ReadOrder → Order

@@ -7,6 +7,7 @@ use Rattle.flow_orders.specs.Orders.{Order, IsOrder}
 use Rattle.flow_orders.specs.Trades.{trades, after_fill, is_live, staying}
 use Rattle.flow_orders.proofs.TradeFacts.{All-trades}
 use Rattle.market_rules.proofs.Ending.{all_go_on, goes_on}
+use Rattle.wire_records.proofs.Numbered.{first_tags}
 use Rattle.market_rules.proofs.Versions.{some_parts, step_version}
 use Rattle.market_rules.proofs.Lawful.{sound_is_lawful}
 use Rattle.market_rules.proofs.OwnNeeds.{needs-filter}
@@ -35,7 +36,7 @@ use Rattle.market_rules.proofs.Exists.{own_journal_is_there, served_is_there}
 use Rattle.wire_records.specs.Records.{AreBytes}
 use Rattle.wire_records.specs.Versions.{IsReadAs, IsOfVersion}
 use Rattle.wire_records.specs.declared.version.Version.{Version}
-use Rattle.wire_records.specs.declared.version.Version.TheVariants.{One, Two}
+use Rattle.wire_records.specs.declared.version.Version.TheVariants.{One}
 use Rattle.wire_records.proofs.Readings.{reading_unique as one_reading, reading_some as each_is_read, read_own}
 use Rattle.market_rules.proofs.OwnIsLegal.{own_journal_is_legal}
 
@@ -183,8 +184,7 @@ same_assets m (Skipped s) asset is = is
 
 -- a batch is a command of each version
 batch_of_version : (version : Version) (budget : ℕ) → IsOfVersion version (RunBatch budget)
-batch_of_version One budget = (omega arith, omega arith)
-batch_of_version Two budget = (omega arith, omega arith)
+batch_of_version version budget = (omega arith, first_tags version)
 
 pub batches_keep_totals : BatchesKeepTotals
 batches_keep_totals old c n o new sound serves =

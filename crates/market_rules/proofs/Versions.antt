@@ -4,7 +4,7 @@ use Rattle.wire_records.specs.Commands.{Command, AddAsset, OpenAccount, DepositM
 use Rattle.wire_records.specs.declared.command.BodyFault.{BodyFault}
 use Rattle.wire_records.specs.declared.reply.Refusal.{Refusal}
 use Rattle.wire_records.specs.declared.version.Version.{Version}
-use Rattle.wire_records.specs.declared.version.Version.TheVariants.{One, Two}
+use Rattle.wire_records.specs.declared.version.Version.TheVariants.{One, Two, Three}
 use Rattle.wire_records.specs.Versions.{most_tag}
 use Rattle.flow_orders.specs.Outcomes.{Outcome, BatchRule, Cleared, Skipped}
 use Rattle.market_rules.specs.Market.{Market, parts_of}
@@ -19,10 +19,12 @@ not_one version most one = let few = ap most_tag one in omega (arith, most, few)
 pub some_parts : (version : Version) → 1 ≤ parts_of version
 some_parts One = omega arith
 some_parts Two = omega arith
+some_parts Three = omega arith
 
 pub few_parts : (version : Version) → parts_of version ≤ 256
 few_parts One = omega arith
 few_parts Two = omega arith
+few_parts Three = omega arith
 
 batch_version : (m : Market) (o : Outcome) → (after_batch m o).version ≡ m.version
 batch_version m (Cleared c) = refl

@@ -4,7 +4,7 @@ use Rattle.std.specs.Int.{int_min, int_max}
 use Rattle.weight_rows.specs.Rows.{IsPrice}
 use Rattle.ticker_table.specs.Tickers.{AreTickers}
 use Rattle.wire_records.specs.declared.version.Version.{Version}
-use Rattle.wire_records.specs.declared.version.Version.TheVariants.{One, Two}
+use Rattle.wire_records.specs.declared.version.Version.TheVariants.{One, Two, Three}
 use Rattle.flow_accounts.specs.Balances.{Account, Credit, Balances, IsAccount, IsAsset, account_count, asset_count, money_of, money_with_credit, units_with_credit}
 use Rattle.flow_accounts.specs.Balances.{units_of, units_in, total_units_of, no_balances, empty_account}
 use Rattle.flow_accounts.specs.Lawful.{most_accounts, money_limit, unit_limit, IsLawfulCredit}
@@ -41,6 +41,7 @@ cut_price price = int_max (neg_ℤ (pos (2 ^ 60))) (int_min (pos (2 ^ 60)) price
 abbrev pub parts_of : Version → ℕ
 parts_of One = 1
 parts_of Two = 1
+parts_of Three = 256
 
 -- the prices at which a batch starts
 abbrev pub start_prices : Market → List ℤ

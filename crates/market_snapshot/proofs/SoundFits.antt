@@ -12,19 +12,20 @@ use Rattle.weight_rows.specs.Rows.{IsLawfulWeight}
 use Rattle.demand_curve.specs.Demand.{IsWithin}
 use Rattle.wire_records.specs.CommandRecords.{IsEntry}
 use Rattle.wire_records.specs.declared.version.Version.{Version}
-use Rattle.wire_records.specs.declared.version.Version.TheVariants.{One, Two}
+use Rattle.wire_records.specs.declared.version.Version.TheVariants.{One, Two, Three}
 use Rattle.flow_accounts.specs.Balances.{Account, Credit, asset_count}
 use Rattle.flow_accounts.specs.Lawful.{AreLawful, IsLawfulAccount, IsLawfulCredit, IsMoneyBalance, IsUnitBalance, IsMoneyTotal, IsUnitTotal}
 use Rattle.flow_orders.specs.Orders.{Order}
 use Rattle.market_rules.specs.Market.{Market, IsSound, IsLiveOrder}
 use Rattle.market_rules.proofs.Lawful.{sound_is_lawful}
-use Rattle.market_parts.specs.Parts.{number_of}
+use Rattle.wire_records.specs.Versions.{number_of}
 use Rattle.market_snapshot.specs.Checkpoints.{ticks_of, read_order, parts_of}
 use Rattle.market_snapshot.specs.Widths.{FitUnits, FitsAccount, FitsOrder, FitWidths}
 
 number_fits : (v : Version) → IsUnsigned 1 (number_of v)
 number_fits One = omega arith
 number_fits Two = omega arith
+number_fits Three = omega arith
 
 -- balances, credits, totals and prices
 money_fits : (z : ℤ) → IsMoneyBalance z → IsSigned 16 z

@@ -2,11 +2,11 @@
 use Rattle.std.proofs.Common.{◌≡◌, suc, ℤ, pos, negsuc, List, [], ◌∷◌, map, refl, sym, ap, ◌∙◌, arith}
 use Rattle.std.specs.Prelude.{All}
 use Rattle.std.proofs.lemmas.Int.{ints}
-use Rattle.wire_records.specs.declared.version.Version.{Version}
-use Rattle.wire_records.specs.declared.version.Version.TheVariants.{One, Two}
+use Rattle.wire_records.proofs.Numbered.{same_number}
 use Rattle.flow_orders.specs.Orders.{Order, IsOrder, price_of_ticks}
 use Rattle.market_rules.specs.Market.{Market}
-use Rattle.market_parts.specs.Parts.{ReadOrder, Parts, number_of, order_of, market_of, HasParts}
+use Rattle.wire_records.specs.Versions.{number_of}
+use Rattle.market_parts.specs.Parts.{ReadOrder, Parts, order_of, market_of, HasParts}
 use Rattle.market_snapshot.specs.Checkpoints.{ticks_of, read_order, parts_of}
 
 -- a price of whole ticks is so many ticks
@@ -53,11 +53,5 @@ own_parts p m has =
     ∙ ap (λ n. record p { version = n }) (sym has.version)
 
 -- parts are one market's
-same_version : (v w : Version) → number_of v ≡ number_of w → v ≡ w
-same_version One One e = refl
-same_version One Two e = absurd (omega (arith, e))
-same_version Two One e = absurd (omega (arith, e))
-same_version Two Two e = refl
-
 pub same_market : (p : Parts) (m n : Market) → HasParts p m → HasParts p n → m ≡ n
-same_market p m n a b = a.market ∙ ap (λ v. market_of v p) (same_version m.version n.version (sym a.version ∙ b.version)) ∙ sym b.market
+same_market p m n a b = a.market ∙ ap (λ v. market_of v p) (same_number m.version n.version (sym a.version ∙ b.version)) ∙ sym b.market

@@ -13,7 +13,7 @@ use Rattle.flow_accounts.specs.Balances.{Account, Credit, Balances, IsAccount, a
 use Rattle.flow_accounts.specs.Lawful.{AreLawful}
 use Rattle.flow_orders.specs.Orders.{Order, price_of_ticks}
 use Rattle.market_rules.specs.Market.{Market}
-use Rattle.market_parts.specs.Parts.{number_of}
+use Rattle.wire_records.specs.Versions.{number_of}
 use Rattle.market_snapshot.specs.Checkpoints.{units_spelling, account_spelling, order_spelling, accounts_spelling, totals_spelling, exchange_spelling, tickers_spelling, batches_spelling, orders_spelling, parts_spelling, checkpoint_bytes, read_order, ticks_of, checkpoint_magic}
 use Rattle.market_snapshot.specs.Fields.{fields_spelling}
 use Rattle.market_snapshot.proofs.OneParts.{length-pairs}

@@ -6,7 +6,8 @@ use Rattle.wire_records.specs.CommandRecords.{entry_spelling}
 use Rattle.flow_accounts.specs.Balances.{Account, Credit, Balances, account_count}
 use Rattle.flow_orders.specs.Orders.{Order}
 use Rattle.market_rules.specs.Market.{Market, IsSound}
-use Rattle.market_parts.specs.Parts.{ReadOrder, Parts, number_of}
+use Rattle.wire_records.specs.Versions.{number_of}
+use Rattle.market_parts.specs.Parts.{ReadOrder, Parts}
 
 -- what each checkpoint begins with
 abbrev pub checkpoint_magic : List ℕ

@@ -1,7 +1,7 @@
 -- What of a checkpoint stands before the orders.
 use Rattle.std.specs.Prelude.{ℕ, List, ◌++◌}
 use Rattle.market_rules.specs.Market.{Market}
-use Rattle.market_parts.specs.Parts.{number_of}
+use Rattle.wire_records.specs.Versions.{number_of}
 use Rattle.market_snapshot.specs.Checkpoints.{tickers_spelling, accounts_spelling, totals_spelling, exchange_spelling, batches_spelling}
 
 -- the bytes of all of a market but its orders

@@ -4,7 +4,7 @@ ghost use Rattle.std.specs.List.{flat_map};
 ghost use Rattle.market_snapshot.specs.Layout.{account_size};
 ghost use Rattle.market_snapshot.specs.Checkpoints.{IsCheckpoint, checkpoint_bytes, order_spelling, read_order, tickers_spelling, batches_spelling};
 ghost use Rattle.market_snapshot.specs.Fields.{fields_spelling};
-ghost use Rattle.market_parts.specs.Parts.{number_of};
+ghost use Rattle.wire_records.specs.Versions.{number_of};
 ghost use Rattle.market_rules.specs.Market.{IsSound};
 ghost use Rattle.flow_accounts.specs.Balances.{account_count};
 
@@ -16,16 +16,6 @@ use ticker_table::TickerTable;
 use wire_fields::{put_bytes, put_i64, put_u8, put_u16, put_u32, put_u64};
 use wire_records::{Memory, Version};
 
-// The number of a version.
-fn number_of(version: Version) -> u8
-    ensures { result ≡ number_of version }
-{
-    match version {
-        Version::One => 1,
-        Version::Two => 2,
-    }
-}
-
 // The magic, the version, and the tickers.
 fn put_tickers(out: &mut Vec<u8>, version: Version, tickers: &TickerTable)
     requires { vec_len out.old + (11 + 8 * length tickers.now) ≤ vec_capacity out.old }
@@ -34,7 +24,7 @@ fn put_tickers(out: &mut Vec<u8>, version: Version, tickers: &TickerTable)
     ensures capacity { vec_capacity out.new ≡ vec_capacity out.old }
 {
     put_bytes(out, MAGIC);
-    put_u8(out, number_of(version));
+    put_u8(out, version.number());
     put_u16(out, tickers.len());
     for asset in 0..tickers.len() {
         put_bytes(out, &tickers.ticker(asset).unwrap());

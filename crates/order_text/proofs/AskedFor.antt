@@ -6,10 +6,11 @@ use Rattle.serde_json.specs.Data.{Data}
 use Rattle.serde_json.specs.Find.{get, as_str}
 use Rattle.wire_records.specs.Commands.{Request, Command, AddAsset, OpenAccount, DepositMoney, DepositAsset, WithdrawMoney, WithdrawAsset, PlaceOrder, CancelOrder, RunBatch, PlaceUntil, SetMoneyCredit, SetUnitCredit}
 use Rattle.wire_records.specs.declared.command.Command as owned
-use Rattle.wire_records.specs.Versions.{IsOfVersion}
+use Rattle.wire_records.specs.Versions.{most_tag, HasLastBatches, HasCredit, IsOfVersion}
 use Rattle.wire_records.specs.Views.{command_in}
 use Rattle.wire_records.specs.declared.version.Version.{Version}
 use Rattle.wire_records.specs.declared.version.Version.TheVariants.{One, Two}
+use Rattle.wire_records.proofs.Numbered.{first_tags, all_tags}
 use Rattle.order_text.specs.declared.line.LineFault.{LineFault}
 use Rattle.order_text.specs.declared.line.LineFault.TheVariants.{NoCommand, Memory}
 use Rattle.std.proofs.lemmas.List.Elements.{All-from_recursion, recursion_from_All}
@@ -18,8 +19,11 @@ use Rattle.order_text.specs.Private.{text_at, word_of, Has, HasOrder, Fits, IsFo
 
 -- a command of the first version is one of each
 pub of_each : (version : Version) (command : Command) → IsOfVersion One command → IsOfVersion version command
-of_each One command of = of
-of_each Two command of = (of.0, omega (arith, of.1))
+of_each version command of = (of.0, omega (arith, of.1, first_tags version))
+
+-- a command of the second version is one of each that has more than the first
+pub of_later : (version : Version) (command : Command) → 10 ≤ most_tag version → IsOfVersion Two command → IsOfVersion version command
+of_later version command more of = (of.0, omega (arith, of.1, all_tags version more))
 
 -- a command that is neither an order nor gives credit is of the first version
 early : (command : Command) → word_of command ≢ codes "place" → word_of command ≢ codes "credit" → IsOfVersion One command
@@ -35,6 +39,10 @@ early (RunBatch budget) no_place no_credit = (omega arith, omega arith)
 early (PlaceUntil last request) no_place no_credit = absurd (no_place refl)
 early (SetMoneyCredit account ticks) no_place no_credit = absurd (no_credit refl)
 early (SetUnitCredit account asset units) no_place no_credit = absurd (no_credit refl)
+
+-- a command with the word of credit is one of a version that has credit
+gives_credit : (version : Version) (command : Command) → word_of command ≡ codes "credit" → IsOfVersion version command → HasCredit version
+gives_credit version command word of = let is = credit_is command word in omega (arith, of.1, is)
 
 -- the commands of each word
 asset_is : (command : Command) → word_of command ≡ codes "asset" → (ticker : List ℕ) × (command ≡ AddAsset ticker)
@@ -120,14 +128,28 @@ module _ (tickers : List (List ℕ)) (d : Data) where
   plain_of version word (Some command) asked found = (asks_of version tickers d (command_in command) (asked ∙ ap Some (sym found.0)) found.1 found.2, found.3)
   plain_of version word None asked found = λ command other asks. found command (one_word word command asked asks) (fits_asked version tickers d command asks)
 
-  -- what is asked for in the first version, and no credit, is what is asked for in the second
-  pub plain_two : (text_at (codes "do") d ≢ Some (codes "credit")) → (found : Option owned.Command) → IsPlain One tickers d found → IsPlain Two tickers d found
-  plain_two no_credit (Some command) (asks, short) = (record { members = asks.members; keys = asks.keys; of_version = of_each Two (command_in command) asks.of_version }, short)
-  plain_two no_credit None none = λ command other asks. none command other (record {
+  -- what is asked for in the first version, and no credit, is what is asked for in each
+  pub plain_other : (version : Version) → (text_at (codes "do") d ≢ Some (codes "credit")) → (found : Option owned.Command) → IsPlain One tickers d found → IsPlain version tickers d found
+  plain_other version no_credit (Some command) (asks, short) = (record { members = asks.members; keys = asks.keys; of_version = of_each version (command_in command) asks.of_version }, short)
+  plain_other version no_credit None none = λ command other asks. none command other (record {
     members = asks.members;
     keys = asks.keys;
-    of_version = early command other (λ credit. no_credit (word_asked Two tickers d command asks ∙ ap Some credit));
+    of_version = early command other (λ credit. no_credit (word_asked version tickers d command asks ∙ ap Some credit));
   })
+
+  -- the same in a version without credit, whatever is asked for
+  pub plain_without : (version : Version) → (¬ HasCredit version) → (found : Option owned.Command) → IsPlain One tickers d found → IsPlain version tickers d found
+  plain_without version no_credit (Some command) (asks, short) = (record { members = asks.members; keys = asks.keys; of_version = of_each version (command_in command) asks.of_version }, short)
+  plain_without version no_credit None none = λ command other asks. none command other (record {
+    members = asks.members;
+    keys = asks.keys;
+    of_version = early command other (λ credit. no_credit (gives_credit version command credit asks.of_version));
+  })
+
+  -- what is found by the word of credit is what is asked for in a version that has it
+  pub credit_of : (version : Version) → HasCredit version → (found : Option owned.Command) → text_at (codes "do") d ≡ Some (codes "credit") → IsFound (codes "credit") Two tickers d found → IsPlain version tickers d found
+  credit_of version has (Some command) asked found = plain_of version (codes "credit") (Some command) asked (found.0, found.1, of_later version (command_in command) (omega (arith, has)) found.2, found.3)
+  credit_of version has None asked found = plain_of version (codes "credit") None asked found
 
   -- an object that lacks a field of a command with a word of its own doesn't ask for it
   pub no_asset : ((ticker : List ℕ) → HasAt [] d (codes "ticker") (Ticker ticker) → ⊥) → (command : Command) → word_of command ≡ codes "asset" → Fits tickers d command → ⊥
@@ -200,22 +222,22 @@ module _ (tickers : List (List ℕ)) (d : Data) where
   one_count : HasKeys 7 d → HasKeys 8 d → ⊥
   one_count seven eight = let apart : 7 ≡ 8 = ap (λ o. unwrap_or o 0) (sym seven ∙ eight) in absurd (omega (arith, apart))
 
-  -- the order of the first version
-  pub placed_in_one : (result : Result owned.Command LineFault) → IsOrder tickers d result → IsPlaced One tickers d result
-  placed_in_one (Ok command) is = is
-  placed_in_one (Err NoCommand) none = no_order One none (λ last request of at has keys. let late : 10 ≤ 9 = of.1 in absurd (omega (arith, late)))
-  placed_in_one (Err Memory) is = is
+  -- the order of a version without last batches
+  pub placed_without_last : (version : Version) → (¬ HasLastBatches version) → (result : Result owned.Command LineFault) → IsOrder tickers d result → IsPlaced version tickers d result
+  placed_without_last version no_last (Ok command) is = (is.0, is.1, of_each version (command_in command) is.2, is.3)
+  placed_without_last version no_last (Err NoCommand) none = no_order version none (λ last request of at has keys. no_last of.1)
+  placed_without_last version no_last (Err Memory) is = is
 
-  -- the order of the second, where there are seven keys, or aren't
-  pub placed_with_seven : HasKeys 7 d → (result : Result owned.Command LineFault) → IsOrder tickers d result → IsPlaced Two tickers d result
-  placed_with_seven seven (Ok command) is = (is.0, is.1, of_each Two (command_in command) is.2, is.3)
-  placed_with_seven seven (Err NoCommand) none = no_order Two none (λ last request of at has keys. one_count seven keys)
-  placed_with_seven seven (Err Memory) is = is
+  -- the order of one that has them, where there are seven keys, or aren't
+  pub placed_with_seven : (version : Version) → HasKeys 7 d → (result : Result owned.Command LineFault) → IsOrder tickers d result → IsPlaced version tickers d result
+  placed_with_seven version seven (Ok command) is = (is.0, is.1, of_each version (command_in command) is.2, is.3)
+  placed_with_seven version seven (Err NoCommand) none = no_order version none (λ last request of at has keys. one_count seven keys)
+  placed_with_seven version seven (Err Memory) is = is
 
-  pub placed_without_seven : (¬ HasKeys 7 d) → (result : Result owned.Command LineFault) → IsUntil tickers d result → IsPlaced Two tickers d result
-  placed_without_seven not_seven (Ok command) is = is
-  placed_without_seven not_seven (Err NoCommand) none = no_order Two (λ request has keys. not_seven keys) (λ last request of at has keys. none last request at has keys)
-  placed_without_seven not_seven (Err Memory) is = is
+  pub placed_without_seven : (version : Version) → HasLastBatches version → (¬ HasKeys 7 d) → (result : Result owned.Command LineFault) → IsUntil tickers d result → IsPlaced version tickers d result
+  placed_without_seven version has_last not_seven (Ok command) is = (is.0, is.1, of_later version (command_in command) has_last is.2, is.3)
+  placed_without_seven version has_last not_seven (Err NoCommand) none = no_order version (λ request has keys. not_seven keys) (λ last request of at has keys. none last request at has keys)
+  placed_without_seven version has_last not_seven (Err Memory) is = is
 
   -- the row of an order that an object has
   pub weights_of : (request : Request) → HasOrder tickers d request → HasAt tickers d (codes "weights") (Weights request.row)

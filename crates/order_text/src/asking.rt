@@ -210,15 +210,13 @@ fn place(
 ) -> Result<Command, LineFault>
     ensures { IsPlaced version tickers.now (view value.now) result }
 {
-    match version {
-        Version::One => place_order(alloc, tickers, value),
-        Version::Two => {
-            if has_keys(value, 7) {
-                return place_order(alloc, tickers, value);
-            }
-            place_until(alloc, tickers, value)
-        }
+    if !version.has_last_batches() {
+        return place_order(alloc, tickers, value);
     }
+    if has_keys(value, 7) {
+        return place_order(alloc, tickers, value);
+    }
+    place_until(alloc, tickers, value)
 }
 
 fn credit(tickers: &TickerTable, value: &Value) -> Option<Command>
@@ -260,19 +258,17 @@ fn plain(tickers: &TickerTable, value: &Value) -> Option<Command>
     None
 }
 
-// The same of either version.
+// The same of each version.
 fn plain_in(version: Version, tickers: &TickerTable, value: &Value) -> Option<Command>
     ensures { IsPlain version tickers.now (view value.now) result }
 {
-    match version {
-        Version::One => plain(tickers, value),
-        Version::Two => {
-            if is_asked(value, "credit") {
-                return credit(tickers, value);
-            }
-            plain(tickers, value)
-        }
+    if !version.has_credit() {
+        return plain(tickers, value);
     }
+    if is_asked(value, "credit") {
+        return credit(tickers, value);
+    }
+    plain(tickers, value)
 }
 
 // The command of a version that a value asks for.

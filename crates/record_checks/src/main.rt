@@ -16,6 +16,7 @@
 //! | `line TICKERS: TEXT` | `read_line`, with the tickers of the lines before | the command, `many` and how many commands with these, `blank` or `no_command`; then `of` how many tickers |
 //! | `lines: TEXT` | `encode_lines` | `done`, or `no_command` and the line's number. Then the records. With `lines more:` there is more of the text |
 //! | `line_2`, `lines_2` | the same of version Two | |
+//! | `line_3`, `lines_3` | and of version Three | |
 //! | `sample NUMBER ORDERS:` | `sample_commands` | how many bytes, their sum (FNV-1a of 64 bits), and the last seven records |
 //! | `write: RECORD` | `write_command` of the command that this spells, copied | |
 //! | `plain REPLY: RECORD` | `reserve_plain`, `write_plain` | |
@@ -87,12 +88,16 @@ fn put_case(alloc: Global, words: (&str, &str), bytes: &[u8], text: &mut String)
         "reply" => replies::put_reply(alloc, &records::record_in(bytes)?, text)?,
         "line" => texts::put_line(alloc, Version::One, words.1, bytes, text)?,
         "line_2" => texts::put_line(alloc, Version::Two, words.1, bytes, text)?,
+        "line_3" => texts::put_line(alloc, Version::Three, words.1, bytes, text)?,
         "sample" => return samples::put_sample(alloc, words.1, text),
         "lines" => {
             return texts::put_lines(alloc, Version::One, bytes, words.1 == "more", text);
         }
         "lines_2" => {
             return texts::put_lines(alloc, Version::Two, bytes, words.1 == "more", text);
+        }
+        "lines_3" => {
+            return texts::put_lines(alloc, Version::Three, bytes, words.1 == "more", text);
         }
         _ => return put_appended(alloc, words, bytes, text),
     }

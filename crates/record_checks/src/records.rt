@@ -188,17 +188,10 @@ pub(crate) fn put_code(code: u8, text: &mut String) -> Option<()> {
     }
 }
 
-fn number_of(version: Version) -> i128 {
-    match version {
-        Version::One => 1,
-        Version::Two => 2,
-    }
-}
-
 pub(crate) fn put_magic(bytes: &[u8], text: &mut String) -> Option<()> {
     match (command_version(bytes), journal_version(bytes)) {
-        (Some(version), None) => put("commands", &[number_of(version)], text),
-        (None, Some(version)) => put("journal", &[number_of(version)], text),
+        (Some(version), None) => put("commands", &[i128::from(version.number())], text),
+        (None, Some(version)) => put("journal", &[i128::from(version.number())], text),
         (None, None) => put("neither", &[], text),
         (Some(_), Some(_)) => put("both", &[], text),
     }

@@ -18,7 +18,7 @@ use Rattle.session_resume.specs.declared.first.Unfit.TheVariants as unfit
 use Rattle.session_resume.specs.Firsts.{Illegal, Whole, IsFirst}
 use Rattle.session_resume.specs.Rests.{Rest, Cut, Nothing, Commands, Other, IsRest, ServesAll, IsNoFile, RestComesTo}
 use Rattle.session_resume.specs.Resuming.{FirstComesTo, Resumes, ResumesFirst, ResumesInto, ResumesShort}
-use Rattle.session_resume.proofs.OneFirst.{eight}
+use Rattle.wire_records.proofs.RecordCode.{eight}
 use Rattle.session_resume.specs.Private.{Ends, WritesFirst, WritesInto, WritesShort, IntoBehind, ShortBehind}
 
 -- what follows of bytes, of their first records, and of where memory is wanted, follows of what was written

@@ -22,7 +22,8 @@ use Rattle.market_rules.specs.Journal.{Follows}
 use Rattle.market_rules.proofs.LawProofs.{legal_steps_number_one}
 use Rattle.batch_audit.specs.Legal.{IsLegalJournal}
 use Rattle.journal_replay.specs.Audits.{AuditsOn}
-use Rattle.journal_replay.proofs.Replayed.{eight, behind_magic}
+use Rattle.journal_records.proofs.Files.{eight}
+use Rattle.journal_replay.proofs.Replayed.{behind_magic}
 use Rattle.session_resume.specs.Firsts.{BeginsLegal, BeginsIllegal}
 
 -- the pairs of a journal are spelled as their records are

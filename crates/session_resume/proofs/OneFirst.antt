@@ -9,14 +9,15 @@ use Rattle.wire_records.specs.Commands.{Pair}
 use Rattle.wire_records.specs.Grammars.{BeginsWithNone, spell_all}
 use Rattle.wire_records.specs.Formats.{command_magic_of}
 use Rattle.wire_records.specs.declared.version.Version.{Version}
-use Rattle.wire_records.specs.declared.version.Version.TheVariants.{One, Two}
+use Rattle.wire_records.specs.declared.version.Version.TheVariants.{One, Two, Three}
 use Rattle.wire_records.proofs.CodeLaws.{parted, values_unique}
 use Rattle.flow_orders.specs.Outcomes.{Outcome}
+use Rattle.wire_records.proofs.RecordCode.{eight}
 use Rattle.journal_records.specs.Formats.{journal_magic_of, journals, journal_in, records_of}
 use Rattle.journal_records.specs.Pairs.{IsPair}
 use Rattle.journal_records.proofs.Files.{journals_readable, journal_is_file}
 use Rattle.market_rules.specs.Market.{Market}
-use Rattle.market_parts.specs.Parts.{number_of}
+use Rattle.wire_records.specs.Versions.{number_of}
 use Rattle.market_snapshot.specs.Checkpoints.{checkpoint_magic, checkpoint_bytes, parts_spelling, read_order, tickers_spelling, accounts_spelling, totals_spelling, exchange_spelling, batches_spelling, orders_spelling, IsCheckpoint}
 use Rattle.wire_fields.specs.Numbers.{unsigned}
 use Rattle.std.specs.List.{flat_map}
@@ -122,6 +123,7 @@ kept_magic bytes market place rest first =
 fifth : (version : Version) (body : List ℕ) → get_or (journal_magic_of version ++ body) 4 0 ≡ 74
 fifth One body = refl
 fifth Two body = refl
+fifth Three body = refl
 
 other_magics : (bytes : List ℕ) → HasJournalMagic bytes → HasCheckpointMagic bytes → ⊥
 other_magics bytes (version, body, journal) (rest, checkpoint) =
@@ -184,10 +186,6 @@ module _ (bytes : List ℕ) where
   one_first (Whole Checkpoint m p r) (Whole Checkpoint n q s) is also = one_kept m n p q r s is also
 
 -- ---- what stands behind it
-
-pub eight : (version : Version) → length (command_magic_of version) ≡ 8
-eight One = refl
-eight Two = refl
 
 module _ (version : Version) (More : Type 0) (rest : List ℕ) where
   -- a magic has eight bytes

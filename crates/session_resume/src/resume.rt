@@ -17,7 +17,7 @@ use file_units::{Ending, take_units};
 use flow_io::{ReadAllFault, Sink, Source, read_all};
 use journal_records::is_overlong;
 use std::alloc::Global;
-use wire_records::{COMMAND_MAGIC, COMMAND_MAGIC_2, Version};
+use wire_records::{COMMAND_MAGIC, Version, command_magic};
 use word_driver::Fault;
 
 // Serves the records that stand in the bytes of an input from a place on, and writes their pairs.
@@ -82,10 +82,7 @@ fn no_file(origin: Origin, rest: &[u8], place: usize, more: bool) -> Result<(), 
 fn is_command_file_of(bytes: &[u8], version: Version) -> bool
     ensures { IsTrue result ↔ ((body : List ℕ) × (bytes.now ≡ command_magic_of version ++ body)) }
 {
-    match version {
-        Version::One => bytes.starts_with(&COMMAND_MAGIC),
-        Version::Two => bytes.starts_with(&COMMAND_MAGIC_2),
-    }
+    bytes.starts_with(&command_magic(version))
 }
 
 // Whether a rest has fewer bytes than a magic, and the input has more.

@@ -5,7 +5,8 @@ use Rattle.std.proofs.lemmas.Int.{ints}
 use Rattle.std.proofs.lemmas.List.{length-map, get_or-map, get_or_default}
 use Rattle.weight_rows.specs.Rows.{IsLawfulRow, IsPrice}
 use Rattle.wire_records.specs.declared.version.Version.{Version}
-use Rattle.wire_records.specs.declared.version.Version.TheVariants.{One, Two}
+use Rattle.wire_records.specs.declared.version.Version.TheVariants.{One, Two, Three}
+use Rattle.wire_records.proofs.Numbered.{same_number}
 use Rattle.ticker_table.specs.Tickers.{AreTickers}
 use Rattle.flow_accounts.specs.Balances.{Account, Credit, Balances, IsAccount, asset_count, account_of, credit_of, no_credit}
 use Rattle.flow_accounts.specs.Lawful.{most_credit, AreLawful, IsLawfulAccount, IsLawfulCredit, IsUnitBalance, IsUnitTotal}
@@ -13,29 +14,25 @@ use Rattle.flow_orders.specs.Orders.{Order, IsOrder}
 use Rattle.fill_caps.specs.Covers.{CoversNeeds}
 use Rattle.market_rules.specs.Market.{IsSound, IsLiveOrder, IsNoCredit}
 use Rattle.market_rules.proofs.Lawful.{account_at, sound_is_lawful, money_of_each, units_of_each, credit_line}
-use Rattle.market_parts.specs.Parts.{ReadOrder, Parts, AreSound, number_of, numbers_of, order_of, market_of}
+use Rattle.wire_records.specs.Versions.{number_of}
+use Rattle.market_parts.specs.Parts.{ReadOrder, Parts, AreSound, numbers_of, order_of, market_of}
 use Rattle.sound_parts.specs.Tests.{IsInShape, most_credit_in, no_order, order_at, AreSoundBalances, AreSoundNumbers, HasSoundTerms, IsSoundOrder, AreSoundOrders}
-
--- no two versions have one number
-pub one_version : (v w : Version) → number_of v ≡ number_of w → v ≡ w
-one_version One One same = refl
-one_version One Two same = absurd (omega (arith, same))
-one_version Two One same = absurd (omega (arith, same))
-one_version Two Two same = refl
 
 -- the market that has sound parts
 pub sound_at : (p : Parts) (v : Version) → p.version ≡ number_of v → AreSound p → IsSound (market_of v p)
 sound_at p v is s =
-    let same : s.market.version ≡ v = one_version s.market.version v (sym s.parts.version ∙ is) in
+    let same : s.market.version ≡ v = same_number s.market.version v (sym s.parts.version ∙ is) in
     subst (λ w. IsSound (market_of w p)) same (subst IsSound s.parts.market s.sound)
 
 few_credit : (w : Version) (n : ℕ) → n ≤ most_credit → (w ≡ One → n ≡ 0) → n ≤ most_credit_in w
 few_credit One n most none = omega (arith, none refl)
 few_credit Two n most none = most
+few_credit Three n most none = most
 
 pub some_credit : (w : Version) → most_credit_in w ≤ most_credit
 some_credit One = omega arith
 some_credit Two = omega arith
+some_credit Three = omega arith
 
 module _ (v : Version) (p : Parts) (sound : IsSound (market_of v p)) where
   credit_inside : (account : ℕ) → IsAccount p.balances account → account - 1 < length p.balances.credits

@@ -1,7 +1,8 @@
 -- What is made of the parts of a sound market.
 use Rattle.std.specs.Prelude.{◌≡◌, ◌<◌, ◌^◌, map}
 use Rattle.market_rules.specs.Market.{IsSound}
-use Rattle.market_parts.specs.Parts.{Parts, number_of, order_of, market_of}
+use Rattle.wire_records.specs.Versions.{number_of}
+use Rattle.market_parts.specs.Parts.{Parts, order_of, market_of}
 use Rattle.sound_parts.specs.declared.made.SoundParts.{SoundParts}
 
 -- they are those of a sound market, and these are its version, tickers, balances, exchange and orders

@@ -34,6 +34,7 @@ pub(crate) fn most_credit_of(version: Version) -> u64
     match version {
         Version::One => 0,
         Version::Two => MOST_CREDIT,
+        Version::Three => MOST_CREDIT,
     }
 }
 

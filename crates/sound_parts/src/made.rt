@@ -8,7 +8,7 @@ use crate::accounts::most_credit_of;
 use crate::assets::exchange_of;
 use crate::book::book_of;
 use crate::needs::covers_needs;
-use crate::numbers::{are_sound_numbers, version_of};
+use crate::numbers::are_sound_numbers;
 use crate::tickers::tickers_of;
 use flow_accounts::Accounts;
 use market_parts::{MarketParts, RestoreFault};
@@ -42,7 +42,7 @@ pub fn read_sound<P: MarketParts>(alloc: Global, parts: &P) -> Result<SoundParts
     ensures shape { OnOk result (IsInShape (P.balances parts.now) (P.parts parts.now)) }
     ensures unsound { IsErrOf result RestoreFault.Unsound → ¬ AreSound (P.parts parts.now) }
 {
-    let version = match version_of(parts.version()) {
+    let version = match Version::of_number(parts.version()) {
         Some(version) => version,
         None => return Err(RestoreFault::Unsound),
     };

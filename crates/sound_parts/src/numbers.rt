@@ -1,16 +1,13 @@
 //! All parts but tickers and orders.
-ghost use Rattle.std.specs.Prelude.{◌≡◌, ◌≤◌, ◌^◌, ◌*◌, ◌↔◌, unsigned_abs, IsTrue, MatchOption};
-ghost use Rattle.wire_records.specs.declared.version.Version.{Version};
+ghost use Rattle.std.specs.Prelude.{◌≡◌, ◌≤◌, ◌^◌, ◌*◌, ◌↔◌, unsigned_abs, IsTrue};
 ghost use Rattle.flow_accounts.specs.Lawful.{AreLawful, most_credit};
 ghost use Rattle.market_rules.specs.Market.{most_batches};
-ghost use Rattle.market_parts.specs.Parts.{number_of};
 ghost use Rattle.sound_parts.specs.Tests.{IsInShape, AreSoundNumbers, AreSoundBalances, HasSoundCounts, HasSoundSums};
 
 use crate::accounts::are_sound_balances;
 use crate::assets::are_sound_assets;
 use crate::sums::is_money_held;
 use market_parts::MarketParts;
-use wire_records::Version;
 
 // The number that the next order gets is below this.
 const NEXT_WIDTH: u64 = 1 << 63;
@@ -20,17 +17,6 @@ const MOST_ORDERS: u32 = 16_384;
 
 // No more batches are held.
 const MOST_BATCHES: u32 = 1 << 24;
-
-// The version of a number.
-pub(crate) fn version_of(number: u8) -> Option<Version>
-    ensures { MatchOption result ((version : Version) → ¬ (number ≡ number_of version)) (λ version. number ≡ number_of version) }
-{
-    match number {
-        1 => Some(Version::One),
-        2 => Some(Version::Two),
-        _ => None,
-    }
-}
 
 // Whether all numbers are within their limits, and the totals are held.
 pub(crate) fn are_sound_numbers<P: MarketParts>(parts: &P, most: u64) -> bool

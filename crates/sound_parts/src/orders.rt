@@ -89,5 +89,6 @@ fn is_still_to_come(version: Version, batches: u32, last: u32) -> bool
     match version {
         Version::One => last == 0,
         Version::Two => last == 0 || batches < last,
+        Version::Three => last == 0 || batches < last,
     }
 }

@@ -1,3 +1,4 @@
+pub mod Numbered
 pub mod Spelled
 pub mod Fronts
 pub mod CodeLaws

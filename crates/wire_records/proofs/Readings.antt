@@ -11,7 +11,7 @@ use Rattle.wire_records.specs.Records.{Record, AreBytes, IsRecord, most_body}
 use Rattle.wire_records.specs.Commands.{Request, Command, AddAsset, OpenAccount, DepositMoney, DepositAsset, WithdrawMoney, WithdrawAsset, PlaceOrder, CancelOrder, RunBatch, PlaceUntil, SetMoneyCredit, SetUnitCredit}
 use Rattle.wire_records.specs.CommandRecords.{tag_of, body_of, record_of, request_spelling, IsCommand, SpellsNone, HasShortRow, Spells, IsTag, IsRead}
 use Rattle.wire_records.specs.declared.version.Version.{Version}
-use Rattle.wire_records.specs.declared.version.Version.TheVariants.{One, Two}
+use Rattle.wire_records.specs.declared.version.Version.TheVariants.{One, Two, Three}
 use Rattle.wire_records.specs.Versions.{most_tag, IsTagOf, IsOfVersion, IsReadAs}
 use Rattle.wire_records.specs.Private.{SpellsRequest, SpellsUntil}
 use Rattle.wire_records.proofs.Fields.{whole_number, front_number}
@@ -207,6 +207,7 @@ seen_some r small =
 within_all : (version : Version) (tag : ℕ) → IsTagOf version tag → IsTag tag
 within_all One tag is = (is.0, omega (arith, is.1))
 within_all Two tag is = is
+within_all Three tag is = is
 
 -- a record of bytes has a reading in each version
 pub reading_some : (version : Version) (r : Record) → AreBytes r.body → (read : Result Command BodyFault) × IsReadAs version r read
@@ -220,11 +221,21 @@ reading_some version r small =
           ]
     ]
 
--- what is read in whatever version is read in version Two, which has all commands
-pub seen_in_two : (r : Record) (read : Result Command BodyFault) → IsRead r read ↔ IsReadAs Two r read
-seen_in_two r (Ok c) = (λ s. (rw (tag_is c r s) (tag_of-range c), s), λ both. both.1)
-seen_in_two r (Err UnknownTag) = (λ p. p, λ p. p)
-seen_in_two r (Err BadBody) = (λ p. p, λ p. p)
+-- each version but the first has all commands
+later_tags : (version : Version) → version ≢ One → most_tag version ≡ 12
+later_tags One later = absurd (later refl)
+later_tags Two later = refl
+later_tags Three later = refl
+
+-- what is read in whatever version is read in a version that has all commands
+pub seen_in_later : (version : Version) (r : Record) (read : Result Command BodyFault) → version ≢ One → IsRead r read ↔ IsReadAs version r read
+seen_in_later version r (Ok c) later =
+    (λ s. let tag = tag_of-range c in let is = tag_is c r s in ((omega (arith, is, tag.0), omega (arith, is, tag.1, later_tags version later)), s), λ both. both.1)
+seen_in_later version r (Err UnknownTag) later =
+    let all = later_tags version later in (λ p tag. p (tag.0, omega (arith, tag.1, all)), λ p tag. p (tag.0, omega (arith, tag.1, all)))
+seen_in_later version r (Err BadBody) later =
+    let all = later_tags version later in
+    (λ p. ((p.0.0, omega (arith, p.0.1, all)), p.1), λ p. ((p.0.0, omega (arith, p.0.1, all)), p.1))
 
 -- how long an account and an amount of money are
 money_size : (account ticks : ℕ) → length (unsigned 4 account ++ unsigned 8 ticks) ≡ 12

@@ -8,10 +8,12 @@ use Rattle.std.proofs.lemmas.List.{take-append-drop, take_at, drop_at, length-ta
 use Rattle.wire_records.specs.Records.{Record, IsRecord, head, spelling}
 use Rattle.wire_records.specs.Grammars.{BeginsWith, BeginsWithNone}
 use Rattle.wire_records.specs.declared.version.Version.{Version}
-use Rattle.wire_records.specs.declared.version.Version.TheVariants.{One, Two}
+use Rattle.wire_records.specs.declared.version.Version.TheVariants.{One, Two, Three}
+use Rattle.wire_records.specs.Versions.{number_of}
 use Rattle.wire_records.specs.Formats.{magics, records, StatesOver, EitherStatesOver, command_magic_of, commands}
 use Rattle.wire_records.proofs.CodeLaws.{IsCode}
 use Rattle.wire_records.proofs.ReadingLaws.{IsReadable}
+use Rattle.wire_records.proofs.Numbered.{version_at, at_number, number_small, same_number}
 use Rattle.wire_records.proofs.Spelled.{length-head, length-spelling, read_whole, spelling_unique}
 
 -- what a test tells
@@ -141,59 +143,60 @@ either_over_told limit next small bytes =
           ]
     ]
 
--- a magic of each version, of as many bytes, and not the same
+-- a magic of each version, of eight bytes, and the last of these tells the version
 pub record AreMagics (magic_of : Version → List ℕ) : Type 0 where
-  pub some : 0 < length (magic_of One)
-  pub alike : length (magic_of Two) ≡ length (magic_of One)
-  pub other : magic_of One ≢ magic_of Two
+  pub eight : (version : Version) → length (magic_of version) ≡ 8
+  pub last : (version : Version) → get_or (magic_of version) 7 0 ≡ 48 + number_of version
 
 -- as many bytes at the front of the same bytes are the same
 same_front : (a b x y : List ℕ) → length b ≡ length a → a ++ x ≡ b ++ y → a ≡ b
 same_front a b x y alike e = sym (take_at a x (length a) refl) ∙ ap (take (length a)) e ∙ take_at b y (length a) alike
 
--- one magic stands at the front of bytes
-pub one_magic : (magic_of : Version → List ℕ) → AreMagics magic_of → (v w : Version) (x y : List ℕ) → magic_of v ++ x ≡ magic_of w ++ y → (v ≡ w) × (x ≡ y)
-one_magic magic_of are One One x y e = (refl, append_cancel_left (magic_of One) x y e)
-one_magic magic_of are One Two x y e = absurd (are.other (same_front (magic_of One) (magic_of Two) x y are.alike e))
-one_magic magic_of are Two One x y e = absurd (are.other (sym (same_front (magic_of Two) (magic_of One) x y (sym are.alike) e)))
-one_magic magic_of are Two Two x y e = (refl, append_cancel_left (magic_of Two) x y e)
+module _ (magic_of : Version → List ℕ) (are : AreMagics magic_of) where
+  -- one magic stands at the front of bytes
+  pub one_magic : (v w : Version) (x y : List ℕ) → magic_of v ++ x ≡ magic_of w ++ y → (v ≡ w) × (x ≡ y)
+  one_magic v w x y e =
+      let magic = same_front (magic_of v) (magic_of w) x y (are.eight w ∙ sym (are.eight v)) e in
+      let last = sym (are.last v) ∙ ap (λ (l : List ℕ). get_or l 7 0) magic ∙ are.last w in
+      (same_number v w (omega (arith, last)), append_cancel_left (magic_of v) x y (e ∙ ap (λ (l : List ℕ). l ++ y) (sym magic)))
 
--- a magic takes some bytes
-some_magic : (magic_of : Version → List ℕ) → AreMagics magic_of → (v : Version) → 0 < length (magic_of v)
-some_magic magic_of are One = are.some
-some_magic magic_of are Two = omega (arith, are.some, are.alike)
+  -- bytes that begin with a magic, from what stands there
+  begins_with : (magic bytes rest : List ℕ) → bytes ≡ magic ++ rest → bytes ≡ magic ++ drop (length magic) bytes
+  begins_with magic bytes rest e = e ∙ ap (λ xs. magic ++ xs) (sym (ap (drop (length magic)) e ∙ drop_at magic rest (length magic) refl))
 
--- bytes that begin with a magic, from what stands there
-begins_with : (magic bytes rest : List ℕ) → bytes ≡ magic ++ rest → bytes ≡ magic ++ drop (length magic) bytes
-begins_with magic bytes rest e = e ∙ ap (λ xs. magic ++ xs) (sym (ap (drop (length magic)) e ∙ drop_at magic rest (length magic) refl))
-
--- whether bytes begin with a magic
-magic_told : (magic_of : Version → List ℕ) (bytes : List ℕ) → ((v : Version) × (rest : List ℕ) × BeginsWith (magics magic_of) bytes v rest) ⊎ BeginsWithNone (magics magic_of) bytes
-magic_told magic_of bytes =
-    elim (same_or_not bytes (magic_of One ++ drop (length (magic_of One)) bytes)) [
-      | inl same ↦ inl (One, drop (length (magic_of One)) bytes, (tt, same))
-      | inr not_one ↦
-          elim (same_or_not bytes (magic_of Two ++ drop (length (magic_of Two)) bytes)) [
-            | inl same ↦ inl (Two, drop (length (magic_of Two)) bytes, (tt, same))
-            | inr not_two ↦ inr (begins_with_none magic_of bytes not_one not_two)
-          ]
-    ]
-  where
-    begins_with_none : (magic_of : Version → List ℕ) (bytes : List ℕ) → bytes ≢ magic_of One ++ drop (length (magic_of One)) bytes → bytes ≢ magic_of Two ++ drop (length (magic_of Two)) bytes → BeginsWithNone (magics magic_of) bytes
-    begins_with_none magic_of bytes not_one not_two One rest lawful e = not_one (begins_with (magic_of One) bytes rest e)
-    begins_with_none magic_of bytes not_one not_two Two rest lawful e = not_two (begins_with (magic_of Two) bytes rest e)
+  -- whether bytes begin with a magic
+  pub magic_told : (bytes : List ℕ) → ((v : Version) × (rest : List ℕ) × BeginsWith (magics magic_of) bytes v rest) ⊎ BeginsWithNone (magics magic_of) bytes
+  magic_told bytes =
+      let behind : Version → List ℕ = λ v. magic_of v ++ drop (length (magic_of v)) bytes in
+      elim (found_below (λ n. bytes ≡ behind (version_at n)) (λ n. same_or_not bytes (behind (version_at n))) 4) [
+        | inl found ↦ inl (version_at found.0, drop (length (magic_of (version_at found.0))) bytes, (tt, found.2))
+        | inr none ↦
+            inr (λ v rest lawful e.
+            none (number_of v) (number_small v) (begins_with (magic_of v) bytes rest e ∙ ap behind (sym (at_number v))))
+      ]
 
 -- the magics of the versions are a code
 pub magic_code : (magic_of : Version → List ℕ) → AreMagics magic_of → IsCode (magics magic_of)
 magic_code magic_of are = record {
-  some = λ version lawful. some_magic magic_of are version;
+  some = λ version lawful. omega (arith, are.eight version);
   one = λ v w x y a b e. one_magic magic_of are v w x y e;
-  told = magic_told magic_of;
+  told = magic_told magic_of are;
 }
+
+-- each magic of a command file has eight bytes
+pub eight : (version : Version) → length (command_magic_of version) ≡ 8
+eight One = refl
+eight Two = refl
+eight Three = refl
 
 -- the magics of command files
 pub command_magics : AreMagics command_magic_of
-command_magics = record { some = omega arith; alike = refl; other = λ e. let last : 49 ≡ 50 = ap (λ (l : List ℕ). get_or l 7 0) e in omega (arith, last) }
+command_magics = record { eight = eight; last = last_byte }
+  where
+    last_byte : (version : Version) → get_or (command_magic_of version) 7 0 ≡ 48 + number_of version
+    last_byte One = refl
+    last_byte Two = refl
+    last_byte Three = refl
 
 -- command files can be read
 pub commands_readable : IsReadable commands

@@ -1,10 +1,10 @@
 -- Records as units of a file, and command files.
 use Rattle.std.specs.Prelude.{◌<◌, ℕ, List, ◌⊎◌}
-use Rattle.wire_records.specs.Records.{Record, IsRecord, StatesLength, spelling, command_magic, command_magic_2, most_body}
+use Rattle.wire_records.specs.Records.{Record, IsRecord, StatesLength, spelling, command_magic, command_magic_2, command_magic_3, most_body}
 use Rattle.wire_records.specs.Grammars.{Grammar, BeginsWith}
 use Rattle.wire_records.specs.Reading.{Format}
 use Rattle.wire_records.specs.declared.version.Version.{Version}
-use Rattle.wire_records.specs.declared.version.Version.TheVariants.{One, Two}
+use Rattle.wire_records.specs.declared.version.Version.TheVariants.{One, Two, Three}
 
 -- a magic for each version
 abbrev pub magics : (Version → List ℕ) → Grammar Version
@@ -27,6 +27,7 @@ EitherStatesOver limit next bytes =
 abbrev pub command_magic_of : Version → List ℕ
 command_magic_of One = command_magic
 command_magic_of Two = command_magic_2
+command_magic_of Three = command_magic_3
 
 -- command files: records whose bodies are within the limit
 abbrev pub commands : Format Version Record

@@ -1,11 +1,11 @@
 -- What holds of the grammar, whatever reads or writes it.
-use Rattle.std.specs.Prelude.{◌≡◌, ◌<◌, ◌≤◌, ◌^◌, ℕ, List, ◌++◌, ◌↔◌, length, All, Result, Ok}
+use Rattle.std.specs.Prelude.{◌≡◌, ◌≢◌, ◌<◌, ◌≤◌, ◌^◌, ℕ, List, ◌++◌, ◌↔◌, length, All, Result, Ok}
 use Rattle.wire_records.specs.Records.{Record, AreBytes, IsRecord, spelling, most_body}
 use Rattle.wire_records.specs.Framing.{IsFront}
 use Rattle.wire_records.specs.Commands.{Command}
 use Rattle.wire_records.specs.CommandRecords.{record_of, IsCommand, HasShortRow, Spells, IsRead}
 use Rattle.wire_records.specs.declared.version.Version.{Version}
-use Rattle.wire_records.specs.declared.version.Version.TheVariants.{Two}
+use Rattle.wire_records.specs.declared.version.Version.TheVariants.{One}
 use Rattle.wire_records.specs.Versions.{IsOfVersion, IsReadAs}
 use Rattle.wire_records.specs.declared.reply.Refusal.{Refusal}
 use Rattle.wire_records.specs.Refusals.{code_of}
@@ -51,9 +51,9 @@ abbrev pub CommandIsRead : Type 0
 CommandIsRead = (version : Version) (c : Command) (r : Record) (read : Result Command BodyFault)
     → IsOfVersion version c → Spells c r → IsReadAs version r read → read ≡ Ok c
 
--- what a record is read as in whatever version is its reading in the version that has all commands
-abbrev pub ReadInTwo : Type 0
-ReadInTwo = (r : Record) (read : Result Command BodyFault) → IsRead r read ↔ IsReadAs Two r read
+-- what a record is read as in whatever version is its reading in each version but the first, which have all commands
+abbrev pub ReadInLater : Type 0
+ReadInLater = (version : Version) (r : Record) (read : Result Command BodyFault) → version ≢ One → IsRead r read ↔ IsReadAs version r read
 
 -- a command that is read in a version is one of the version
 abbrev pub ReadsItsOwn : Type 0

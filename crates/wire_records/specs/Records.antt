@@ -36,9 +36,13 @@ HasNoFront limit bytes = (r : Record) (rest : List ℕ) → IsRecord limit r →
 abbrev pub command_magic : List ℕ
 command_magic = codes "FLOWCMD1"
 
--- and of one of version Two
+-- of one of version Two
 abbrev pub command_magic_2 : List ℕ
 command_magic_2 = codes "FLOWCMD2"
+
+-- and of one of version Three
+abbrev pub command_magic_3 : List ℕ
+command_magic_3 = codes "FLOWCMD3"
 
 -- the longest body of a command record, in bytes
 abbrev pub most_body : ℕ

@@ -6,12 +6,19 @@ use Rattle.wire_records.specs.CommandRecords.{tag_of, Spells, SpellsNone}
 use Rattle.wire_records.specs.declared.command.BodyFault.{BodyFault}
 use Rattle.wire_records.specs.declared.command.BodyFault.TheVariants.{UnknownTag, BadBody}
 use Rattle.wire_records.specs.declared.version.Version.{Version}
-use Rattle.wire_records.specs.declared.version.Version.TheVariants.{One, Two}
+use Rattle.wire_records.specs.declared.version.Version.TheVariants.{One, Two, Three}
+
+-- the number of each version
+abbrev pub number_of : Version → ℕ
+number_of One = 1
+number_of Two = 2
+number_of Three = 3
 
 -- the highest tag of a command of each version
 abbrev pub most_tag : Version → ℕ
 most_tag One = 9
 most_tag Two = 12
+most_tag Three = 12
 
 -- a tag of a command of a version
 abbrev pub IsTagOf : Version → ℕ → Type 0
@@ -20,6 +27,14 @@ IsTagOf version tag = (1 ≤ tag) × (tag ≤ most_tag version)
 -- a command of a version
 abbrev pub IsOfVersion : Version → Command → Type 0
 IsOfVersion version command = IsTagOf version (tag_of command)
+
+-- the version has the command that names the last batch of an order
+abbrev pub HasLastBatches : Version → Type 0
+HasLastBatches version = 10 ≤ most_tag version
+
+-- the version has the commands that give credit
+abbrev pub HasCredit : Version → Type 0
+HasCredit version = 11 ≤ most_tag version
 
 -- What a record is read as in a version: the command that it spells, or why there is none; a tag that the version doesn't
 -- have is unknown, whatever the body is. Each record of bytes has exactly one reading in each version, by the laws.

@@ -3,7 +3,7 @@ ghost use Rattle.std.specs.Prelude.{◌≡◌, ℕ, List, ◌↔◌, Some, IfNon
 ghost use Rattle.wire_records.specs.Grammars.{BeginsWith, BeginsWithNone};
 ghost use Rattle.wire_records.specs.declared.version.Version.{Version};
 ghost use Rattle.wire_records.specs.declared.version.Version.TheVariants.{One};
-ghost use Rattle.wire_records.specs.Formats.{commands};
+ghost use Rattle.wire_records.specs.Formats.{commands, command_magic_of};
 
 use crate::Version;
 
@@ -13,6 +13,9 @@ pub const COMMAND_MAGIC: [u8; 8] = *b"FLOWCMD1";
 /// The first 8 bytes of a command file of version Two.
 pub const COMMAND_MAGIC_2: [u8; 8] = *b"FLOWCMD2";
 
+/// The first 8 bytes of a command file of version Three.
+pub const COMMAND_MAGIC_3: [u8; 8] = *b"FLOWCMD3";
+
 /// The longest body of a command record, in bytes.
 pub const MOST_BODY: u32 = 1024;
 
@@ -21,6 +24,17 @@ pub const MOST_ROW: usize = 165;
 
 /// The most entries of such a row where the record also names the last batch of its order.
 pub const MOST_ROW_UNTIL: usize = 164;
+
+/// The first 8 bytes of a command file of a version.
+pub fn command_magic(version: Version) -> [u8; 8]
+    ensures { result ≡ command_magic_of version }
+{
+    match version {
+        Version::One => COMMAND_MAGIC,
+        Version::Two => COMMAND_MAGIC_2,
+        Version::Three => COMMAND_MAGIC_3,
+    }
+}
 
 /// Whether the bytes begin as a command file of version One, so that records stand behind the first 8. Constant cost.
 pub fn is_command_file(bytes: &[u8]) -> bool
@@ -40,6 +54,8 @@ pub fn command_version(bytes: &[u8]) -> Option<Version>
         Some(Version::One)
     } else if bytes.starts_with(&COMMAND_MAGIC_2) {
         Some(Version::Two)
+    } else if bytes.starts_with(&COMMAND_MAGIC_3) {
+        Some(Version::Three)
     } else {
         None
     }

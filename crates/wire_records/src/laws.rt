@@ -1,12 +1,12 @@
 //! What holds of the grammar, whatever reads or writes it. Each law is the contract of a function that
 //! does nothing.
-ghost use Rattle.wire_records.specs.Laws.{OneRecord, OneCommand, OneRefusal, OneFront, WrittenIsFramed, OneReading, EachIsRead, CommandIsRead, ReadInTwo, ReadsItsOwn, CommandIsShort, OneFile, FirstOfFile, FileIsRead};
+ghost use Rattle.wire_records.specs.Laws.{OneRecord, OneCommand, OneRefusal, OneFront, WrittenIsFramed, OneReading, EachIsRead, CommandIsRead, ReadInLater, ReadsItsOwn, CommandIsShort, OneFile, FirstOfFile, FileIsRead};
 ghost use Rattle.std.specs.Prelude.{◌≡◌, ◌↔◌, IsTrue};
-ghost use Rattle.wire_records.specs.Records.{command_magic, command_magic_2, most_body};
+ghost use Rattle.wire_records.specs.Records.{command_magic, command_magic_2, command_magic_3, most_body};
 ghost use Rattle.wire_records.specs.CommandRecords.{most_row, most_row_until};
 
 use crate::{
-    BodyFault, COMMAND_MAGIC, COMMAND_MAGIC_2, MOST_BODY, MOST_ROW, MOST_ROW_UNTIL, Refusal, Reply,
+    BodyFault, COMMAND_MAGIC, COMMAND_MAGIC_2, COMMAND_MAGIC_3, MOST_BODY, MOST_ROW, MOST_ROW_UNTIL, Refusal, Reply,
     Version,
 };
 
@@ -51,10 +51,10 @@ pub fn command_is_read()
     ensures { CommandIsRead }
 {}
 
-/// What a record spells in whatever version is what it is read as in version Two, which has all commands. So what
-/// `RecordView::command` answers shows the only command, or is the only fault, that its contract allows.
-pub fn read_in_two()
-    ensures { ReadInTwo }
+/// What a record spells in whatever version is what it is read as in each version but the first, which have all commands. So
+/// what `RecordView::command` answers shows the only command, or is the only fault, that its contract allows.
+pub fn read_in_later()
+    ensures { ReadInLater }
 {}
 
 /// A command that is read in a version is one of its commands.
@@ -86,6 +86,7 @@ pub fn file_is_read()
 pub fn constants_are_named()
     ensures magic { COMMAND_MAGIC ≡ command_magic }
     ensures magic_2 { COMMAND_MAGIC_2 ≡ command_magic_2 }
+    ensures magic_3 { COMMAND_MAGIC_3 ≡ command_magic_3 }
     ensures most_body { MOST_BODY ≡ most_body }
     ensures most_row { MOST_ROW ≡ most_row }
     ensures most_row_until { MOST_ROW_UNTIL ≡ most_row_until }

@@ -1,10 +1,66 @@
 //! The versions of command files and journals.
+ghost use Rattle.std.specs.Prelude.{◌≢◌, ◌↔◌, IsTrue, MatchOption};
 
-/// A version of the formats. Version Two has all commands of version One, and others besides.
+/// A version of the formats. Each has all commands of those before it.
 #[derive(Clone, Copy, PartialEq, Eq)]
 pub enum Version {
     /// Orders stay until they are filled to their cap or cancelled, and accounts hold what their orders need.
     One,
     /// An order may name the last batch in which it trades, and an account may get credit for its orders.
     Two,
+    /// The same commands as version Two. A move of a price ends by 256 parts of a unit, and not by whole units.
+    Three,
+}
+
+impl Version {
+    ghost use Rattle.std.specs.Prelude.{◌≡◌};
+    ghost use Rattle.wire_records.specs.Versions.{number_of, most_tag, HasLastBatches, HasCredit};
+
+    /// Its number, from 1.
+    pub fn number(self) -> u8
+        ensures { result ≡ number_of self }
+    {
+        match self {
+            Version::One => 1,
+            Version::Two => 2,
+            Version::Three => 3,
+        }
+    }
+
+    /// The version of a number; `None` exactly where no version has it.
+    pub fn of_number(number: u8) -> Option<Version>
+        ensures { MatchOption result ((version : Version) → number ≢ number_of version) (λ version. number ≡ number_of version) }
+    {
+        match number {
+            1 => Some(Version::One),
+            2 => Some(Version::Two),
+            3 => Some(Version::Three),
+            _ => None,
+        }
+    }
+
+    /// The highest tag of one of its commands.
+    pub fn most_tag(self) -> u8
+        ensures { result ≡ most_tag self }
+    {
+        match self {
+            Version::One => 9,
+            Version::Two => 12,
+            Version::Three => 12,
+        }
+    }
+
+    /// Whether an order may name the last batch in which it trades.
+    pub fn has_last_batches(self) -> bool
+        ensures { IsTrue result ↔ HasLastBatches self }
+    {
+        self.most_tag() >= 10
+    }
+
+    /// Whether an account may get credit for its orders.
+    pub fn has_credit(self) -> bool
+        ensures { IsTrue result ↔ HasCredit self }
+    {
+        self.most_tag() >= 11
+    }
 }

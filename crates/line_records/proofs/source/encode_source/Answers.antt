@@ -33,7 +33,7 @@ returns-in-Ok-write g c =
     let written = c.in-Ok-write.ensures in
     record {
       does = does (encoding c.args.version) c.args.limit c.encode_all.result source out
-          (encodes_lines c.args.version source.before source.after c.args.limit c.in-Ok.input c.encode_all.result out.before (g.K.Sink.held c.write.new.self) out.after read.whole (rw c.magic_of.ensures at written.written) encoded.encoded) (λ why. keeps_up_within (encoding c.args.version) c.args.limit source.before source.after read.front.0 out.before out.after read.front.1 read.most (omega arith)) read.most
+          (encodes_lines c.args.version source.before source.after c.args.limit c.in-Ok.input c.encode_all.result out.before (g.K.Sink.held c.write.new.self) out.after read.whole (rw c.command_magic.ensures at written.written) encoded.encoded) (λ why. keeps_up_within (encoding c.args.version) c.args.limit source.before source.after read.front.0 out.before out.after read.front.1 read.most (omega arith)) read.most
           (left_told c.args.version source.before source.after c.args.limit c.in-Ok.input c.encode_all.result (g.K.Sink.held c.write.new.self) out.after read.whole read.taken encoded.encoded)
           (read_quietly c.args.version (IsTrue c.in-Ok.input.more) c.in-Ok.input.bytes.items c.encode_all.result (g.K.Sink.held c.write.new.self) out.after encoded.encoded source.faults source.faults_after (read.cause.quiet (λ e. cc)))
           (blames_later out.faults (g.K.Sink.faults c.write.new.self) out.faults_after (written.cause.quiet (λ e. cc)) (λ e. e) (λ e. e) encoded.cause);
@@ -48,7 +48,7 @@ returns g c =
     let quiet = read.cause.quiet (λ e. cc) in
     record {
       does = does (encoding c.args.version) c.args.limit (Err Write) source out
-          (encodes_not c.args.version source.before source.after c.args.limit c.in-Ok.input out.before out.after read.whole (rw c.magic_of.ensures at written.cut)) (λ why. keeps_up_within (encoding c.args.version) c.args.limit source.before source.after read.front.0 out.before out.after read.front.1 read.most (omega arith)) read.most tt
+          (encodes_not c.args.version source.before source.after c.args.limit c.in-Ok.input out.before out.after read.whole (rw c.command_magic.ensures at written.cut)) (λ why. keeps_up_within (encoding c.args.version) c.args.limit source.before source.after read.front.0 out.before out.after read.front.1 read.most (omega arith)) read.most tt
           (record { later = omega (arith, quiet); rose = λ e. absurd cc; quiet = λ _. quiet })
           (record { later = written.cause.later; rose = λ e. written.cause.rose refl; quiet = λ not. absurd (not refl) });
     }

@@ -1,7 +1,7 @@
 use Rattle.std.proofs.Common.{◌≡◌, ◌∙◌, ◌++◌, ◌<◌, List, ℕ, length, get_or, ap, sym, arith}
 use Rattle.std.proofs.lemmas.Option.{get_or_from_slice_get}
 use Rattle.wire_fields.specs.Numbers.{unsigned}
-use Rattle.market_parts.specs.Parts.{number_of}
+use Rattle.wire_records.specs.Versions.{number_of}
 use Rattle.market_snapshot.specs.Checkpoints.{checkpoint_magic}
 use Rattle.market_snapshot.proofs.Written.{none_written, one_more, all_written, tickers_written}
 use Rattle.market_snapshot.proofs.writing.put_tickers.Goals as goal
@@ -12,8 +12,8 @@ loop-asset-init c =
     let tickers = c.args.tickers.now in
     record {
       written =
-          c.put_u16.ensures.written ∙ ap (λ z. z ++ unsigned 2 c.len.result) (c.put_u8.ensures.written ∙ ap (λ z. z ++ unsigned 1 c.number_of.result) c.put_bytes.ensures.written)
-          ∙ ap (λ n. ((old ++ checkpoint_magic) ++ unsigned 1 n) ++ unsigned 2 c.len.result) c.number_of.ensures
+          c.put_u16.ensures.written ∙ ap (λ z. z ++ unsigned 2 c.len.result) (c.put_u8.ensures.written ∙ ap (λ z. z ++ unsigned 1 c.number.result) c.put_bytes.ensures.written)
+          ∙ ap (λ n. ((old ++ checkpoint_magic) ++ unsigned 1 n) ++ unsigned 2 c.len.result) c.number.ensures
           ∙ ap (λ n. ((old ++ checkpoint_magic) ++ unsigned 1 (number_of c.args.version)) ++ unsigned 2 n) c.len.ensures.count
           ∙ none_written (λ (t : List ℕ). t) tickers (((old ++ checkpoint_magic) ++ unsigned 1 (number_of c.args.version)) ++ unsigned 2 (length tickers));
       len = omega (arith, c.put_u16.ensures.len, c.put_u8.ensures.len, c.put_bytes.ensures.len);

@@ -1,7 +1,7 @@
 use Rattle.std.proofs.Common.{◌≡◌, ◌+◌, ◌*◌, ◌++◌, length, take, vec_len, vec_capacity}
 use Rattle.std.specs.List.{flat_map}
 use Rattle.wire_fields.specs.Numbers.{unsigned}
-use Rattle.market_parts.specs.Parts.{number_of}
+use Rattle.wire_records.specs.Versions.{number_of}
 use Rattle.market_snapshot.specs.Checkpoints.{checkpoint_magic}
 use Rattle.market_snapshot.proofs.writing.put_tickers.Given as goal
 

@@ -1,4 +1,4 @@
-use Rattle.wire_records.specs.declared.version.Version.TheVariants.{One, Two}
+use Rattle.wire_records.specs.declared.version.Version.TheVariants.{One, Two, Three}
 use Rattle.wire_records.specs.Formats.{command_magic_of}
 use Rattle.wire_records.proofs.RecordCode.{command_magics}
 use Rattle.wire_records.proofs.MagicFound.{version_found}
@@ -9,3 +9,6 @@ returns-then-starts_with-clause-exact c = version_found command_magic_of command
 
 pub returns-then-starts_with-2-clause-exact : goal.returns-then-starts_with-2-clause-exact
 returns-then-starts_with-2-clause-exact c = version_found command_magic_of command_magics c.args.bytes.now Two c.starts_with-else-starts_with.result c.starts_with-else-starts_with.ensures.value c.if-starts_with-2.true
+
+pub returns-then-starts_with-3-clause-exact : goal.returns-then-starts_with-3-clause-exact
+returns-then-starts_with-3-clause-exact c = version_found command_magic_of command_magics c.args.bytes.now Three c.starts_with-else-starts_with-2.result c.starts_with-else-starts_with-2.ensures.value c.if-starts_with-3.true
