@@ -152,11 +152,11 @@ module _ (version : Version) (pairs : List (Pair Record Outcome)) (market : Mark
       let back = take_all most others there in (
         texts limit most bytes others x y s t front back a b,
         status_alike (length journal) (length checkpoint) limit most a.0 b.0 s t
-        (ends_alike market (limit < length bytes) (most < length others) (λ more. omega (arith, more, here)) (λ more. omega (arith, more, there)) (length journal) (length checkpoint) rest origin.Journal origin.Checkpoint a.0 b.0 x y
-        (comes_from (limit < length bytes) (take limit bytes) a.0 x (Whole origin.Journal market (length journal) rest) (journal_first (take limit bytes) front) a.1)
-        (comes_from (most < length others) (take most others) b.0 y (Whole origin.Checkpoint market (length checkpoint) rest) (checkpoint_first (take most others) back) b.1))
-        a.2
-        b.2,
+            (ends_alike market (limit < length bytes) (most < length others) (λ more. omega (arith, more, here)) (λ more. omega (arith, more, there)) (length journal) (length checkpoint) rest origin.Journal origin.Checkpoint a.0 b.0 x y
+            (comes_from (limit < length bytes) (take limit bytes) a.0 x (Whole origin.Journal market (length journal) rest) (journal_first (take limit bytes) front) a.1)
+            (comes_from (most < length others) (take most others) b.0 y (Whole origin.Checkpoint market (length checkpoint) rest) (checkpoint_first (take most others) back) b.1))
+            a.2
+            b.2,
       )
 
 written : (limit most within : ℕ) (journal checkpoint rest x y : List ℕ) (s t : Status) → ComesTo Checkpoint within journal answer.Done checkpoint → BeginsWithNone journals.units rest → limit < 2 ^ 64 → length (journal ++ rest) ≤ limit → length (checkpoint ++ rest) ≤ most

@@ -262,16 +262,15 @@ resumptions_end = record {
         let within = not_more limit (length bytes) is.1 in
         let first = subst (λ (xs : List ℕ). IsFirst xs NoCheckpoint) (take_all limit bytes within) is.0 in
         (first.0, first.1, within, is.2),
-    λ (magic, none, within, empty).
-        (
-          why_of unfit.NoCheckpoint,
-          record {
-            first = NoCheckpoint;
-            stands = subst (λ (xs : List ℕ). IsFirst xs NoCheckpoint) (sym (take_all limit bytes within)) (magic, none);
-            comes = (inr (λ more. omega (arith, more, within), refl), empty);
-          },
-          refl,
-        ),
+    λ (magic, none, within, empty). (
+      why_of unfit.NoCheckpoint,
+      record {
+        first = NoCheckpoint;
+        stands = subst (λ (xs : List ℕ). IsFirst xs NoCheckpoint) (sym (take_all limit bytes within)) (magic, none);
+        comes = (inr (λ more. omega (arith, more, within), refl), empty);
+      },
+      refl,
+    ),
   );
   not_flow = λ limit bytes text. (
     λ comes.
