@@ -1,5 +1,5 @@
 -- A run opens at the magic of a version.
-use Rattle.std.proofs.Common.{◌≡◌, ◌+◌, ◌<◌, ◌^◌, ℕ, List, length, drop, refl, sym, ap, subst, ◌∙◌, arith}
+use Rattle.std.proofs.Common.{◌≡◌, ◌+◌, ◌<◌, ◌^◌, ℕ, List, drop, sym, ap, subst, ◌∙◌, arith}
 use Rattle.std.proofs.lemmas.List.{drop_at}
 use Rattle.wire_records.specs.Grammars.{BeginsWith}
 use Rattle.wire_records.specs.declared.version.Version.{Version}
