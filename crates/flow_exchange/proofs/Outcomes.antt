@@ -1,5 +1,5 @@
 -- Bytes determine one status and one text, to which a call comes that no fault broke off.
-use Rattle.std.proofs.Common.{◌≡◌, ◌≢◌, ◌+◌, ◌<◌, ◌^◌, ℕ, List, [], ◌∷◌, ◌++◌, length, take, get_or, codes, inl, inr, Option, Some, None, IfSome, refl, sym, ap, subst, ◌∙◌, arith}
+use Rattle.std.proofs.Common.{◌≡◌, ◌≢◌, ◌+◌, ◌<◌, ℕ, List, [], ◌∷◌, ◌++◌, length, take, get_or, codes, inl, inr, Option, Some, None, IfSome, refl, sym, ap, subst, ◌∙◌, arith}
 use Rattle.std.specs.Prelude.{decimal}
 use Rattle.std.proofs.lemmas.Fmt.{decimal_injective}
 use Rattle.wire_records.specs.Records.{Record}
@@ -35,7 +35,7 @@ use Rattle.line_records.proofs.Encoding.{encodes_one}
 use Rattle.sample_summary.proofs.OneSummary.{one_summary}
 use Rattle.flow_exchange.specs.Sampling.{AskSample, SamplesTo}
 use Rattle.flow_exchange.specs.Stating.{AskStatement, statement_status, statement_text, StatesTo}
-use Rattle.statement_rules.specs.Views.{Event, Sees}
+use Rattle.statement_rules.specs.Views.{Sees}
 use Rattle.statement_rules.proofs.ViewLaws.{one_view}
 use Rattle.flow_exchange.specs.Running.{WritesOf, RunsTo}
 use Rattle.flow_exchange.specs.Checkpointing.{checkpoint_text, CheckpointsTo}

@@ -1,5 +1,5 @@
 -- A resumption does what the clauses of the program say.
-use Rattle.std.proofs.Common.{◌≡◌, ◌≢◌, ℕ, List, Option, refl}
+use Rattle.std.proofs.Common.{◌≢◌, ℕ, List, Option, refl}
 use Rattle.session_resume.specs.declared.first.Unfit.{Unfit}
 use Rattle.session_resume.specs.declared.first.Unfit.TheVariants.{Illegal, NoCheckpoint}
 use Rattle.session_resume.specs.Tasks.{resuming}
