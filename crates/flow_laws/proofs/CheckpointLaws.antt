@@ -1,5 +1,5 @@
 -- Checkpoints of legal journals: when they are done, and that they are checkpoints.
-use Rattle.std.proofs.Common.{◌≡◌, ◌≢◌, ◌<◌, ◌+◌, ◌*◌, ◌^◌, ◌≤◌, ℕ, List, [], ◌∷◌, ◌++◌, length, map, Option, Some, None, Result, Ok, Err, inl, inr, length-append, refl, sym, subst, ◌∙◌, arith}
+use Rattle.std.proofs.Common.{◌≡◌, ◌≢◌, ◌<◌, ◌+◌, ◌^◌, ℕ, List, [], ◌∷◌, map, Option, Some, None, Result, Ok, Err, inl, inr, length-append, refl, sym, subst, ◌∙◌, arith}
 use Rattle.std.specs.Prelude.{All, not, ◌==◌}
 use Rattle.std.specs.List.{flat_map}
 use Rattle.std.proofs.lemmas.List.Elements.{All-nil, All-push, All-map, All-filter}
@@ -16,12 +16,11 @@ use Rattle.flow_orders.specs.Outcomes.{Fill, Outcome, Cleared, Skipped, IsRightO
 use Rattle.flow_orders.specs.Trades.{Trade, after_fill, is_live, staying}
 use Rattle.flow_orders.proofs.TradeFacts.{All-trades}
 use Rattle.journal_records.specs.Pairs.{pair_spelling}
-use Rattle.journal_records.specs.Formats.{journal_magic_of, journal_in}
+use Rattle.journal_records.specs.Formats.{journal_magic_of}
 use Rattle.market_rules.specs.Market.{Market, empty_market}
 use Rattle.market_rules.specs.Step.{Accepts, Answers, ServesRead, after_batch, placed}
 use Rattle.market_rules.specs.Journal.{Follows}
 use Rattle.market_snapshot.specs.Checkpoints.{checkpoint_bytes}
-use Rattle.batch_audit.specs.Legal.{IsLegalJournal}
 use Rattle.journal_replay.proofs.LawProofs.{audits_to_end}
 use Rattle.flow_exchange.specs.declared.form.Form.TheVariants.{Audit}
 use Rattle.flow_exchange.specs.declared.status.Status.{Status}

@@ -1,5 +1,5 @@
 -- A command file states a length above any record's, and so begins no pair.
-use Rattle.std.proofs.Common.{◌<◌, ◌^◌, ℕ, List, ◌∷◌, ◌++◌, refl, arith}
+use Rattle.std.proofs.Common.{ℕ, List, ◌∷◌, ◌++◌, refl, arith}
 use Rattle.wire_records.specs.Records.{head, StatesLength, most_body}
 use Rattle.wire_records.specs.Formats.{command_magic_of}
 use Rattle.wire_records.specs.declared.version.Version.{Version}

@@ -1,6 +1,5 @@
 -- A journal and a checkpoint of its market are gone on from alike.
-use Rattle.std.proofs.Common.{◌≡◌, ◌≢◌, ◌⊎◌, ◌+◌, ◌^◌, ◌<◌, ◌≤◌, ℕ, List, [], ◌∷◌, ◌++◌, length, take, Ok, Err, length-append, refl, sym, ap, subst, ◌∙◌, inl, inr, arith}
-use Rattle.std.specs.Prelude.{All}
+use Rattle.std.proofs.Common.{◌≡◌, ◌≢◌, ◌⊎◌, ◌+◌, ◌^◌, ◌<◌, ◌≤◌, ℕ, List, [], ◌++◌, length, take, Ok, Err, length-append, refl, sym, ap, subst, ◌∙◌, inl, inr, arith}
 use Rattle.std.proofs.lemmas.List.{take_all}
 use Rattle.wire_records.specs.Records.{Record}
 use Rattle.wire_records.specs.Commands.{Pair}
@@ -13,7 +12,7 @@ use Rattle.wire_records.proofs.RecordCode.{commands_readable}
 use Rattle.flow_orders.specs.Outcomes.{Outcome}
 use Rattle.journal_records.specs.Formats.{journals, journal_in}
 use Rattle.market_rules.specs.Market.{Market}
-use Rattle.market_snapshot.specs.Checkpoints.{checkpoint_bytes, IsCheckpoint}
+use Rattle.market_snapshot.specs.Checkpoints.{IsCheckpoint}
 use Rattle.batch_audit.specs.Legal.{IsLegalJournal}
 use Rattle.word_driver.specs.Ended.{Ended}
 use Rattle.word_driver.specs.declared.fault.Fault.TheVariants as fault
@@ -30,7 +29,7 @@ use Rattle.flow_exchange.specs.declared.status.Status.{Status}
 use Rattle.flow_exchange.specs.declared.status.Status.TheVariants as answer
 use Rattle.flow_exchange.specs.Statuses.{ended_status, unfit_status}
 use Rattle.flow_exchange.specs.Program.{ComesTo}
-use Rattle.flow_laws.specs.Laws.{AreNew, NewRecords, GoesOn, EndAlike, GoOnAlike}
+use Rattle.flow_laws.specs.Laws.{NewRecords, GoesOn, EndAlike, GoOnAlike}
 use Rattle.flow_laws.proofs.CheckpointLaws.{checkpoints_of_legal_journals, legal_journals_have_checkpoints}
 use Rattle.flow_laws.proofs.Resumed.{goes_from}
 

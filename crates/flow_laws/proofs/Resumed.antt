@@ -1,6 +1,5 @@
 -- What is written behind a journal, or behind a checkpoint of its market, goes on from the market, and is with the journal one legal journal.
-use Rattle.std.proofs.Common.{◌≡◌, ◌≢◌, ◌⊎◌, ◌+◌, ◌^◌, ◌<◌, ◌≤◌, ℕ, List, [], ◌∷◌, ◌++◌, map, length, take, append-nil, length-append, refl, sym, ap, subst, ◌∙◌, inl, inr, arith}
-use Rattle.std.specs.Prelude.{All}
+use Rattle.std.proofs.Common.{◌≡◌, ◌≢◌, ◌^◌, ◌<◌, ◌≤◌, ℕ, List, [], ◌++◌, length, take, length-append, refl, sym, ap, subst, ◌∙◌, inl, inr, arith}
 use Rattle.std.proofs.lemmas.List.Elements.{All-nil}
 use Rattle.wire_records.specs.Records.{Record}
 use Rattle.wire_records.specs.Commands.{Pair}
@@ -20,7 +19,6 @@ use Rattle.market_rules.proofs.Promised.{legal_journal_keeps_promises, own_journ
 use Rattle.market_rules.proofs.Versions.{follows_version}
 use Rattle.batch_audit.specs.Legal.{IsLegalJournal}
 use Rattle.word_driver.specs.Ended.{Ended}
-use Rattle.exchange_session.specs.Journals.{Journals}
 use Rattle.session_resume.specs.declared.first.Origin.{Origin}
 use Rattle.session_resume.specs.declared.first.Origin.TheVariants as origin
 use Rattle.session_resume.specs.declared.first.Unfit.{Unfit}
@@ -29,10 +27,10 @@ use Rattle.session_resume.specs.Firsts.{First, Whole, IsFirst}
 use Rattle.session_resume.specs.Rests.{Rest, Cut, Nothing, Commands, Other, IsRest, RestComesTo}
 use Rattle.session_resume.specs.Resuming.{FirstComesTo, Resumes, ResumesFirst}
 use Rattle.session_resume.proofs.OneFirst.{one_first, eight}
-use Rattle.flow_exchange.specs.declared.form.Form.TheVariants.{Audit, Resume}
+use Rattle.flow_exchange.specs.declared.form.Form.TheVariants.{Audit}
 use Rattle.flow_exchange.specs.declared.status.Status.TheVariants.{Done}
 use Rattle.flow_exchange.specs.Auditing.{legal_line}
-use Rattle.flow_exchange.specs.Program.{ComesTo, GetsTo, LacksAt}
+use Rattle.flow_exchange.specs.Program.{ComesTo}
 use Rattle.flow_laws.specs.Laws.{NewRecords, GoesOn, KeepsFirst, JoinsJournal, ResumptionsGoOn, ResumptionsKeepPromises}
 use Rattle.flow_laws.proofs.GoingOn.{Answers, legal_is_sound, one_journal, own_journal, same_journal}
 

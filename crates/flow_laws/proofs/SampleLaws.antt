@@ -1,5 +1,5 @@
 -- A sample's file is run and its journal audited, and there is some line on it.
-use Rattle.std.proofs.Common.{◌≡◌, ◌+◌, ◌*◌, ◌≤◌, ℕ, List, [], ◌∷◌, ◌++◌, map, length, refl, sym, ap, ◌∙◌, length-append, arith}
+use Rattle.std.proofs.Common.{◌≡◌, ◌+◌, ◌*◌, ◌≤◌, ℕ, List, [], ◌∷◌, map, length, refl, sym, ap, ◌∙◌, length-append, arith}
 use Rattle.std.proofs.lemmas.List.{length-map}
 use Rattle.wire_records.specs.Records.{Record, spelling, command_magic}
 use Rattle.wire_records.specs.Commands.{Command, Pair}
@@ -17,7 +17,7 @@ use Rattle.exchange_session.proofs.RunLaws.{run_is_exact, run_is_kept, run_has_n
 use Rattle.sample_market.specs.Files.{sample, spell_commands, sample_file}
 use Rattle.sample_market.proofs.LawProofs.{samples_are_read}
 use Rattle.sample_market.proofs.Short.{samples_are_short}
-use Rattle.sample_summary.specs.Summary.{units_in, summary_line, Summarizes}
+use Rattle.sample_summary.specs.Summary.{units_in, summary_line}
 use Rattle.flow_exchange.specs.declared.status.Status.{Status}
 use Rattle.flow_exchange.specs.declared.status.Status.TheVariants as answer
 use Rattle.flow_exchange.specs.Statuses.{ended_status}
@@ -25,7 +25,7 @@ use Rattle.flow_exchange.specs.Private.{no_reason}
 use Rattle.flow_exchange.specs.Sampling.{SamplesTo}
 use Rattle.flow_exchange.specs.Auditing.{legal_line}
 use Rattle.flow_exchange.proofs.RunWord.{run_form, start}
-use Rattle.flow_laws.specs.Laws.{SampleIsRun, SamplesAreRun}
+use Rattle.flow_laws.specs.Laws.{SamplesAreRun}
 use Rattle.flow_laws.proofs.AuditLaws.{done_is_for_legal}
 use Rattle.flow_laws.proofs.EncodeLaws.{run_of}
 use Rattle.flow_laws.proofs.RunsAudited.{orders_few}

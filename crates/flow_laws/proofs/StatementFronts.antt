@@ -1,5 +1,5 @@
 -- What stands in out of a statement before its end is a front of the text that the bytes determine.
-use Rattle.std.proofs.Common.{◌≡◌, ◌+◌, ◌<◌, ℕ, Bool, if◌then◌else◌, List, [], ◌∷◌, ◌++◌, All, map, length, take, Result, inl, inr, append-nil, append_assoc, refl, sym, ap, subst, ◌∙◌}
+use Rattle.std.proofs.Common.{◌≡◌, ℕ, Bool, if◌then◌else◌, List, [], ◌∷◌, ◌++◌, All, map, length, Result, inl, inr, append-nil, append_assoc, refl, sym, ap, subst, ◌∙◌}
 use Rattle.std.proofs.lemmas.List.{flat_map_more, take_at}
 use Rattle.std.proofs.lemmas.List.Elements.{All-head, All-tail, All-take}
 use Rattle.wire_records.specs.Records.{Record}
@@ -20,7 +20,6 @@ use Rattle.journal_records.proofs.Files.{journals_readable}
 use Rattle.journal_records.proofs.Spelled.{answer_unique}
 use Rattle.market_rules.specs.Market.{Market, empty_market}
 use Rattle.market_rules.specs.Step.{ServesRead}
-use Rattle.market_rules.specs.Journal.{Step}
 use Rattle.batch_audit.specs.Legal.{IsLegalPair, StopsAt}
 use Rattle.batch_audit.proofs.LawProofs.{one_market}
 use Rattle.statement_rules.specs.Views.{Event, Sees, seen}

@@ -1,5 +1,5 @@
 -- Statements of legal journals: when they are done, and that they are told by what the account sees alone.
-use Rattle.std.proofs.Common.{◌≡◌, ◌⊎◌, ℕ, ◌+◌, ◌≤◌, Bool, true, false, if◌then◌else◌, List, [], ◌∷◌, length, inl, inr, refl, sym, ap, subst, ◌∙◌}
+use Rattle.std.proofs.Common.{◌≡◌, ◌⊎◌, ℕ, ◌+◌, Bool, true, false, if◌then◌else◌, List, [], ◌∷◌, length, inl, inr, refl, sym, ap, subst, ◌∙◌}
 use Rattle.std.proofs.lemmas.Bool.{false_from_ne_true}
 use Rattle.wire_records.specs.Records.{Record}
 use Rattle.wire_records.specs.Commands.{Pair}
@@ -7,7 +7,6 @@ use Rattle.wire_records.specs.Versions.{IsReadAs}
 use Rattle.wire_records.specs.Reading.{Ending, End}
 use Rattle.wire_records.specs.Reading as reading
 use Rattle.wire_records.specs.declared.version.Version.{Version}
-use Rattle.flow_accounts.specs.Balances.{IsAccount}
 use Rattle.flow_orders.specs.Outcomes.{Outcome, IsRightOutcome}
 use Rattle.market_rules.specs.Market.{Market, empty_market}
 use Rattle.market_rules.proofs.Versions.{follows_version}
