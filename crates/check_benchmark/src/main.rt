@@ -83,7 +83,7 @@ fn clearings(alloc: Global, orders: &[Order], passes: u32) -> Option<u32> {
     }
     let mut clearings = 0u32;
     for _ in 0..passes {
-        if let Outcome::Cleared(_) = clear(alloc, orders, &start, 1).ok()? {
+        if let Outcome::Cleared(_) = clear(alloc, 1, orders, &start, 1).ok()? {
             clearings = clearings.wrapping_add(1);
         }
     }

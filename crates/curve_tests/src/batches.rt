@@ -20,7 +20,7 @@ fn outcome(alloc: Global, orders: &[Order], start: &[i64], budget: u32) -> Optio
     {
         return None;
     }
-    clear(alloc, orders, start, budget).ok()
+    clear(alloc, 1, orders, start, budget).ok()
 }
 
 // Whether the orders that are placed are all there, and clear so from these start prices.

@@ -2,7 +2,7 @@
 ghost use Rattle.std.specs.Prelude.{◌^◌};
 ghost use Rattle.demand_curve.specs.Demand.{IsWithin};
 
-use demand_curve::{Curve, Roundings};
+use demand_curve::{Curve, PartRoundings, Roundings};
 use std::test::Fail;
 
 // The low limit, the high limit, the rate and the room of a curve.
@@ -328,6 +328,32 @@ fn roundings_are_quotients(rt: HostRuntime) -> Result<(), Fail> {
         for step in [-1, 0, 1] {
             let price = row.0.saturating_add(step).max(-FARTHEST);
             assert!(rt; rounds_by_quotients(&curve, price), "at {price}");
+        }
+    }
+    Ok(())
+}
+
+// The same in parts of a unit.
+fn rounds_in_parts(curve: &Curve, parts: u16, price: i128) -> bool {
+    if parts == 0 || price < -FARTHEST || price > FARTHEST {
+        return false;
+    }
+    let PartRoundings { floor, ceil } = curve.roundings_in(parts, price);
+    let demand = (curve.scaled(price) as u128).wrapping_mul(u128::from(parts));
+    let span = curve.span() as u128;
+    (u128::from(floor), u128::from(ceil)) == (demand / span, demand.div_ceil(span))
+}
+
+#[test]
+fn roundings_in_parts_are_quotients(rt: HostRuntime) -> Result<(), Fail> {
+    for ((low, high, rate, room), row) in ROWS {
+        let curve = curve_of(low, high, rate, room).ok_or("limits")?;
+        for parts in [1, 2, 256, 65_535] {
+            assert!(rt;
+                rounds_in_parts(&curve, parts, row.0),
+                "{parts} parts at {}",
+                row.0
+            );
         }
     }
     Ok(())

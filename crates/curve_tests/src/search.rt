@@ -55,25 +55,29 @@ fn a_book_of_one_asset_orders_settles(rt: HostRuntime) -> Result<(), Fail> {
         ((90, 110), (1000, 10_000), 0, &[(1, 1)]),
         ((-110, -90), (1000, 10_000), 0, &[(1, -1)]),
     ];
-    let cases: [(&[Placed<'_>], &[i64], &[i64]); 5] = [
-        (&far[..2], &[0], &[429_410_830_255]),
-        (&STEEP, &[0], &[524_287]),
-        (&FILLED, &[429_410_830_255], &[386_804_754_677]),
+    let cases: [(u16, &[Placed<'_>], &[i64], &[i64]); 7] = [
+        (1, &far[..2], &[0], &[429_410_830_255]),
+        (256, &far[..2], &[0], &[429_453_444_383]),
+        (1, &STEEP, &[0], &[524_287]),
+        (1, &FILLED, &[429_410_830_255], &[386_804_754_677]),
+        (256, &FILLED, &[429_410_830_255], &[386_719_190_876]),
         (
+            1,
             &far,
             &[0, 429_410_830_260, -5],
             &[429_410_830_255, 429_410_830_260, -5],
         ),
-        (&far[..2], &[TOP, TOP], &[429_582_628_945, TOP]),
+        (1, &far[..2], &[TOP, TOP], &[429_582_628_945, TOP]),
     ];
-    for (placed, start, end) in cases {
+    for (parts, placed, start, end) in cases {
+        assert!(rt; 1 <= parts && parts <= 256);
         let orders = orders_of(rt.alloc(), placed)?;
         assert_eq!(rt; orders.len(), placed.len());
         may_settle(&rt, orders.as_slice(), start);
         let mut work = Workspace::new(rt.alloc(), orders.as_slice(), start)
             .ok()
             .ok_or("no memory")?;
-        settle_single(&mut work);
+        settle_single(&mut work, parts);
         assert_eq!(rt; work.prices(), end);
     }
     Ok(())
@@ -104,10 +108,12 @@ fn see_move(
     rt: &impl Abort,
     alloc: Global,
     orders: &[Order],
+    parts: u16,
     start: i64,
     reach: i64,
     end: i64,
 ) -> Result<(), Fail> {
+    assert!(rt; 1 <= parts && parts <= 256);
     let start: [i64; 1] = [start];
     may_settle(rt, orders, &start);
     let mut work = Workspace::new(alloc, orders, &start)
@@ -115,7 +121,7 @@ fn see_move(
         .ok_or("no memory")?;
     may_move(rt, &work, reach);
     assert!(rt; !work.is_settled(0));
-    step(&mut work, 0, reach);
+    step(&mut work, parts, 0, reach);
     assert_eq!(rt; work.prices(), [end].as_slice());
     Ok(())
 }
@@ -124,16 +130,20 @@ fn see_move(
 fn a_move_ends_at_its_reach_or_before(rt: HostRuntime) -> Result<(), Fail> {
     let orders = orders_of(rt.alloc(), &[BUYER, SELLER])?;
     let cases = [
-        (0, 1 << 20, 1_048_576),
-        (0, 1, 1),
-        (0, 429_410_830_254, 429_410_830_254),
-        (0, 429_410_830_255, 429_410_830_255),
-        (0, 1 << 61, 429_410_830_255),
-        (TOP, 1 << 20, 1_152_921_504_605_798_400),
-        (TOP, 1 << 61, 429_582_628_945),
+        (1, 0, 1 << 20, 1_048_576),
+        (1, 0, 1, 1),
+        (1, 0, 429_410_830_254, 429_410_830_254),
+        (1, 0, 429_410_830_255, 429_410_830_255),
+        (1, 0, 1 << 61, 429_410_830_255),
+        (1, TOP, 1 << 20, 1_152_921_504_605_798_400),
+        (1, TOP, 1 << 61, 429_582_628_945),
+        (256, 0, 1 << 20, 1_048_576),
+        (256, 0, 429_410_830_255, 429_410_830_255),
+        (256, 0, 1 << 61, 429_453_444_383),
+        (256, TOP, 1 << 61, 429_540_014_817),
     ];
-    for (start, reach, end) in cases {
-        see_move(&rt, rt.alloc(), orders.as_slice(), start, reach, end)?;
+    for (parts, start, reach, end) in cases {
+        see_move(&rt, rt.alloc(), orders.as_slice(), parts, start, reach, end)?;
     }
     Ok(())
 }
@@ -155,9 +165,11 @@ fn see_search(
     rt: &impl Abort,
     alloc: Global,
     orders: &[Order],
+    parts: u16,
     start: &[i64],
     wanted: Searched<'_>,
 ) -> Result<(), Fail> {
+    assert!(rt; 1 <= parts && parts <= 256);
     let (budget, found, walk, end) = wanted;
     may_search(rt, orders, start);
     assert!(rt; budget <= 65_536);
@@ -165,7 +177,7 @@ fn see_search(
     let mut work = Workspace::new(alloc, orders, start)
         .ok()
         .ok_or("no memory")?;
-    assert!(rt; search(&mut work, budget, &mut trace) == found);
+    assert!(rt; search(&mut work, parts, budget, &mut trace) == found);
     assert_eq!(rt; trace.as_slice(), walk);
     assert_eq!(rt; work.prices(), end);
     Ok(())
@@ -219,9 +231,9 @@ fn a_book_of_portfolios_is_searched_in_turn(rt: HostRuntime) -> Result<(), Fail>
         ),
     ];
     for (start, wanted) in cases {
-        see_search(&rt, rt.alloc(), orders.as_slice(), start, wanted)?;
+        see_search(&rt, rt.alloc(), orders.as_slice(), 1, start, wanted)?;
     }
-    see_search(&rt, rt.alloc(), &[], &[], (1, Found::Settled, &[], &[]))
+    see_search(&rt, rt.alloc(), &[], 1, &[], (1, Found::Settled, &[], &[]))
 }
 
 #[test]
@@ -248,7 +260,23 @@ fn a_settled_asset_is_passed_over_until_it_is_not(rt: HostRuntime) -> Result<(),
         ),
     ];
     for wanted in cases {
-        see_search(&rt, rt.alloc(), orders.as_slice(), &[0, 0, 0, 0], wanted)?;
+        see_search(&rt, rt.alloc(), orders.as_slice(), 1, &[0, 0, 0, 0], wanted)?;
+    }
+    Ok(())
+}
+
+#[test]
+fn moves_end_by_parts_of_a_unit(rt: HostRuntime) -> Result<(), Fail> {
+    let orders = orders_of(rt.alloc(), &BASKET)?;
+    assert_eq!(rt; orders.len(), 3);
+    let cases: [(u16, &[i64]); 3] = [
+        (1, &[393_590_803_005, 393_161_306_276]),
+        (2, &[393_504_903_659, 393_204_255_949]),
+        (256, &[393_437_459_251, 393_256_600_863]),
+    ];
+    for (parts, end) in cases {
+        let wanted: Searched<'_> = (3, Found::Settled, &[0, 1, 0], end);
+        see_search(&rt, rt.alloc(), orders.as_slice(), parts, &[0, 0], wanted)?;
     }
     Ok(())
 }
@@ -257,35 +285,51 @@ fn a_settled_asset_is_passed_over_until_it_is_not(rt: HostRuntime) -> Result<(),
 fn a_walk_is_made_again_as_far_as_it_is_legal(rt: HostRuntime) -> Result<(), Fail> {
     let orders = orders_of(rt.alloc(), &BASKET)?;
     assert_eq!(rt; orders.len(), 3);
-    let cases: [(&[u8], Retraced, &[i64]); 8] = [
-        (&[], Retraced::Legal, &[0, 0]),
+    let cases: [(u16, &[u8], Retraced, &[i64]); 10] = [
+        (1, &[], Retraced::Legal, &[0, 0]),
         (
+            1,
             &[0, 1, 0],
             Retraced::Legal,
             &[393_590_803_005, 393_161_306_276],
         ),
-        (&[1], Retraced::Legal, &[0, 394_965_192_541]),
+        (1, &[1], Retraced::Legal, &[0, 394_965_192_541]),
         (
+            1,
             &[1, 0],
             Retraced::Legal,
             &[393_161_306_276, 394_965_192_541],
         ),
-        (&[0, 0], Retraced::Illegal(1), &[394_965_192_541, 0]),
-        (&[2], Retraced::Illegal(0), &[0, 0]),
-        (&[0, 255, 1], Retraced::Illegal(1), &[394_965_192_541, 0]),
+        (1, &[0, 0], Retraced::Illegal(1), &[394_965_192_541, 0]),
+        (1, &[2], Retraced::Illegal(0), &[0, 0]),
+        (1, &[0, 255, 1], Retraced::Illegal(1), &[394_965_192_541, 0]),
         (
+            1,
             &[0, 1, 0, 1],
             Retraced::Illegal(3),
             &[393_590_803_005, 393_161_306_276],
         ),
+        (
+            256,
+            &[1, 0],
+            Retraced::Legal,
+            &[393_256_600_863, 395_050_756_342],
+        ),
+        (
+            256,
+            &[0, 1, 0, 1],
+            Retraced::Illegal(3),
+            &[393_437_459_251, 393_256_600_863],
+        ),
     ];
     may_search(&rt, orders.as_slice(), &[0, 0]);
-    for (walk, wanted, end) in cases {
+    for (parts, walk, wanted, end) in cases {
+        assert!(rt; 1 <= parts && parts <= 256);
         assert!(rt; walk.len() <= 65_536);
         let mut work = Workspace::new(rt.alloc(), orders.as_slice(), &[0, 0])
             .ok()
             .ok_or("no memory")?;
-        assert!(rt; retrace(&mut work, walk) == wanted);
+        assert!(rt; retrace(&mut work, parts, walk) == wanted);
         assert_eq!(rt; work.prices(), end);
     }
     Ok(())
