@@ -15,7 +15,7 @@ use Rattle.flow_orders.specs.Outcomes.{Clearing, Skipping, Outcome, Cleared, Ski
 use Rattle.flow_orders.proofs.Moving.{has_walked}
 use Rattle.coordinate_search.proofs.MadeAgain.{illegal_whole}
 use Rattle.journal_records.specs.Replies.{SpellsAnswer}
-use Rattle.market_rules.specs.Market.{Market, start_prices}
+use Rattle.market_rules.specs.Market.{Market, parts_of, start_prices}
 use Rattle.market_rules.specs.Step.{FirstRefusal, refusal_of, after_batch}
 use Rattle.market_rules.proofs.LawProofs.{plain_commands_need_no_rule}
 use Rattle.market_core.specs.Expected.{IsExpected}
@@ -67,7 +67,7 @@ module _ (m : Market) (pair : Record × Record) (budget : ℕ) (due : IsDue m pa
   other_batch answer number spelled next other = record { answer = answer; spelled = spelled; budget = budget; due = due; next = next; other = other }
 
   -- a right outcome makes a legal pair
-  pub right_batch : (outcome : Outcome) → SpellsAnswer pair.1 (Batch (m.batches + 1) outcome) → IsRightOutcome m.orders (start_prices m) budget outcome → IsFinding m pair finding.Legal
+  pub right_batch : (outcome : Outcome) → SpellsAnswer pair.1 (Batch (m.batches + 1) outcome) → IsRightOutcome (parts_of m.version) m.orders (start_prices m) budget outcome → IsFinding m pair finding.Legal
   right_batch outcome spelled right = (
     after_batch m outcome,
     record {
@@ -95,7 +95,7 @@ module _ (m : Market) (pair : Record × Record) (budget : ℕ) (due : IsDue m pa
   abbrev tells : (s : Skipping) → SpellsAnswer pair.1 (Batch (m.batches + 1) (Skipped s)) → TellsSkip m pair
   tells s spelled = record { skipping = s; spelled = spelled; budget = budget; due = due }
 
-  pub skip_found : (s : Skipping) (found : Finding) → SpellsAnswer pair.1 (Batch (m.batches + 1) (Skipped s)) → IsSkipFound m.orders (start_prices m) budget s found → IsFinding m pair found
+  pub skip_found : (s : Skipping) (found : Finding) → SpellsAnswer pair.1 (Batch (m.batches + 1) (Skipped s)) → IsSkipFound (parts_of m.version) m.orders (start_prices m) budget s found → IsFinding m pair found
   skip_found s finding.NoReply spelled is = absurd is
   skip_found s (finding.OtherReply right) spelled is = absurd is
   skip_found s (finding.Batch number) spelled is = absurd is
@@ -114,7 +114,7 @@ pub clearing_where : (m : Market) (budget number : ℕ) (c : Clearing) (found : 
 clearing_where m budget number c found next holds pair due spelled =
     clearing_found m pair budget due c found (subst (λ n. SpellsAnswer pair.1 (Batch n (Cleared c))) next spelled) holds
 
-pub skip_where : (m : Market) (budget number : ℕ) (s : Skipping) (found : Finding) → number ≡ m.batches + 1 → IsSkipFound m.orders (start_prices m) budget s found
+pub skip_where : (m : Market) (budget number : ℕ) (s : Skipping) (found : Finding) → number ≡ m.batches + 1 → IsSkipFound (parts_of m.version) m.orders (start_prices m) budget s found
     → IsFoundWhere m (λ asked. IsDue m asked budget) (Batch number (Skipped s)) found
 skip_where m budget number s found next holds pair due spelled =
     skip_found m pair budget due s found (subst (λ n. SpellsAnswer pair.1 (Batch n (Skipped s))) next spelled) holds
@@ -125,56 +125,56 @@ plain_is_none reply k outcome same = cc
 
 -- ---- findings of a skip
 
-module _ (orders : List Order) (start : List ℤ) (budget : ℕ) (s : Skipping) where
+module _ (parts : ℕ) (orders : List Order) (start : List ℤ) (budget : ℕ) (s : Skipping) where
   -- a skip is right exactly where it is found to be legal
-  pub right_where : (found : Finding) → IsSkipFound orders start budget s found → (found ≡ finding.Legal) ↔ IsRightSkip orders start budget s
+  pub right_where : (found : Finding) → IsSkipFound parts orders start budget s found → (found ≡ finding.Legal) ↔ IsRightSkip parts orders start budget s
   right_where finding.NoReply is = absurd is
   right_where (finding.OtherReply right) is = absurd is
   right_where (finding.Batch number) is = absurd is
   right_where (finding.Part verdict) is = absurd is
   right_where finding.SingleBook is = ((λ same. absurd cc), (λ right. absurd (is right.wide)))
   right_where finding.TraceLength is = ((λ same. absurd cc), (λ right. absurd (is.1 right.whole)))
-  right_where (finding.TraceStep place) is = ((λ same. absurd cc), (λ right. absurd (illegal_whole orders start s.trace place is.1 right.legal)))
+  right_where (finding.TraceStep place) is = ((λ same. absurd cc), (λ right. absurd (illegal_whole parts orders start s.trace place is.1 right.legal)))
   right_where finding.AllSettled is = ((λ same. absurd cc), (λ right. absurd (right.unsettled is.1)))
   right_where (finding.StartDual right) is = ((λ same. absurd cc), (λ all. absurd (is.1.other (ap (λ (t : Skipping). t.start_dual) all.duals ∙ sym is.1.right_is))))
   right_where (finding.EndDual right) is = ((λ same. absurd cc), (λ all. absurd (is.1.other (ap (λ (t : Skipping). t.end_dual) all.duals ∙ sym is.1.right_is))))
   right_where finding.Legal is = ((λ same. is), (λ right. refl))
 
   -- the walk of a skip was made again
-  module _ (whole : HasWholeTrace orders budget s) (legal : IsLegalFrom orders start s.trace) (end : List ℤ) (ends : end ≡ end_of orders start s.trace) where
+  module _ (whole : HasWholeTrace orders budget s) (legal : IsLegalFrom parts orders start s.trace) (end : List ℤ) (ends : end ≡ end_of parts orders start s.trace) where
     -- there are as many prices at the end
     count : length end ≡ length start
-    count = ap length ends ∙ (has_walked orders (length start) start s.trace refl legal).count
+    count = ap length ends ∙ (has_walked parts orders (length start) start s.trace refl legal).count
 
     -- so all are settled at the end
-    settles : AreSettled (length end) (is_unsettled orders) end → EndsSettled orders start s.trace
+    settles : AreSettled (length end) (is_unsettled orders) end → EndsSettled parts orders start s.trace
     settles all asset inside = subst (λ p. is_unsettled orders p asset ≡ false) ends (all asset (subst (λ n. asset < n) (sym count) inside))
 
-    settled : EndsSettled orders start s.trace → AreSettled (length end) (is_unsettled orders) end
+    settled : EndsSettled parts orders start s.trace → AreSettled (length end) (is_unsettled orders) end
     settled all asset inside = subst (λ p. is_unsettled orders p asset ≡ false) (sym ends) (all asset (subst (λ n. asset < n) count inside))
 
-    walked : HasLegalTrace orders start budget s
+    walked : HasLegalTrace parts orders start budget s
     walked = record { whole = whole; legal = legal }
 
     -- all assets are settled
-    pub settled_found : AreSettled (length end) (is_unsettled orders) end → IsSkipFound orders start budget s finding.AllSettled
+    pub settled_found : AreSettled (length end) (is_unsettled orders) end → IsSkipFound parts orders start budget s finding.AllSettled
     settled_found all = (walked, settles all)
 
     module _ (unsettled : ¬ AreSettled (length end) (is_unsettled orders) end) where
-      ends_unsettled : EndsUnsettled orders start budget s
+      ends_unsettled : EndsUnsettled parts orders start budget s
       ends_unsettled = record { walked = walked; unsettled = λ all. unsettled (settled all) }
 
       -- the dual floor at the start is another one
-      pub start_found : (right : ℤ) → IsOtherDual orders start s.start_dual right → IsSkipFound orders start budget s (finding.StartDual right)
+      pub start_found : (right : ℤ) → IsOtherDual orders start s.start_dual right → IsSkipFound parts orders start budget s (finding.StartDual right)
       start_found right other = (ends_unsettled, other)
 
       module _ (first : s.start_dual ≡ pos (dual_of orders start)) where
         -- that at the end is
-        pub end_found : (right : ℤ) → IsOtherDual orders end s.end_dual right → IsSkipFound orders start budget s (finding.EndDual right)
+        pub end_found : (right : ℤ) → IsOtherDual orders end s.end_dual right → IsSkipFound parts orders start budget s (finding.EndDual right)
         end_found right other = (record { ends = ends_unsettled; start_dual = first }, subst (λ p. IsOtherDual orders p s.end_dual right) ends other)
 
         -- neither is
-        pub right_found : s.end_dual ≡ pos (dual_of orders end) → IsSkipFound orders start budget s finding.Legal
+        pub right_found : s.end_dual ≡ pos (dual_of orders end) → IsSkipFound parts orders start budget s finding.Legal
         right_found last =
             let told : ℤ → ℤ → Skipping = λ a b. record { trace = s.trace; start_dual = a; end_dual = b } in
             record {

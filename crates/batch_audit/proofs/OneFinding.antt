@@ -23,7 +23,7 @@ use Rattle.batch_certificate.proofs.OneVerdict.{one_verdict}
 use Rattle.batch_certificate.proofs.Verdicts.{right_parts}
 use Rattle.journal_records.specs.Replies.{SpellsAnswer}
 use Rattle.journal_records.proofs.Spelled.{answer_unique}
-use Rattle.market_rules.specs.Market.{Market, start_prices}
+use Rattle.market_rules.specs.Market.{Market, parts_of, start_prices}
 use Rattle.market_rules.specs.Step.{FirstRefusal, Accepts, Answers, Serves, ServesRead, holds_batch}
 use Rattle.market_rules.specs.Journal.{Step}
 use Rattle.market_rules.proofs.LawProofs.{plain_commands_have_one_answer, batch_of}
@@ -57,19 +57,19 @@ one_named A named f g a b = a.1 ∙ sym b.1
 -- ---- a skip
 
 -- a first part of a legal walk is legal
-legal_less : (orders : List Order) (n : ℕ) (p : List ℤ) (walk : List ℕ) (j k : ℕ) → j ≤ k → IsLegal n (is_unsettled orders) (step_of orders) p (take k walk)
-    → IsLegal n (is_unsettled orders) (step_of orders) p (take j walk)
-legal_less orders n p walk zero k within legal = tt
-legal_less orders n p [] (suc j) k within legal = tt
-legal_less orders n p (a ∷ walk) (suc j) zero within legal = absurd (omega (arith, within))
-legal_less orders n p (a ∷ walk) (suc j) (suc k) within legal = (legal.0, legal.1, legal_less orders n (step_of orders p a) walk j k (omega (arith, within)) legal.2)
+legal_less : (parts : ℕ) (orders : List Order) (n : ℕ) (p : List ℤ) (walk : List ℕ) (j k : ℕ) → j ≤ k → IsLegal n (is_unsettled orders) (step_of parts orders) p (take k walk)
+    → IsLegal n (is_unsettled orders) (step_of parts orders) p (take j walk)
+legal_less parts orders n p walk zero k within legal = tt
+legal_less parts orders n p [] (suc j) k within legal = tt
+legal_less parts orders n p (a ∷ walk) (suc j) zero within legal = absurd (omega (arith, within))
+legal_less parts orders n p (a ∷ walk) (suc j) (suc k) within legal = (legal.0, legal.1, legal_less parts orders n (step_of parts orders p a) walk j k (omega (arith, within)) legal.2)
 
-module _ (orders : List Order) (start : List ℤ) (budget : ℕ) (s : Skipping) where
+module _ (parts : ℕ) (orders : List Order) (start : List ℤ) (budget : ℕ) (s : Skipping) where
   -- two first places that aren't legal are the same
-  not_later : (j k : ℕ) → IsFirstIllegal orders start s.trace j → IsFirstIllegal orders start s.trace k → j < k → ⊥
-  not_later j k a b below = a.refused (legal_less orders (length start) start s.trace (j + 1) k (omega (arith, below)) b.before)
+  not_later : (j k : ℕ) → IsFirstIllegal parts orders start s.trace j → IsFirstIllegal parts orders start s.trace k → j < k → ⊥
+  not_later j k a b below = a.refused (legal_less parts orders (length start) start s.trace (j + 1) k (omega (arith, below)) b.before)
 
-  one_place : (j k : ℕ) → IsFirstIllegal orders start s.trace j → IsFirstIllegal orders start s.trace k → j ≡ k
+  one_place : (j k : ℕ) → IsFirstIllegal parts orders start s.trace j → IsFirstIllegal parts orders start s.trace k → j ≡ k
   one_place j k a b =
       ⊎_elim
       (λ below. absurd (not_later j k a b below))
@@ -78,16 +78,16 @@ module _ (orders : List Order) (start : List ℤ) (budget : ℕ) (s : Skipping) 
 
   -- the findings of a skip in line
   abbrev Last : Finding → Type 0
-  Last f = ((right : ℤ) × IsOtherDual orders (end_of orders start s.trace) s.end_dual right × (f ≡ finding.EndDual right)) ⊎ ((s.end_dual ≡ pos (dual_of orders (end_of orders start s.trace))) × (f ≡ finding.Legal))
+  Last f = ((right : ℤ) × IsOtherDual orders (end_of parts orders start s.trace) s.end_dual right × (f ≡ finding.EndDual right)) ⊎ ((s.end_dual ≡ pos (dual_of orders (end_of parts orders start s.trace))) × (f ≡ finding.Legal))
 
   abbrev FromStartDual : Finding → Type 0
   FromStartDual f = ((right : ℤ) × IsOtherDual orders start s.start_dual right × (f ≡ finding.StartDual right)) ⊎ ((s.start_dual ≡ pos (dual_of orders start)) × Last f)
 
   abbrev FromEnd : Finding → Type 0
-  FromEnd f = (EndsSettled orders start s.trace × (f ≡ finding.AllSettled)) ⊎ ((¬ EndsSettled orders start s.trace) × FromStartDual f)
+  FromEnd f = (EndsSettled parts orders start s.trace × (f ≡ finding.AllSettled)) ⊎ ((¬ EndsSettled parts orders start s.trace) × FromStartDual f)
 
   abbrev FromTrace : Finding → Type 0
-  FromTrace f = ((place : ℕ) × IsFirstIllegal orders start s.trace place × (f ≡ finding.TraceStep place)) ⊎ (IsLegalFrom orders start s.trace × FromEnd f)
+  FromTrace f = ((place : ℕ) × IsFirstIllegal parts orders start s.trace place × (f ≡ finding.TraceStep place)) ⊎ (IsLegalFrom parts orders start s.trace × FromEnd f)
 
   abbrev FromLength : Finding → Type 0
   FromLength f = ((length s.trace ≢ budget) × (f ≡ finding.TraceLength)) ⊎ ((length s.trace ≡ budget) × FromTrace f)
@@ -105,27 +105,27 @@ module _ (orders : List Order) (start : List ℤ) (budget : ℕ) (s : Skipping) 
   one_in_line =
       one_of_two (IsWide orders) (λ f. (¬ IsWide orders) × (f ≡ finding.SingleBook)) FromLength (one_named (¬ IsWide orders) finding.SingleBook) (λ f a. a.0)
       (one_of_two (length s.trace ≡ budget) (λ f. (length s.trace ≢ budget) × (f ≡ finding.TraceLength)) FromTrace (one_named (length s.trace ≢ budget) finding.TraceLength) (λ f a. a.0)
-      (one_of_two (IsLegalFrom orders start s.trace) (λ f. (place : ℕ) × IsFirstIllegal orders start s.trace place × (f ≡ finding.TraceStep place)) FromEnd
-      (λ f g a b. a.2 ∙ ap finding.TraceStep (one_place a.0 b.0 a.1 b.1) ∙ sym b.2) (λ f a. illegal_whole orders start s.trace a.0 a.1)
-      (one_of_two (¬ EndsSettled orders start s.trace) (λ f. EndsSettled orders start s.trace × (f ≡ finding.AllSettled)) FromStartDual (one_named (EndsSettled orders start s.trace) finding.AllSettled)
+      (one_of_two (IsLegalFrom parts orders start s.trace) (λ f. (place : ℕ) × IsFirstIllegal parts orders start s.trace place × (f ≡ finding.TraceStep place)) FromEnd
+      (λ f g a b. a.2 ∙ ap finding.TraceStep (one_place a.0 b.0 a.1 b.1) ∙ sym b.2) (λ f a. illegal_whole parts orders start s.trace a.0 a.1)
+      (one_of_two (¬ EndsSettled parts orders start s.trace) (λ f. EndsSettled parts orders start s.trace × (f ≡ finding.AllSettled)) FromStartDual (one_named (EndsSettled parts orders start s.trace) finding.AllSettled)
       (λ f a unsettled. unsettled a.0)
       (one_of_two (s.start_dual ≡ pos (dual_of orders start)) (λ f. (right : ℤ) × IsOtherDual orders start s.start_dual right × (f ≡ finding.StartDual right)) Last
       (one_dual start s.start_dual finding.StartDual) (other_dual start s.start_dual finding.StartDual)
-      (one_of_two (s.end_dual ≡ pos (dual_of orders (end_of orders start s.trace)))
-      (λ f. (right : ℤ) × IsOtherDual orders (end_of orders start s.trace) s.end_dual right × (f ≡ finding.EndDual right)) (λ f. f ≡ finding.Legal)
-      (one_dual (end_of orders start s.trace) s.end_dual finding.EndDual) (other_dual (end_of orders start s.trace) s.end_dual finding.EndDual)
+      (one_of_two (s.end_dual ≡ pos (dual_of orders (end_of parts orders start s.trace)))
+      (λ f. (right : ℤ) × IsOtherDual orders (end_of parts orders start s.trace) s.end_dual right × (f ≡ finding.EndDual right)) (λ f. f ≡ finding.Legal)
+      (one_dual (end_of parts orders start s.trace) s.end_dual finding.EndDual) (other_dual (end_of parts orders start s.trace) s.end_dual finding.EndDual)
       (λ f g a b. a ∙ sym b))))))
 
   from_trace : (f : Finding) → HasWholeTrace orders budget s → FromTrace f → InLine f
   from_trace f whole later = inr (whole.wide, inr (whole.whole, later))
 
-  from_end : (f : Finding) → HasLegalTrace orders start budget s → FromEnd f → InLine f
+  from_end : (f : Finding) → HasLegalTrace parts orders start budget s → FromEnd f → InLine f
   from_end f walked later = from_trace f walked.whole (inr (walked.legal, later))
 
-  from_start_dual : (f : Finding) → EndsUnsettled orders start budget s → FromStartDual f → InLine f
+  from_start_dual : (f : Finding) → EndsUnsettled parts orders start budget s → FromStartDual f → InLine f
   from_start_dual f ends later = from_end f ends.walked (inr (ends.unsettled, later))
 
-  in_line : (f : Finding) → IsSkipFound orders start budget s f → InLine f
+  in_line : (f : Finding) → IsSkipFound parts orders start budget s f → InLine f
   in_line finding.NoReply is = absurd is
   in_line (finding.OtherReply right) is = absurd is
   in_line (finding.Batch number) is = absurd is
@@ -140,7 +140,7 @@ module _ (orders : List Order) (start : List ℤ) (budget : ℕ) (s : Skipping) 
       from_end _ (record { whole = record { wide = is.wide; whole = is.whole }; legal = is.legal })
       (inr (is.unsettled, inr (ap (λ (t : Skipping). t.start_dual) is.duals, inr (ap (λ (t : Skipping). t.end_dual) is.duals, refl))))
 
-  one_skip : IsOne (IsSkipFound orders start budget s)
+  one_skip : IsOne (IsSkipFound parts orders start budget s)
   one_skip f g a b = one_in_line f g (in_line f a) (in_line g b)
 
 -- ---- a clearing
@@ -272,13 +272,13 @@ one_due m asked b c due other = same_budget b c (reading_unique m.version asked 
 -- what is found of an outcome of a batch that is due
 abbrev OutcomeFound : Market → ℕ → Outcome → Finding → Type 0
 OutcomeFound m budget (Cleared c) f = IsClearingFound m.orders (start_prices m) c f
-OutcomeFound m budget (Skipped s) f = IsSkipFound m.orders (start_prices m) budget s f
+OutcomeFound m budget (Skipped s) f = IsSkipFound (parts_of m.version) m.orders (start_prices m) budget s f
 
 one_outcome : (m : Market) (budget : ℕ) (o : Outcome) → IsOne (OutcomeFound m budget o)
 one_outcome m budget (Cleared c) = one_clearing m.orders (start_prices m) c
-one_outcome m budget (Skipped s) = one_skip m.orders (start_prices m) budget s
+one_outcome m budget (Skipped s) = one_skip (parts_of m.version) m.orders (start_prices m) budget s
 
-right_outcome : (m : Market) (budget : ℕ) (o : Outcome) → IsRightOutcome m.orders (start_prices m) budget o → OutcomeFound m budget o finding.Legal
+right_outcome : (m : Market) (budget : ℕ) (o : Outcome) → IsRightOutcome (parts_of m.version) m.orders (start_prices m) budget o → OutcomeFound m budget o finding.Legal
 right_outcome m budget (Cleared c) right = right
 right_outcome m budget (Skipped s) right = right
 
@@ -333,7 +333,7 @@ module _ (m : Market) (pair : Record × Record) where
   of_clearing : (t : TellsClearing m pair) (f : Finding) → IsClearingFound m.orders (start_prices m) t.clearing f → PairFound f
   of_clearing t f found = inr (Batch (m.batches + 1) (Cleared t.clearing), t.spelled, inr (t.budget, t.due, inr (Cleared t.clearing, refl, found)))
 
-  of_skip : (t : TellsSkip m pair) (f : Finding) → IsSkipFound m.orders (start_prices m) t.budget t.skipping f → PairFound f
+  of_skip : (t : TellsSkip m pair) (f : Finding) → IsSkipFound (parts_of m.version) m.orders (start_prices m) t.budget t.skipping f → PairFound f
   of_skip t f found = inr (Batch (m.batches + 1) (Skipped t.skipping), t.spelled, inr (t.budget, t.due, inr (Skipped t.skipping, refl, found)))
 
   -- a legal pair gets the plain reply, or tells a right outcome of a batch that is due

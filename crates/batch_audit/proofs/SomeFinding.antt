@@ -17,7 +17,7 @@ use Rattle.batch_certificate.specs.Verdicts.{IsVerdict}
 use Rattle.batch_certificate.proofs.OneVerdict.{right_is_for_right_clearings}
 use Rattle.batch_certificate.proofs.Judging.{each_has_a_verdict}
 use Rattle.journal_records.specs.Replies.{SpellsAnswer}
-use Rattle.market_rules.specs.Market.{Market, IsSound, start_prices}
+use Rattle.market_rules.specs.Market.{Market, IsSound, parts_of, start_prices}
 use Rattle.market_rules.specs.Step.{FirstRefusal, Answers, Serves, refusal_of}
 use Rattle.market_rules.proofs.LawProofs.{batch_of}
 use Rattle.market_rules.proofs.Exists.{served_is_there}
@@ -51,21 +51,21 @@ module _ (m : Market) (pair : Record × Record) (sound : IsSound m) (none : (f :
 
     module _ (s : Skipping) (told : SpellsAnswer pair.1 (Batch (m.batches + 1) (Skipped s))) where
       -- a skip whose first moves are legal, one by one
-      legal_to : HasWholeTrace m.orders budget s → (k : ℕ) → k ≤ length s.trace → ¬ ¬ IsLegalFrom m.orders (start_prices m) (take k s.trace)
+      legal_to : HasWholeTrace m.orders budget s → (k : ℕ) → k ≤ length s.trace → ¬ ¬ IsLegalFrom (parts_of m.version) m.orders (start_prices m) (take k s.trace)
       legal_to whole zero inside not = not tt
       legal_to whole (suc k) inside not =
           let one : suc k ≡ k + 1 = omega arith in
           legal_to whole k (omega (arith, inside))
           (λ before. none (finding.TraceStep k) (skip_found m pair budget due s (finding.TraceStep k) told
-          (whole, record { inside = omega (arith, inside); before = before; refused = λ legal. not (subst (λ n. IsLegalFrom m.orders (start_prices m) (take n s.trace)) (sym one) legal) })))
+          (whole, record { inside = omega (arith, inside); before = before; refused = λ legal. not (subst (λ n. IsLegalFrom (parts_of m.version) m.orders (start_prices m) (take n s.trace)) (sym one) legal) })))
 
       -- and then nothing is wrong
-      no_walk : HasLegalTrace m.orders (start_prices m) budget s → ⊥
+      no_walk : HasLegalTrace (parts_of m.version) m.orders (start_prices m) budget s → ⊥
       no_walk walked =
-          let ends : EndsUnsettled m.orders (start_prices m) budget s =
+          let ends : EndsUnsettled (parts_of m.version) m.orders (start_prices m) budget s =
           record { walked = walked; unsettled = λ settled. none finding.AllSettled (skip_found m pair budget due s finding.AllSettled told (walked, settled)) } in
           let at_start = pos (dual_of m.orders (start_prices m)) in
-          let at_end = pos (dual_of m.orders (end_of m.orders (start_prices m) s.trace)) in
+          let at_end = pos (dual_of m.orders (end_of (parts_of m.version) m.orders (start_prices m) s.trace)) in
           none (finding.StartDual at_start) (skip_found m pair budget due s (finding.StartDual at_start) told (
             ends,
             record {
@@ -86,8 +86,8 @@ module _ (m : Market) (pair : Record × Record) (sound : IsSound m) (none : (f :
             },
           ))
         where
-          duals : s.start_dual ≡ pos (dual_of m.orders (start_prices m)) → s.end_dual ≡ pos (dual_of m.orders (end_of m.orders (start_prices m) s.trace))
-              → s ≡ record { trace = s.trace; start_dual = pos (dual_of m.orders (start_prices m)); end_dual = pos (dual_of m.orders (end_of m.orders (start_prices m) s.trace)) }
+          duals : s.start_dual ≡ pos (dual_of m.orders (start_prices m)) → s.end_dual ≡ pos (dual_of m.orders (end_of (parts_of m.version) m.orders (start_prices m) s.trace))
+              → s ≡ record { trace = s.trace; start_dual = pos (dual_of m.orders (start_prices m)); end_dual = pos (dual_of m.orders (end_of (parts_of m.version) m.orders (start_prices m) s.trace)) }
           duals first last =
               let skip : ℤ → ℤ → Skipping = λ x y. record { trace = s.trace; start_dual = x; end_dual = y } in
               ap (λ x. skip x s.end_dual) first ∙ ap (skip (pos (dual_of m.orders (start_prices m)))) last
@@ -100,7 +100,7 @@ module _ (m : Market) (pair : Record × Record) (sound : IsSound m) (none : (f :
             λ whole.
                 let start : HasWholeTrace m.orders budget s = record { wide = wide; whole = whole } in
                 legal_to start (length s.trace) (omega arith)
-                (λ legal. no_walk (record { whole = start; legal = subst (IsLegalFrom m.orders (start_prices m)) (take_all (length s.trace) s.trace (omega arith)) legal })),
+                (λ legal. no_walk (record { whole = start; legal = subst (IsLegalFrom (parts_of m.version) m.orders (start_prices m)) (take_all (length s.trace) s.trace (omega arith)) legal })),
           ))))
 
     no_outcome : (o : Outcome) → a ≡ Batch (m.batches + 1) o → ⊥

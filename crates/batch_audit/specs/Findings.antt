@@ -11,7 +11,7 @@ use Rattle.coordinate_search.specs.Search.{IsFirstIllegal}
 use Rattle.batch_certificate.specs.declared.verdict.Verdict.TheVariants.{Right}
 use Rattle.batch_certificate.specs.Verdicts.{IsVerdict}
 use Rattle.journal_records.specs.Replies.{SpellsAnswer}
-use Rattle.market_rules.specs.Market.{Market, start_prices}
+use Rattle.market_rules.specs.Market.{Market, parts_of, start_prices}
 use Rattle.market_rules.specs.Step.{FirstRefusal}
 use Rattle.market_rules.specs.Journal.{Step}
 use Rattle.batch_audit.specs.Legal.{IsLegalPair}
@@ -62,19 +62,19 @@ pub record HasWholeTrace (orders : List Order) (budget : ℕ) (s : Skipping) : T
   pub wide : IsWide orders
   pub whole : length s.trace ≡ budget
 
--- and up to the moves
-pub record HasLegalTrace (orders : List Order) (start : List ℤ) (budget : ℕ) (s : Skipping) : Type 0 where
+-- and up to the moves, which end by so many parts
+pub record HasLegalTrace (parts : ℕ) (orders : List Order) (start : List ℤ) (budget : ℕ) (s : Skipping) : Type 0 where
   pub whole : HasWholeTrace orders budget s
-  pub legal : IsLegalFrom orders start s.trace
+  pub legal : IsLegalFrom parts orders start s.trace
 
 -- and up to where they end: some asset is unsettled there
-pub record EndsUnsettled (orders : List Order) (start : List ℤ) (budget : ℕ) (s : Skipping) : Type 0 where
-  pub walked : HasLegalTrace orders start budget s
-  pub unsettled : ¬ EndsSettled orders start s.trace
+pub record EndsUnsettled (parts : ℕ) (orders : List Order) (start : List ℤ) (budget : ℕ) (s : Skipping) : Type 0 where
+  pub walked : HasLegalTrace parts orders start budget s
+  pub unsettled : ¬ EndsSettled parts orders start s.trace
 
 -- and up to the dual floor at the start
-pub record HasStartDual (orders : List Order) (start : List ℤ) (budget : ℕ) (s : Skipping) : Type 0 where
-  pub ends : EndsUnsettled orders start budget s
+pub record HasStartDual (parts : ℕ) (orders : List Order) (start : List ℤ) (budget : ℕ) (s : Skipping) : Type 0 where
+  pub ends : EndsUnsettled parts orders start budget s
   pub start_dual : s.start_dual ≡ pos (dual_of orders start)
 
 -- a dual floor at these prices isn't the right one, which is this
@@ -91,13 +91,14 @@ IsFinding m pair (finding.Part verdict) = (told : TellsClearing m pair) × IsVer
 IsFinding m pair finding.SingleBook = TellsSkip m pair × (¬ IsWide m.orders)
 IsFinding m pair finding.TraceLength = (told : TellsSkip m pair) × IsWide m.orders × (length told.skipping.trace ≢ told.budget)
 IsFinding m pair (finding.TraceStep place) =
-    (told : TellsSkip m pair) × HasWholeTrace m.orders told.budget told.skipping × IsFirstIllegal m.orders (start_prices m) told.skipping.trace place
+    (told : TellsSkip m pair) × HasWholeTrace m.orders told.budget told.skipping × IsFirstIllegal (parts_of m.version) m.orders (start_prices m) told.skipping.trace place
 IsFinding m pair finding.AllSettled =
-    (told : TellsSkip m pair) × HasLegalTrace m.orders (start_prices m) told.budget told.skipping × EndsSettled m.orders (start_prices m) told.skipping.trace
+    (told : TellsSkip m pair) × HasLegalTrace (parts_of m.version) m.orders (start_prices m) told.budget told.skipping
+    × EndsSettled (parts_of m.version) m.orders (start_prices m) told.skipping.trace
 IsFinding m pair (finding.StartDual right) =
-    (told : TellsSkip m pair) × EndsUnsettled m.orders (start_prices m) told.budget told.skipping
+    (told : TellsSkip m pair) × EndsUnsettled (parts_of m.version) m.orders (start_prices m) told.budget told.skipping
     × IsOtherDual m.orders (start_prices m) told.skipping.start_dual right
 IsFinding m pair (finding.EndDual right) =
-    (told : TellsSkip m pair) × HasStartDual m.orders (start_prices m) told.budget told.skipping
-    × IsOtherDual m.orders (end_of m.orders (start_prices m) told.skipping.trace) told.skipping.end_dual right
+    (told : TellsSkip m pair) × HasStartDual (parts_of m.version) m.orders (start_prices m) told.budget told.skipping
+    × IsOtherDual m.orders (end_of (parts_of m.version) m.orders (start_prices m) told.skipping.trace) told.skipping.end_dual right
 IsFinding m pair finding.Legal = (new : Market) × IsLegalPair m pair new

@@ -8,7 +8,7 @@ use Rattle.wire_records.specs.declared.reply.Reply.{Reply}
 use Rattle.flow_orders.specs.Orders.{Order}
 use Rattle.flow_orders.specs.Outcomes.{Clearing, Skipping, Outcome, IsRightOutcome, IsRightClearing, IsRightSkip, IsWide, EndsSettled, end_of}
 use Rattle.coordinate_search.specs.Search.{IsFirstIllegal}
-use Rattle.batch_outcome.specs.declared.outcome.Outcome as parts
+use Rattle.batch_outcome.specs.declared.outcome.Outcome as published
 use Rattle.batch_certificate.specs.declared.verdict.Verdict.TheVariants.{Right}
 use Rattle.batch_outcome.specs.Published.{outcome_of}
 use Rattle.batch_certificate.specs.Verdicts.{IsVerdict}
@@ -35,7 +35,7 @@ IsAnswerWeighed old asked answer (Some change) =
 IsAnswerWeighed old asked answer None = (new : Market) → ¬ Step IsReadAs IsRightOutcome old asked answer new
 
 -- the market settles this for a batch that is allowed, as the answer tells a right outcome; or it tells none
-abbrev pub IsOutcomeFor : Market → ℕ → Answer Outcome → Option parts.Outcome → Type 0
+abbrev pub IsOutcomeFor : Market → ℕ → Answer Outcome → Option published.Outcome → Type 0
 IsOutcomeFor m budget answer (Some o) = MaySettle m o × holds_batch IsRightOutcome m budget answer (after_batch m (outcome_of m.orders o))
 IsOutcomeFor m budget answer None = (new : Market) → ¬ holds_batch IsRightOutcome m budget answer new
 
@@ -67,19 +67,19 @@ IsClearingFound orders start c (finding.StartDual right) = ⊥
 IsClearingFound orders start c (finding.EndDual right) = ⊥
 IsClearingFound orders start c finding.Legal = IsRightClearing orders start c
 
--- what is found of a skip of a batch that is due
-abbrev pub IsSkipFound : List Order → List ℤ → ℕ → Skipping → Finding → Type 0
-IsSkipFound orders start budget s finding.NoReply = ⊥
-IsSkipFound orders start budget s (finding.OtherReply right) = ⊥
-IsSkipFound orders start budget s (finding.Batch number) = ⊥
-IsSkipFound orders start budget s (finding.Part verdict) = ⊥
-IsSkipFound orders start budget s finding.SingleBook = ¬ IsWide orders
-IsSkipFound orders start budget s finding.TraceLength = IsWide orders × (length s.trace ≢ budget)
-IsSkipFound orders start budget s (finding.TraceStep place) = HasWholeTrace orders budget s × IsFirstIllegal orders start s.trace place
-IsSkipFound orders start budget s finding.AllSettled = HasLegalTrace orders start budget s × EndsSettled orders start s.trace
-IsSkipFound orders start budget s (finding.StartDual right) = EndsUnsettled orders start budget s × IsOtherDual orders start s.start_dual right
-IsSkipFound orders start budget s (finding.EndDual right) = HasStartDual orders start budget s × IsOtherDual orders (end_of orders start s.trace) s.end_dual right
-IsSkipFound orders start budget s finding.Legal = IsRightSkip orders start budget s
+-- what is found of a skip of a batch that is due, by so many parts
+abbrev pub IsSkipFound : ℕ → List Order → List ℤ → ℕ → Skipping → Finding → Type 0
+IsSkipFound parts orders start budget s finding.NoReply = ⊥
+IsSkipFound parts orders start budget s (finding.OtherReply right) = ⊥
+IsSkipFound parts orders start budget s (finding.Batch number) = ⊥
+IsSkipFound parts orders start budget s (finding.Part verdict) = ⊥
+IsSkipFound parts orders start budget s finding.SingleBook = ¬ IsWide orders
+IsSkipFound parts orders start budget s finding.TraceLength = IsWide orders × (length s.trace ≢ budget)
+IsSkipFound parts orders start budget s (finding.TraceStep place) = HasWholeTrace orders budget s × IsFirstIllegal parts orders start s.trace place
+IsSkipFound parts orders start budget s finding.AllSettled = HasLegalTrace parts orders start budget s × EndsSettled parts orders start s.trace
+IsSkipFound parts orders start budget s (finding.StartDual right) = EndsUnsettled parts orders start budget s × IsOtherDual orders start s.start_dual right
+IsSkipFound parts orders start budget s (finding.EndDual right) = HasStartDual parts orders start budget s × IsOtherDual orders (end_of parts orders start s.trace) s.end_dual right
+IsSkipFound parts orders start budget s finding.Legal = IsRightSkip parts orders start budget s
 
 -- what is found of every pair whose first record is of some kind, and whose second spells this answer
 abbrev pub IsFoundWhere : Market → (Record → Type 0) → Answer Outcome → Finding → Type 0

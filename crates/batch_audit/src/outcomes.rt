@@ -12,7 +12,7 @@ ghost use Rattle.flow_orders.specs.Walks.{AreSettled};
 ghost use Rattle.batch_certificate.specs.Verdicts.{IsVerdict};
 ghost use Rattle.batch_certificate.specs.declared.verdict.Verdict.TheVariants.{Right};
 ghost use Rattle.journal_records.specs.Views.{answer_of};
-ghost use Rattle.market_rules.specs.Market.{most_batches, start_prices};
+ghost use Rattle.market_rules.specs.Market.{most_batches, parts_of, start_prices};
 ghost use Rattle.market_rules.specs.Step.{FirstRefusal};
 ghost use Rattle.batch_audit.specs.declared.finding.Finding.TheVariants.{Legal};
 ghost use Rattle.batch_audit.specs.Findings.{HasWholeTrace, IsOtherDual};
@@ -139,7 +139,7 @@ fn is_skip_right(
 ) -> Result<bool, Memory>
     requires { budget ≤ most_budget }
     ensures right { IfOk result (λ right. IsTrue right
-        ↔ IsRightSkip market.old.orders (start_prices market.old) budget view.now.skipping) }
+        ↔ IsRightSkip (parts_of market.old.version) market.old.orders (start_prices market.old) budget view.now.skipping) }
     ensures stays { market.new ≡ market.old }
 {
     Ok(is_legal(skip_finding(alloc, market, budget, view)?))
@@ -160,9 +160,11 @@ pub(crate) fn skip_finding(
     view: &SkippedView<'_>,
 ) -> Result<Finding, Memory>
     requires { budget ≤ most_budget }
-    ensures found { IfOk result (IsSkipFound market.old.orders (start_prices market.old) budget view.now.skipping) }
+    ensures found { IfOk result (IsSkipFound (parts_of market.old.version) market.old.orders (start_prices market.old) budget
+        view.now.skipping) }
     ensures stays { market.new ≡ market.old }
 {
+    let parts = market.parts();
     let start = market.start_prices(alloc)?;
     let orders = market.orders();
     if !is_wide(orders) {
@@ -172,7 +174,7 @@ pub(crate) fn skip_finding(
         return Ok(Finding::TraceLength);
     }
     match Workspace::new(alloc, orders, start.as_slice()) {
-        Ok(mut work) => Ok(walk_finding(orders, &mut work, view)),
+        Ok(mut work) => Ok(walk_finding(parts, orders, &mut work, view)),
         Err(_) => Err(Memory),
     }
 }
@@ -189,16 +191,23 @@ fn is_wide(orders: &[Order]) -> bool
     false
 }
 
-// What is found of a skip of a wide book whose trace is as long as the budget.
-fn walk_finding(orders: &[Order], work: &mut Workspace<'_>, view: &SkippedView<'_>) -> Finding
+// What is found of a skip of a wide book whose trace is as long as the budget. Its moves end by so many parts of a unit.
+fn walk_finding(
+    parts: u16,
+    orders: &[Order],
+    work: &mut Workspace<'_>,
+    view: &SkippedView<'_>,
+) -> Finding
+    requires some_parts { 1 ≤ parts }
+    requires few_parts { parts ≤ 256 }
     requires orders { work.old.orders ≡ orders.now }
     requires start { All (IsWithin (2 ^ 60)) work.old.prices }
     requires most { length view.now.skipping.trace ≤ most_budget }
     ensures { (budget : ℕ) → HasWholeTrace orders.now budget view.now.skipping
-        → IsSkipFound orders.now work.old.prices budget view.now.skipping result }
+        → IsSkipFound parts orders.now work.old.prices budget view.now.skipping result }
 {
     let start_dual = other_dual(orders, work.prices(), view.start_dual());
-    if let Retraced::Illegal(place) = retrace(work, view.trace()) {
+    if let Retraced::Illegal(place) = retrace(work, parts, view.trace()) {
         return Finding::TraceStep(place);
     }
     if are_settled(work) {
