@@ -7,9 +7,9 @@ use Rattle.std.proofs.lemmas.Bool.{cases_Bool, false≢true}
 use Rattle.std.proofs.lemmas.List.FromFn.{length-range_with_len, get_or-map-range_with_len}
 use Rattle.std.specs.List.{range_with_len}
 use Rattle.std.proofs.lemmas.List.{length-map}
-use Rattle.demand_curve.specs.Demand.{IsRounding, IsWithin}
-use Rattle.flow_orders.specs.Orders.{Order, IsOrder, terms_of}
-use Rattle.flow_orders.specs.Excess.{price_for, is_unsettled, residual_bound}
+use Rattle.demand_curve.specs.Demand.{IsWithin}
+use Rattle.flow_orders.specs.Orders.{Order, IsOrder}
+use Rattle.flow_orders.specs.Excess.{is_unsettled, residual_bound}
 use Rattle.flow_orders.specs.Turns.{visits, IsOwnTrace}
 use Rattle.flow_orders.specs.Trades.{trades, residual}
 use Rattle.flow_orders.specs.Outcomes.{most_budget, dual_of, step_of, end_of, trades_of, IsRightClearing, IsRightOutcome}
@@ -20,7 +20,7 @@ use Rattle.flow_orders.proofs.WalkLaws.{walks_lower_the_dual, right_skips_lower_
 use Rattle.coordinate_search.proofs.Settling.{single_all}
 use Rattle.batch_outcome.specs.declared.outcome.Cleared.{Cleared}
 use Rattle.batch_outcome.specs.declared.outcome.Outcome.{Outcome}
-use Rattle.batch_outcome.specs.declared.outcome.Outcome.TheVariants as parts
+use Rattle.batch_outcome.specs.declared.outcome.Outcome.TheVariants as variants
 use Rattle.batch_outcome.specs.Published.{clearing_of, skipping_of, outcome_of, HasOneRateEach}
 use Rattle.batch_engine.specs.Certified.{IsCertified}
 use Rattle.batch_engine.specs.Private.{IsClearedAt, IsClearedFrom, IsSkippedFrom, IsOutcomeFrom}
@@ -43,14 +43,14 @@ wide_where orders test tests fails = ⊎_elim (λ single. absurd (false≢true (
 -- ---- clearings and skips
 
 -- where the prices are those of the own rule, the clearing at them is the own outcome
-pub cleared_is_own : (orders : List Order) (start prices : List ℤ) (budget : ℕ) (c : Cleared) → All IsOrder orders → All (IsWithin (2 ^ 60)) start → budget ≤ most_budget
-    → ArePricesOf (are_single orders) orders start budget prices → IsClearedAt orders prices c → IsClearedFrom orders start budget c
-cleared_is_own orders start prices budget c each range few own at =
-    let count = own_prices_count orders start budget prices each range few own in
+pub cleared_is_own : (parts : ℕ) → 1 ≤ parts → (orders : List Order) (start prices : List ℤ) (budget : ℕ) (c : Cleared) → All IsOrder orders → All (IsWithin (2 ^ 60)) start → budget ≤ most_budget
+    → ArePricesOf parts (are_single orders) orders start budget prices → IsClearedAt orders prices c → IsClearedFrom parts orders start budget c
+cleared_is_own parts some orders start prices budget c each range few own at =
+    let count = own_prices_count parts some orders start budget prices each range few own in
     record {
       each = each;
       own = (
-        subst (ArePricesOf (are_single orders) orders start budget) (sym at.prices_are) own,
+        subst (ArePricesOf parts (are_single orders) orders start budget) (sym at.prices_are) own,
         at.certified ∙ ap (λ n. clearing_at n prices (trades orders c.rates)) count ∙ ap (λ xs. clearing_at (length start) prices (trades orders xs)) (at.rates_are ∙ ap (λ n. rates_by_choice n orders prices) count)
             ∙ ap (λ p. clearing_at (length start) p (trades orders (rates_by_choice (length start) orders p))) (sym at.prices_are),
       );
@@ -58,26 +58,26 @@ cleared_is_own orders start prices budget c each range few own at =
     }
 
 -- so it is where each order names one asset, whatever the budget is
-pub single_is_own : {E : Type 0} (orders : List Order) (start prices : List ℤ) (result : Result Cleared E) → All IsOrder orders → All (IsWithin (2 ^ 60)) start
-    → are_single orders ≡ true → prices ≡ moved_once orders (visits (length start) 0) start → IfOk result (IsClearedAt orders prices)
-    → IfOk result (λ c. (budget : ℕ) → budget ≤ most_budget → IsClearedFrom orders start budget c)
-single_is_own orders start prices (Ok c) each range single moved at = λ budget few. cleared_is_own orders start prices budget c each range few (subst (λ s. ArePricesOf s orders start budget prices) (sym single) moved) at
-single_is_own orders start prices (Err e) each range single moved at = tt
+pub single_is_own : {E : Type 0} (parts : ℕ) → 1 ≤ parts → (orders : List Order) (start prices : List ℤ) (result : Result Cleared E) → All IsOrder orders → All (IsWithin (2 ^ 60)) start
+    → are_single orders ≡ true → prices ≡ moved_once parts orders (visits (length start) 0) start → IfOk result (IsClearedAt orders prices)
+    → IfOk result (λ c. (budget : ℕ) → budget ≤ most_budget → IsClearedFrom parts orders start budget c)
+single_is_own parts some orders start prices (Ok c) each range single moved at = λ budget few. cleared_is_own parts some orders start prices budget c each range few (subst (λ s. ArePricesOf parts s orders start budget prices) (sym single) moved) at
+single_is_own parts some orders start prices (Err e) each range single moved at = tt
 
 -- a skip with the walk of the whole budget is the own outcome
-pub skipped_is_own : (orders : List Order) (start end : List ℤ) (budget : ℕ) (walk trace : List ℕ) (a b : ℤ) → All IsOrder orders → are_single orders ≡ false
-    → IsOwnTrace (length start) (is_unsettled orders) (step_of orders) start budget walk → trace ≡ walk → end ≡ end_of orders start walk
+pub skipped_is_own : (parts : ℕ) (orders : List Order) (start end : List ℤ) (budget : ℕ) (walk trace : List ℕ) (a b : ℤ) → All IsOrder orders → are_single orders ≡ false
+    → IsOwnTrace (length start) (is_unsettled orders) (step_of parts orders) start budget walk → trace ≡ walk → end ≡ end_of parts orders start walk
     → a ≡ pos (dual_of orders start) → b ≡ pos (dual_of orders end) → a ≤ℤ pos (2 ^ 117) → b ≤ℤ pos (2 ^ 117)
-    → IsSkippedFrom orders start budget (record { trace = trace; start_dual = to_z w128 (of_z w128 a); end_dual = to_z w128 (of_z w128 b) })
-skipped_is_own orders start end budget walk trace a b each wide own trace_is ends a_is b_is a_most b_most =
+    → IsSkippedFrom parts orders start budget (record { trace = trace; start_dual = to_z w128 (of_z w128 a); end_dual = to_z w128 (of_z w128 b) })
+skipped_is_own parts orders start end budget walk trace a b each wide own trace_is ends a_is b_is a_most b_most =
     let start_is : to_z w128 (of_z w128 a) ≡ pos (dual_of orders start) = to_z-of_z w128 a (fits_signed_from_abs w128 a (omega (arith, ints, a_is, a_most))) ∙ a_is in
-    let end_is : to_z w128 (of_z w128 b) ≡ pos (dual_of orders (end_of orders start trace)) =
-    to_z-of_z w128 b (fits_signed_from_abs w128 b (omega (arith, ints, b_is, b_most))) ∙ b_is ∙ ap (λ p. pos (dual_of orders p)) (ends ∙ ap (end_of orders start) (sym trace_is)) in
+    let end_is : to_z w128 (of_z w128 b) ≡ pos (dual_of orders (end_of parts orders start trace)) =
+    to_z-of_z w128 b (fits_signed_from_abs w128 b (omega (arith, ints, b_is, b_most))) ∙ b_is ∙ ap (λ p. pos (dual_of orders p)) (ends ∙ ap (end_of parts orders start) (sym trace_is)) in
     record {
       each = each;
       own = (
         wide,
-        subst (IsOwnTrace (length start) (is_unsettled orders) (step_of orders) start budget) (sym trace_is) own,
+        subst (IsOwnTrace (length start) (is_unsettled orders) (step_of parts orders) start budget) (sym trace_is) own,
         ap (λ d. record { trace = trace; start_dual = d; end_dual = to_z w128 (of_z w128 b) }) start_is
             ∙ ap (λ d. record { trace = trace; start_dual = pos (dual_of orders start); end_dual = d }) end_is,
       );
@@ -93,34 +93,34 @@ residuals_bounded orders start c right asset inside =
     ap (λ l. residual_in l asset) right.residual_each ∙ get_or-map-range_with_len (residual ts) 0 (length start) asset asset (pos 0) there (omega arith) in
     subst (λ z. unsigned_abs z ≤ residual_bound orders asset) (sym at) (right.bounded asset there)
 
-module _ (orders : List Order) (start : List ℤ) (budget : ℕ) (range : All (IsWithin (2 ^ 60)) start) (few : budget ≤ most_budget) where
+module _ (parts : ℕ) (whole : 1 ≤ parts) (orders : List Order) (start : List ℤ) (budget : ℕ) (range : All (IsWithin (2 ^ 60)) start) (few : budget ≤ most_budget) where
   -- an own outcome is a right one
-  pub outcome_is_own : (o : Outcome) → IsOutcomeFrom orders start budget o → IsOwnOutcome orders start budget (outcome_of orders o)
-  outcome_is_own (parts.Cleared c) from = from.own
-  outcome_is_own (parts.Skipped s) from = from.own
+  pub outcome_is_own : (o : Outcome) → IsOutcomeFrom parts orders start budget o → IsOwnOutcome parts orders start budget (outcome_of orders o)
+  outcome_is_own (variants.Cleared c) from = from.own
+  outcome_is_own (variants.Skipped s) from = from.own
 
-  each_of : (o : Outcome) → IsOutcomeFrom orders start budget o → All IsOrder orders
-  each_of (parts.Cleared c) from = from.each
-  each_of (parts.Skipped s) from = from.each
+  each_of : (o : Outcome) → IsOutcomeFrom parts orders start budget o → All IsOrder orders
+  each_of (variants.Cleared c) from = from.each
+  each_of (variants.Skipped s) from = from.each
 
-  pub outcome_is_right : (o : Outcome) → IsOutcomeFrom orders start budget o → IsRightOutcome orders start budget (outcome_of orders o)
-  outcome_is_right o from = own_is_right orders start budget (outcome_of orders o) (each_of o from) range few (outcome_is_own o from)
+  pub outcome_is_right : (o : Outcome) → IsOutcomeFrom parts orders start budget o → IsRightOutcome parts orders start budget (outcome_of orders o)
+  outcome_is_right o from = own_is_right parts whole orders start budget (outcome_of orders o) (each_of o from) range few (outcome_is_own o from)
 
-  pub outcome_is_near : (o : Outcome) → IsOutcomeFrom orders start budget o → are_single orders ≡ true → ClearsNear orders start (outcome_of orders o)
-  outcome_is_near o from single = one_asset_books_clear orders start budget (outcome_of orders o) (each_of o from) single range (outcome_is_own o from)
+  pub outcome_is_near : (o : Outcome) → IsOutcomeFrom parts orders start budget o → are_single orders ≡ true → ClearsNear orders start (outcome_of orders o)
+  outcome_is_near o from single = one_asset_books_clear parts whole orders start budget (outcome_of orders o) (each_of o from) single range (outcome_is_own o from)
 
-  pub outcome_has_rates : (o : Outcome) → IsOutcomeFrom orders start budget o → HasOneRateEach orders o
-  outcome_has_rates (parts.Cleared c) from = from.at.one_rate_each
-  outcome_has_rates (parts.Skipped s) from = tt
+  pub outcome_has_rates : (o : Outcome) → IsOutcomeFrom parts orders start budget o → HasOneRateEach orders o
+  outcome_has_rates (variants.Cleared c) from = from.at.one_rate_each
+  outcome_has_rates (variants.Skipped s) from = tt
 
-  pub outcome_is_certified : (o : Outcome) → IsOutcomeFrom orders start budget o → IsCertified orders start o
-  outcome_is_certified (parts.Cleared c) from =
-      let right = outcome_is_right (parts.Cleared c) from in
+  pub outcome_is_certified : (o : Outcome) → IsOutcomeFrom parts orders start budget o → IsCertified parts orders start o
+  outcome_is_certified (variants.Cleared c) from =
+      let right = outcome_is_right (variants.Cleared c) from in
       record { optimal = from.at.optimal; bounded = from.at.bounded (residuals_bounded orders start c right) }
-  outcome_is_certified (parts.Skipped s) from =
-      let right = outcome_is_right (parts.Skipped s) from in
+  outcome_is_certified (variants.Skipped s) from =
+      let right = outcome_is_right (variants.Skipped s) from in
       record {
-        exact = λ N common. walks_lower_the_dual.exact N orders start s.trace from.each common right.legal;
-        moves = walks_lower_the_dual.moves orders start s.trace right.legal;
-        floors = (right_skips_lower_the_dual orders start budget (skipping_of s) from.each right).0;
+        exact = λ N common. walks_lower_the_dual.exact parts whole N orders start s.trace from.each common right.legal;
+        moves = walks_lower_the_dual.moves parts orders start s.trace right.legal;
+        floors = (right_skips_lower_the_dual parts whole orders start budget (skipping_of s) from.each right).0;
       }

@@ -1,10 +1,10 @@
 -- What the numbers of an outcome promise: the gap of a clearing, and the dual floors of a skip.
-use Rattle.std.specs.Prelude.{ℤ, pos, ◌≤ℤ◌, List}
+use Rattle.std.specs.Prelude.{ℕ, ℤ, pos, ◌≤ℤ◌, List}
 use Rattle.flow_orders.specs.Orders.{Order}
 use Rattle.flow_orders.specs.Welfare.{IsOptimalWithin}
 use Rattle.batch_outcome.specs.declared.outcome.Cleared.{Cleared}
 use Rattle.batch_outcome.specs.declared.outcome.Outcome.{Outcome}
-use Rattle.batch_outcome.specs.declared.outcome.Outcome.TheVariants as parts
+use Rattle.batch_outcome.specs.declared.outcome.Outcome.TheVariants as variants
 use Rattle.batch_outcome.specs.Published.{skipping_of}
 use Rattle.batch_outcome.specs.GapBound.{gap_bound}
 use Rattle.batch_outcome.specs.Progress.{LowersTheDual}
@@ -14,7 +14,7 @@ pub record IsCertifiedClearing (orders : List Order) (c : Cleared) : Type 0 wher
   pub optimal : IsOptimalWithin c.gap orders c.rates
   pub bounded : c.gap ≤ℤ pos (gap_bound orders c.prices)
 
--- the walk of a skip lowers the dual by its movement
-abbrev pub IsCertified : List Order → List ℤ → Outcome → Type 0
-IsCertified orders start (parts.Cleared c) = IsCertifiedClearing orders c
-IsCertified orders start (parts.Skipped s) = LowersTheDual orders start (skipping_of s)
+-- the walk of a skip, by so many parts, lowers the dual by its movement
+abbrev pub IsCertified : ℕ → List Order → List ℤ → Outcome → Type 0
+IsCertified parts orders start (variants.Cleared c) = IsCertifiedClearing orders c
+IsCertified parts orders start (variants.Skipped s) = LowersTheDual parts orders start (skipping_of s)

@@ -7,7 +7,7 @@ use Rattle.flow_orders.specs.Outcomes as outcomes
 use Rattle.flow_orders.specs.Own.{rates_by_choice, clearing_at, IsOwnOutcome}
 use Rattle.batch_outcome.specs.declared.outcome.Cleared.{Cleared}
 use Rattle.batch_outcome.specs.declared.outcome.Outcome.{Outcome}
-use Rattle.batch_outcome.specs.declared.outcome.Outcome.TheVariants as parts
+use Rattle.batch_outcome.specs.declared.outcome.Outcome.TheVariants as variants
 use Rattle.batch_outcome.specs.Published.{clearing_of, skipping_of}
 use Rattle.batch_outcome.specs.GapBound.{gap_bound}
 use Rattle.batch_certificate.specs.Laws.{AreBounded}
@@ -22,17 +22,17 @@ pub record IsClearedAt (orders : List Order) (prices : List ℤ) (c : Cleared) :
   pub bounded : AreBounded orders c.residuals → c.gap ≤ℤ pos (gap_bound orders prices)
 
 -- a clearing that is the own outcome of a batch
-pub record IsClearedFrom (orders : List Order) (start : List ℤ) (budget : ℕ) (c : Cleared) : Type 0 where
+pub record IsClearedFrom (parts : ℕ) (orders : List Order) (start : List ℤ) (budget : ℕ) (c : Cleared) : Type 0 where
   pub each : All IsOrder orders
-  pub own : IsOwnOutcome orders start budget (outcomes.Cleared (clearing_of orders c))
+  pub own : IsOwnOutcome parts orders start budget (outcomes.Cleared (clearing_of orders c))
   pub at : IsClearedAt orders c.prices c
 
 -- a skip that is
-pub record IsSkippedFrom (orders : List Order) (start : List ℤ) (budget : ℕ) (s : outcomes.Skipping) : Type 0 where
+pub record IsSkippedFrom (parts : ℕ) (orders : List Order) (start : List ℤ) (budget : ℕ) (s : outcomes.Skipping) : Type 0 where
   pub each : All IsOrder orders
-  pub own : IsOwnOutcome orders start budget (outcomes.Skipped s)
+  pub own : IsOwnOutcome parts orders start budget (outcomes.Skipped s)
 
 -- either of the two
-abbrev pub IsOutcomeFrom : List Order → List ℤ → ℕ → Outcome → Type 0
-IsOutcomeFrom orders start budget (parts.Cleared c) = IsClearedFrom orders start budget c
-IsOutcomeFrom orders start budget (parts.Skipped s) = IsSkippedFrom orders start budget (skipping_of s)
+abbrev pub IsOutcomeFrom : ℕ → List Order → List ℤ → ℕ → Outcome → Type 0
+IsOutcomeFrom parts orders start budget (variants.Cleared c) = IsClearedFrom parts orders start budget c
+IsOutcomeFrom parts orders start budget (variants.Skipped s) = IsSkippedFrom parts orders start budget (skipping_of s)

@@ -48,17 +48,26 @@ impl From<rate_rounding::Memory> for Memory {
 /// names. Where each order names one asset the batch always clears: each asset that isn't settled is moved once, and the
 /// budget, from 1 to 65,536 moves, isn't used. Other books are searched, and the batch is skipped where the budget is
 /// used up before all assets are settled. Orders and clearing are those of Flow Trading (Budish, Cramton, Kyle, Lee and
-/// Malec, 2023); where prices start and end, and how demands are rounded, are this project's own.
+/// Malec, 2023); where prices start and end, and how demands are rounded, are this project's own. Moves end by excess in
+/// `parts` of a unit, 1 to 256 of them.
 ///
 /// `Memory` is the one fault.
-pub fn clear(alloc: Global, orders: &[Order], start: &[i64], budget: u32) -> Result<Outcome, Memory>
+pub fn clear(
+    alloc: Global,
+    parts: u16,
+    orders: &[Order],
+    start: &[i64],
+    budget: u32,
+) -> Result<Outcome, Memory>
+    requires some_parts { 1 ≤ parts }
+    requires few_parts { parts ≤ 256 }
     requires few { length orders.now ≤ most_orders }
     requires assets { length start.now ≤ most_prices }
     requires range { All (IsWithin (2 ^ 60)) start.now }
     requires priced { All (λ o. IsPricedBy o.row start.now) orders.now }
     requires budget { IsFrom1To most_budget budget }
-    ensures own { IfOk result (λ outcome. IsOwnOutcome orders.now start.now budget (outcome_of orders.now outcome)) }
-    ensures right { IfOk result (λ outcome. IsRightOutcome orders.now start.now budget (outcome_of orders.now outcome)) }
+    ensures own { IfOk result (λ outcome. IsOwnOutcome parts orders.now start.now budget (outcome_of orders.now outcome)) }
+    ensures right { IfOk result (λ outcome. IsRightOutcome parts orders.now start.now budget (outcome_of orders.now outcome)) }
 
     // A book of one-asset orders clears.
     ensures near { are_single orders.now ≡ true
@@ -66,13 +75,13 @@ pub fn clear(alloc: Global, orders: &[Order], start: &[i64], budget: u32) -> Res
 
     // No balanced rates beat those of a clearing by more than its gap, which is bounded; and the walk of a skip lowers the dual
     // by its movement.
-    ensures certified { IfOk result (IsCertified orders.now start.now) }
+    ensures certified { IfOk result (IsCertified parts orders.now start.now) }
     ensures one_rate_each { IfOk result (HasOneRateEach orders.now) }
 {
     if are_single(orders) {
-        return Ok(Outcome::Cleared(clear_single(alloc, orders, start)?));
+        return Ok(Outcome::Cleared(clear_single(alloc, parts, orders, start)?));
     }
-    clear_wide(alloc, orders, start, budget)
+    clear_wide(alloc, parts, orders, start, budget)
 }
 
 // Whether each order names one asset alone.
@@ -83,37 +92,47 @@ fn are_single(orders: &[Order]) -> bool
 }
 
 // The clearing of a book in which each order names one asset.
-fn clear_single(alloc: Global, orders: &[Order], start: &[i64]) -> Result<Cleared, Memory>
+fn clear_single(
+    alloc: Global,
+    parts: u16,
+    orders: &[Order],
+    start: &[i64],
+) -> Result<Cleared, Memory>
+    requires some_parts { 1 ≤ parts }
+    requires few_parts { parts ≤ 256 }
     requires few { length orders.now ≤ most_orders }
     requires assets { length start.now ≤ most_prices }
     requires range { All (IsWithin (2 ^ 60)) start.now }
     requires priced { All (λ o. IsPricedBy o.row start.now) orders.now }
     requires single { are_single orders.now ≡ true }
-    ensures cleared { IfOk result (λ c. (budget : ℕ) → budget ≤ most_budget → IsClearedFrom orders.now start.now budget c) }
+    ensures cleared { IfOk result (λ c. (budget : ℕ) → budget ≤ most_budget → IsClearedFrom parts orders.now start.now budget c) }
 {
     let mut work = Workspace::new(alloc, orders, start)?;
-    settle_single(&mut work);
+    settle_single(&mut work, parts);
     clear_at(alloc, orders, work.into_quoted())
 }
 
 // The outcome of a book in which some order names two assets or more.
 fn clear_wide(
     alloc: Global,
+    parts: u16,
     orders: &[Order],
     start: &[i64],
     budget: u32,
 ) -> Result<Outcome, Memory>
+    requires some_parts { 1 ≤ parts }
+    requires few_parts { parts ≤ 256 }
     requires few { length orders.now ≤ most_orders }
     requires assets { length start.now ≤ most_prices }
     requires range { All (IsWithin (2 ^ 60)) start.now }
     requires priced { All (λ o. IsPricedBy o.row start.now) orders.now }
     requires wide { are_single orders.now ≡ false }
     requires budget { IsFrom1To most_budget budget }
-    ensures own { IfOk result (IsOutcomeFrom orders.now start.now budget) }
+    ensures own { IfOk result (IsOutcomeFrom parts orders.now start.now budget) }
 {
     let mut trace = Vec::with_capacity(alloc, budget as usize)?;
     let mut work = Workspace::new(alloc, orders, start)?;
-    match search(&mut work, budget, &mut trace) {
+    match search(&mut work, parts, budget, &mut trace) {
         Found::Settled => {
             let cleared = clear_at(alloc, orders, work.into_quoted())?;
             Ok(Outcome::Cleared(cleared))

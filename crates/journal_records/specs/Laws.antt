@@ -46,8 +46,8 @@ abbrev pub BatchRepliesFit : Type 0
 BatchRepliesFit =
     (number : ℕ) (outcome : Outcome) → IsAnswer (Batch number outcome) → IsWithinLimits outcome → IsRecord most_reply_body (answer_record (Batch number outcome))
 
--- The numbers of a right outcome, by whatever parts, fit their widths, and it is within the limits: of few lawful orders with numbers below 2^64, at
--- few start prices within their range.
+-- The numbers of a right outcome, by whatever parts, fit their widths, and it is within the limits: of few lawful orders with
+-- numbers below 2^64, at few start prices within their range.
 abbrev pub RightOutcomesFit : Type 0
 RightOutcomesFit =
     (parts : ℕ) → 1 ≤ parts → (orders : List Order) (start : List ℤ) (budget number : ℕ) (outcome : Outcome)
