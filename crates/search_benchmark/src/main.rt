@@ -1,7 +1,7 @@
-//! A benchmark of the search for prices: `search_benchmark ASSETS ORDERS MOVES`.
+//! A benchmark of the search for prices: `search_benchmark ASSETS ORDERS MOVES PARTS`.
 //!
-//! It draws a book of so many orders of 1 to 3 assets each, and searches from prices of 0 by so many moves at most. It
-//! prints how many moves were made, whether all assets were settled then, and a sum of the prices. `tools/benchmark` times
+//! It draws a book of so many orders of 1 to 3 assets each, and searches from prices of 0 by so many moves at most, which end
+//! by so many parts of a unit, 1 to 256. It prints how many moves were made, whether all assets were settled then, and a sum of the prices. `tools/benchmark` times
 //! it.
 #![tactic(auto)]
 
@@ -17,12 +17,13 @@ use std::alloc::{AllocError, Global};
 use std::process::ExitCode;
 use std::{env, io};
 
-// How many assets, orders and moves at most.
+// How many assets and orders, and moves at most, and in how many parts of a unit moves count.
 #[derive(Clone, Copy)]
 struct Task {
     assets: u16,
     orders: u32,
     moves: u32,
+    parts: u16,
 }
 
 // Whether each asset that the order names has a price.
@@ -36,24 +37,32 @@ fn is_priced(order: &Order, prices: &[i64]) -> bool
         .all(|entry| usize::from(entry.asset) < prices.len())
 }
 
-// None where the words aren't three numbers.
+// None where the words aren't four numbers.
 fn task_of(words: &[String]) -> Option<Task> {
-    let [assets, orders, moves] = words else {
+    let [assets, orders, moves, parts] = words else {
         return None;
     };
     Some(Task {
         assets: assets.as_str().parse().ok()?,
         orders: orders.as_str().parse().ok()?,
         moves: moves.as_str().parse().ok()?,
+        parts: parts.as_str().parse().ok()?,
     })
 }
 
 // What a search found: the moves made, whether all is settled, and the sum of the prices.
-fn found(alloc: Global, orders: &[Order], moves: u32) -> Result<(usize, bool, i64), AllocError> {
+fn found(
+    alloc: Global,
+    orders: &[Order],
+    moves: u32,
+    parts: u16,
+) -> Result<(usize, bool, i64), AllocError> {
     let zeros = [0; 64];
     let prices: &[i64] = &zeros;
     if orders.len() > 16_384
         || moves > 65_536
+        || parts == 0
+        || parts > 256
         || !orders.iter().all(|order| is_priced(order, prices))
     {
         return Ok((0, false, 0));
@@ -62,7 +71,7 @@ fn found(alloc: Global, orders: &[Order], moves: u32) -> Result<(usize, bool, i6
     let Ok(mut work) = Workspace::new(alloc, orders, prices) else {
         return Ok((0, false, 0));
     };
-    let is_settled = search(&mut work, moves, &mut trace) == Found::Settled;
+    let is_settled = search(&mut work, parts, moves, &mut trace) == Found::Settled;
     let mut sum = 0i64;
     for price in work.prices() {
         sum = sum.wrapping_mul(31).wrapping_add(*price);
@@ -73,11 +82,11 @@ fn found(alloc: Global, orders: &[Order], moves: u32) -> Result<(usize, bool, i6
 fn run(rt: &HostRuntime) -> io::Result<ExitCode> {
     let words: Vec<String> = env::args(rt)?.skip(1).collect(rt.alloc())?;
     let Some(task) = task_of(words.as_slice()) else {
-        eprintln!(rt; "usage: search_benchmark ASSETS ORDERS MOVES")?;
+        eprintln!(rt; "usage: search_benchmark ASSETS ORDERS MOVES PARTS")?;
         return Ok(ExitCode::FAILURE);
     };
     let orders = book::drawn(rt.alloc(), task.assets, task.orders)?;
-    let (made, is_settled, sum) = found(rt.alloc(), orders.as_slice(), task.moves)?;
+    let (made, is_settled, sum) = found(rt.alloc(), orders.as_slice(), task.moves, task.parts)?;
     println!(rt; "{made} {is_settled} {sum}")?;
     Ok(ExitCode::SUCCESS)
 }
