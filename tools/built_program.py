@@ -1,4 +1,5 @@
 """The built program, for tools beside it: where it stands, journals that it finds legal, and what is put before it."""
+import functools
 import os
 import shutil
 import subprocess
@@ -7,6 +8,7 @@ import sys
 TOP = os.path.dirname(os.path.dirname(os.path.realpath(__file__)))
 
 
+@functools.lru_cache(None)
 def program():
     """Where the program stands that is built from the sources as they are; it is built first where it isn't. Ends as
     tools/program does where it can't be."""
@@ -16,17 +18,27 @@ def program():
     return os.fsdecode(made.stdout[:-1])
 
 
-def legal_journal(place):
-    """The bytes of a journal that `flow audit` finds legal. Of any other the audit's line is said, and the tool ends with
-    the audit's status."""
+def bytes_of(place):
+    """What a file holds. Where it can't be read, the tool ends, and says why."""
     try:
         with open(place, "rb") as file:
-            journal = file.read()
+            return file.read()
     except OSError as fault:
         sys.exit(f"{os.path.basename(sys.argv[0])}: {fault}")
-    ran = subprocess.run([program(), "audit"], input=journal, stdout=subprocess.DEVNULL)
+
+
+def output_of(word, given):
+    """What a word writes. Where it isn't done, its line is said, and the tool ends with its status."""
+    ran = subprocess.run([program(), word], input=given, stdout=subprocess.PIPE)
     if ran.returncode:
         sys.exit(ran.returncode)
+    return ran.stdout
+
+
+def legal_journal(place):
+    """The bytes of a journal that `flow audit` finds legal."""
+    journal = bytes_of(place)
+    output_of("audit", journal)
     return journal
 
 

@@ -80,26 +80,33 @@ def add(balances, key, amount):
 
 class Day:
     """All that a legal journal tells. Balances are by account, from 1, and then by asset, in units, or MONEY_KEY, in
-    grains; what stands at none is 0."""
+    grains; what stands at none is 0. Credits are so too, with money in ticks."""
 
     def __init__(self, journal):
         self.version = int(journal[7:8])
-        self.tickers, self.accounts, self.exchange = [], {}, {}
+        self.tickers, self.accounts, self.credits, self.exchange = [], {}, {}, {}
         self.orders, self.batches, self.pairs, self.deposited = {}, [], [], {}
-        every = list(records(journal))
-        for number, (asked, answered) in enumerate(zip(every[::2], every[1::2]), 1):
+        self.prices, self.next_order, self.held = [], 1, 0
+        self.go_on(journal[8:])
+
+    def go_on(self, pairs):
+        """Takes up more pairs, which a legal journal may have behind those before."""
+        every = list(records(pairs, 0))
+        for number, (asked, answered) in enumerate(zip(every[::2], every[1::2]), len(self.pairs) + 1):
             self.take(number, *asked, *answered)
 
     def take(self, number, tag, body, reply, answer):
         if reply == ASSET:
             self.tickers.append(body.decode("ascii").rstrip(" "))
+            self.prices.append(0)
         text = told(self.tickers, (tag, body), (reply, answer))
         self.pairs.append(Pair(number, tag, body, reply, answer, text))
         if reply == ACCOUNT:
-            self.accounts[int.from_bytes(answer, "big")] = {}
+            account = int.from_bytes(answer, "big")
+            self.accounts[account], self.credits[account] = {}, {}
         elif reply == ORDER:
             placed = Order(int.from_bytes(answer, "big"), tag, body)
-            self.orders[placed.number] = placed
+            self.orders[placed.number], self.next_order = placed, placed.number + 1
         elif reply == DONE:
             self.do(tag, body)
         elif reply in (CLEARED, SKIPPED):
@@ -108,12 +115,15 @@ class Day:
     def do(self, tag, body):
         if tag == 8:
             self.orders[struct.unpack(MONEY, body)[1]].state = CANCELLED
-        elif tag in (3, 4, 5, 6):
-            account, *asset, amount = struct.unpack(MONEY if tag in (3, 5) else UNITS, body)
-            key, grains = (asset[0], amount) if asset else (MONEY_KEY, amount * TICK)
-            signed_amount = grains if tag in (3, 4) else -grains
-            add(self.accounts[account], key, signed_amount)
-            add(self.deposited, key, signed_amount)
+            return
+        account, *asset, amount = struct.unpack(MONEY if tag in (3, 5, 11) else UNITS, body)
+        key = asset[0] if asset else MONEY_KEY
+        if tag in (11, 12):
+            self.credits[account][key] = amount
+        else:
+            held = (amount if asset else amount * TICK) * (1 if tag in (3, 4) else -1)
+            add(self.accounts[account], key, held)
+            add(self.deposited, key, held)
 
     def live(self):
         return [order for order in self.orders.values() if order.state == LIVE]
@@ -128,6 +138,7 @@ class Day:
             batch.start_dual, batch.end_dual = signed(answer, 4, 16, 2)
             batch.trace = answer[40:40 + moves]
         self.batches.append(batch)
+        self.held = batch.number
         for order in live:
             if order.filled == order.cap:
                 order.state = FILLED
@@ -142,6 +153,7 @@ class Day:
         batch = Batch(pair, number, [Trade(order, order.room(), rate) for order, rate in zip(live, rates)])
         batch.prices, batch.residuals = signed(answer, 6, 8, count), signed(answer, behind, 8, count)
         batch.gap, = signed(answer, behind + 8 * count, 16, 1)
+        self.prices = list(batch.prices)
         for order, rate in zip(live, rates):
             self.settle(order, rate, batch.prices)
         return batch

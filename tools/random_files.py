@@ -3,7 +3,7 @@ import random
 import struct
 
 TICKERS = [b"AAPL    ", b"MSFT    ", b"BRK.B   ", b"Z-9     ", b"aapl    ", b"AAPL    ", b"        "]
-MAGICS = [b"FLOWCMD1", b"FLOWCMD2", b"FLOWCMD3", b"FLOWCMD4", b"FLOWJNL1", b"FLOWJNL2", b"FLOWJNL3", b"FLOWJNL4", b"FLOWCMD", b""]
+MAGICS = [b"FLOWCMD1", b"FLOWCMD2", b"FLOWCMD3", b"FLOWCMD4", b"FLOWJNL1", b"FLOWJNL2", b"FLOWJNL3", b"FLOWJNL4", b"FLOWSNP1", b"FLOWCMD", b""]
 BUDGETS = [0, 1, 1, 2, 3, 10, 100, 1000, 1000, 1000, 10_000, 65_536, 65_537]
 EDGES = [0, 1, 2, 4096, 1 << 16, 1 << 24, 1 << 28, (1 << 32) - 1, 1 << 40, 1 << 60, (1 << 63) - 1, (1 << 64) - 1]
 # Lengths that a record may state, whatever stands behind it.

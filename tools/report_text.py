@@ -5,8 +5,8 @@ MONEY, UNITS, TERMS, ENTRY = ">IQ", ">IHQ", ">IqqIQB", ">Hi"
 DONE, ASSET, ACCOUNT, ORDER, REFUSED, CLEARED, SKIPPED = range(128, 135)
 
 
-def records(data):
-    at = 8
+def records(data, at=8):
+    """The tag and the body of each record, behind the magic."""
     while at < len(data):
         tag, length = struct.unpack_from(">BI", data, at)
         yield tag, data[at + 5:at + 5 + length]

@@ -13,7 +13,7 @@ _flow() {
         return
         ;;
     esac
-    [ "$COMP_CWORD" -ne 1 ] || words="run audit explain report statement encode sample keep"
+    [ "$COMP_CWORD" -ne 1 ] || words="run audit explain report statement checkpoint resume encode sample keep"
     [ "$COMP_CWORD" -ne 2 ] || [ "$before" != encode ] || words="2 3"
     mapfile -t COMPREPLY < <(compgen -W "$words" -- "$word")
 }

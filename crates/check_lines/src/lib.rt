@@ -22,4 +22,4 @@ mod row;
 
 pub use line::{Line, Names};
 pub use record::{pairs, records};
-pub use row::{put_file, put_records, put_text};
+pub use row::{put_file, put_records, put_rows, put_text};

@@ -47,3 +47,13 @@ pub fn put_file(alloc: Global, bytes: &[u8], most: usize, rows: &mut String) -> 
     put_text(magic, rows)?;
     put_records(alloc, records, most, rows)
 }
+
+/// Appends the bytes in hexadecimal digits, 16 in a row. `None` where there is no memory.
+pub fn put_rows(alloc: Global, bytes: &[u8], rows: &mut String) -> Option<()> {
+    for row in bytes.chunks(16) {
+        rows.push(' ').ok()?;
+        put_digits(alloc, row, rows)?;
+        rows.push('\n').ok()?;
+    }
+    Some(())
+}

@@ -1,5 +1,5 @@
 //! How the end of a call is told, and what stands in out.
-use check_lines::{put_file, put_text};
+use check_lines::{put_file, put_records, put_rows, put_text};
 use std::alloc::Global;
 
 // Appends the line on notes, if there is one.
@@ -45,11 +45,16 @@ pub(crate) fn put_front(
     rows.push('\n').ok()
 }
 
-// Appends the rows of what stands in out, a file or a text.
+// Appends the rows of what stands in out: a checkpoint, another file, records, or a text.
 pub(crate) fn put_out(alloc: Global, out: &[u8], most: usize, rows: &mut String) -> Option<()> {
+    if out.starts_with(b"FLOWSNP1") {
+        return put_rows(alloc, out, rows);
+    }
     if out.starts_with(b"FLOW") {
-        put_file(alloc, out, most, rows)
-    } else {
-        put_text(out, rows)
+        return put_file(alloc, out, most, rows);
+    }
+    match out.first() {
+        Some(first) if *first < b' ' => put_records(alloc, out, most, rows),
+        _ => put_text(out, rows),
     }
 }

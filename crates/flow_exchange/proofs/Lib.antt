@@ -6,6 +6,8 @@ pub mod Pace
 pub mod JournalForms
 pub mod ExplainForm
 pub mod EncodeForm
+pub mod CheckpointForm
+pub mod ResumeForm
 mod SampleForm
 pub mod StatementForm
 pub mod Dispatch

@@ -1,5 +1,5 @@
 -- Bytes determine one status and one text, to which a call comes that no fault broke off.
-use Rattle.std.proofs.Common.{◌≡◌, ◌≢◌, ◌+◌, ◌^◌, ℕ, List, [], ◌∷◌, ◌++◌, length, get_or, codes, inl, inr, Option, Some, None, IfSome, refl, sym, ap, subst, ◌∙◌, arith}
+use Rattle.std.proofs.Common.{◌≡◌, ◌≢◌, ◌+◌, ◌<◌, ℕ, List, [], ◌∷◌, ◌++◌, length, take, get_or, codes, inl, inr, Option, Some, None, IfSome, refl, sym, ap, subst, ◌∙◌, arith}
 use Rattle.std.specs.Prelude.{decimal}
 use Rattle.std.proofs.lemmas.Fmt.{decimal_injective}
 use Rattle.wire_records.specs.Records.{Record}
@@ -24,10 +24,10 @@ use Rattle.exchange_session.specs.Journals.{Journals}
 use Rattle.journal_words.proofs.JournalLaws.{one_line}
 use Rattle.wire_records.specs.declared.version.Version.TheVariants.{One, Two, Three}
 use Rattle.flow_exchange.specs.declared.form.Form.{Form}
-use Rattle.flow_exchange.specs.declared.form.Form.TheVariants.{Run, Audit, Explain, Report, Encode, Sample, Statement}
+use Rattle.flow_exchange.specs.declared.form.Form.TheVariants.{Run, Audit, Explain, Report, Encode, Sample, Statement, Checkpoint, Resume}
 use Rattle.flow_exchange.specs.declared.status.Status.{Status}
 use Rattle.flow_exchange.specs.declared.status.Status.TheVariants as answer
-use Rattle.flow_exchange.specs.Statuses.{reading_status, ended_status, bad_text}
+use Rattle.flow_exchange.specs.Statuses.{reading_status, ended_status, bad_text, unfit_status}
 use Rattle.flow_exchange.specs.Auditing.{audit_status, audit_text, AuditsTo}
 use Rattle.flow_exchange.specs.Explaining.{Explains, ExplainsTo}
 use Rattle.flow_exchange.specs.Reporting.{AreReported, ReportsTo}
@@ -35,9 +35,12 @@ use Rattle.line_records.proofs.Encoding.{encodes_one}
 use Rattle.sample_summary.proofs.OneSummary.{one_summary}
 use Rattle.flow_exchange.specs.Sampling.{AskSample, SamplesTo}
 use Rattle.flow_exchange.specs.Stating.{AskStatement, statement_status, statement_text, StatesTo}
-use Rattle.statement_rules.specs.Views.{Event, Sees}
+use Rattle.statement_rules.specs.Views.{Sees}
 use Rattle.statement_rules.proofs.ViewLaws.{one_view}
 use Rattle.flow_exchange.specs.Running.{WritesOf, RunsTo}
+use Rattle.flow_exchange.specs.Checkpointing.{checkpoint_text, CheckpointsTo}
+use Rattle.flow_exchange.specs.Resuming.{ResumesTo}
+use Rattle.session_resume.proofs.OneResumption.{one_end_of}
 use Rattle.flow_exchange.specs.Program.{ComesTo, Determines, Meets}
 use Rattle.flow_exchange.specs.Laws.{OneForm, OneEnd}
 
@@ -47,7 +50,7 @@ heads x y e = cc
 
 -- a number that tells the words apart
 abbrev mark : List ℕ → ℕ
-mark word = length word + get_or word 0 0
+mark word = length word + get_or word 0 0 + get_or word 2 0
 
 -- words of two marks are two words
 two_words : (words : List (List ℕ)) (x y : List ℕ) → mark x ≢ mark y → words ≡ x ∷ [] → words ≡ y ∷ [] → ⊥
@@ -104,6 +107,10 @@ one_form words (Statement n) (Encode One) a b = absurd (one_or_two words b a.are
 one_form words (Statement n) (Encode Two) a b = absurd (not_encode words n a b)
 one_form words (Statement n) (Encode Three) a b = absurd (not_encode words n a b)
 one_form words (Statement n) (Sample k p) a b = absurd (three_or_two words b.are a.are)
+one_form words (Statement n) Checkpoint a b = absurd (one_or_two words b a.are)
+one_form words (Statement n) Resume a b = absurd (one_or_two words b a.are)
+one_form words Checkpoint (Statement n) a b = absurd (one_or_two words a b.are)
+one_form words Resume (Statement n) a b = absurd (one_or_two words a b.are)
 one_form words Run (Statement n) a b = absurd (one_or_two words a b.are)
 one_form words Audit (Statement n) a b = absurd (one_or_two words a b.are)
 one_form words Explain (Statement n) a b = absurd (one_or_two words a b.are)
@@ -176,6 +183,42 @@ one_form words Report Explain a b = absurd (two_words words (codes "report") (co
 one_form words (Encode One) Explain a b = absurd (two_words words (codes "encode") (codes "explain") (λ e. omega (arith, e)) a b)
 one_form words (Encode Two) Explain a b = absurd (one_or_two words b a)
 one_form words (Encode Three) Explain a b = absurd (one_or_two words b a)
+one_form words Checkpoint Checkpoint a b = refl
+one_form words (Sample n p) Checkpoint a b = absurd (three_or_one words a.are b)
+one_form words Checkpoint (Sample n p) a b = absurd (three_or_one words b.are a)
+one_form words Checkpoint (Encode Two) a b = absurd (one_or_two words a b)
+one_form words (Encode Two) Checkpoint a b = absurd (one_or_two words b a)
+one_form words Checkpoint Run a b = absurd (two_words words (codes "checkpoint") (codes "run") (λ e. omega (arith, e)) a b)
+one_form words Run Checkpoint a b = absurd (two_words words (codes "run") (codes "checkpoint") (λ e. omega (arith, e)) a b)
+one_form words Checkpoint Audit a b = absurd (two_words words (codes "checkpoint") (codes "audit") (λ e. omega (arith, e)) a b)
+one_form words Audit Checkpoint a b = absurd (two_words words (codes "audit") (codes "checkpoint") (λ e. omega (arith, e)) a b)
+one_form words Checkpoint Explain a b = absurd (two_words words (codes "checkpoint") (codes "explain") (λ e. omega (arith, e)) a b)
+one_form words Explain Checkpoint a b = absurd (two_words words (codes "explain") (codes "checkpoint") (λ e. omega (arith, e)) a b)
+one_form words Checkpoint Report a b = absurd (two_words words (codes "checkpoint") (codes "report") (λ e. omega (arith, e)) a b)
+one_form words Report Checkpoint a b = absurd (two_words words (codes "report") (codes "checkpoint") (λ e. omega (arith, e)) a b)
+one_form words Checkpoint (Encode One) a b = absurd (two_words words (codes "checkpoint") (codes "encode") (λ e. omega (arith, e)) a b)
+one_form words (Encode One) Checkpoint a b = absurd (two_words words (codes "encode") (codes "checkpoint") (λ e. omega (arith, e)) a b)
+one_form words Resume Resume a b = refl
+one_form words (Sample n p) Resume a b = absurd (three_or_one words a.are b)
+one_form words Resume (Sample n p) a b = absurd (three_or_one words b.are a)
+one_form words Resume (Encode Two) a b = absurd (one_or_two words a b)
+one_form words (Encode Two) Resume a b = absurd (one_or_two words b a)
+one_form words Resume Run a b = absurd (two_words words (codes "resume") (codes "run") (λ e. omega (arith, e)) a b)
+one_form words Run Resume a b = absurd (two_words words (codes "run") (codes "resume") (λ e. omega (arith, e)) a b)
+one_form words Resume Audit a b = absurd (two_words words (codes "resume") (codes "audit") (λ e. omega (arith, e)) a b)
+one_form words Audit Resume a b = absurd (two_words words (codes "audit") (codes "resume") (λ e. omega (arith, e)) a b)
+one_form words Resume Explain a b = absurd (two_words words (codes "resume") (codes "explain") (λ e. omega (arith, e)) a b)
+one_form words Explain Resume a b = absurd (two_words words (codes "explain") (codes "resume") (λ e. omega (arith, e)) a b)
+one_form words Resume Report a b = absurd (two_words words (codes "resume") (codes "report") (λ e. omega (arith, e)) a b)
+one_form words Report Resume a b = absurd (two_words words (codes "report") (codes "resume") (λ e. omega (arith, e)) a b)
+one_form words Resume (Encode One) a b = absurd (two_words words (codes "resume") (codes "encode") (λ e. omega (arith, e)) a b)
+one_form words (Encode One) Resume a b = absurd (two_words words (codes "encode") (codes "resume") (λ e. omega (arith, e)) a b)
+one_form words Resume Checkpoint a b = absurd (two_words words (codes "resume") (codes "checkpoint") (λ e. omega (arith, e)) a b)
+one_form words Checkpoint Resume a b = absurd (two_words words (codes "checkpoint") (codes "resume") (λ e. omega (arith, e)) a b)
+one_form words Checkpoint (Encode Three) a b = absurd (one_or_two words a b)
+one_form words (Encode Three) Checkpoint a b = absurd (one_or_two words b a)
+one_form words Resume (Encode Three) a b = absurd (one_or_two words a b)
+one_form words (Encode Three) Resume a b = absurd (one_or_two words b a)
 
 -- records have one journal, and so one text
 journals_one : (version : Version) (records : List Record) (m n : Market) (x y : List ℕ) → Journals version records m x → Journals version records n y → x ≡ y
@@ -283,7 +326,28 @@ lines_one version limit bytes s t x y a b =
 samples_one : (number orders : ℕ) (s t : Status) (x y : List ℕ) → SamplesTo number orders s x → SamplesTo number orders t y → (s ≡ t) × (x ≡ y)
 samples_one number orders s t x y a b = (a.0 ∙ sym b.0, one_summary number orders x y a.1 b.1)
 
+-- a checkpoint comes to one status and one text
+checkpoints_one : (limit : ℕ) (bytes : List ℕ) (s t : Status) (x y : List ℕ) → CheckpointsTo limit bytes s x → CheckpointsTo limit bytes t y → (s ≡ t) × (x ≡ y)
+checkpoints_one limit bytes s t x y (inl a) (inl b) = (a.1 ∙ sym b.1, a.2 ∙ sym b.2)
+checkpoints_one limit bytes s t x y (inl a) (inr b) = absurd (a.0 b.audits.version b.audits.reads.0 b.audits.reads.1.0 b.audits.reads.1.1)
+checkpoints_one limit bytes s t x y (inr a) (inl b) = absurd (b.0 a.audits.version a.audits.reads.0 a.audits.reads.1.0 a.audits.reads.1.1)
+checkpoints_one limit bytes s t x y (inr a) (inr b) =
+    let one = one_audit limit bytes a.legal b.legal a.behind b.behind a.ending b.ending a.market b.market a.audits b.audits in
+    let same : s ≡ t =
+    a.ends ∙ ap (λ (p : List (Pair Record Outcome)). audit_status limit a.ending p a.behind) one.0 ∙ ap (λ (u : List (Record × Record)). audit_status limit a.ending b.legal u) one.1
+    ∙ ap (λ (e : Ending). audit_status limit e b.legal b.behind) one.2 ∙ sym b.ends
+    in
+    (same, a.writes ∙ ap (λ (u : Status). checkpoint_text u a.market) same ∙ ap (checkpoint_text t) one.3 ∙ sym b.writes)
+
+-- a resumption comes to one status and one text
+resumes_one : (limit : ℕ) (bytes : List ℕ) (s t : Status) (x y : List ℕ) → ResumesTo limit bytes s x → ResumesTo limit bytes t y → (s ≡ t) × (x ≡ y)
+resumes_one limit bytes s t x y a b =
+    let one = one_end_of (limit < length bytes) (take limit bytes) a.0 b.0 x y a.1 b.1 in
+    (a.2 ∙ ap (ended_status limit unfit_status) one.0 ∙ sym b.2, one.1)
+
 pub one_end : OneEnd
+one_end Checkpoint limit bytes s t x y a b = checkpoints_one limit bytes s t x y a b
+one_end Resume limit bytes s t x y a b = resumes_one limit bytes s t x y a b
 one_end (Sample number orders) limit bytes s t x y a b = samples_one number orders s t x y a b
 one_end (Statement number) limit bytes s t x y a b = states_one number limit bytes s t x y a b
 one_end Run limit bytes s t x y a b = runs_one limit bytes s t x y a b

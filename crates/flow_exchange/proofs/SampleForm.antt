@@ -1,5 +1,5 @@
 -- A sample does what the clauses of the program say: it reads nothing, and writes the line on it, or a front of it.
-use Rattle.std.proofs.Common.{◌≡◌, ◌≢◌, ◌≤◌, ℕ, List, [], Option, Some, None, IfSome, inl, inr, length, refl, arith}
+use Rattle.std.proofs.Common.{◌≡◌, ◌≢◌, ℕ, List, [], Option, Some, None, IfSome, inl, inr, refl, arith}
 use Rattle.flow_io.specs.Faults.{Blames}
 use Rattle.flow_io.specs.Streams.{Grows, GrowsByFront, TakesAtMost}
 use Rattle.flow_io.specs.Changes.{Change}
@@ -8,7 +8,7 @@ use Rattle.sample_summary.specs.Summary.{Summarizes}
 use Rattle.flow_exchange.specs.declared.form.Form.TheVariants.{Sample}
 use Rattle.flow_exchange.specs.declared.status.Status.{Status}
 use Rattle.flow_exchange.specs.declared.status.Status.TheVariants as answer
-use Rattle.flow_exchange.specs.Program.{ComesTo, Meets, Does}
+use Rattle.flow_exchange.specs.Program.{Meets, Does}
 use Rattle.flow_exchange.proofs.Outcomes.{one_end}
 use Rattle.flow_exchange.proofs.Dispatch.{completes_form}
 

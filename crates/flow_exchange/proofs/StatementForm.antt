@@ -1,5 +1,5 @@
 -- A statement does what the clauses of the program say: what its word comes to is the text of a view, and the last lines.
-use Rattle.std.proofs.Common.{◌≡◌, ◌⊎◌, ◌<◌, ◌+◌, ℕ, true, false, Bool, List, [], ◌∷◌, ◌++◌, All, map, Option, Result, Ok, Err, if◌then◌else◌, length, take, drop, refl, sym, ap, ◌∙◌, subst, inl, inr, append-nil, append_assoc, arith}
+use Rattle.std.proofs.Common.{◌≡◌, ◌⊎◌, ◌<◌, ◌+◌, ℕ, Bool, List, [], ◌∷◌, ◌++◌, All, map, Option, Result, Ok, Err, if◌then◌else◌, length, take, drop, refl, sym, ap, ◌∙◌, subst, inl, inr, append-nil, append_assoc, arith}
 use Rattle.std.proofs.lemmas.Bool.{false_from_ne_true}
 use Rattle.std.proofs.lemmas.List.{take-append-drop}
 use Rattle.std.proofs.lemmas.List.Elements.{All-nil, All-cons, All-head, All-tail}
@@ -17,7 +17,7 @@ use Rattle.flow_orders.specs.Outcomes.{Outcome, IsRightOutcome}
 use Rattle.journal_records.specs.Pairs.{IsPair}
 use Rattle.journal_records.specs.Formats.{journals, records_of}
 use Rattle.journal_records.proofs.Spelled.{answer_unique}
-use Rattle.market_rules.specs.Market.{Market, IsSound, empty_market}
+use Rattle.market_rules.specs.Market.{Market, IsSound}
 use Rattle.market_rules.specs.Journal.{Follows}
 use Rattle.market_rules.proofs.LawProofs.{steps_keep_soundness}
 use Rattle.market_rules.proofs.Soundness.{sound-empty}
@@ -39,11 +39,9 @@ use Rattle.statement_word.specs.declared.no_statement.NoStatement.TheVariants as
 use Rattle.statement_word.specs.Stating.{Stated, TellsOwn, held_in, statement, statement_start}
 use Rattle.statement_word.proofs.Held.{lines_are, ends_are}
 use Rattle.flow_exchange.specs.declared.form.Form.TheVariants.{Statement}
-use Rattle.flow_exchange.specs.declared.status.Status.{Status}
 use Rattle.flow_exchange.specs.declared.status.Status.TheVariants as answer
 use Rattle.flow_exchange.specs.Statuses.{ended_status}
 use Rattle.flow_exchange.specs.Private.{no_statement}
-use Rattle.flow_exchange.specs.Auditing.{audit_status}
 use Rattle.flow_exchange.specs.Stating.{statement_status, AreSeen, StatesTo, StatesInto, StatesShort}
 use Rattle.flow_exchange.specs.Program.{Determines, Meets}
 use Rattle.flow_exchange.proofs.Words.{IsForm}

@@ -4,7 +4,7 @@ use Rattle.wire_records.specs.declared.version.Version.TheVariants.{One, Two, Th
 use Rattle.flow_exchange.specs.Sampling.{AskSample}
 use Rattle.flow_exchange.specs.Stating.{AskStatement}
 use Rattle.flow_exchange.specs.declared.form.Form.{Form}
-use Rattle.flow_exchange.specs.declared.form.Form.TheVariants.{Run, Audit, Explain, Report, Encode, Sample, Statement}
+use Rattle.flow_exchange.specs.declared.form.Form.TheVariants.{Run, Audit, Explain, Report, Encode, Sample, Statement, Checkpoint, Resume}
 
 -- the words, as the bytes of each, ask for this form
 abbrev pub Asks : List (List ℕ) → Form → Type 0
@@ -17,6 +17,8 @@ Asks words (Encode Two) = words ≡ codes "encode" ∷ codes "2" ∷ []
 Asks words (Encode Three) = words ≡ codes "encode" ∷ codes "3" ∷ []
 Asks words (Sample number orders) = AskSample words number orders
 Asks words (Statement number) = AskStatement words number
+Asks words Checkpoint = words ≡ codes "checkpoint" ∷ []
+Asks words Resume = words ≡ codes "resume" ∷ []
 
 -- the words are none of the forms
 abbrev pub AsksNothing : List (List ℕ) → Type 0

@@ -4,6 +4,8 @@ pub mod Running
 pub mod Auditing
 pub mod Explaining
 pub mod Reporting
+pub mod Checkpointing
+pub mod Resuming
 pub mod Sampling
 pub mod Stating
 pub mod Program

@@ -1,12 +1,12 @@
 -- What the program does: which status comes, and what stands in out, for each form of its words.
-use Rattle.std.specs.Prelude.{◌≡◌, ◌≢◌, ◌⊎◌, ◌↔◌, ◌+◌, ℕ, List, [], length, Option, Some, IfSome}
+use Rattle.std.specs.Prelude.{◌≡◌, ◌≢◌, ◌⊎◌, ◌↔◌, ◌+◌, ℕ, List, [], length, take, Option, Some, IfSome}
 use Rattle.flow_io.specs.Faults.{Rose, Blames}
 use Rattle.flow_io.specs.Streams.{Grows, GrowsByFront, TakesAtMost}
 use Rattle.flow_io.specs.Changes.{Change}
 use Rattle.word_driver.specs.Ended.{Ended}
 use Rattle.line_records.specs.Encoding.{EncodesTo, EncodesInto, EncodesShort}
 use Rattle.flow_exchange.specs.declared.form.Form.{Form}
-use Rattle.flow_exchange.specs.declared.form.Form.TheVariants.{Run, Audit, Explain, Report, Encode, Sample, Statement}
+use Rattle.flow_exchange.specs.declared.form.Form.TheVariants.{Run, Audit, Explain, Report, Encode, Sample, Statement, Checkpoint, Resume}
 use Rattle.flow_exchange.specs.declared.status.Status.{Status}
 use Rattle.flow_exchange.specs.declared.status.Status.TheVariants.{Done, Usage, NotFlow, Torn, ReadFault, WriteFault, NoMemory, Rejected, TooLong, BadText, BadCheckpoint, NoAccount, DiskFault, NotDisk, Damaged}
 use Rattle.flow_exchange.specs.Forms.{Asks, AsksNothing}
@@ -17,6 +17,9 @@ use Rattle.flow_exchange.specs.Explaining.{ExplainsTo, ExplainsInto}
 use Rattle.flow_exchange.specs.Sampling.{SamplesTo}
 use Rattle.flow_exchange.specs.Reporting.{ReportsTo, ReportsInto, ReportsShort}
 use Rattle.flow_exchange.specs.Stating.{StatesTo, StatesInto, StatesShort}
+use Rattle.flow_exchange.specs.Checkpointing.{CheckpointsTo, CheckpointsShort}
+use Rattle.session_resume.specs.Resuming.{ResumesInto}
+use Rattle.flow_exchange.specs.Resuming.{ResumesTo, ResumesOut}
 
 -- ---- a row for each form
 
@@ -29,6 +32,8 @@ ComesTo Report limit bytes status text = ReportsTo limit bytes status text
 ComesTo (Encode version) limit bytes status text = (ended : Ended ℕ) × EncodesTo version limit bytes ended text × (status ≡ ended_status limit bad_text ended)
 ComesTo (Sample number orders) limit bytes status text = SamplesTo number orders status text
 ComesTo (Statement number) limit bytes status text = StatesTo number limit bytes status text
+ComesTo Checkpoint limit bytes status text = CheckpointsTo limit bytes status text
+ComesTo Resume limit bytes status text = ResumesTo limit bytes status text
 
 -- what may stand in out, besides nothing, while a form is at work: the text of whole units
 abbrev pub GetsTo : Form → ℕ → List ℕ → List ℕ → Type 0
@@ -39,6 +44,8 @@ GetsTo Report limit bytes text = ReportsInto limit bytes text
 GetsTo (Encode version) limit bytes text = EncodesInto version limit bytes text
 GetsTo (Sample number orders) limit bytes text = ⊥
 GetsTo (Statement number) limit bytes text = StatesInto number limit bytes text
+GetsTo Checkpoint limit bytes text = ⊥
+GetsTo Resume limit bytes text = ResumesInto (take limit bytes) text
 
 -- what may stand in out where memory ran out once something was read
 abbrev pub LacksAt : Form → ℕ → List ℕ → List ℕ → Type 0
@@ -49,6 +56,8 @@ LacksAt Report limit bytes text = ReportsShort limit bytes text
 LacksAt (Encode version) limit bytes text = (text ≡ []) ⊎ EncodesShort version limit bytes text
 LacksAt (Sample number orders) limit bytes text = ⊥
 LacksAt (Statement number) limit bytes text = StatesShort number limit bytes text
+LacksAt Checkpoint limit bytes text = CheckpointsShort limit bytes text
+LacksAt Resume limit bytes text = ResumesOut limit bytes text
 
 -- how many bytes of the source are taken at most
 abbrev pub most_taken : Form → ℕ → ℕ
@@ -59,6 +68,8 @@ most_taken Report limit = limit + 1
 most_taken (Encode version) limit = limit + 1
 most_taken (Sample number orders) limit = 0
 most_taken (Statement number) limit = limit + 1
+most_taken Checkpoint limit = limit + 1
+most_taken Resume limit = limit + 1
 
 -- what is left of the source where all was done
 abbrev pub left_by : Form → List ℕ → List ℕ
@@ -69,6 +80,8 @@ left_by Report bytes = []
 left_by (Encode version) bytes = []
 left_by (Sample number orders) bytes = bytes
 left_by (Statement number) bytes = []
+left_by Checkpoint bytes = []
+left_by Resume bytes = []
 
 -- ---- what holds of all forms
 

@@ -3,6 +3,8 @@ use Rattle.std.specs.Prelude.{ℕ, List, [], ◌++◌, codes, decimal, Ok, Err}
 use Rattle.wire_records.specs.Reading.{Ending, End, Torn, TooLong, Reading, NotFlow, File}
 use Rattle.word_driver.specs.declared.fault.Fault.TheVariants as word
 use Rattle.word_driver.specs.Ended.{Ended}
+use Rattle.session_resume.specs.declared.first.Unfit.{Unfit}
+use Rattle.session_resume.specs.declared.first.Unfit.TheVariants.{Illegal, NoCheckpoint}
 use Rattle.flow_exchange.specs.declared.status.Status.{Status}
 use Rattle.flow_exchange.specs.declared.status.Status.TheVariants as status
 
@@ -67,3 +69,8 @@ ended_status limit own (Err (word.Stopped why)) = own why
 -- of an encoding, which stops at the first line that is no command, by its number
 abbrev pub bad_text : ℕ → Status
 bad_text number = status.BadText number
+
+-- of a resumption, which stops at the first pair that isn't legal, by its number, or where a checkpoint isn't sound
+abbrev pub unfit_status : Unfit → Status
+unfit_status (Illegal number) = status.Rejected number
+unfit_status NoCheckpoint = status.BadCheckpoint

@@ -1,9 +1,10 @@
 //! The status of how a word ended, by its own reason to stop.
 ghost use Rattle.std.specs.Prelude.{◌≡◌};
-ghost use Rattle.flow_exchange.specs.Statuses.{ended_status, bad_text};
+ghost use Rattle.flow_exchange.specs.Statuses.{ended_status, bad_text, unfit_status};
 ghost use Rattle.flow_exchange.specs.Private.{no_reason, no_statement, rejected};
 
 use crate::Status;
+use session_resume::Unfit;
 use statement_word::NoStatement;
 use word_driver::{Fault, Never};
 
@@ -69,5 +70,22 @@ pub(crate) fn lines_status(ended: Result<(), Fault<u64>>, limit: u64) -> Status
         Err(Fault::Torn(place)) => Status::Torn(place),
         Err(Fault::TooLong) => Status::TooLong(limit),
         Err(Fault::Stopped(number)) => Status::BadText(number),
+    }
+}
+
+// Of a resumption, which stops where there is nothing to go on from.
+pub(crate) fn resumed_status(ended: Result<(), Fault<Unfit>>, limit: u64) -> Status
+    ensures { result ≡ ended_status limit unfit_status ended }
+{
+    match ended {
+        Ok(()) => Status::Done,
+        Err(Fault::Read) => Status::ReadFault,
+        Err(Fault::Write) => Status::WriteFault,
+        Err(Fault::Memory) => Status::NoMemory,
+        Err(Fault::NotFlow) => Status::NotFlow,
+        Err(Fault::Torn(place)) => Status::Torn(place),
+        Err(Fault::TooLong) => Status::TooLong(limit),
+        Err(Fault::Stopped(Unfit::Illegal(number))) => Status::Rejected(number),
+        Err(Fault::Stopped(Unfit::NoCheckpoint)) => Status::BadCheckpoint,
     }
 }

@@ -23,6 +23,10 @@ pub enum Form {
     Sample { number: u64, orders: u32 },
     /// `statement NUMBER`: a journal in, and out the statement of the account of this number.
     Statement { number: u64 },
+    /// `checkpoint`: a journal in, and the checkpoint of its market out.
+    Checkpoint,
+    /// `resume`: a journal or a checkpoint in, and commands behind it, and the pairs of these out.
+    Resume,
 }
 
 // Whether the words are this one alone.
@@ -70,6 +74,12 @@ pub(crate) fn form_of(words: &[String]) -> Option<Form>
     }
     if are_two(words, "encode", "3") {
         return Some(Form::Encode(Version::Three));
+    }
+    if is_word(words, "checkpoint") {
+        return Some(Form::Checkpoint);
+    }
+    if is_word(words, "resume") {
+        return Some(Form::Resume);
     }
     match sample_of(words) {
         Some((number, orders)) => return Some(Form::Sample { number, orders }),

@@ -2,11 +2,13 @@
 //!
 //! [`flow`] is what the program calls. Its contract is what the program promises: which journal `run` writes to `out` for
 //! the bytes of the source, what `audit` says of the journal that it reads, what `explain` finds of its first pair that isn't
-//! legal, which text `report` writes of it, which command file `encode` makes of lines of JSON, what the run of a `sample` comes to,
-//! and when each status comes.
+//! legal, which text `report` writes of it, which `statement` an account has in it, which `checkpoint` its market has, how `resume` goes on
+//! from it or from a checkpoint, which command file `encode` makes of lines of JSON, what the run of a `sample` comes to, and when each
+//! status comes.
 #![tactic(auto)]
 
 mod audit;
+mod checkpoint;
 mod encode;
 mod ending;
 mod explain;
@@ -14,6 +16,7 @@ mod form;
 pub mod laws;
 mod line;
 mod report;
+mod resume;
 mod run;
 mod sample;
 mod sample_form;

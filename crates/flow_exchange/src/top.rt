@@ -7,10 +7,12 @@ ghost use Rattle.flow_exchange.specs.Running.{KeepsPace};
 
 use crate::Status;
 use crate::audit::audit;
+use crate::checkpoint::checkpoint;
 use crate::encode::encode;
 use crate::explain::explain;
 use crate::form::{Form, form_of};
 use crate::report::report;
+use crate::resume::resume;
 use crate::run::run;
 use crate::sample::sample;
 use crate::statement::statement;
@@ -43,6 +45,8 @@ fn do_form<S: Source, K: Sink>(
         Form::Encode(version) => encode(alloc, version, limit, source, out),
         Form::Sample { number, orders } => sample(alloc, number, orders, out),
         Form::Statement { number } => statement(alloc, number, limit, source, out),
+        Form::Checkpoint => checkpoint(alloc, limit, source, out),
+        Form::Resume => resume(alloc, limit, source, out),
     }
 }
 
@@ -78,13 +82,17 @@ pub fn flow_limited<S: Source, K: Sink, N: Sink>(
 /// lines of JSON, and writes the command file of what they ask for to out, of version 1, or with `encode 2` of version 2: one write
 /// for the magic, and one for each record. With the words `sample NUMBER ORDERS` it reads nothing: it makes the command file of a sample of
 /// so many orders, 1 to 16,384, that are drawn from the number on, runs it, audits the journal, and writes a line with its counts to
-/// out, by one write. On every status but `Done` it writes one line to notes; a fault of notes changes nothing.
+/// out, by one write. With the words `statement NUMBER` it reads a journal, and writes what the account of this number sees of each legal
+/// pair to out, by one write each. With the word `checkpoint` it reads a journal, and writes its market to out, by one write. With the
+/// word `resume` it reads a journal or a checkpoint, and behind it a command file of the same version or nothing, and writes the pairs of
+/// the new commands to out, by one write each. On every status but `Done` it writes one line to notes; a fault of notes changes nothing.
 ///
 /// A command of `run` costs the same however many accounts and orders there are, but for the gap that a cancelled order leaves, which is
-/// closed by a block move. Memory of `run`, `audit`, `explain` and `report` is that of the market, whatever the length of the input: a window
-/// of 1,029 bytes (`run`) or 263,178, one buffer for a pair or its text, 1,056 bytes for each account, 72 bytes for each live order
-/// beside its entries, and the table of what orders need. Accounts and orders each stand in one block, which doubles as it grows: it
-/// has up to twice these bytes, and while it is moved the smaller one is there too. `encode` holds its input whole.
+/// closed by a block move. Memory of `run`, `audit`, `explain`, `report`, `statement` and `checkpoint` is that of the market, whatever the
+/// length of the input: a window of 1,029 bytes (`run`) or 263,178, one buffer for a pair or its text, 1,056 bytes for each account, 72 bytes
+/// for each live order beside its entries, and the table of what orders need. Accounts and orders each stand in one block, which doubles as
+/// it grows: it has up to twice these bytes, and while it is moved the smaller one is there too. `checkpoint` holds its text whole besides,
+/// at the end. `encode` and `resume` hold their input whole.
 ///
 /// `run` answers a record before it asks for more: after a read fault the pairs of all whole records that came were written, and
 /// after a write fault no more than 1,030 bytes past the last of them were read.

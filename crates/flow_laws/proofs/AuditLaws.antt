@@ -25,7 +25,7 @@ use Rattle.flow_laws.specs.Laws.{DoneIsForLegalJournals, HasFirstIllegal, Reject
 use Rattle.flow_exchange.proofs.FileOf.{file_of}
 
 -- a status that is done leaves no pair, and comes of the end
-done_all : (limit : ℕ) (ending : Ending) (legal : List (Pair Record Outcome)) (behind : List (Record × Record)) → answer.Done ≡ audit_status limit ending legal behind → (behind ≡ []) × (ending ≡ End)
+pub done_all : (limit : ℕ) (ending : Ending) (legal : List (Pair Record Outcome)) (behind : List (Record × Record)) → answer.Done ≡ audit_status limit ending legal behind → (behind ≡ []) × (ending ≡ End)
 done_all limit End legal [] e = (refl, refl)
 done_all limit (Torn n) legal [] e = absurd cc
 done_all limit TooLong legal [] e = absurd cc

@@ -31,13 +31,14 @@ use Rattle.word_driver.specs.Ended.{Ended}
 use Rattle.line_records.specs.Encoding.{EncodesTo, EncodesInto, EncodesShort}
 use Rattle.line_records.proofs.OneReadings.{first_is_a_front, before_next}
 use Rattle.exchange_session.specs.Journals.{Journals}
-use Rattle.flow_exchange.specs.declared.form.Form.TheVariants.{Run, Audit, Explain, Report, Encode, Sample, Statement}
+use Rattle.flow_exchange.specs.declared.form.Form.TheVariants.{Run, Audit, Explain, Report, Encode, Sample, Statement, Checkpoint, Resume}
 use Rattle.flow_exchange.specs.declared.status.Status.{Status}
 use Rattle.flow_exchange.specs.declared.status.Status.TheVariants as answer
 use Rattle.flow_exchange.specs.Running.{WritesOf, RunsTo, RunsInto, RunsShort}
 use Rattle.flow_exchange.specs.Reporting.{AreReported, ReportsTo, ReportsInto, ReportsShort}
 use Rattle.flow_exchange.specs.Explaining.{ExplainsTo, ExplainsInto}
 use Rattle.flow_exchange.proofs.Outcomes.{one_end}
+use Rattle.session_resume.proofs.OneResumption.{into_is_front, short_is_front}
 use Rattle.flow_laws.specs.Laws.{BegunIsAFront}
 use Rattle.flow_laws.proofs.StatementFronts.{statement_begins, statement_begun}
 
@@ -188,6 +189,12 @@ pub begun_is_a_front : BegunIsAFront
 begun_is_a_front Run limit bytes status text begun comes (inl gets) = run_begins limit bytes status text begun comes gets
 begun_is_a_front Run limit bytes status text begun comes (inr lacks) = run_begins-out limit bytes status text begun comes lacks
 begun_is_a_front Audit limit bytes status text begun comes (inl gets) = absurd gets
+begun_is_a_front Checkpoint limit bytes status text begun comes (inl gets) = absurd gets
+begun_is_a_front Checkpoint limit bytes status text begun comes (inr (inl (legal, market, next, at, wants, nothing))) = begins-nothing text begun nothing
+begun_is_a_front Checkpoint limit bytes status text begun comes (inr (inr (whole, done, none))) = begins-nothing text begun none
+begun_is_a_front Resume limit bytes status text begun comes (inl gets) = into_is_front (limit < length bytes) (take limit bytes) comes.0 text begun comes.1 gets
+begun_is_a_front Resume limit bytes status text begun comes (inr (inl none)) = begins-nothing text begun none
+begun_is_a_front Resume limit bytes status text begun comes (inr (inr short)) = short_is_front (limit < length bytes) (take limit bytes) comes.0 text begun comes.1 short
 begun_is_a_front (Sample number orders) limit bytes status text begun comes (inl gets) = absurd gets
 begun_is_a_front (Sample number orders) limit bytes status text begun comes (inr lacks) = absurd lacks
 begun_is_a_front Audit limit bytes status text begun comes (inr (legal, market, next, at, wants, nothing)) = begins-nothing text begun nothing

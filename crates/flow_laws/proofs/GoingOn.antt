@@ -35,11 +35,11 @@ use Rattle.flow_laws.proofs.RunsAudited.{pairs_short, journal}
 
 -- The pairs that answer records from a market on, which fit their widths while each may have given a number to an order, and this is
 -- their text.
-record Answers (old : Market) (records : List Record) (new : Market) (text : List ℕ) : Type 0 where
-  pairs : List (Pair Record Outcome)
-  answered : IsAnswered IsReadAs IsOwnOutcome old records pairs new
-  fits : old.next_order + length pairs < 2 ^ 64 → All IsPair pairs
-  spelled : text ≡ flat_map pair_spelling pairs
+pub record Answers (old : Market) (records : List Record) (new : Market) (text : List ℕ) : Type 0 where
+  pub pairs : List (Pair Record Outcome)
+  pub answered : IsAnswered IsReadAs IsOwnOutcome old records pairs new
+  pub fits : old.next_order + length pairs < 2 ^ 64 → All IsPair pairs
+  pub spelled : text ≡ flat_map pair_spelling pairs
 
 answers : (old new : Market) (records : List Record) (text : List ℕ) → Goes run old records new text → Answers old records new text
 answers old new [] text goes = record { pairs = []; answered = record { asked = refl; steps = goes.0 }; fits = λ few. All-nil IsPair; spelled = goes.1 }
@@ -57,7 +57,7 @@ answers old new (r ∷ records) text goes =
     }
 
 -- legal pairs give no more numbers to orders than they are
-orders_few : (old new : Market) (pairs : List (Pair Record Outcome)) → Follows IsReadAs IsRightOutcome old pairs new → new.next_order ≤ old.next_order + length pairs
+pub orders_few : (old new : Market) (pairs : List (Pair Record Outcome)) → Follows IsReadAs IsRightOutcome old pairs new → new.next_order ≤ old.next_order + length pairs
 orders_few old new [] follows = omega (arith, ap (λ (m : Market). m.next_order) follows)
 orders_few old new (pair ∷ pairs) (between, step, follows) =
     omega (arith, legal_steps_number_one old pair.asked pair.answer between step, orders_few between new pairs follows)
@@ -70,7 +70,7 @@ joined version pairs more bytes text before behind =
     ∙ ap (λ xs. magic ++ xs) (ap (λ xs. flat_map pair_spelling pairs ++ xs) behind ∙ sym (flat_map-append pair_spelling pairs more))
 
 -- the market of a legal journal is sound
-legal_is_sound : (version : Version) (pairs : List (Pair Record Outcome)) (market : Market) → IsLegalJournal version pairs market → IsSound market
+pub legal_is_sound : (version : Version) (pairs : List (Pair Record Outcome)) (market : Market) → IsLegalJournal version pairs market → IsSound market
 legal_is_sound version pairs market legal = (journals_hold_deposits (empty_market version) pairs market (steps_keep_soundness.0 version) legal.steps).sound
 
 -- pairs that answer records from the market of a legal journal on make with it a legal journal
@@ -90,7 +90,7 @@ module _ (most : ℕ) (version : Version) (pairs : List (Pair Record Outcome)) (
         (own_follows_are_right IsReadAs read_own old so.pairs new (legal_is_sound version pairs old legal) so.answered.steps);
   }
 
-  one_journal : IsOneJournal most bytes records new text
+  pub one_journal : IsOneJournal most bytes records new text
   one_journal =
       let whole = joined version pairs so.pairs bytes text before so.spelled in
       record {
@@ -119,19 +119,9 @@ made market = Ok market
 same_market : (m n : Market) → made m ≡ made n → m ≡ n
 same_market m n same = cc
 
-module _ (most : ℕ) (version : Version) (bytes text : List ℕ) (at old new : Market) (first records : List Record) (writes : Journals version first at bytes)
-    (replayed : IsReplayed bytes (Ok old)) (goes : Goes run old records new text) (wide : most < 2 ^ 64) (within : length (bytes ++ text) ≤ most) where
-  so : Answers old records new text
-  so = answers old new records text goes
-
-  short : length bytes ≤ most
-  short = omega (arith, length-append bytes text, within)
-
-  was : at ≡ old
-  was =
-      let legal = (journal most version first at bytes writes wide short).0 in
-      same_market at old (one_replay bytes (made at) (made old) (λ e. absurd cc) (λ e. absurd cc) ((markets_are bytes at).1 (version, writes.pairs, legal, writes.spelled)) replayed)
-
+-- where the first of the pairs are a run's journal of some records, all of them are one of these records and the others
+module _ (most : ℕ) (version : Version) (bytes text : List ℕ) (old new : Market) (first records : List Record) (writes : Journals version first old bytes)
+    (so : Answers old records new text) (wide : most < 2 ^ 64) (within : length (bytes ++ text) ≤ most) where
   abbrev all_pairs : List (Pair Record Outcome)
   all_pairs = writes.pairs ++ so.pairs
 
@@ -140,15 +130,15 @@ module _ (most : ℕ) (version : Version) (bytes text : List ℕ) (at old new : 
   all_answered = record {
     asked = map-append (λ (pair : Pair Record Outcome). pair.asked) writes.pairs so.pairs
         ∙ ap (λ (xs : List Record). xs ++ map (λ (pair : Pair Record Outcome). pair.asked) so.pairs) writes.journal_of.asked ∙ ap (λ (xs : List Record). first ++ xs) so.answered.asked;
-    steps = follows-append IsReadAs reading_unique IsOwnOutcome (empty_market version) old new writes.pairs so.pairs
-        (subst (λ (m : Market). Follows IsReadAs IsOwnOutcome (empty_market version) writes.pairs m) was writes.journal_of.steps) so.answered.steps;
+    steps = follows-append IsReadAs reading_unique IsOwnOutcome (empty_market version) old new writes.pairs so.pairs writes.journal_of.steps so.answered.steps;
   }
 
-  own : Journals version (first ++ records) new (bytes ++ text)
-  own =
+  pub own_journal : Journals version (first ++ records) new (bytes ++ text)
+  own_journal =
       let start = empty_market version in
       let sound = steps_keep_soundness.0 version in
-      let before = subst (λ (m : Market). IsLegalJournal version writes.pairs m) was ((journal most version first at bytes writes wide short).0) in
+      let short : length bytes ≤ most = omega (arith, length-append bytes text, within) in
+      let before = (journal most version first old bytes writes wide short).0 in
       let legal = all_legal most version writes.pairs bytes text old new records before writes.spelled so wide within in
       record {
         pairs = all_pairs;
@@ -160,10 +150,28 @@ module _ (most : ℕ) (version : Version) (bytes text : List ℕ) (at old new : 
         spelled = joined version writes.pairs so.pairs bytes text writes.spelled so.spelled;
       }
 
-  same : (whole : List ℕ) (last : Market) → Journals version (first ++ records) last whole → (whole ≡ bytes ++ text) × (last ≡ new)
-  same whole last other =
+  pub same_journal : (whole : List ℕ) (last : Market) → Journals version (first ++ records) last whole → (whole ≡ bytes ++ text) × (last ≡ new)
+  same_journal whole last other =
       let one = one_own_journal IsReadAs reading_unique version (first ++ records) other.pairs all_pairs last new other.journal_of all_answered in
       (other.spelled ∙ ap (journal_in version) one.0 ∙ sym (joined version writes.pairs so.pairs bytes text writes.spelled so.spelled), one.1)
+
+-- a replay of a run's journal answers its market
+module _ (most : ℕ) (version : Version) (bytes text : List ℕ) (at old new : Market) (first records : List Record) (writes : Journals version first at bytes)
+    (replayed : IsReplayed bytes (Ok old)) (goes : Goes run old records new text) (wide : most < 2 ^ 64) (within : length (bytes ++ text) ≤ most) where
+  was : at ≡ old
+  was =
+      let short : length bytes ≤ most = omega (arith, length-append bytes text, within) in
+      let legal = (journal most version first at bytes writes wide short).0 in
+      same_market at old (one_replay bytes (made at) (made old) (λ e. absurd cc) (λ e. absurd cc) ((markets_are bytes at).1 (version, writes.pairs, legal, writes.spelled)) replayed)
+
+  wrote : Journals version first old bytes
+  wrote = subst (λ (m : Market). Journals version first m bytes) was writes
+
+  own : Journals version (first ++ records) new (bytes ++ text)
+  own = own_journal most version bytes text old new first records wrote (answers old new records text goes) wide within
+
+  same : (whole : List ℕ) (last : Market) → Journals version (first ++ records) last whole → (whole ≡ bytes ++ text) × (last ≡ new)
+  same = same_journal most version bytes text old new first records wrote (answers old new records text goes) wide within
 
 pub sessions_go_on : SessionsGoOn
 sessions_go_on = record {

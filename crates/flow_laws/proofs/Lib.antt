@@ -9,3 +9,8 @@ mod SomeEnd
 mod StatementFronts
 mod StatementsAreOne
 mod Fronts
+mod CheckpointLaws
+mod CommandFiles
+mod ResumeEnds
+mod Resumed
+mod GoneOnAlike

@@ -1,5 +1,5 @@
 -- What a run writes is a legal journal, of which an audit is done.
-use Rattle.std.proofs.Common.{◌≡◌, ◌≢◌, ◌+◌, ◌^◌, ◌<◌, ◌≤◌, ℕ, List, [], ◌∷◌, length, inl, inr, refl, ap, length-append, arith}
+use Rattle.std.proofs.Common.{◌≡◌, ◌≢◌, ◌+◌, ◌*◌, ◌^◌, ◌<◌, ◌≤◌, ℕ, List, [], ◌∷◌, length, inl, inr, refl, ap, length-append, arith}
 use Rattle.std.specs.List.{flat_map}
 use Rattle.wire_records.specs.Records.{Record, spelling}
 use Rattle.wire_records.specs.Commands.{Pair}
@@ -33,10 +33,13 @@ pair_long : (pair : Pair Record Outcome) → 10 ≤ length (pair_spelling pair)
 unfolding pair_spelling
 pair_long pair = omega (arith, length-append (spelling pair.asked) (spelling (answer_record pair.answer)), length-spelling pair.asked, length-spelling (answer_record pair.answer))
 
+pub pairs_long : (pairs : List (Pair Record Outcome)) → 10 * length pairs ≤ length (flat_map pair_spelling pairs)
+pairs_long [] = omega arith
+pairs_long (pair ∷ pairs) = omega (arith, pair_long pair, pairs_long pairs, length-append (pair_spelling pair) (flat_map pair_spelling pairs))
+
 -- so pairs are fewer than their bytes, and orders no more than pairs
 pub pairs_short : (pairs : List (Pair Record Outcome)) → length pairs ≤ length (flat_map pair_spelling pairs)
-pairs_short [] = omega arith
-pairs_short (pair ∷ pairs) = omega (arith, pair_long pair, pairs_short pairs, length-append (pair_spelling pair) (flat_map pair_spelling pairs))
+pairs_short pairs = omega (arith, pairs_long pairs)
 
 pub orders_few : (old new : Market) (pairs : List (Pair Record Outcome)) → Follows IsReadAs IsOwnOutcome old pairs new → new.next_order ≤ old.next_order + length pairs
 orders_few old new [] follows = omega (arith, ap (λ (m : Market). m.next_order) follows)

@@ -1,5 +1,5 @@
 -- No bytes are without a status and a text, whatever the form.
-use Rattle.std.proofs.Common.{ℕ, List, refl}
+use Rattle.std.proofs.Common.{ℕ, List, ◌<◌, length, take, refl}
 use Rattle.word_driver.specs.Does.{Task, task}
 use Rattle.word_driver.specs.Ended.{Ended}
 use Rattle.word_driver.proofs.SomeEnds.{some_end}
@@ -11,9 +11,9 @@ use Rattle.line_records.specs.Tasks.{encoding}
 use Rattle.market_rules.proofs.Soundness.{sound-empty}
 use Rattle.line_records.proofs.Encoding.{encodes_some}
 use Rattle.flow_exchange.specs.declared.form.Form.{Form}
-use Rattle.flow_exchange.specs.declared.form.Form.TheVariants.{Run, Audit, Explain, Report, Encode, Sample, Statement}
+use Rattle.flow_exchange.specs.declared.form.Form.TheVariants.{Run, Audit, Explain, Report, Encode, Sample, Statement, Checkpoint, Resume}
 use Rattle.flow_exchange.specs.declared.status.Status.{Status}
-use Rattle.flow_exchange.specs.Statuses.{ended_status, bad_text}
+use Rattle.flow_exchange.specs.Statuses.{ended_status, bad_text, unfit_status}
 use Rattle.flow_exchange.specs.Private.{no_reason, no_statement, rejected}
 use Rattle.flow_exchange.specs.Program.{ComesTo}
 use Rattle.flow_laws.specs.Laws.{NoneIsWithoutEnd}
@@ -25,6 +25,12 @@ use Rattle.flow_exchange.proofs.ExplainForm.{explain_form}
 use Rattle.flow_exchange.proofs.StatementForm.{statement_form}
 use Rattle.statement_word.specs.Stating.{statement, statement_start}
 use Rattle.statement_word.proofs.StatementLaws.{statement_is_exact, statement_is_kept, statement_has_next}
+use Rattle.flow_exchange.proofs.CheckpointForm.{checkpoint_form, checkpoint_start}
+use Rattle.flow_exchange.proofs.ResumeForm.{resume_form}
+use Rattle.journal_checkpoint.specs.Checkpointing.{checkpointing, checkpoint}
+use Rattle.journal_checkpoint.proofs.CheckpointLaws.{checkpoint_is_exact, checkpoint_has_next}
+use Rattle.session_resume.specs.Tasks.{resuming}
+use Rattle.session_resume.proofs.SomeResumption as resumption
 use Rattle.flow_laws.proofs.SampleLaws.{some_sample}
 
 -- where a task has some end, its form has some outcome
@@ -47,4 +53,9 @@ none_is_without_end words (Encode version) limit bytes asks = some_end_of (encod
 none_is_without_end words (Statement number) limit bytes asks =
     some_end_of (task statement (statement_start number)) (Statement number) limit no_statement (statement_form number limit) bytes
     (some_end statement (statement_start number) statement_is_exact (statement_is_kept number) (statement_has_next number) limit bytes)
+none_is_without_end words Checkpoint limit bytes asks =
+    some_end_of (task checkpoint checkpoint_start) Checkpoint limit rejected (checkpoint_form limit) bytes
+    (some_end checkpoint checkpoint_start checkpoint_is_exact (over_pairs_is_kept checkpointing checkpoint_start (λ version. (refl, refl))) (checkpoint_has_next checkpoint_start sound-empty) limit bytes)
+none_is_without_end words Resume limit bytes asks =
+    some_end_of resuming Resume limit unfit_status (resume_form limit) bytes (resumption.some_end_of (limit < length bytes) (take limit bytes))
 none_is_without_end words (Sample number orders) limit bytes asks = some_sample number orders asks.few

@@ -4,7 +4,7 @@
 //! is built without them.
 #![tactic(auto)]
 
-ghost use Rattle.flow_laws.specs.Laws.{DoneIsForLegalJournals, RejectedIsFirstIllegal, ExplainIsAudit, RejectedIsExplained, EncodedIsRead, EncodedIsServed, RunsAreAudited, NoneIsWithoutEnd, SamplesAreRun, BegunIsAFront, TickersAgree, SessionsGoOn, StatementsOfLegalJournals, OneViewOneStatement};
+ghost use Rattle.flow_laws.specs.Laws.{DoneIsForLegalJournals, RejectedIsFirstIllegal, ExplainIsAudit, RejectedIsExplained, EncodedIsRead, EncodedIsServed, RunsAreAudited, NoneIsWithoutEnd, SamplesAreRun, BegunIsAFront, TickersAgree, SessionsGoOn, StatementsOfLegalJournals, OneViewOneStatement, CheckpointsOfLegalJournals, LegalJournalsHaveCheckpoints, CommandFilesBeginNoPair, ResumptionsEnd, ResumptionsKeepPromises, ResumptionsGoOn, GoOnAlike};
 
 /// `audit` is done exactly for the spelling of a legal journal with nothing past the limit, whoever wrote it, and the line that
 /// it writes counts the journal's pairs, and the batches that cleared and that were skipped.
@@ -86,4 +86,48 @@ pub fn none_is_without_end()
 /// determine.
 pub fn begun_is_a_front()
     ensures { BegunIsAFront }
+{}
+
+/// `checkpoint` is done exactly for the spelling of a legal journal with nothing past the limit, and writes the bytes of its market. It
+/// comes to the status of `audit`, and but where it is done it writes nothing.
+pub fn checkpoints_of_legal_journals()
+    ensures { CheckpointsOfLegalJournals }
+{}
+
+/// The market of each legal journal whose length is below 2^64 has a checkpoint, which is what `checkpoint` writes.
+pub fn legal_journals_have_checkpoints()
+    ensures { LegalJournalsHaveCheckpoints }
+{}
+
+/// No pair begins as a command file does, so a journal ends where a command file stands behind it.
+pub fn command_files_begin_no_pair()
+    ensures { CommandFilesBeginNoPair }
+{}
+
+/// `resume` is done exactly where a legal journal or a checkpoint stands first, behind it nothing or a whole command file of the same
+/// version, and nothing past the limit; it writes the pairs of all its records. It rejects a pair exactly where it is the first that isn't
+/// legal. It ends with `BadCheckpoint` exactly where the input is within the limit, begins as a checkpoint and with none, and with
+/// `NotFlow` exactly where it begins neither as a journal nor as a checkpoint.
+pub fn resumptions_end()
+    ensures { ResumptionsEnd }
+{}
+
+/// Behind any legal journal and any checkpoint, `resume` writes pairs that answer the new records from their market on, with the promises
+/// of the exchange, those on the orders of that market too. After each of these pairs, what is held is what was held in that market, and the
+/// accepted deposits less the accepted withdrawals of the pairs so far, of money and of each asset.
+pub fn resumptions_keep_promises()
+    ensures { ResumptionsKeepPromises }
+{}
+
+/// What `resume` writes behind a legal journal, or behind a checkpoint of the journal's market, is with the journal one legal journal, of
+/// the old records and then of the new ones, whoever wrote the first of it. Where the journal is what `run` wrote, all of it is what `run`
+/// writes of all records, byte for byte. What stands in out after a fault, or where memory ran out, joins the journal too.
+pub fn resumptions_go_on()
+    ensures { ResumptionsGoOn }
+{}
+
+/// `resume` writes the same behind a legal journal and behind a checkpoint of its market, with the same bytes behind them, and ends alike:
+/// so does it behind what `checkpoint` writes of the journal.
+pub fn go_on_alike()
+    ensures { GoOnAlike }
 {}

@@ -29,3 +29,9 @@ returns-in-Sample-clause-does g c = rw c.in-Sample.is (c.sample.ensures.does c.a
 
 pub returns-in-Statement-clause-does : goal.returns-in-Statement-clause-does
 returns-in-Statement-clause-does g c = rw c.in-Statement.is c.statement.ensures.does
+
+pub returns-in-Checkpoint-clause-does : goal.returns-in-Checkpoint-clause-does
+returns-in-Checkpoint-clause-does g c = rw c.in-Checkpoint.is c.checkpoint.ensures.does
+
+pub returns-in-Resume-clause-does : goal.returns-in-Resume-clause-does
+returns-in-Resume-clause-does g c = rw c.in-Resume.is c.resume.ensures.does

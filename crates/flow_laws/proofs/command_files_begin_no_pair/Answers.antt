@@ -1,0 +1,5 @@
+use Rattle.flow_laws.proofs.CommandFiles.{command_files_begin_no_pair}
+use Rattle.flow_laws.proofs.command_files_begin_no_pair.Goals as goal
+
+pub returns : goal.returns
+returns c = command_files_begin_no_pair
