@@ -109,7 +109,7 @@ def is_live(order, kept):
     """Whether it is an order that may trade in this market."""
     limits = -MOST_LIMIT <= order.low < order.high <= MOST_LIMIT
     terms = limits and 1 <= order.rate <= MOST_RATE and 1 <= order.cap <= MOST_CAP and order.filled < order.cap
-    stays = order.last == 0 or kept.version == 2 and order.last > kept.batches
+    stays = order.last == 0 or kept.version > 1 and order.last > kept.batches
     there = 1 <= order.account <= len(kept.accounts) and 1 <= order.number < kept.next_number
     return terms and stays and there and is_row(order.row, len(kept.tickers))
 
@@ -133,7 +133,7 @@ def covers(account, needed):
 
 def are_counts(kept):
     """Numbers and lists within their limits."""
-    numbers = kept.version in (1, 2) and 1 <= kept.next_number < NO_NUMBER and kept.batches <= MOST_BATCHES
+    numbers = kept.version in (1, 2, 3) and 1 <= kept.next_number < NO_NUMBER and kept.batches <= MOST_BATCHES
     lists = len(kept.tickers) <= MOST_ASSETS and len(kept.accounts) <= MOST_ACCOUNTS and len(kept.orders) <= MOST_ORDERS
     tickers = len(set(kept.tickers)) == len(kept.tickers) and all(map(is_ticker, kept.tickers))
     return numbers and lists and tickers and all(abs(price) <= MOST_PRICE for price in kept.prices)
@@ -150,7 +150,7 @@ def are_totals(kept):
 
 def are_balances(kept):
     """Credits within their limits, and each account has what its orders need."""
-    most, needed, nothing = MOST_CREDIT if kept.version == 2 else 0, needs(kept.orders), Counter()
+    most, needed, nothing = MOST_CREDIT if kept.version > 1 else 0, needs(kept.orders), Counter()
     each = enumerate(kept.accounts, 1)
     return all(max(account.credits) <= most and covers(account, needed.get(number, nothing)) for number, account in each)
 

@@ -4,6 +4,7 @@ use Rattle.std.specs.Prelude.{slice_index_or, unsigned_abs, ◌≤ℤ◌, ◌+�
 use Rattle.std.proofs.lemmas.Int.{ints}
 use Rattle.std.proofs.lemmas.Bool.{cases_lt}
 use Rattle.std.proofs.lemmas.List.{get_or_past}
+use Rattle.wire_records.proofs.Numbered.{first_tags}
 use Rattle.list_sums.proofs.SumLemmas.{int_sum_by-zeros}
 use Rattle.flow_accounts.specs.Balances.{Account, asset_count, units_in, total_units_of}
 use Rattle.flow_accounts.specs.Sums.{units_of_all}
@@ -13,7 +14,6 @@ use Rattle.wire_records.specs.Commands.{Command, Answer}
 use Rattle.wire_records.specs.CommandRecords.{tag_of}
 use Rattle.wire_records.specs.Versions.{IsOfVersion}
 use Rattle.wire_records.specs.declared.version.Version.{Version}
-use Rattle.wire_records.specs.declared.version.Version.TheVariants.{One, Two}
 use Rattle.flow_orders.specs.Outcomes.{Outcome}
 use Rattle.flow_orders.specs.Own.{IsOwnOutcome}
 use Rattle.market_rules.specs.Market.{Market, IsSound}
@@ -55,5 +55,4 @@ sound-served m c a n of sound serves = sound_served m c a n of sound (own_served
 
 -- the commands of version One are commands of each version
 pub of_each : (version : Version) (c : Command) → 1 ≤ tag_of c → tag_of c ≤ 9 → IsOfVersion version c
-of_each One c some few = (some, few)
-of_each Two c some few = (some, omega (arith, few))
+of_each version c some few = (some, omega (arith, few, first_tags version))
