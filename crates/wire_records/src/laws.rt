@@ -6,8 +6,8 @@ ghost use Rattle.wire_records.specs.Records.{command_magic, command_magic_2, com
 ghost use Rattle.wire_records.specs.CommandRecords.{most_row, most_row_until};
 
 use crate::{
-    BodyFault, COMMAND_MAGIC, COMMAND_MAGIC_2, COMMAND_MAGIC_3, MOST_BODY, MOST_ROW, MOST_ROW_UNTIL, Refusal, Reply,
-    Version,
+    BodyFault, COMMAND_MAGIC, COMMAND_MAGIC_2, COMMAND_MAGIC_3, MOST_BODY, MOST_ROW,
+    MOST_ROW_UNTIL, Refusal, Reply, Version,
 };
 
 /// No record's spelling is a proper front of another's, so what was written is read again, whatever
