@@ -18,10 +18,11 @@ use Rattle.journal_records.specs.Replies.{answer_record, IsReply, IsAnswer, most
 use Rattle.journal_records.specs.Pairs.{IsPair}
 use Rattle.journal_records.proofs.Spelled.{plain_short, batch_short}
 use Rattle.journal_records.proofs.OutcomesFit.{right_outcomes_fit}
-use Rattle.market_rules.specs.Market.{Market, IsSound, start_prices}
+use Rattle.market_rules.specs.Market.{Market, IsSound, parts_of, start_prices}
 use Rattle.market_rules.specs.Step.{FirstRefusal, Accepts, Answers, Serves, ServesRead, after_batch}
 use Rattle.market_rules.specs.Journal.{Step, Follows}
 use Rattle.market_rules.proofs.Accepted.{past_unless}
+use Rattle.market_rules.proofs.Versions.{some_parts}
 use Rattle.market_rules.proofs.LawProofs.{steps_keep_soundness}
 use Rattle.market_rules.proofs.OwnIsLegal.{start_within, own_served_is_right}
 use Rattle.exchange_session.proofs.Writable.{few_start_prices}
@@ -40,10 +41,10 @@ is_price : (z : ℤ) → IsWithin (2 ^ 60) z → IsPrice z
 is_price (pos n) within = omega (arith, ints, within.1)
 is_price (negsuc n) within = omega (arith, ints, within.0)
 
-batch_fits : (m : Market) (budget : ℕ) (outcome : Outcome) → IsSound m → FirstRefusal m (RunBatch budget) None → m.next_order < 2 ^ 64 → IsRightOutcome m.orders (start_prices m) budget outcome
+batch_fits : (m : Market) (budget : ℕ) (outcome : Outcome) → IsSound m → FirstRefusal m (RunBatch budget) None → m.next_order < 2 ^ 64 → IsRightOutcome (parts_of m.version) m.orders (start_prices m) budget outcome
     → Fits (Batch (m.batches + 1) outcome)
 batch_fits m budget outcome sound none next right =
-    let fit = right_outcomes_fit m.orders (start_prices m) budget (m.batches + 1) outcome (λ k d inside. (sound.live k d inside).order) sound.few_orders
+    let fit = right_outcomes_fit (parts_of m.version) (some_parts m.version) m.orders (start_prices m) budget (m.batches + 1) outcome (λ k d inside. (sound.live k d inside).order) sound.few_orders
     (λ k d inside. omega (arith, (sound.live k d inside).numbered.1, next)) (few_start_prices m sound) (λ k d inside. is_price (slice_index_or (start_prices m) k d) (start_within m k d inside))
     (past_unless none).0.1 (omega (arith, sound.few_batches)) right
     in

@@ -6,7 +6,7 @@ use Rattle.std.proofs.lemmas.List.FromFn.{length-range_with_len}
 use Rattle.flow_orders.specs.Orders.{Order}
 use Rattle.flow_orders.specs.Outcomes.{most_budget, IsRightOutcome}
 use Rattle.batch_outcome.specs.declared.outcome.Outcome.{Outcome}
-use Rattle.batch_outcome.specs.declared.outcome.Outcome.TheVariants as parts
+use Rattle.batch_outcome.specs.declared.outcome.Outcome.TheVariants as variants
 use Rattle.batch_outcome.specs.Published.{outcome_of, HasOneRateEach}
 use Rattle.market_rules.specs.Market.{Market, IsSound, start_prices, cut_price}
 use Rattle.exchange_session.specs.Private.{IsWritable}
@@ -16,9 +16,9 @@ pub few_start_prices : (m : Market) → IsSound m → length (start_prices m) �
 few_start_prices m sound = omega (arith, length-map m.last_prices cut_price, sound.one_each.prices, sound.one_each.tickers, sound.tickers.few)
 
 -- and what its batch comes to can be written
-pub writable_is : (orders : List Order) (start : List ℤ) (budget : ℕ) (o : Outcome) → length start ≤ 64 → budget ≤ most_budget → HasOneRateEach orders o
-    → IsRightOutcome orders start budget (outcome_of orders o) → IsWritable orders o
-writable_is orders start budget (parts.Cleared c) few moves one right =
+pub writable_is : (parts : ℕ) (orders : List Order) (start : List ℤ) (budget : ℕ) (o : Outcome) → length start ≤ 64 → budget ≤ most_budget → HasOneRateEach orders o
+    → IsRightOutcome parts orders start budget (outcome_of orders o) → IsWritable orders o
+writable_is parts orders start budget (variants.Cleared c) few moves one right =
     let residuals = ap length right.residual_each ∙ length-map (range_with_len 0 (length start)) _ ∙ length-range_with_len 0 (length start) in
     (one, residuals ∙ sym right.one_price_each, omega (arith, right.one_price_each, few))
-writable_is orders start budget (parts.Skipped s) few moves one right = omega (arith, right.whole, moves)
+writable_is parts orders start budget (variants.Skipped s) few moves one right = omega (arith, right.whole, moves)

@@ -7,7 +7,7 @@ ghost use Rattle.flow_orders.specs.Orders.{most_orders};
 ghost use Rattle.flow_orders.specs.Own.{IsOwnOutcome};
 ghost use Rattle.batch_outcome.specs.Published.{outcome_of};
 ghost use Rattle.journal_records.specs.Pairs.{pair_spelling};
-ghost use Rattle.market_rules.specs.Market.{most_batches, start_prices};
+ghost use Rattle.market_rules.specs.Market.{most_batches, parts_of, start_prices};
 ghost use Rattle.market_rules.specs.Step.{FirstRefusal, after_batch};
 ghost use Rattle.market_rules.specs.Settling.{MaySettle};
 ghost use Rattle.exchange_session.specs.Serving.{AnswersOne};
@@ -24,14 +24,15 @@ use wire_records::{Memory, RecordView};
 // The outcome of a batch that is allowed.
 fn outcome_for(alloc: Global, market: &mut Market, budget: u32) -> Result<Outcome, Memory>
     requires first { FirstRefusal market.old (RunBatch budget) None }
-    ensures own { IfOk result (λ outcome. IsOwnOutcome market.old.orders (start_prices market.old) budget
-        (outcome_of market.old.orders outcome)) }
+    ensures own { IfOk result (λ outcome. IsOwnOutcome (parts_of market.old.version) market.old.orders
+        (start_prices market.old) budget (outcome_of market.old.orders outcome)) }
     ensures settles { IfOk result (MaySettle market.old) }
     ensures writable { IfOk result (IsWritable market.old.orders) }
     ensures stays { market.new ≡ market.old }
 {
+    let parts = market.parts();
     let start = market.start_prices(alloc)?;
-    match clear(alloc, market.orders(), start.as_slice(), budget) {
+    match clear(alloc, parts, market.orders(), start.as_slice(), budget) {
         Ok(outcome) => Ok(outcome),
         Err(_) => Err(Memory),
     }
