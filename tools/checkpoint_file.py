@@ -1,5 +1,5 @@
-"""A reader and a writer of the checkpoints that `flow checkpoint` writes, by the formats alone, the test whether a market is sound, by the
-market's rules, and the market of a day as a checkpoint."""
+"""A reader and a writer of the checkpoints that `flow checkpoint` writes, by the formats alone, the test whether a market is sound,
+by the market's rules, and the market of a day as a checkpoint."""
 import struct
 from collections import Counter, namedtuple
 
@@ -115,7 +115,7 @@ def is_live(order, kept):
 
 
 def needs(orders):
-    """What live orders may need to their caps, by account, as amounts are listed: money at the high limit, and units that are sold."""
+    """What live orders may need to their caps, by account, as amounts are listed: money at the high limit, and units they sell."""
     needed = {}
     for order in orders:
         left, of_account = order.cap - order.filled, needed.setdefault(order.account, Counter())

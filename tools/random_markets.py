@@ -53,7 +53,8 @@ def with_own(kept):
 def with_credit(kept):
     number, place = at(kept.accounts), at(kept.totals)
     account = kept.accounts[number]
-    return kept._replace(accounts=other(kept.accounts, number, account._replace(credits=other(account.credits, place, random.choice(CREDITS)))))
+    made = account._replace(credits=other(account.credits, place, random.choice(CREDITS)))
+    return kept._replace(accounts=other(kept.accounts, number, made))
 
 
 def with_price(kept):
@@ -65,8 +66,8 @@ def with_ticker(kept):
 
 
 def with_count(kept):
-    numbers = [{"batches": random.choice(BATCHES)}, {"next_number": random.choice(NUMBERS)}, {"version": random.choice([0, 1, 2, 3])}]
-    return kept._replace(**random.choice(numbers))
+    name, numbers = random.choice([("batches", BATCHES), ("next_number", NUMBERS), ("version", [0, 1, 2, 3])])
+    return kept._replace(**{name: random.choice(numbers)})
 
 
 def with_account(kept):
@@ -78,7 +79,7 @@ def with_account(kept):
 def with_order(kept):
     """An order with another value of a field."""
     place = at(kept.orders)
-    order = kept.orders[place]
+    order, assets = kept.orders[place], range(len(kept.tickers) + 1)
     values = {
         "number": random.choice(NUMBERS),
         "account": random.choice([0, 1, 2, 3, 1 << 16, (1 << 32) - 1]),
@@ -88,7 +89,7 @@ def with_order(kept):
         "cap": random.choice(CAPS),
         "filled": random.choice(CAPS),
         "last": random.choice([0, kept.batches & 0xFFFF_FFFF, min(kept.batches + 1, (1 << 32) - 1)]),
-        "row": [(asset, random.choice(WEIGHTS)) for asset in random.choices(range(len(kept.tickers) + 1), k=random.choice([0, 1, 1, 2]))],
+        "row": [(asset, random.choice(WEIGHTS)) for asset in random.choices(assets, k=random.choice([0, 1, 1, 2]))],
     }
     name = random.choice(list(values))
     return kept._replace(orders=other(kept.orders, place, order._replace(**{name: values[name]})))
@@ -97,8 +98,8 @@ def with_order(kept):
 def with_orders(kept):
     """Some orders out, twice or in another order."""
     first, last = sorted(random.choices(range(len(kept.orders) + 1), k=2))
-    orders = kept.orders
-    return kept._replace(orders=random.choice([orders[:first] + orders[last:], orders[:last] + orders[first:], orders[first:] + orders[:first]]))
+    front, rest = kept.orders[:first], kept.orders[first:]
+    return kept._replace(orders=random.choice([front + kept.orders[last:], kept.orders[:last] + rest, rest + front]))
 
 
 def altered(kept):
