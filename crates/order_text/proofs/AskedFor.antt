@@ -1,5 +1,5 @@
 -- What an object asks for by its word.
-use Rattle.std.proofs.Common.{◌≡◌, ◌≢◌, ℕ, ℤ, ◌≤◌, List, [], ◌∷◌, drop, Option, Some, None, Result, Ok, Err, refl, sym, ap, subst, ◌∙◌, arith, rules, ◌⊎◌, inl, inr}
+use Rattle.std.proofs.Common.{◌≡◌, ◌≢◌, ℕ, ℤ, ◌≤◌, List, [], ◌∷◌, drop, Option, Some, None, Result, Ok, Err, refl, sym, ap, subst, ◌∙◌, arith, rules, ◌⊎◌, inl, inr, ⊎_elim}
 use Rattle.std.specs.Prelude.{codes, unwrap_or, option_and_then}
 use Rattle.weight_rows.specs.declared.entries.Entry.{Entry}
 use Rattle.serde_json.specs.Data.{Data}
@@ -40,10 +40,6 @@ early (PlaceUntil last request) no_place no_credit = absurd (no_place refl)
 early (SetMoneyCredit account ticks) no_place no_credit = absurd (no_credit refl)
 early (SetUnitCredit account asset units) no_place no_credit = absurd (no_credit refl)
 
--- a command with the word of credit is one of a version that has credit
-gives_credit : (version : Version) (command : Command) → word_of command ≡ codes "credit" → IsOfVersion version command → HasCredit version
-gives_credit version command word of = let is = credit_is command word in omega (arith, of.1, is)
-
 -- the commands of each word
 asset_is : (command : Command) → word_of command ≡ codes "asset" → (ticker : List ℕ) × (command ≡ AddAsset ticker)
 asset_is = search (rules, refl)
@@ -56,6 +52,14 @@ withdraw_is = search (rules, refl, inl, inr)
 
 credit_is : (command : Command) → word_of command ≡ codes "credit" → ((account ticks : ℕ) × (command ≡ SetMoneyCredit account ticks)) ⊎ ((account asset units : ℕ) × (command ≡ SetUnitCredit account asset units))
 credit_is = search (rules, refl, inl, inr)
+
+-- a command with the word of credit is one of a version that has credit
+gives_credit : (version : Version) (command : Command) → word_of command ≡ codes "credit" → IsOfVersion version command → HasCredit version
+gives_credit version command word of =
+    ⊎_elim
+    (λ money. (subst (IsOfVersion version) money.2 of).1)
+    (λ units. omega (arith, (subst (IsOfVersion version) units.3 of).1))
+    (credit_is command word)
 
 cancel_is : (command : Command) → word_of command ≡ codes "cancel" → (account order : ℕ) × (command ≡ CancelOrder account order)
 cancel_is = search (rules, refl)

@@ -8,7 +8,7 @@ pub returns-then-not-has_last_batches : goal.returns-then-not-has_last_batches
 returns-then-not-has_last_batches c =
     placed_without_last c.args.tickers.now (view c.args.value.now) c.args.version
     (λ has. false≢true (sym c.if-not-has_last_batches.true ∙ c.has_last_batches.ensures.1 has))
-    c.place_order-then-not-has_last_batches.result c.place_order-then-not-has_last_batches.ensures
+    c.place_order.result c.place_order.ensures
 
 pub returns-then-has_keys : goal.returns-then-has_keys
 returns-then-has_keys c =

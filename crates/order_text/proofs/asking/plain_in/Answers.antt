@@ -9,7 +9,7 @@ pub returns-then-not-has_credit : goal.returns-then-not-has_credit
 returns-then-not-has_credit c =
     plain_without c.args.tickers.now (view c.args.value.now) c.args.version
     (λ has. false≢true (sym c.if-not-has_credit.true ∙ c.has_credit.ensures.1 has))
-    c.plain-then-not-has_credit.result c.plain-then-not-has_credit.ensures
+    c.plain.result c.plain.ensures
 
 pub returns-then-is_asked : goal.returns-then-is_asked
 returns-then-is_asked c =
@@ -18,4 +18,4 @@ returns-then-is_asked c =
 
 pub returns : goal.returns
 returns c =
-    plain_other c.args.tickers.now (view c.args.value.now) c.args.version (λ e. false≢true (sym c.if-is_asked.false ∙ c.is_asked.ensures.1 e)) c.plain.result c.plain.ensures
+    plain_other c.args.tickers.now (view c.args.value.now) c.args.version (λ e. false≢true (sym c.if-is_asked.false ∙ c.is_asked.ensures.1 e)) c.plain-2.result c.plain-2.ensures
