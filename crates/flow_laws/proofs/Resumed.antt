@@ -26,7 +26,8 @@ use Rattle.session_resume.specs.Continuing.{Continues}
 use Rattle.session_resume.specs.Firsts.{First, Whole, IsFirst}
 use Rattle.session_resume.specs.Rests.{Rest, Cut, Nothing, Commands, Other, IsRest, RestComesTo}
 use Rattle.session_resume.specs.Resuming.{FirstComesTo, Resumes, ResumesFirst}
-use Rattle.session_resume.proofs.OneFirst.{one_first, eight}
+use Rattle.wire_records.proofs.RecordCode.{eight}
+use Rattle.session_resume.proofs.OneFirst.{one_first}
 use Rattle.flow_exchange.specs.declared.form.Form.TheVariants.{Audit}
 use Rattle.flow_exchange.specs.declared.status.Status.TheVariants.{Done}
 use Rattle.flow_exchange.specs.Auditing.{legal_line}
