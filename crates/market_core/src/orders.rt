@@ -2,7 +2,7 @@
 ghost use Rattle.std.specs.Prelude.{◌≡◌, ◌+◌, ◌*◌, ◌<◌, ◌≤◌, ◌^◌, ◌↔◌, ◌≤ℤ◌, pos, IsTrue, IfOk, IfSome, IfNone, Some, None, OnErr, All};
 ghost use Rattle.demand_curve.specs.Numbers.{or_zero};
 ghost use Rattle.weight_rows.specs.Rows.{IsLawfulRow, IsLawfulWeight};
-ghost use Rattle.flow_accounts.specs.Balances.{IsAccount, IsAsset, grains, money_with_credit, units_with_credit};
+ghost use Rattle.flow_accounts.specs.Balances.{IsAccount, IsAsset, money_with_credit, units_with_credit};
 ghost use Rattle.flow_orders.specs.Orders.{AreLimits, IsFrom1To, most_cap, price_of_ticks, sold};
 ghost use Rattle.wire_records.specs.Commands.{PlaceOrder, PlaceUntil, CancelOrder, Plain};
 ghost use Rattle.wire_records.specs.Versions.{IsOfVersion};
@@ -13,22 +13,13 @@ ghost use Rattle.market_rules.specs.Wanting.{MayWant};
 ghost use Rattle.market_core.specs.Private.{cancel_reply, RefusesNumbers, HasRightNumbers, no_other, IsFreeFor};
 
 use crate::Market;
+use flow_accounts::grains_of;
 use flow_orders::{Order, OrderFault, money_need, order_fault, unit_need};
 use weight_rows::{Entry, WeightRow};
 use wire_records::{Memory, PlaceView, Refusal, Reply, RowView};
 
-// One tick in grains.
-const GRAINS_PER_TICK: i128 = 1 << 32;
-
 // No more orders are live.
 const MOST_ORDERS: usize = 16_384;
-
-// Ticks in grains.
-fn grains_of(ticks: u64) -> i128
-    ensures { result ≡ grains ticks }
-{
-    i128::from(ticks) * GRAINS_PER_TICK
-}
 
 // The reply to a cancel, by whether the order is there.
 pub(crate) fn cancel_reply(there: bool) -> Reply
