@@ -3,7 +3,7 @@
 //! Over a fixed book of 16,384 orders with 16 entries each it does one thing as often as PASSES says. KIND is `check`,
 //! for the check of a published clearing, `clear`, for a batch that clears where it starts, `floors`, for all demands
 //! rounded down, or `chosen`, for the chosen rates. It prints how often the clearing was found right, how often the batch
-//! cleared, or how many units all orders trade together. `tools/benchmark` times it.
+//! cleared, or how many units all orders trade together. `tools/dev/benchmark` times it.
 #![tactic(auto)]
 
 ghost use Rattle.std.specs.Prelude.{IsTrue};

@@ -3,7 +3,7 @@
 //! It asks each curve of a fixed book for both roundings, at a price that moves from ask to ask, as often as
 //! PASSES says, and prints a checksum of all that was answered. KIND is `cut` or `uncut`: whether most
 //! prices lie where the demand is cut, to nothing or to the whole room, or where it isn't.
-//! `tools/benchmark` times it.
+//! `tools/dev/benchmark` times it.
 #![tactic(auto)]
 
 mod asks;

@@ -1,8 +1,8 @@
 //! A benchmark of the search for prices: `search_benchmark ASSETS ORDERS MOVES PARTS`.
 //!
 //! It draws a book of so many orders of 1 to 3 assets each, and searches from prices of 0 by so many moves at most, which end
-//! by so many parts of a unit, 1 to 256. It prints how many moves were made, whether all assets were settled then, and a sum of the prices. `tools/benchmark` times
-//! it.
+//! by so many parts of a unit, 1 to 256. It prints how many moves were made, whether all assets were settled then, and a sum of the
+//! prices. `tools/dev/benchmark` times it.
 #![tactic(auto)]
 
 ghost use Rattle.std.specs.Prelude.{IsTrue};

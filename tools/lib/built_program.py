@@ -1,11 +1,11 @@
-"""The built program, for tools beside it: where it stands, journals that it finds legal, and what is put before it."""
+"""The built program, for the tools: where it stands, journals that it finds legal, and what is put before it."""
 import functools
 import os
 import shutil
 import subprocess
 import sys
 
-TOP = os.path.dirname(os.path.dirname(os.path.realpath(__file__)))
+TOP = os.path.realpath(f"{__file__}/../../..")
 
 
 @functools.lru_cache(None)
@@ -43,11 +43,11 @@ def legal_journal(place):
 
 
 def compiled(source, folder, *options):
-    """What a C compiler makes of a source in tools, or nothing where there is none that makes it."""
+    """What a C compiler makes of a source in tools/lib, or nothing where there is none that makes it."""
     made = f"{folder}/{os.path.splitext(source)[0]}"
     for compiler in filter(None, [os.environ.get("CC"), "cc", "gcc", "clang"]):
         if shutil.which(compiler):
-            if subprocess.run([compiler, "-O1", *options, "-o", made, f"{TOP}/tools/{source}", "-ldl"]).returncode == 0:
+            if subprocess.run([compiler, "-O1", *options, "-o", made, f"{TOP}/tools/lib/{source}", "-ldl"]).returncode == 0:
                 return made
     return None
 

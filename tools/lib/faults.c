@@ -1,6 +1,6 @@
 /* Makes a call of the program fail into which this is loaded: of the kind that FAULT_KIND names, the one of the number FAULT_AT,
    counted from 1, and all behind it where FAULT_EVER is set. A read gives at most FAULT_PIECE bytes. At the end it tells, on the
-   descriptor FAULT_TELL, how many calls of the kind there were. tools/check_faults compiles it and says what the kinds are. */
+   descriptor FAULT_TELL, how many calls of the kind there were. tools/check/check_faults compiles it and says what the kinds are. */
 #define _GNU_SOURCE
 #include <dlfcn.h>
 #include <errno.h>
