@@ -3,14 +3,14 @@ by the market's rules, and the market of a day as a checkpoint."""
 import struct
 from collections import Counter, namedtuple
 
-from journal_day import MONEY_KEY, TICK, Day, Order
+from formats import MONEY_KEY, TICK, Terms, is_row, is_ticker, name_of
+from journal_day import Day, Order
 
 MAGIC = b"FLOWSNP1"
 TERMS, ENTRY = ">QIqqIQQIB", ">Hi"
-LETTERS = b"ABCDEFGHIJKLMNOPQRSTUVWXYZ0123456789.-"
 MOST_ASSETS, MOST_ACCOUNTS, MOST_ORDERS, MOST_BATCHES = 64, 1 << 16, 1 << 14, 1 << 24
 MOST_MONEY, MOST_UNITS, MOST_CREDIT, MOST_PRICE, NO_NUMBER = 1 << 100, 1 << 60, 1 << 40, 1 << 62, 1 << 63
-MOST_LIMIT, MOST_RATE, MOST_CAP, MOST_WEIGHT, MOST_ENTRIES = 1 << 28, 1 << 24, 1 << 40, 1 << 12, 16
+MOST_LIMIT, MOST_RATE, MOST_CAP = 1 << 28, 1 << 24, 1 << 40
 
 # A market. Amounts of an account, of all and of the exchange are lists of money, in grains, and then of the units of each asset;
 # credits are such lists too, in ticks and units. A ticker has the spaces behind it.
@@ -94,24 +94,13 @@ def spelled(kept):
 # ---- soundness
 
 
-def is_ticker(ticker):
-    name = ticker.rstrip(b" ")
-    return bool(name) and all(letter in LETTERS for letter in name)
-
-
-def is_row(row, assets):
-    named = [asset for asset, _ in row]
-    weights = (1 <= abs(weight) <= MOST_WEIGHT for _, weight in row)
-    return 1 <= len(row) <= MOST_ENTRIES and named == sorted(set(named)) and named[-1] < assets and all(weights)
-
-
 def is_live(order, kept):
     """Whether it is an order that may trade in this market."""
     limits = -MOST_LIMIT <= order.low < order.high <= MOST_LIMIT
     terms = limits and 1 <= order.rate <= MOST_RATE and 1 <= order.cap <= MOST_CAP and order.filled < order.cap
     stays = order.last == 0 or kept.version > 1 and order.last > kept.batches
     there = 1 <= order.account <= len(kept.accounts) and 1 <= order.number < kept.next_number
-    return terms and stays and there and is_row(order.row, len(kept.tickers))
+    return terms and stays and there and is_row(order.row) and order.row[-1][0] < len(kept.tickers)
 
 
 def needs(orders):
@@ -178,7 +167,7 @@ def last_lines(kept, number):
     money, *units = kept.accounts[number - 1].amounts
     lines = [f"money {money} reserved {needed[0]}"]
     for place, (ticker, held) in enumerate(zip(kept.tickers, units), 1):
-        lines.append(f"{ticker.decode('ascii').rstrip(' ')} units {held} reserved {needed[place]}")
+        lines.append(f"{name_of(ticker)} units {held} reserved {needed[place]}")
     return "".join(line + "\n" for line in lines).encode("ascii")
 
 
@@ -201,10 +190,7 @@ def checkpoint_of(day):
 
 def placed(order):
     """An order of a checkpoint, as it stands in a day."""
-    terms = struct.pack(">IqqIQB", order.account, order.low, order.high, order.rate, order.cap, len(order.row))
-    body = terms + b"".join(struct.pack(ENTRY, *entry) for entry in order.row)
-    tag, last = (10, struct.pack(">I", order.last)) if order.last else (7, b"")
-    made = Order(order.number, tag, last + body)
+    made = Order(order.number, Terms(order.account, order.low, order.high, order.rate, order.cap, order.row, order.last or None))
     made.filled = order.filled
     return made
 
@@ -212,7 +198,7 @@ def placed(order):
 def day_from(kept, pairs=b""):
     """The day that goes on from a sound market, by these pairs."""
     day, keys = Day(b"FLOWJNL%d" % kept.version), [MONEY_KEY, *range(len(kept.tickers))]
-    day.tickers, day.prices = [ticker.decode("ascii").rstrip(" ") for ticker in kept.tickers], list(kept.prices)
+    day.tickers, day.prices = list(map(name_of, kept.tickers)), list(kept.prices)
     day.accounts = {number: dict(zip(keys, account.amounts)) for number, account in enumerate(kept.accounts, 1)}
     day.credits = {number: dict(zip(keys, account.credits)) for number, account in enumerate(kept.accounts, 1)}
     day.deposited, day.exchange = dict(zip(keys, kept.totals)), dict(zip(keys, kept.exchange))

@@ -4,10 +4,10 @@ import json
 import math
 import struct
 
+from formats import HEAD, is_ticker, name_of, record, terms_of
+
 DEEPEST = 127
 TICKERS = 64
-LETTERS = frozenset(b"ABCDEFGHIJKLMNOPQRSTUVWXYZ0123456789.-")
-TERMS, ENTRY = ">IqqIQB", ">Hi"
 
 # The word, the further keys and the form of their values, by tag. Each number is any that its width holds.
 COMMANDS = {
@@ -143,13 +143,8 @@ def ladder(asked, tickers):
 
 def add(ticker, tickers):
     """The market's rule: a ticker is added where it is valid, isn't taken and there is room for it."""
-    name = ticker.rstrip(b" ")
-    if name and LETTERS.issuperset(name) and ticker not in tickers and len(tickers) < TICKERS:
+    if is_ticker(ticker) and ticker not in tickers and len(tickers) < TICKERS:
         tickers.append(ticker)
-
-
-def record(tag, body):
-    return bytes([tag]) + struct.pack(">I", len(body)) + body
 
 
 def record_of(line, tickers, version):
@@ -186,17 +181,12 @@ def encoded(text, version=1):
     return b"".join(made), None
 
 
-def name_of(ticker):
-    return ticker.decode("ascii").rstrip(" ")
-
-
 def values_of(tag, body, tickers):
     """What stands in a record for the further keys. Assets are named by these tickers."""
     if tag in (7, 10):
-        last, body = struct.unpack(">I", body[:4]) if tag == 10 else (), body[4:] if tag == 10 else body
-        *terms, _ = struct.unpack_from(TERMS, body)
-        row = {name_of(tickers[asset]): weight for asset, weight in struct.iter_unpack(ENTRY, body[33:])}
-        return [*last, *terms, row]
+        terms = terms_of(tag, body)
+        row = {name_of(tickers[asset]): weight for asset, weight in terms.row}
+        return [*([terms.last] if tag == 10 else []), *terms[:5], row]
     values = struct.unpack(">" + "".join(COMMANDS[tag][2]), body)
     if tag == 1:
         return [name_of(*values)]
@@ -205,7 +195,7 @@ def values_of(tag, body, tickers):
 
 def line_of(asked, tickers):
     """The line that asks for a record, after lines that left these tickers, to which its own is added."""
-    tag, body = asked[0], asked[5:]
+    tag, body = asked[0], asked[HEAD:]
     word, keys, _ = COMMANDS[tag]
     values = values_of(tag, body, tickers)
     if tag == 1:

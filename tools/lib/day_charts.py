@@ -4,7 +4,7 @@ the classes `demand`, `supply`, `price`, `axis`, `grid` and `bar`."""
 import math
 from html import escape
 
-from journal_day import TICK
+from formats import TICK
 
 WIDTH, HEIGHT = 340, 230
 LEFT, RIGHT, TOP, BOTTOM = 62, 12, 26, 38

@@ -3,10 +3,9 @@ fills, balances, the exchange's own account, and what each batch came to. It doe
 import struct
 from collections import Counter, namedtuple
 
-from report_text import ACCOUNT, ASSET, CLEARED, DONE, ENTRY, MONEY, ORDER, REFUSED, SKIPPED, TERMS, UNITS, records, signed, told
+from formats import ACCOUNT, ASSET, CLEARED, DONE, FORMS, MONEY, MONEY_KEY, ORDER, REFUSED, SKIPPED, TICK, name_of, records, signed, terms_of
+from report_text import told
 
-TICK = 1 << 32
-MONEY_KEY = None
 COMMANDS = {
     1: "AddAsset",
     2: "OpenAccount",
@@ -32,14 +31,11 @@ Trade = namedtuple("Trade", "order room rate")
 
 
 class Order:
-    """An order that was placed. Limits are in ticks, amounts in units of the portfolio."""
+    """An order that was placed, by its terms."""
 
-    def __init__(self, number, tag, body):
-        self.last = int.from_bytes(body[:4], "big") if tag == 10 else None
-        terms = body[4:] if tag == 10 else body
-        self.number = number
-        self.account, self.low, self.high, self.rate, self.cap, _ = struct.unpack(TERMS, terms[:33])
-        self.row = list(struct.iter_unpack(ENTRY, terms[33:]))
+    def __init__(self, number, terms):
+        self.number, self.terms = number, terms
+        self.account, self.low, self.high, self.rate, self.cap, self.row, self.last = terms
         self.filled, self.state = 0, LIVE
 
     def room(self):
@@ -49,8 +45,7 @@ class Order:
         return next((weight for named, weight in self.row if named == asset), 0)
 
     def cost(self, prices):
-        """The price of a unit of its portfolio, in grains."""
-        return sum(weight * prices[asset] for asset, weight in self.row)
+        return self.terms.cost(prices)
 
 
 class Batch:
@@ -91,13 +86,13 @@ class Day:
 
     def go_on(self, pairs):
         """Takes up more pairs, which a legal journal may have behind those before."""
-        every = list(records(pairs, 0))
+        every = records(pairs, 0)
         for number, (asked, answered) in enumerate(zip(every[::2], every[1::2]), len(self.pairs) + 1):
             self.take(number, *asked, *answered)
 
     def take(self, number, tag, body, reply, answer):
         if reply == ASSET:
-            self.tickers.append(body.decode("ascii").rstrip(" "))
+            self.tickers.append(name_of(body))
             self.prices.append(0)
         text = told(self.tickers, (tag, body), (reply, answer))
         self.pairs.append(Pair(number, tag, body, reply, answer, text))
@@ -105,7 +100,7 @@ class Day:
             account = int.from_bytes(answer, "big")
             self.accounts[account], self.credits[account] = {}, {}
         elif reply == ORDER:
-            placed = Order(int.from_bytes(answer, "big"), tag, body)
+            placed = Order(int.from_bytes(answer, "big"), terms_of(tag, body))
             self.orders[placed.number], self.next_order = placed, placed.number + 1
         elif reply == DONE:
             self.do(tag, body)
@@ -116,7 +111,7 @@ class Day:
         if tag == 8:
             self.orders[struct.unpack(MONEY, body)[1]].state = CANCELLED
             return
-        account, *asset, amount = struct.unpack(MONEY if tag in (3, 5, 11) else UNITS, body)
+        account, *asset, amount = struct.unpack(FORMS[tag], body)
         key = asset[0] if asset else MONEY_KEY
         if tag in (11, 12):
             self.credits[account][key] = amount

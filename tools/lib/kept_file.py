@@ -1,14 +1,16 @@
 """A reader of the files that `flow keep` writes, and files that it may write, by the formats alone."""
 import struct
 
+from formats import HEAD
+
 MAGIC = b"FLOWDSK2"
 OPEN, CLOSED = b"\x01", b"\0"
 
 # A file of at most so many bytes is a new one, whatever it holds.
 MOST_NEW = 9
 
-# The longest bodies of a command's record and of a reply's, and the head of either.
-MOST_ASKED, MOST_ANSWERED, HEAD = 1_024, 262_144, 5
+# The longest bodies of a command's record and of a reply's.
+MOST_ASKED, MOST_ANSWERED = 1_024, 262_144
 LONGEST = MOST_ASKED + MOST_ANSWERED + 2 * HEAD
 
 
@@ -57,17 +59,6 @@ def kept_pairs(file):
             raise Damaged(place)
         yield pair
         place += 1 + 4 + length
-
-
-def pairs_of(journal):
-    """The pairs of a journal, behind its magic."""
-    pairs, at = [], len(MAGIC)
-    while at < len(journal):
-        asked = at + HEAD + int.from_bytes(journal[at + 1:at + HEAD], "big")
-        behind = asked + HEAD + int.from_bytes(journal[asked + 1:asked + HEAD], "big")
-        pairs.append(journal[at:behind])
-        at = behind
-    return pairs
 
 
 def file_of(pairs, behind=CLOSED):

@@ -2,16 +2,14 @@
 import random
 import struct
 
+from formats import MONEY, UNITS, Terms, order_body, record
+
 TICKERS = [b"AAPL    ", b"MSFT    ", b"BRK.B   ", b"Z-9     ", b"aapl    ", b"AAPL    ", b"        "]
 MAGICS = [b"FLOWCMD1", b"FLOWCMD2", b"FLOWCMD3", b"FLOWCMD4", b"FLOWJNL1", b"FLOWJNL2", b"FLOWJNL3", b"FLOWJNL4", b"FLOWSNP1", b"FLOWCMD", b""]
 BUDGETS = [0, 1, 1, 2, 3, 10, 100, 1000, 1000, 1000, 10_000, 65_536, 65_537]
 EDGES = [0, 1, 2, 4096, 1 << 16, 1 << 24, 1 << 28, (1 << 32) - 1, 1 << 40, 1 << 60, (1 << 63) - 1, (1 << 64) - 1]
 # Lengths that a record may state, whatever stands behind it.
 LENGTHS = [0, 1, 4, 12, 14, 33, 39, 1024, 1025, 262_144, 262_145, (1 << 32) - 1]
-
-
-def record(tag, body=b""):
-    return struct.pack(">BI", tag, len(body)) + body
 
 
 def likely(number):
@@ -40,24 +38,23 @@ def order():
     middle = sum(weight for _, weight in entries) * 100 + random.randint(-10, 10)
     half = random.choice([1, 5, 5, 20, 20, 300, 0, 1 << 28])
     rate, cap = likely(1000) & 0xFFFF_FFFF, random.choice([1, 10, 1000, 1000, 100_000, likely(1 << 40)])
-    terms = struct.pack(">IqqIQB", account(), middle - half, middle + half, rate, cap, len(entries))
-    return terms + b"".join(struct.pack(">Hi", *entry) for entry in entries)
+    return order_body(Terms(account(), middle - half, middle + half, rate, cap, entries))
 
 
 def command():
     makers = [
         lambda: record(1, random.choice(TICKERS)),
         lambda: record(2),
-        lambda: record(3, struct.pack(">IQ", account(), likely(1 << 30))),
-        lambda: record(4, struct.pack(">IHQ", account(), asset(), likely(1 << 20))),
-        lambda: record(5, struct.pack(">IQ", account(), likely(1 << 20))),
-        lambda: record(6, struct.pack(">IHQ", account(), asset(), likely(1 << 12))),
+        lambda: record(3, struct.pack(MONEY, account(), likely(1 << 30))),
+        lambda: record(4, struct.pack(UNITS, account(), asset(), likely(1 << 20))),
+        lambda: record(5, struct.pack(MONEY, account(), likely(1 << 20))),
+        lambda: record(6, struct.pack(UNITS, account(), asset(), likely(1 << 12))),
         *[lambda: record(7, order())] * 8,
-        lambda: record(8, struct.pack(">IQ", account(), likely(9))),
+        lambda: record(8, struct.pack(MONEY, account(), likely(9))),
         *[lambda: record(9, struct.pack(">I", random.choice(BUDGETS)))] * 2,
         *[lambda: record(10, struct.pack(">I", likely(9) & 0xFFFF_FFFF) + order())] * 2,
-        lambda: record(11, struct.pack(">IQ", account(), likely(1 << 30))),
-        lambda: record(12, struct.pack(">IHQ", account(), asset(), likely(1 << 20))),
+        lambda: record(11, struct.pack(MONEY, account(), likely(1 << 30))),
+        lambda: record(12, struct.pack(UNITS, account(), asset(), likely(1 << 20))),
         lambda: record(random.randrange(256), random.randbytes(random.choice([0, 1, 12, 39, 1024]))),
     ]
     return random.choice(makers)()
@@ -69,8 +66,8 @@ def command_file():
     if random.random() < 0.9:
         made += [record(1, ticker) for ticker in TICKERS[:3]] + [record(2)] * 3
         for number in (1, 2, 3):
-            made += [record(3, struct.pack(">IQ", number, 1 << 40))]
-            made += [record(4, struct.pack(">IHQ", number, named, 1 << 40)) for named in range(3)]
+            made += [record(3, struct.pack(MONEY, number, 1 << 40))]
+            made += [record(4, struct.pack(UNITS, number, named, 1 << 40)) for named in range(3)]
     return b"".join(made + [command() for _ in range(random.choice([0, 3, 20, 60, 150]))])
 
 

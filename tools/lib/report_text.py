@@ -1,23 +1,7 @@
 """The text of a legal journal, made from its bytes by the formats alone. The samples are made with it, and compared."""
 import struct
 
-MONEY, UNITS, TERMS, ENTRY = ">IQ", ">IHQ", ">IqqIQB", ">Hi"
-DONE, ASSET, ACCOUNT, ORDER, REFUSED, CLEARED, SKIPPED = range(128, 135)
-
-
-def records(data, at=8):
-    """The tag and the body of each record, behind the magic."""
-    while at < len(data):
-        tag, length = struct.unpack_from(">BI", data, at)
-        yield tag, data[at + 5:at + 5 + length]
-        at += 5 + length
-
-
-def signed(body, at, width, count):
-    """So many signed numbers, one behind the other."""
-    places = range(at, at + width * count, width)
-    return [int.from_bytes(body[place:place + width], "big", signed=True) for place in places]
-
+from formats import ACCOUNT, ASSET, CLEARED, DONE, MONEY, ORDER, SKIPPED, UNITS, name_of, records, signed, terms_of
 
 WORDS = {3: "deposit", 4: "deposit", 5: "withdraw", 6: "withdraw", 11: "credit", 12: "credit"}
 
@@ -34,12 +18,15 @@ def done(tickers, tag, body):
 
 
 def placed(tickers, tag, body, number):
-    last = ""
-    if tag == 10:
-        last, body = f" last {int.from_bytes(body[:4], 'big')}", body[4:]
-    account, low, high, rate, cap, _ = struct.unpack(TERMS, body[:33])
-    row = "".join(f" {tickers[asset]}:{weight}" for asset, weight in struct.iter_unpack(ENTRY, body[33:]))
-    return f"order {number} account {account} low {low} high {high} rate {rate} cap {cap}{last}{row}"
+    terms = terms_of(tag, body)
+    return f"order {number} account {terms.account} {limits(tickers, terms)}"
+
+
+def limits(tickers, terms):
+    """The terms of an order as its line has them, from its limits on."""
+    last = "" if terms.last is None else f" last {terms.last}"
+    row = "".join(f" {tickers[asset]}:{weight}" for asset, weight in terms.row)
+    return f"low {terms.low} high {terms.high} rate {terms.rate} cap {terms.cap}{last}{row}"
 
 
 def cleared(tickers, body):
@@ -82,10 +69,16 @@ def told(tickers, asked, answered):
 
 def report_of(journal):
     """The text of a legal journal that is whole."""
-    every = list(records(journal))
+    every = records(journal)
     tickers, lines = [], []
     for number, (asked, answered) in enumerate(zip(every[::2], every[1::2]), 1):
         if answered[0] == ASSET:
-            tickers.append(asked[1].decode("ascii").rstrip(" "))
+            tickers.append(name_of(asked[1]))
         lines.append(f"{number} {told(tickers, asked, answered)}\n")
     return "".join(lines).encode("ascii")
+
+
+def legal_line(journal):
+    """The line that an audit writes of a legal journal that is whole."""
+    replies = [tag for tag, _ in records(journal)[1::2]]
+    return b"legal: %d pairs, %d cleared, %d skipped\n" % (len(replies), replies.count(CLEARED), replies.count(SKIPPED))

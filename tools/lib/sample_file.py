@@ -1,9 +1,7 @@
 """The command file of `flow sample NUMBER ORDERS`, made by the formats alone. The program's file is compared with it."""
 import struct
 
-
-def record(tag, body=b""):
-    return struct.pack(">BI", tag, len(body)) + body
+from formats import MONEY, UNITS, Terms, order_body, record
 
 
 class Draws:
@@ -28,8 +26,7 @@ def order(draws, place):
     half = 1 + draws.below(50)
     rate = 1 + draws.below(1000)
     turns = 1 + draws.below(20)
-    numbers = struct.pack(">IqqIQB", 1 + place % 64, middle - half, middle + half, rate, rate * turns, entries)
-    return record(7, numbers + b"".join(struct.pack(">Hi", *entry) for entry in row))
+    return record(7, order_body(Terms(1 + place % 64, middle - half, middle + half, rate, rate * turns, row)))
 
 
 def sample_records(number, orders):
@@ -39,9 +36,9 @@ def sample_records(number, orders):
     for _ in range(64):
         yield record(2)
     for account in range(1, 65):
-        yield record(3, struct.pack(">IQ", account, 2**50))
+        yield record(3, struct.pack(MONEY, account, 2**50))
         for asset in range(8):
-            yield record(4, struct.pack(">IHQ", account, asset, 2**50))
+            yield record(4, struct.pack(UNITS, account, asset, 2**50))
     draws = Draws(number)
     for place in range(orders):
         yield order(draws, place)

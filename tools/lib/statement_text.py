@@ -2,24 +2,21 @@
 made with it, and compared."""
 import struct
 
-from report_text import ACCOUNT, ASSET, CLEARED, DONE, ENTRY, MONEY, ORDER, REFUSED, SKIPPED, TERMS, UNITS, WORDS, records, signed
+from formats import ACCOUNT, ASSET, CLEARED, FORMS, MONEY, MONEY_KEY, ORDER, REFUSED, SKIPPED, TICK, name_of, records, signed, terms_of
+from report_text import WORDS, limits
 
-TICK = 1 << 32
 # The codes of records that are no command, and so name no account.
 NO_COMMAND = (1, 2)
 
 
 class Order:
-    """A live order of the account: its high limit in grains, what is left of its cap, and its row."""
+    """A live order of the account: its terms, and what is left of its cap."""
 
-    def __init__(self, number, last, high, cap, row):
-        self.number, self.last, self.high, self.left, self.row = number, last, high * TICK, cap, row
+    def __init__(self, number, terms):
+        self.number, self.terms, self.left = number, terms, terms.cap
 
-    def units_needed(self, asset):
-        return sum(-weight * self.left for named, weight in self.row if named == asset and weight < 0)
-
-    def money_needed(self):
-        return max(self.high, 0) * self.left
+    def needed(self, key):
+        return self.terms.needs(self.left).get(key, 0)
 
 
 class Statement:
@@ -33,21 +30,17 @@ class Statement:
         """A deposit, a withdrawal or a credit; the line of it."""
         sign = {3: 1, 4: 1, 5: -1, 6: -1}.get(tag, 0)
         if tag in (3, 5, 11):
-            _, ticks = struct.unpack(MONEY, body)
+            _, ticks = struct.unpack(FORMS[tag], body)
             self.money += sign * ticks * TICK
             return f"{WORDS[tag]} ticks {ticks}"
-        _, asset, units = struct.unpack(UNITS, body)
+        _, asset, units = struct.unpack(FORMS[tag], body)
         self.units[asset] = self.units.get(asset, 0) + sign * units
         return f"{WORDS[tag]} {self.tickers[asset]} units {units}"
 
     def place(self, number, tag, body):
-        last, terms = (int.from_bytes(body[:4], "big"), body[4:]) if tag == 10 else (0, body)
-        _, low, high, rate, cap, _ = struct.unpack(TERMS, terms[:33])
-        row = list(struct.iter_unpack(ENTRY, terms[33:]))
-        self.orders.append(Order(number, last, high, cap, row))
-        until = f" last {last}" if tag == 10 else ""
-        weights = "".join(f" {self.tickers[asset]}:{weight}" for asset, weight in row)
-        return f"order {number} low {low} high {high} rate {rate} cap {cap}{until}{weights}"
+        terms = terms_of(tag, body)
+        self.orders.append(Order(number, terms))
+        return f"order {number} {limits(self.tickers, terms)}"
 
     def own(self, asked, answered):
         """A command that names the account."""
@@ -76,12 +69,12 @@ class Statement:
             rates = dict(struct.iter_unpack(">QI", told[at + 4:at + 4 + 12 * listed]))
             for order in self.orders:
                 self.trade(order, rates[order.number], prices)
-        self.orders = [o for o in self.orders if o.left and o.last != number]
+        self.orders = [o for o in self.orders if o.left and o.terms.last != number]
 
     def trade(self, order, rate, prices):
-        cost = rate * sum(weight * prices[asset] for asset, weight in order.row)
+        cost = rate * order.terms.cost(prices)
         self.money -= cost
-        for asset, weight in order.row:
+        for asset, weight in order.terms.row:
             self.units[asset] = self.units.get(asset, 0) + weight * rate
         order.left -= rate
         self.lines.append(f"  order {order.number} rate {rate} cost {cost}")
@@ -96,7 +89,7 @@ class Statement:
     def tell(self, asked, answered):
         reply, told = answered
         if reply == ASSET:
-            self.tickers.append(asked[1].decode("ascii").rstrip(" "))
+            self.tickers.append(name_of(asked[1]))
         elif reply == ACCOUNT:
             if int.from_bytes(told, "big") == self.account:
                 self.is_open = True
@@ -108,9 +101,9 @@ class Statement:
 
     def end(self):
         """The last lines."""
-        yield f"money {self.money} reserved {sum(o.money_needed() for o in self.orders)}"
+        yield f"money {self.money} reserved {sum(o.needed(MONEY_KEY) for o in self.orders)}"
         for asset, ticker in enumerate(self.tickers):
-            yield f"{ticker} units {self.units.get(asset, 0)} reserved {sum(o.units_needed(asset) for o in self.orders)}"
+            yield f"{ticker} units {self.units.get(asset, 0)} reserved {sum(o.needed(asset) for o in self.orders)}"
 
 
 def text_of(lines):
@@ -120,7 +113,7 @@ def text_of(lines):
 def statement_of(journal, account):
     """The text of what an account sees of a legal journal that is whole, and the last lines, or None where there is no such
     account."""
-    every, statement = list(records(journal)), Statement(account)
+    every, statement = records(journal), Statement(account)
     for asked, answered in zip(every[::2], every[1::2]):
         statement.tell(asked, answered)
     return text_of(statement.lines), text_of(statement.end()) if statement.is_open else None
