@@ -3,7 +3,7 @@ ghost use Rattle.std.specs.Prelude.{◌≡◌, ◌++◌, ◌+◌, ◌^◌, ◌<�
 ghost use Rattle.wire_records.specs.Commands.{Plain};
 ghost use Rattle.wire_records.specs.Versions.{IsReadAs};
 ghost use Rattle.journal_records.specs.Pairs.{plain_room};
-ghost use Rattle.flow_orders.specs.Own.{IsOwnOutcome};
+ghost use Rattle.own_rule.specs.Own.{IsOwnOutcome};
 ghost use Rattle.market_rules.specs.Journal.{Step};
 ghost use Rattle.market_rules.specs.Wanting.{RecordMayWant};
 ghost use Rattle.exchange_session.specs.Private.{IsAsked};
