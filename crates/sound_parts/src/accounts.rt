@@ -31,11 +31,7 @@ pub(crate) fn most_credit_of(version: Version) -> u64
     ensures value { result ≡ most_credit_in version }
     ensures most { result ≤ most_credit }
 {
-    match version {
-        Version::One => 0,
-        Version::Two => MOST_CREDIT,
-        Version::Three => MOST_CREDIT,
-    }
+    if version.has_credit() { MOST_CREDIT } else { 0 }
 }
 
 // Whether all counts, totals, balances and credits are within their limits.
