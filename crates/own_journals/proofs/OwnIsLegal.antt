@@ -11,6 +11,7 @@ use Rattle.wire_records.specs.declared.version.Version.{Version}
 use Rattle.market_rules.specs.Journal.{Step, Follows, IsJournal}
 use Rattle.market_rules.proofs.Accepted.{past_unless}
 use Rattle.market_rules.proofs.Soundness.{ReadsOwn, sound_step, sound-empty}
+use Rattle.market_rules.proofs.Starts.{start_within}
 use Rattle.market_rules.proofs.Versions.{some_parts}
 use Rattle.own_rule.proofs.OwnIsRight.{own_is_right}
 
