@@ -1,6 +1,2 @@
 pub mod Moments
 pub mod Torn
-mod LogLemmas
-mod MemoryCalls
-mod SoundLemmas
-mod RealFiles
