@@ -41,13 +41,15 @@ impl DiskJournal {
     /// Opens a disk that a crash may have left, after a sync. One of at most 9 bytes is taken as new, whatever it holds, and
     /// gets the magic and a closed gate. `NotDisk` comes exactly where it has more than 2^60 bytes, or more than 9 without the
     /// magic, and `Failed` only where the disk's count rose. Takes no memory. A crash at any moment leaves what it might have
-    /// left before, or another new disk in place of a new one.
+    /// left before, or another new disk in place of a new one. A disk of more than 9 bytes is only looked at, whatever is answered.
     pub fn recover<D: Disk>(disk: &mut D) -> Result<DiskJournal, DiskFault>
         ensures opened { OnOk result (IfSome (D.state disk.old).content (λ bytes. IsOpened bytes (D.state disk.new))) }
         ensures foreign { IsErrOf result DiskFault.NotDisk → IfSome (D.state disk.old).content IsForeign }
         ensures stays { IsErrOf result DiskFault.NotDisk → (D.state disk.new).content ≡ (D.state disk.old).content }
         ensures moments { AtEachMoment (D.state disk.old) (D.state disk.new)
             (λ image. (D.state disk.old).images image ⊎ IsStillNew (D.state disk.old).content image) }
+        ensures looks { IfSome (D.state disk.old).content
+            (λ bytes. 9 < length bytes → OnlyLooks (D.state disk.old) (D.state disk.new)) }
         ensures told { OnOk result (IsSome (D.state disk.new).content ↔ IsSome (D.state disk.old).content) }
         ensures place { IfOk result (λ journal. journal ≡ 8) }
         ensures refused { IfErr result (λ fault. (fault ≡ DiskFault.Failed) ⊎ (fault ≡ DiskFault.NotDisk)) }

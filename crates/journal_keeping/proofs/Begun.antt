@@ -17,12 +17,13 @@ use Rattle.journal_disk.specs.Looking.{OnlyLooks}
 use Rattle.journal_disk.specs.Recovering.{IsForeign, opened, IsOpened, IsStillNew}
 use Rattle.journal_disk.proofs.OneList.{short_none, one_list}
 use Rattle.journal_disk.proofs.Opening.{opened_short, opened_long}
-use Rattle.journal_disk.proofs.OpenedEntries.{opened_told}
+use Rattle.journal_disk.proofs.OpenedEntries.{opened_told, not_foreign}
+use Rattle.journal_disk.proofs.GoingOn.{looks_none, looks_more}
 use Rattle.journal_keeping.specs.declared.fault.KeepFault.{KeepFault}
 use Rattle.journal_keeping.specs.declared.fault.KeepFault.TheVariants.{Read, Write, Disk, Memory, NotDisk, Damaged, Rejected, NotFlow, Torn, TooLong}
 use Rattle.journal_keeping.specs.Faults.{kept_fault}
 use Rattle.journal_keeping.specs.Keeping.{kept_version, IsKeptJournal, Keeps, HoldsLegal}
-use Rattle.journal_keeping.specs.Openings.{Opening, Legal, IsOpening}
+use Rattle.journal_keeping.specs.Openings.{Opening, Legal, IsOpening, KeepNone}
 use Rattle.journal_keeping.specs.Openings as opening
 use Rattle.journal_keeping.specs.Auditing.{StopsAs}
 use Rattle.journal_keeping.specs.Ended.{IsRefused}
@@ -217,3 +218,41 @@ pub stops_known : (content : Option (List ℕ)) (mid next : DiskState) (from : �
 stops_known None mid next from fault first is same stops = tt
 stops_known (Some held) mid next from fault first is same stops =
     stops_opened held mid next fault is same (stops (drop 8 (opened held)) (opened held) (subst (λ (n : ℕ). Holds [] n (drop 8 (opened held)) mid) (sym first) is.holds) (opened_told held mid is))
+
+-- ---- a disk that keeps no legal journal
+
+-- a new one keeps that of no pairs
+not_new : (held : List ℕ) → KeepNone held → 9 < length held
+not_new held none = ⊎_elim
+    (λ (short : length held ≤ 9).
+    let new : Keeps [] held = inl (record { short = short; none = refl }) in
+    absurd (none [] (empty_market kept_version) (not_foreign [] held new (omega (arith, short)), none_read (empty_market kept_version) refl, new)))
+    (λ (long : 9 < length held). long)
+    (le_or_more (length held) 9)
+
+-- it was only looked at
+pub untouched_so : (content : Option (List ℕ)) (old new : DiskState) → IfSome content (λ bytes. 9 < length bytes → OnlyLooks old new) → IfSome content (λ held. KeepNone held → OnlyLooks old new)
+untouched_so None old new looks = tt
+untouched_so (Some held) old new looks = λ none. looks (not_new held none)
+
+pub untouched_on : (content : Option (List ℕ)) (old mid new : DiskState) → IfSome content (λ bytes. 9 < length bytes → OnlyLooks old mid) → OnlyLooks mid new → IfSome content (λ held. KeepNone held → OnlyLooks old new)
+untouched_on None old mid new looks more = tt
+untouched_on (Some held) old mid new looks more = λ none. looks_more old mid new (looks (not_new held none)) more
+
+-- and isn't read up to a closed gate
+pub none_read_up : (content : Option (List ℕ)) (m : Market) (place : ℕ) (mid : DiskState) (P : Type 0) → IfSome content (λ held. IsReadUp held m place mid) → IfSome content (λ held. KeepNone held → P)
+none_read_up None m place mid P read = tt
+none_read_up (Some held) m place mid P read = λ none. absurd (none read.0 m read.1)
+
+pub none_begun : (content : Option (List ℕ)) (m : Market) (place : ℕ) (mid : DiskState) (P : Type 0) → IfSome content (λ held. IsBegun held m place mid) → IfSome content (λ held. KeepNone held → P)
+none_begun None m place mid P begun = tt
+none_begun (Some held) m place mid P begun = λ none. absurd (none begun.0 m begun.1)
+
+-- nothing was called
+pub untouched_none : (disk : DiskState) (content : Option (List ℕ)) → IsDisk disk → IfSome content (λ held. KeepNone held → OnlyLooks disk disk)
+untouched_none disk None is_disk = tt
+untouched_none disk (Some held) is_disk = λ none. looks_none disk is_disk
+
+pub no_memory : (content : Option (List ℕ)) (disk : DiskState) → IfSome content (λ held. OpensNot held disk Memory)
+no_memory None disk = tt
+no_memory (Some held) disk = tt

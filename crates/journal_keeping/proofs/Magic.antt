@@ -1,7 +1,7 @@
 -- A source that is opened behind its magic.
 use Rattle.std.proofs.Common.{◌≡◌, ℕ, ◌+◌, ◌-◌, ◌≤◌, ◌<◌, List, [], ◌++◌, Option, Some, None, IfSome, length, take, drop, refl, sym, ap, subst, ◌∙◌, arith, append-nil, length-append, length-take, take-append-drop}
 use Rattle.std.proofs.lemmas.List.{take_at, drop_at, take-append-le}
-use Rattle.flow_io.specs.Streams.{Takes}
+use Rattle.flow_io.specs.Streams.{Takes, TakesAtMost}
 use Rattle.flow_io.specs.Windows.{WindowState, Fills, IsPast, IsWithin, empty_window}
 use Rattle.flow_io.specs.declared.window.InputEnd.{InputEnd}
 use Rattle.flow_io.specs.declared.window.InputEnd.TheVariants.{Source, Limit}
@@ -11,6 +11,7 @@ use Rattle.wire_records.specs.Reading as reading
 use Rattle.wire_records.specs.Formats.{commands}
 use Rattle.wire_records.specs.declared.version.Version.{Version}
 use Rattle.wire_records.specs.declared.version.Version.TheVariants.{One, Two, Three}
+use Rattle.word_driver.specs.Does.{IsTaken}
 use Rattle.file_units.proofs.Gone.{considered, within_limit}
 use Rattle.journal_keeping.specs.Keeping.{kept_version}
 use Rattle.journal_keeping.specs.Openings.{ReadsKept}
@@ -23,7 +24,7 @@ pub three_is_other : (v : Version) → v ≡ Three → ◌≡◌ {A = Option Ver
 three_is_other v three two = absurd cc
 
 -- fewer than eight bytes have no magic
-short_has_none : (bytes body : List ℕ) → length bytes < 8 → ¬ BeginsWith commands.magics bytes kept_version body
+pub short_has_none : (bytes body : List ℕ) → length bytes < 8 → ¬ BeginsWith commands.magics bytes kept_version body
 short_has_none bytes body few begins =
     let eight : length command_magic_2 ≡ 8 = refl in
     omega (arith, few, eight, ap length begins.1, length-append command_magic_2 body)
@@ -39,6 +40,21 @@ not_limit e = absurd cc
 
 source_no_limit : ◌≡◌ {A = Option InputEnd} (Some Source) (Some Limit) → ⊥
 source_no_limit e = absurd cc
+
+-- how many bytes were taken
+pub at_most : (before after : Option (List ℕ)) (bytes : List ℕ) (most : ℕ) → Takes before after bytes → length bytes ≤ most → TakesAtMost before after most
+at_most None after bytes most takes few = tt
+at_most (Some b) None bytes most takes few = absurd takes
+at_most (Some b) (Some a) bytes most takes few = omega (arith, ap length takes, length-append bytes a, few)
+
+pub none_taken : (content : Option (List ℕ)) (most : ℕ) → TakesAtMost content content most
+none_taken None most = tt
+none_taken (Some bytes) most = omega arith
+
+pub counted : (before after : Option (List ℕ)) (bytes : List ℕ) (P : ℕ → Type 0) → Takes before after bytes → P (length bytes) → IfSome before (λ b. (n : ℕ) × IsTaken b after n × P n)
+counted None after bytes P takes p = tt
+counted (Some b) None bytes P takes p = absurd takes
+counted (Some b) (Some a) bytes P takes p = (length bytes, sym (ap length takes ∙ length-append bytes a), p)
 
 -- ---- a new window was filled
 
@@ -62,6 +78,20 @@ module _ (limit : ℕ) (filled : WindowState) (before after : Option (List ℕ))
 
   takes_held : (¬ (filled.over ≡ Some Limit)) → Takes before after filled.held
   takes_held other = subst (Takes before after) (ap (λ (l : List ℕ). fills.joined ++ l) (past_none filled.over refl other) ∙ append-nil fills.joined ∙ sym held) fills.taken
+
+  past_few : (over : Option InputEnd) → IsPast None over fills.past → length fills.past ≤ 1
+  past_few None is = omega (arith, ap length is)
+  past_few (Some Source) is = omega (arith, ap length is)
+  past_few (Some Limit) is = omega (arith, is)
+
+  -- one byte past the limit is taken at most
+  pub taken_few : TakesAtMost before after (limit + 1)
+  taken_few = at_most before after (fills.joined ++ fills.past) (limit + 1) fills.taken
+      (omega (arith, length-append fills.joined fills.past, past_few filled.over fills.beyond, within, ap length held))
+
+  -- a read failed before eight bytes were held
+  pub unread_few : filled.over ≡ None → length filled.held < 8 → IfSome before (λ bytes. (n : ℕ) × IsTaken bytes after n × (n < 8))
+  unread_few open_still few = counted before after filled.held (λ n. n < 8) (takes_held (λ is. not_limit (sym open_still ∙ is))) few
 
   -- the magic stands there
   pub behind_magic : (window : WindowState) (body : List ℕ) → filled.over ≡ None → 8 ≤ length filled.held → BeginsWith commands.magics filled.held kept_version body

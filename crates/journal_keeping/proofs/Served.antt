@@ -12,7 +12,8 @@ use Rattle.disk_edge.specs.Disks.{DiskState}
 use Rattle.journal_keeping.specs.declared.fault.KeepFault.{KeepFault}
 use Rattle.journal_keeping.specs.declared.fault.KeepFault.TheVariants.{Read, Write, Disk, Memory, NotDisk, Damaged, Rejected, NotFlow, Torn, TooLong}
 use Rattle.journal_keeping.specs.Keeping.{kept_version, AreServed}
-use Rattle.journal_keeping.specs.Private.{asked_of, ServesOn}
+use Rattle.journal_keeping.specs.Private.{ServesOn}
+use Rattle.journal_keeping.specs.Pacing.{asked_of}
 use Rattle.journal_keeping.proofs.Turns.{Pairs}
 use Rattle.journal_keeping.proofs.Sources.{BeginsWithAll, all_to_end, all_to_break, longer, starts_with}
 
@@ -28,9 +29,9 @@ served_first window mid left (Err (Torn n)) before from start end held holds on 
 served_first window mid left (Err TooLong) before from start end held holds on = none_more _ on.new on.more on.ended.0 (all_to_end _ _ _ _ on.new on.goes.goes.0)
 served_first window mid left (Err Read) before from start end held holds on =
     longer (length (window.held ++ on.goes.taken)) _ _ (none_more _ on.new on.more on.ended.0 (all_to_end _ _ _ _ on.new on.goes.goes))
-served_first window mid left (Err Write) before from start end held holds on = all_to_break _ Write on.new on.more on.goes.goes.0
-served_first window mid left (Err Disk) before from start end held holds on = all_to_break _ Disk on.new on.more on.goes.goes.0
-served_first window mid left (Err Memory) before from start end held holds on = all_to_break _ Memory on.new on.more on.goes.goes.0
+served_first window mid left (Err Write) before from start end held holds on = all_to_break on.market _ Write on.new on.more on.goes.goes.0
+served_first window mid left (Err Disk) before from start end held holds on = all_to_break on.market _ Disk on.new on.more on.goes.goes.0
+served_first window mid left (Err Memory) before from start end held holds on = all_to_break on.market _ Memory on.new on.more on.goes.goes.0
 served_first window mid left (Err NotDisk) before from start end held holds on = absurd on.ended
 served_first window mid left (Err (Damaged n)) before from start end held holds on = absurd on.ended
 served_first window mid left (Err (Rejected n)) before from start end held holds on = absurd on.ended

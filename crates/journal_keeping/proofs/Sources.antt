@@ -12,11 +12,15 @@ use Rattle.wire_records.specs.Grammars.{BeginsWith, spell_all}
 use Rattle.wire_records.specs.Reading.{Ending, StartsWith}
 use Rattle.wire_records.specs.Formats.{commands}
 use Rattle.flow_orders.specs.Outcomes.{Outcome}
+use Rattle.market_rules.specs.Market.{Market}
+use Rattle.market_rules.specs.Wanting.{RecordMayWant}
 use Rattle.file_units.specs.Units.{Leads, GoesToEnd, GoesToBreak}
 use Rattle.file_units.specs.Inputs.{known}
 use Rattle.journal_keeping.specs.Keeping.{kept_version}
 use Rattle.journal_keeping.specs.declared.fault.KeepFault.{KeepFault}
-use Rattle.journal_keeping.specs.Private.{Adds, asked_of, Names}
+use Rattle.journal_keeping.specs.declared.fault.KeepFault.TheVariants.{Memory}
+use Rattle.journal_keeping.specs.Private.{Adds, Names}
+use Rattle.journal_keeping.specs.Pacing.{asked_of}
 use Rattle.journal_keeping.proofs.Turns.{Pairs}
 
 -- bytes that begin with these records
@@ -44,8 +48,8 @@ all_to_end place More bytes ending new goes =
     subst (λ (l : List Record). BeginsWithAll bytes l) (sym is) (record { rest = goes.reads.rest; whole = goes.reads.whole; each = goes.reads.each })
 
 -- and the one at which it broke off
-pub all_to_break : (bytes : List ℕ) (fault : KeepFault) (new more : Pairs) → GoesToBreak commands Adds (Names new more) bytes fault [] tt tt → BeginsWithAll bytes (asked_of (new ++ more))
-all_to_break bytes fault new more goes =
+pub all_to_break : (market : Market) (bytes : List ℕ) (fault : KeepFault) (new more : Pairs) → GoesToBreak commands Adds (Names market new more) bytes fault [] tt tt → BeginsWithAll bytes (asked_of (new ++ more))
+all_to_break market bytes fault new more goes =
     let off = goes.breaks in
     let named = off.broken in
     let is : asked_of new ≡ goes.units = ap asked_of (sym named.0) ∙ asked_are_units [] goes.units goes.middle tt goes.between goes.leads in
@@ -60,6 +64,30 @@ all_to_break bytes fault new more goes =
       each = All-append commands.units.IsLawful goes.units (off.unit ∷ []) goes.each (All-cons commands.units.IsLawful off.unit [] off.lawful (All-nil commands.units.IsLawful));
     }))
     named.1
+
+-- those before it
+pub all_before_break : (market : Market) (bytes : List ℕ) (fault : KeepFault) (new more : Pairs) (goes : GoesToBreak commands Adds (Names market new more) bytes fault [] tt tt)
+    → BeginsWithAll bytes (asked_of new) × (asked_of new ≡ goes.units)
+all_before_break market bytes fault new more goes =
+    let is : asked_of new ≡ goes.units = ap asked_of (sym goes.breaks.broken.0) ∙ asked_are_units [] goes.units goes.middle tt goes.between goes.leads in
+    (subst (λ (l : List Record). BeginsWithAll bytes l) (sym is) (record { rest = goes.left; whole = goes.begins; each = goes.each }), is)
+
+-- and with it, where it may want memory
+pub all_to_wanting : (market : Market) (bytes : List ℕ) (new more : Pairs) → GoesToBreak commands Adds (Names market new more) bytes Memory [] tt tt
+    → (next : Record) × BeginsWithAll bytes (asked_of new ++ next ∷ []) × RecordMayWant market next
+all_to_wanting market bytes new more goes =
+    let off = goes.breaks in
+    let before = all_before_break market bytes Memory new more goes in (
+      off.unit,
+      subst (λ (l : List Record). BeginsWithAll bytes (l ++ off.unit ∷ [])) (sym before.1) (record {
+        rest = off.rest;
+        whole = goes.begins ∙ ap (λ (l : List ℕ). spell_all commands.units goes.units ++ l) off.front
+            ∙ sym (append_assoc (spell_all commands.units goes.units) (commands.units.spell off.unit) off.rest)
+            ∙ ap (λ (l : List ℕ). l ++ off.rest) (sym (flat_map-append commands.units.spell goes.units (off.unit ∷ []) ∙ ap (λ (l : List ℕ). spell_all commands.units goes.units ++ l) (append-nil (commands.units.spell off.unit))));
+        each = All-append commands.units.IsLawful goes.units (off.unit ∷ []) goes.each (All-cons commands.units.IsLawful off.unit [] off.lawful (All-nil commands.units.IsLawful));
+      }),
+      off.broken.2 refl,
+    )
 
 -- what begins with them begins with them also where more is seen
 pub longer : (n : ℕ) (bytes : List ℕ) (records : List Record) → BeginsWithAll (take n bytes) records → BeginsWithAll bytes records

@@ -23,7 +23,8 @@ use Rattle.journal_disk.specs.Pairs.{IsRecordPair, pair_bytes, IsWholePair}
 use Rattle.journal_disk.specs.Entries.{Keeps as KeepsAt}
 use Rattle.journal_keeping.specs.Keeping.{kept_version, IsKeptJournal}
 use Rattle.journal_keeping.specs.Serving.{HasKept}
-use Rattle.journal_keeping.specs.Private.{KeepsOneMore, asked_of, SoFar}
+use Rattle.journal_keeping.specs.Private.{KeepsOneMore, SoFar}
+use Rattle.journal_keeping.specs.Pacing.{asked_of}
 use Rattle.journal_keeping.proofs.Serving.{kept_none, kept_more}
 
 abbrev pub Pairs : Type 0

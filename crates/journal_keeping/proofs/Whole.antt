@@ -26,7 +26,8 @@ use Rattle.journal_keeping.specs.Keeping.{kept_version, IsKeptJournal, Keeps, Is
 use Rattle.journal_keeping.specs.Openings.{Opening, Legal, IsOpening, ReadsKept}
 use Rattle.journal_keeping.specs.Openings as opening
 use Rattle.journal_keeping.specs.Ended.{IsRefused, HasKeptAll, file_of, ComesTo, IsRefusal, MayBeginAgain}
-use Rattle.journal_keeping.specs.Private.{Adds, asked_of, IfEnded, ServesOn}
+use Rattle.journal_keeping.specs.Private.{Adds, IfEnded, ServesOn}
+use Rattle.journal_keeping.specs.Pacing.{asked_of}
 use Rattle.journal_keeping.specs.Beginning.{IsBegun, OpensNot, IsOfDisk, IsBehindMagic, IsOfSource}
 use Rattle.journal_keeping.proofs.Serving.{goes_none, unbegun, opened_first, stand_whole}
 use Rattle.journal_keeping.proofs.Ends.{take_every}
@@ -102,7 +103,7 @@ take_none : (n : ℕ) → take {A = ℕ} n [] ≡ []
 take_none n = search rules
 
 -- all pairs whole
-all_written : (Cut : Type 0) (held holds : Option (List ℕ)) (new more : Pairs) (acknowledged : ℕ) → (¬ Cut) → more ≡ [] → acknowledged ≡ length new → StandIn Cut held holds (take acknowledged (new ++ more)) → Grows held holds (flat_map pair_spelling new)
+pub all_written : (Cut : Type 0) (held holds : Option (List ℕ)) (new more : Pairs) (acknowledged : ℕ) → (¬ Cut) → more ≡ [] → acknowledged ≡ length new → StandIn Cut held holds (take acknowledged (new ++ more)) → Grows held holds (flat_map pair_spelling new)
 all_written Cut held holds new more acknowledged not none all stands =
     let every : take acknowledged (new ++ more) ≡ new = ap (λ (n : ℕ). take n (new ++ more)) all ∙ ap (λ (m : Pairs). take (length new) (new ++ m)) none ∙ take_every new in
     let last : stands.last ≡ [] = stands.none not in
@@ -146,17 +147,17 @@ module _ (limit : ℕ) (held : List ℕ) (content : Option (List ℕ)) (begun : 
     written = Grows-nothing before;
   }
 
-  pub comes_unread : (before : Option (List ℕ)) (fault : KeepFault) → IsOfSource limit content fault → ComesTo limit held content begun before before (Err fault)
-  comes_unread before NotFlow why = none_kept before why
-  comes_unread before Read why = tt
-  comes_unread before Memory why = tt
-  comes_unread before NotDisk why = absurd why
-  comes_unread before (Damaged n) why = absurd why
-  comes_unread before (Rejected n) why = absurd why
-  comes_unread before Disk why = absurd why
-  comes_unread before Write why = absurd why
-  comes_unread before (Torn n) why = absurd why
-  comes_unread before TooLong why = absurd why
+  pub comes_unread : (left before : Option (List ℕ)) (fault : KeepFault) → IsOfSource limit content left fault → ComesTo limit held content begun before before (Err fault)
+  comes_unread left before NotFlow why = none_kept before why
+  comes_unread left before Read why = tt
+  comes_unread left before Memory why = tt
+  comes_unread left before NotDisk why = absurd why
+  comes_unread left before (Damaged n) why = absurd why
+  comes_unread left before (Rejected n) why = absurd why
+  comes_unread left before Disk why = absurd why
+  comes_unread left before Write why = absurd why
+  comes_unread left before (Torn n) why = absurd why
+  comes_unread left before TooLong why = absurd why
 
   module _ (mid left : Option (List ℕ)) (w : WindowState) (behind : IsBehindMagic limit w content mid) (end : DiskState) (before after : Option (List ℕ)) where
     far : w.limit - w.place ≡ limit - 8
@@ -237,17 +238,17 @@ keeps_served limit content mid left w behind result start begun end old market s
 
 -- ---- no refusal
 
-pub not_of_source : (limit : ℕ) (content : Option (List ℕ)) (fault : KeepFault) → IsOfSource limit content fault → ¬ IsRefusal (Err fault)
-not_of_source limit content NotFlow why refusal = refusal
-not_of_source limit content Read why refusal = refusal
-not_of_source limit content Memory why refusal = refusal
-not_of_source limit content NotDisk why refusal = why
-not_of_source limit content (Damaged n) why refusal = why
-not_of_source limit content (Rejected n) why refusal = why
-not_of_source limit content Disk why refusal = why
-not_of_source limit content Write why refusal = why
-not_of_source limit content (Torn n) why refusal = why
-not_of_source limit content TooLong why refusal = why
+pub not_of_source : (limit : ℕ) (content left : Option (List ℕ)) (fault : KeepFault) → IsOfSource limit content left fault → ¬ IsRefusal (Err fault)
+not_of_source limit content left NotFlow why refusal = refusal
+not_of_source limit content left Read why refusal = refusal
+not_of_source limit content left Memory why refusal = refusal
+not_of_source limit content left NotDisk why refusal = why
+not_of_source limit content left (Damaged n) why refusal = why
+not_of_source limit content left (Rejected n) why refusal = why
+not_of_source limit content left Disk why refusal = why
+not_of_source limit content left Write why refusal = why
+not_of_source limit content left (Torn n) why refusal = why
+not_of_source limit content left TooLong why refusal = why
 
 pub not_of_serving : (result : Result (Unit {0}) KeepFault) (P : Type 0) → IfEnded result P → ¬ IsRefusal result
 not_of_serving (Ok done) P ended refusal = refusal

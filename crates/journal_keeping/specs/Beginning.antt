@@ -1,5 +1,5 @@
 -- Words that only private functions use: what opening a disk and a source comes to.
-use Rattle.std.specs.Prelude.{◌≡◌, ◌≤◌, ℕ, List, length, map, Option, None, IfSome, ⊤}
+use Rattle.std.specs.Prelude.{◌≡◌, ◌≤◌, ◌<◌, ℕ, List, length, map, Option, None, IfSome, ⊤}
 use Rattle.flow_io.specs.Streams.{Takes}
 use Rattle.flow_io.specs.Windows.{WindowState}
 use Rattle.wire_records.specs.Records.{Record}
@@ -7,6 +7,7 @@ use Rattle.wire_records.specs.Commands.{Pair}
 use Rattle.wire_records.specs.Grammars.{BeginsWith}
 use Rattle.wire_records.specs.Reading as reading
 use Rattle.wire_records.specs.Formats.{commands}
+use Rattle.word_driver.specs.Does.{IsTaken}
 use Rattle.flow_orders.specs.Outcomes.{Outcome}
 use Rattle.journal_records.specs.Formats.{records_of}
 use Rattle.market_rules.specs.Market.{Market}
@@ -66,14 +67,14 @@ pub record IsBehindMagic (limit : ℕ) (window : WindowState) (before after : Op
   pub few : length first ≤ limit
 
 -- a fault at the opening of a source
-abbrev pub IsOfSource : ℕ → Option (List ℕ) → KeepFault → Type 0
-IsOfSource limit content NotFlow = IfSome content (λ bytes. ReadsKept limit bytes reading.NotFlow)
-IsOfSource limit content Read = ⊤
-IsOfSource limit content Memory = ⊤
-IsOfSource limit content NotDisk = ⊥
-IsOfSource limit content (Damaged place) = ⊥
-IsOfSource limit content (Rejected number) = ⊥
-IsOfSource limit content Disk = ⊥
-IsOfSource limit content Write = ⊥
-IsOfSource limit content (Torn place) = ⊥
-IsOfSource limit content TooLong = ⊥
+abbrev pub IsOfSource : ℕ → Option (List ℕ) → Option (List ℕ) → KeepFault → Type 0
+IsOfSource limit content left NotFlow = IfSome content (λ bytes. ReadsKept limit bytes reading.NotFlow)
+IsOfSource limit content left Read = IfSome content (λ bytes. (n : ℕ) × IsTaken bytes left n × (n < 8))
+IsOfSource limit content left Memory = left ≡ content
+IsOfSource limit content left NotDisk = ⊥
+IsOfSource limit content left (Damaged place) = ⊥
+IsOfSource limit content left (Rejected number) = ⊥
+IsOfSource limit content left Disk = ⊥
+IsOfSource limit content left Write = ⊥
+IsOfSource limit content left (Torn place) = ⊥
+IsOfSource limit content left TooLong = ⊥

@@ -41,6 +41,10 @@ IsOpening bytes (Rejected number) =
     × (bad : RecordPair) × (rest : List ℕ) × HasEntryAt place bad rest (opened bytes) × IsIllegalPair market bad × (number ≡ length legal + 1)
 IsOpening bytes (Legal pairs market) = (¬ IsForeign bytes) × IsKeptJournal pairs market × Keeps pairs bytes
 
+-- the bytes are no kept file, or one that is damaged or has a pair that isn't legal: they keep no legal journal
+abbrev pub KeepNone : List ℕ → Type 0
+KeepNone bytes = (pairs : List (Pair Record Outcome)) (market : Market) → ¬ IsOpening bytes (Legal pairs market)
+
 -- what stands in the first limit bytes of the source: nothing that begins as a command file of that version, or records, and an ending
 abbrev pub ReadsKept : ℕ → List ℕ → Reading Version Record → Type 0
 ReadsKept limit bytes NotFlow = (body : List ℕ) → ¬ BeginsWith commands.magics (take limit bytes) kept_version body

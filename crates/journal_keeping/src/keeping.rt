@@ -1,11 +1,15 @@
 //! A journal that is kept on a disk while the records of a source are served.
-ghost use Rattle.std.specs.Prelude.{◌≡◌, ◌≤◌, ◌^◌, ℕ, List, length, Err, IfSome};
+ghost use Rattle.std.specs.Prelude.{◌≡◌, ◌≤◌, ◌+◌, ◌^◌, ℕ, List, length, Err, IfSome};
 ghost use Rattle.flow_io.specs.Faults.{Blames};
+ghost use Rattle.flow_io.specs.Streams.{TakesAtMost};
 ghost use Rattle.wire_records.specs.Records.{Record};
 ghost use Rattle.wire_records.specs.Commands.{Pair};
 ghost use Rattle.flow_orders.specs.Outcomes.{Outcome};
 ghost use Rattle.market_rules.specs.Market.{Market};
+ghost use Rattle.journal_disk.specs.Looking.{OnlyLooks};
 ghost use Rattle.journal_keeping.specs.Keeping.{HoldsLegal, KeepsOn};
+ghost use Rattle.journal_keeping.specs.Openings.{KeepNone};
+ghost use Rattle.journal_keeping.specs.Pacing.{KeepsPace, RunsOut};
 ghost use Rattle.journal_keeping.specs.Ended.{ComesTo, IsRefusal, MayBeginAgain};
 
 use crate::fault::KeepFault;
@@ -21,10 +25,13 @@ use std::alloc::Global;
 ///
 /// First the disk is opened and its pairs are audited, then the source's magic is looked at: so `NotDisk`, `Damaged` and `Rejected`
 /// come where the source wasn't asked yet and nothing was written, and leave what the disk holds. `Damaged` has the place
-/// of the first gate that isn't one, `Rejected` the number of the first kept pair that isn't legal, counted from 1. `NotFlow` leaves
-/// the pairs that are kept. At `Ok`, `Torn` and `TooLong` all whole records of the first `limit` bytes of the source are served,
+/// of the first gate that isn't one, `Rejected` the number of the first kept pair that isn't legal, counted from 1. A disk that keeps no
+/// legal journal is changed at no moment, whatever is answered. `NotFlow` leaves the pairs that are kept. At `Ok`, `Torn` and `TooLong` all whole records of the first `limit` bytes of the source are served,
 /// kept and written. `Disk`, `Read` and `Write` come only where the count of faults of the disk, the source or out rose, which
-/// stands still in every other case; `Memory` is free.
+/// stands still in every other case. `Memory` comes before anything is read of the source, or at a record that may want it.
+///
+/// The source is read no further than 1,030 bytes past the last record whose pair was written; where a read of it fails, all whole
+/// records that were taken are answered. In all at most one byte past the limit is taken.
 ///
 /// It costs the audit of the kept pairs, and of each record what serving it costs, two writes of the disk with a sync each, and one
 /// write of out. A window of the longest command record is held, and a buffer of the longest entry of a disk; the limit is at most 2^32 bytes.
@@ -45,6 +52,12 @@ pub fn keep<S: Source, D: Disk, K: Sink>(
         (λ held. ComesTo limit held (S.rest source.old) (D.state disk.new) (K.held out.old) (K.held out.new) result) }
     ensures legal { (old : List (Pair Record Outcome)) (market : Market) → HoldsLegal (D.state disk.old) old market →
         IfSome (D.state disk.old).content (λ held. length held ≤ 2 ^ 60) → ¬ IsRefusal result }
+    ensures untouched { IfSome (D.state disk.old).content
+        (λ held. KeepNone held → OnlyLooks (D.state disk.old) (D.state disk.new) × (source.new ≡ source.old) × (out.new ≡ out.old)) }
+    ensures taken { TakesAtMost (S.rest source.old) (S.rest source.new) (limit + 1) }
+    ensures paced { KeepsPace limit (S.rest source.old) (S.rest source.new) (K.held out.old) (K.held out.new) result }
+    ensures wants { result ≡ Err KeepFault.Memory → IfSome (D.state disk.old).content
+        (λ held. RunsOut limit held (S.rest source.old) (S.rest source.new) (D.state disk.new) (K.held out.old) (K.held out.new)) }
     ensures unasked { IsRefusal result → (source.new ≡ source.old) × (out.new ≡ out.old) }
     ensures disk_cause { Blames (result ≡ Err KeepFault.Disk) (D.state disk.old).faults (D.state disk.new).faults }
     ensures source_cause { Blames (result ≡ Err KeepFault.Read) (S.faults source.old) (S.faults source.new) }

@@ -1,6 +1,7 @@
 //! A disk and a source that are opened: the kept pairs are audited, and the magic is looked at.
-ghost use Rattle.std.specs.Prelude.{◌≡◌, ◌≤◌, ◌+◌, ◌^◌, ◌⊎◌, ◌↔◌, ℕ, List, IsTrue, Err, IfSome, IsSome, IfOk, IfErr, OnOk, length, drop};
+ghost use Rattle.std.specs.Prelude.{◌≡◌, ◌≤◌, ◌+◌, ◌^◌, ◌⊎◌, ◌↔◌, ℕ, List, IsTrue, Err, IfSome, IsSome, IfOk, IfErr, OnOk, IsErr, length, drop, vec_capacity};
 ghost use Rattle.flow_io.specs.Faults.{Blames};
+ghost use Rattle.flow_io.specs.Streams.{TakesAtMost};
 ghost use Rattle.wire_records.specs.Records.{Record};
 ghost use Rattle.wire_records.specs.Commands.{Pair};
 ghost use Rattle.wire_records.specs.Grammars.{BeginsWith};
@@ -8,7 +9,9 @@ ghost use Rattle.wire_records.specs.Formats.{commands};
 ghost use Rattle.flow_orders.specs.Outcomes.{Outcome};
 ghost use Rattle.market_rules.specs.Market.{Market as market_value, empty_market};
 ghost use Rattle.disk_edge.specs.Disks.{AtEachMoment};
+ghost use Rattle.journal_disk.specs.Looking.{OnlyLooks};
 ghost use Rattle.journal_keeping.specs.Keeping.{kept_version, Keeps, HoldsLegal};
+ghost use Rattle.journal_keeping.specs.Openings.{KeepNone};
 ghost use Rattle.journal_keeping.specs.Beginning.{IsReadUp, IsBegun, OpensNot, IsOfDisk, IsBehindMagic, IsOfSource};
 
 use crate::fault::KeepFault;
@@ -29,6 +32,9 @@ const MAGIC: usize = 8;
 // As many bytes has the longest command record.
 const MOST_RECORD: usize = 1029;
 
+// As many bytes has the longest pair with a plain reply.
+const MOST_PLAIN_PAIR: usize = 1042;
+
 // Opens the journal of a disk, and audits the pairs that it keeps.
 fn read_up<D: Disk>(
     alloc: Global,
@@ -40,6 +46,7 @@ fn read_up<D: Disk>(
         (λ held. IsReadUp held audit.new journal (D.state disk.new))) }
     ensures refused { IfErr result (λ fault. IfSome (D.state disk.old).content (λ held. OpensNot held (D.state disk.new) fault)) }
     ensures of_disk { IfErr result IsOfDisk }
+    ensures untouched { IfSome (D.state disk.old).content (λ held. KeepNone held → OnlyLooks (D.state disk.old) (D.state disk.new)) }
     ensures moments { (old : List (Pair Record Outcome)) (market : market_value) → HoldsLegal (D.state disk.old) old market →
         AtEachMoment (D.state disk.old) (D.state disk.new) (λ image. (D.state disk.old).images image ⊎ Keeps old image) }
     ensures told { OnOk result (IsSome (D.state disk.new).content → IsSome (D.state disk.old).content) }
@@ -62,12 +69,18 @@ pub(crate) fn open_disk<D: Disk>(alloc: Global, disk: &mut D) -> Result<Keeper, 
         (λ held. IsBegun held keeper.session keeper.appender (D.state disk.new))) }
     ensures refused { IfErr result (λ fault. IfSome (D.state disk.old).content (λ held. OpensNot held (D.state disk.new) fault)) }
     ensures of_disk { IfErr result IsOfDisk }
+    ensures untouched { IfSome (D.state disk.old).content (λ held. KeepNone held → OnlyLooks (D.state disk.old) (D.state disk.new)) }
     ensures moments { (old : List (Pair Record Outcome)) (market : market_value) → HoldsLegal (D.state disk.old) old market →
         AtEachMoment (D.state disk.old) (D.state disk.new) (λ image. (D.state disk.old).images image ⊎ Keeps old image) }
     ensures told { OnOk result (IsSome (D.state disk.new).content → IsSome (D.state disk.old).content) }
+    ensures room { IfOk result (λ keeper. 1042 ≤ vec_capacity keeper.pair) }
     ensures near { IfOk result (λ keeper. (keeper.session.next_order ≤ keeper.appender) × (keeper.appender ≤ 2 ^ 60)) }
     ensures cause { Blames (result ≡ Err KeepFault.Disk) (D.state disk.old).faults (D.state disk.new).faults }
 {
+    let pair = match Vec::with_capacity(alloc, MOST_PLAIN_PAIR) {
+        Ok(pair) => pair,
+        Err(_) => return Err(KeepFault::Memory),
+    };
     let mut audit = Audit::over(Market::new_in(alloc, Version::Two));
     let journal = match read_up(alloc, disk, &mut audit) {
         Ok(journal) => journal,
@@ -77,7 +90,7 @@ pub(crate) fn open_disk<D: Disk>(alloc: Global, disk: &mut D) -> Result<Keeper, 
         Ok(appender) => Ok(Keeper {
             session: Session::over(audit.into_market()),
             appender,
-            pair: Vec::new(alloc),
+            pair,
         }),
         Err(fault) => Err(KeepFault::from(fault)),
     }
@@ -118,7 +131,8 @@ pub(crate) fn open_source<S: Source>(
     source: &mut S,
 ) -> Result<Window, KeepFault>
     ensures behind { IfOk result (λ window. IsBehindMagic limit window (S.rest source.old) (S.rest source.new)) }
-    ensures of_source { IfErr result (IsOfSource limit (S.rest source.old)) }
+    ensures of_source { IfErr result (IsOfSource limit (S.rest source.old) (S.rest source.new)) }
+    ensures taken { IsErr result → TakesAtMost (S.rest source.old) (S.rest source.new) (limit + 1) }
     ensures cause { Blames (result ≡ Err KeepFault.Read) (S.faults source.old) (S.faults source.new) }
 {
     let mut window = match Window::new(alloc, MOST_RECORD, limit) {

@@ -1,5 +1,5 @@
 //! Records that are served onto a disk, one after the other.
-ghost use Rattle.std.specs.Prelude.{◌≡◌, ◌≢◌, ◌≤◌, ◌<◌, ◌+◌, ◌-◌, ◌^◌, ◌⊎◌, ◌++◌, ℕ, List, [], ◌∷◌, length, map, Some, None, Err, IsErr, IfSome, IsSome, IfOk, IfErr, OnOk, OnErr};
+ghost use Rattle.std.specs.Prelude.{◌≡◌, ◌≢◌, ◌≤◌, ◌<◌, ◌+◌, ◌-◌, ◌^◌, ◌⊎◌, ◌++◌, ℕ, List, [], ◌∷◌, length, map, Some, None, Err, IsErr, IfSome, IsSome, IfOk, IfErr, OnOk, OnErr, vec_capacity};
 ghost use Rattle.flow_io.specs.Faults.{Blames};
 ghost use Rattle.flow_io.specs.Streams.{Grows, GrowsByFront};
 ghost use Rattle.flow_io.specs.Windows.{Fills, IsWithin};
@@ -15,7 +15,7 @@ ghost use Rattle.disk_edge.specs.Disks.{AtEachMoment};
 ghost use Rattle.journal_disk.specs.Pairs.{RecordPair, IsRecordPair, pair_bytes, IsWholePair};
 ghost use Rattle.journal_disk.specs.Entries.{WithOrWithout, Keeps};
 ghost use Rattle.journal_keeping.specs.Keeping.{IsKeptJournal};
-ghost use Rattle.journal_keeping.specs.Private.{Answers, IsReady, IsTakenNext, IsStill, HasRecord, BreaksNext, ServesOn};
+ghost use Rattle.journal_keeping.specs.Private.{Answers, IsReady, IsTakenNext, IsStill, HasWanting, BreaksNext, ServesOn};
 
 use crate::fault::KeepFault;
 use disk_edge::Disk;
@@ -37,10 +37,12 @@ pub(crate) struct Keeper {
 fn serve_next(session: &mut Session, bytes: &[u8], text: &mut Vec<u8>) -> Result<Front, Memory>
     requires ready { (left : ℕ) × (length bytes.now ≤ left) × (session.old.next_order + left < 2 ^ 64) }
     requires empty { text.old.items ≡ [] }
+    requires room { 1042 ≤ vec_capacity text.old }
     ensures taken { IfOk result (λ front. IsTaken commands Answers front bytes.now session.old session.new [] text.new.items) }
     ensures stays { IfOk result (λ front. (left : ℕ) → length bytes.now ≤ left → session.old.next_order + left < 2 ^ 64 →
         StaysReady (λ left. session.new.next_order + left < 2 ^ 64) front left) }
-    ensures wanted { OnErr result (HasRecord bytes.now) }
+    ensures room { vec_capacity text.old ≤ vec_capacity text.new }
+    ensures wanted { OnErr result (HasWanting session.old bytes.now) }
 {
     match next_record(bytes, MOST_BODY) {
         Framed::Whole(asked, taken) => match session.serve(&asked, text) {
@@ -96,10 +98,12 @@ fn keep_next<D: Disk, K: Sink>(
     out: &mut K,
 ) -> Result<Front, KeepFault>
     requires ready { (left : ℕ) × (length bytes.now ≤ left) × IsReady keeper.old.session keeper.old.appender left }
+    requires room { 1042 ≤ vec_capacity keeper.old.pair }
     requires kept { IfSome (D.state disk.old).content
         (λ _. (pairs : List RecordPair) × Keeps pairs keeper.old.appender (D.state disk.old)) }
     ensures taken { IfOk result (λ front. IsTakenNext front bytes.now keeper.old.session keeper.new.session
         keeper.old.appender keeper.new.appender (D.state disk.old) (D.state disk.new) (K.held out.old) (K.held out.new)) }
+    ensures room { vec_capacity keeper.old.pair ≤ vec_capacity keeper.new.pair }
     ensures still { IfOk result (λ front. IsStill front ((keeper.new.session ≡ keeper.old.session)
         × (keeper.new.appender ≡ keeper.old.appender) × (disk.new ≡ disk.old) × (out.new ≡ out.old))) }
     ensures stays { IfOk result (λ front. (left : ℕ) → length bytes.now ≤ left → IsReady keeper.old.session keeper.old.appender left →
@@ -159,6 +163,7 @@ pub(crate) fn serve_on<S: Source, D: Disk, K: Sink>(
     requires longest { HasLongest commands window.old.room }
     requires open { window.old.over ≡ None }
     requires ready { IsReady keeper.old.session keeper.old.appender (window.old.limit - window.old.place) }
+    requires room { 1042 ≤ vec_capacity keeper.old.pair }
     requires kept { IfSome (D.state disk.old).content (λ _. (old : List (Pair Record Outcome))
         × IsKeptJournal old keeper.old.session × Keeps (map records_of old) keeper.old.appender (D.state disk.old)) }
     ensures goes { ServesOn window.old (S.rest source.old) (S.rest source.new) result keeper.old.session keeper.old.appender

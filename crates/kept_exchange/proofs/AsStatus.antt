@@ -15,6 +15,10 @@ use Rattle.kept_exchange.specs.Statuses.{kept_status, AsksStatus}
 use Rattle.kept_exchange.specs.Keeping.{Determines, IsRefusal}
 use Rattle.kept_exchange.proofs.OneStatus.{one_status}
 
+pub if_some : {T : Type 0} (o : Option T) (P Q : T → Type 0) → ((x : T) → P x → Q x) → IfSome o P → IfSome o Q
+if_some None P Q f p = tt
+if_some (Some x) P Q f p = f x p
+
 -- how it ended
 abbrev pub Kept : Type 0
 Kept = Result (Unit {0}) KeepFault
@@ -65,6 +69,32 @@ disk_back limit (Err (Rejected number)) e = absurd cc
 disk_back limit (Err NotFlow) e = absurd cc
 disk_back limit (Err (Torn place)) e = absurd cc
 disk_back limit (Err TooLong) e = absurd cc
+
+pub memory_back : (limit : ℕ) (result : Kept) → kept_status limit result ≡ status.NoMemory → ◌≡◌ {A = Kept} result (Err Memory)
+memory_back limit (Ok done) e = absurd cc
+memory_back limit (Err Read) e = absurd cc
+memory_back limit (Err Write) e = absurd cc
+memory_back limit (Err Disk) e = absurd cc
+memory_back limit (Err Memory) e = refl
+memory_back limit (Err NotDisk) e = absurd cc
+memory_back limit (Err (Damaged place)) e = absurd cc
+memory_back limit (Err (Rejected number)) e = absurd cc
+memory_back limit (Err NotFlow) e = absurd cc
+memory_back limit (Err (Torn place)) e = absurd cc
+memory_back limit (Err TooLong) e = absurd cc
+
+pub done_back : (limit : ℕ) (result : Kept) → kept_status limit result ≡ status.Done → ◌≡◌ {A = Kept} result (Ok tt)
+done_back limit (Ok done) e = refl
+done_back limit (Err Read) e = absurd cc
+done_back limit (Err Write) e = absurd cc
+done_back limit (Err Disk) e = absurd cc
+done_back limit (Err Memory) e = absurd cc
+done_back limit (Err NotDisk) e = absurd cc
+done_back limit (Err (Damaged place)) e = absurd cc
+done_back limit (Err (Rejected number)) e = absurd cc
+done_back limit (Err NotFlow) e = absurd cc
+done_back limit (Err (Torn place)) e = absurd cc
+done_back limit (Err TooLong) e = absurd cc
 
 -- the disk was refused by the one where it was by the other
 pub refusal_back : (limit : ℕ) (result : Kept) → IsRefusal (kept_status limit result) → kept.IsRefusal result

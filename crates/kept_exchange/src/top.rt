@@ -43,9 +43,13 @@ pub fn flow_disk_limited<S: Source, D: Disk, K: Sink, N: Sink>(
 ///
 /// `NotDisk` says that the disk holds something else: more than 9 bytes that don't begin with its magic, or more than 2^60. `Damaged` has
 /// the place, in bytes from 0, of the first gate that isn't one, and `Rejected` the number of the first kept pair that isn't legal, counted
-/// from 1. None of these comes of a crash, and they leave the disk as it was. `DiskFault` comes only where a call of the disk failed;
+/// from 1. None of these comes of a crash. A disk that keeps no legal journal is changed
+/// at no moment, whatever the status. `DiskFault` comes only where a call of the disk failed;
 /// the disk is then to be opened again. The others are those of `run`, but that a source of another version is `NotFlow` too. On every
 /// status but `Done` it writes one line to notes; a fault of notes changes nothing.
+///
+/// The source is read no further than 1,030 bytes past the last record whose pair was written, and past the limit one byte at most; where a
+/// read of it fails, all whole records that were taken are answered. `NoMemory` comes before it is read, or at a record that may want memory.
 ///
 /// It costs the audit of the kept pairs, and of each record what `run` costs and the two syncs. Memory is that of the market, a window
 /// of 1,029 bytes and the longest entry, 263,183 bytes.

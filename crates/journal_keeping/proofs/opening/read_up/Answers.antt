@@ -1,4 +1,4 @@
-use Rattle.journal_keeping.proofs.Begun.{recovers, looks_on, read_known, stops_known}
+use Rattle.journal_keeping.proofs.Begun.{recovers, looks_on, read_known, stops_known, untouched_so, untouched_on}
 use Rattle.journal_keeping.proofs.opening.read_up.Goals as goal
 
 pub returns-in-Err-clause-moments : goal.returns-in-Err-clause-moments
@@ -27,3 +27,15 @@ returns-in-Err-audit_kept-clause-moments g c = λ old market holds.
     let start = g.D.Disk.state c.args.disk.now in
     let mid = g.D.Disk.state c.recover.new.disk in
     looks_on start old market holds mid (g.D.Disk.state c.audit_kept.new.disk) (g.met.D.Disk.is_disk c.recover.new.disk) (recovers start old market holds mid c.recover.ensures.moments) c.audit_kept.ensures.looks
+
+pub returns-in-Err-clause-untouched : goal.returns-in-Err-clause-untouched
+returns-in-Err-clause-untouched g c =
+    untouched_so (g.D.Disk.state c.args.disk.now).content (g.D.Disk.state c.args.disk.now) (g.D.Disk.state c.recover.new.disk) c.recover.ensures.looks
+
+pub returns-in-Ok-audit_kept-clause-untouched : goal.returns-in-Ok-audit_kept-clause-untouched
+returns-in-Ok-audit_kept-clause-untouched g c =
+    untouched_on (g.D.Disk.state c.args.disk.now).content (g.D.Disk.state c.args.disk.now) (g.D.Disk.state c.recover.new.disk) (g.D.Disk.state c.audit_kept.new.disk) c.recover.ensures.looks c.audit_kept.ensures.looks
+
+pub returns-in-Err-audit_kept-clause-untouched : goal.returns-in-Err-audit_kept-clause-untouched
+returns-in-Err-audit_kept-clause-untouched g c =
+    untouched_on (g.D.Disk.state c.args.disk.now).content (g.D.Disk.state c.args.disk.now) (g.D.Disk.state c.recover.new.disk) (g.D.Disk.state c.audit_kept.new.disk) c.recover.ensures.looks c.audit_kept.ensures.looks
