@@ -7,6 +7,7 @@ use Rattle.flow_io.proofs.Growth.{Grows-more}
 use Rattle.wire_records.specs.Records.{Record}
 use Rattle.wire_records.specs.Commands.{Pair}
 use Rattle.wire_records.specs.Formats.{commands}
+use Rattle.wire_records.specs.declared.version.Version.{Version}
 use Rattle.flow_orders.specs.Outcomes.{Outcome}
 use Rattle.journal_records.specs.Pairs.{pair_spelling}
 use Rattle.journal_records.specs.Formats.{records_of}
@@ -49,31 +50,31 @@ module _ (window : WindowState) (rest left : Option (List ℕ)) (start now : Dis
     more = [];
     acknowledged = length new;
     market = market;
-    so_far = λ old is at. (so.kept old is at).goes_on;
+    so_far = λ version old is at. (so.kept version old is at).goes_on;
     goes = goes;
     whole = ([], subst (Grows held holds) (sym (append-nil (flat_map pair_spelling new))) so.written);
-    runs = λ old is at. subst (λ (l : Pairs). Runs start now old before (asked_of l) l (length new)) (sym (append-nil new)) (ended start now old before place (asked_of new) new market (so.kept old is at));
+    runs = λ version old is at. subst (λ (l : Pairs). Runs version start now old before (asked_of l) l (length new)) (sym (append-nil new)) (ended version start now old before place (asked_of new) new market (so.kept version old is at));
     written = subst (λ (l : Pairs). StandIn (result ≡ Err Write) held holds l) (sym (take_every new)) (stand_whole (result ≡ Err Write) held holds new so.written);
-    ended = ends _ (refl, refl, λ old is at. (place, (so.kept old is at).keeps));
+    ended = ends _ (refl, refl, λ version old is at. (place, (so.kept version old is at).keeps));
   }
 
   -- at a pair that wasn't kept
   pub serves_failed : (next : DiskState) (after : Market) (pair : Pair Record Outcome) (bytes : List ℕ) → IsDisk next → IsServed bytes market pair after
-      → ((pairs : List RecordPair) → KeepsAt pairs place now → AtEachMoment now next (WithOrWithout pairs (records_of pair)))
+      → ((version : Version) (pairs : List RecordPair) → KeepsAt version pairs place now → AtEachMoment now next (WithOrWithout version pairs (records_of pair)))
       → Goes (pair ∷ []) (Err Disk) → ServesOn window rest left (Err Disk) before from start next held holds
   serves_failed next after pair bytes is_disk served moments goes = record {
     new = new;
     more = pair ∷ [];
     acknowledged = length new;
     market = market;
-    so_far = λ old is at. (so.kept old is at).goes_on;
+    so_far = λ version old is at. (so.kept version old is at).goes_on;
     goes = goes;
     whole = ([], subst (Grows held holds) (sym (append-nil (flat_map pair_spelling new))) so.written);
-    runs = λ old is at.
-        let kept = so.kept old is at in
-        let right = own_is_right (old ++ new) market pair after kept.goes_on.journal served.step in
-        subst (λ (l : List Record). Runs start next old before l (new ++ pair ∷ []) (length new)) (asked_more new pair)
-        (failed start now next old before place (asked_of new) new market after pair kept is_disk served.fits served.step right (moments (map records_of (old ++ new)) kept.keeps));
+    runs = λ version old is at.
+        let kept = so.kept version old is at in
+        let right = own_is_right version (old ++ new) market pair after kept.goes_on.journal served.step in
+        subst (λ (l : List Record). Runs version start next old before l (new ++ pair ∷ []) (length new)) (asked_more new pair)
+        (failed version start now next old before place (asked_of new) new market after pair kept is_disk served.fits served.step right (moments version (map records_of (old ++ new)) kept.keeps));
     written = subst (λ (l : Pairs). StandIn (◌≡◌ {A = Result (Unit {0}) KeepFault} (Err Disk) (Err Write)) held holds l) (sym (take_first new pair)) (stand_whole _ held holds new so.written);
     ended = tt;
   }
@@ -90,11 +91,11 @@ module _ (window : WindowState) (rest left : Option (List ℕ)) (start now : Dis
         more = pair ∷ [];
         acknowledged = length all;
         market = market;
-        so_far = λ old is at. (so.kept old is at).goes_on;
+        so_far = λ version old is at. (so.kept version old is at).goes_on;
         goes = goes;
         whole = (take cut.0 (pair_spelling pair), Grows-more held holds last (flat_map pair_spelling new) (take cut.0 (pair_spelling pair)) so.written cut.2);
-        runs = λ old is at. ended start next old before later (asked_of all) all after
-            (kept_one_more start now next before market after from place later held holds last new pair so served.fits served.step keeps old is at);
+        runs = λ version old is at. ended version start next old before later (asked_of all) all after
+            (kept_one_more start now next before market after from place later held holds last new pair so served.fits served.step keeps version old is at);
         written = subst (λ (l : Pairs). StandIn (◌≡◌ {A = Result (Unit {0}) KeepFault} (Err Write) (Err Write)) held last l) (sym (take_all (length all) all (omega arith))) (record {
           whole = new;
           last = pair ∷ [];

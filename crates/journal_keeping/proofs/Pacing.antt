@@ -5,10 +5,12 @@ use Rattle.flow_io.specs.Streams.{Takes, TakesAtMost, Grows}
 use Rattle.flow_io.specs.Windows.{WindowState}
 use Rattle.flow_io.proofs.Reading.{Takes-more}
 use Rattle.flow_io.proofs.Growth.{Grows-nothing}
-use Rattle.wire_records.specs.Records.{Record, command_magic_2}
+use Rattle.wire_records.specs.Records.{Record}
 use Rattle.wire_records.specs.Grammars.{BeginsWithNone, spell_all}
 use Rattle.wire_records.specs.Reading.{StartsWith}
-use Rattle.wire_records.specs.Formats.{commands}
+use Rattle.wire_records.specs.Formats.{commands, command_magic_of}
+use Rattle.wire_records.proofs.RecordCode.{eight}
+use Rattle.wire_records.specs.declared.version.Version.{Version}
 use Rattle.word_driver.specs.Does.{IsTaken}
 use Rattle.journal_records.specs.Pairs.{pair_spelling}
 use Rattle.market_rules.specs.Market.{Market}
@@ -17,13 +19,13 @@ use Rattle.file_units.specs.Inputs.{known}
 use Rattle.disk_edge.specs.Disks.{DiskState}
 use Rattle.journal_keeping.specs.declared.fault.KeepFault.{KeepFault}
 use Rattle.journal_keeping.specs.declared.fault.KeepFault.TheVariants.{Read, Write, Disk, Memory, NotDisk, Damaged, Rejected, NotFlow, Torn, TooLong}
-use Rattle.journal_keeping.specs.Keeping.{kept_version}
 use Rattle.journal_keeping.specs.Pacing.{asked_of, AnswersAll, IsNearPairs, IsNear, KeepsPace, WantsNext, RunsOut}
 use Rattle.journal_keeping.specs.Private.{Adds, Names, ServesOn}
-use Rattle.journal_keeping.specs.Beginning.{IsBegun, IsOfDisk, IsBehindMagic, IsOfSource}
+use Rattle.journal_keeping.specs.Beginning.{IsBegun, IsBehindMagic, Unread}
 use Rattle.journal_keeping.proofs.Turns.{Pairs}
 use Rattle.journal_keeping.proofs.Magic.{at_most, counted}
 use Rattle.journal_keeping.proofs.Sources.{BeginsWithAll, asked_are_units, all_before_break, all_to_wanting, starts_with}
+use Rattle.journal_keeping.proofs.Begun.{opens_journal}
 use Rattle.journal_keeping.proofs.Whole.{all_written}
 
 -- ---- before a record was served
@@ -32,36 +34,28 @@ near_none : (limit : ℕ) (content held : Option (List ℕ)) → IsNear limit co
 near_none limit None held = tt
 near_none limit (Some bytes) held = (0, omega arith, inl (omega arith))
 
-pub paced_refused : (limit : ℕ) (content held : Option (List ℕ)) (fault : KeepFault) → IsOfDisk fault → KeepsPace limit content content held held (Err fault)
-paced_refused limit content held NotDisk is = tt
-paced_refused limit content held (Damaged place) is = tt
-paced_refused limit content held (Rejected number) is = tt
-paced_refused limit content held Disk is = near_none limit content held
-paced_refused limit content held Memory is = near_none limit content held
-paced_refused limit content held Read is = absurd is
-paced_refused limit content held Write is = absurd is
-paced_refused limit content held NotFlow is = absurd is
-paced_refused limit content held (Torn place) is = absurd is
-paced_refused limit content held TooLong is = absurd is
-
 read_few : (limit : ℕ) (content left held : Option (List ℕ)) → IfSome content (λ bytes. (n : ℕ) × IsTaken bytes left n × (n < 8)) → KeepsPace limit content left held held (Err Read)
 read_few limit None left held few = tt
 read_few limit (Some bytes) left held few = (few.0, few.1, inl (few.2, Grows-nothing held))
 
-pub paced_unread : (limit : ℕ) (content left held : Option (List ℕ)) (fault : KeepFault) → IsOfSource limit content left fault → KeepsPace limit content left held held (Err fault)
+near_few : (limit : ℕ) (content left held : Option (List ℕ)) → IfSome content (λ bytes. (n : ℕ) × IsTaken bytes left n × (n ≤ 1038)) → IsNear limit content left held held
+near_few limit None left held few = tt
+near_few limit (Some bytes) left held few = (few.0, few.1, inl (omega (arith, few.2)))
+
+pub paced_unread : (limit : ℕ) (content left held : Option (List ℕ)) (fault : KeepFault) → Unread limit content left fault → KeepsPace limit content left held held (Err fault)
 paced_unread limit content left held NotFlow why = tt
+paced_unread limit content left held NotDisk why = tt
+paced_unread limit content left held (Damaged n) why = tt
+paced_unread limit content left held (Rejected n) why = tt
 paced_unread limit content left held Read why = read_few limit content left held why
 paced_unread limit content left held Memory why = subst (λ (o : Option (List ℕ)). IsNear limit content o held held) (sym why) (near_none limit content held)
-paced_unread limit content left held NotDisk why = absurd why
-paced_unread limit content left held (Damaged n) why = absurd why
-paced_unread limit content left held (Rejected n) why = absurd why
-paced_unread limit content left held Disk why = absurd why
+paced_unread limit content left held Disk why = near_few limit content left held why
 paced_unread limit content left held Write why = absurd why
 paced_unread limit content left held (Torn n) why = absurd why
 paced_unread limit content left held TooLong why = absurd why
 
-pub unread_out : (limit : ℕ) (held : List ℕ) (content left : Option (List ℕ)) (end : DiskState) (before : Option (List ℕ)) (fault : KeepFault) → IsOfSource limit content left fault → fault ≡ Memory → RunsOut limit held content left end before before
-unread_out limit held content left end before fault why is = inl (subst (IsOfSource limit content left) is why, refl)
+pub unread_out : (limit : ℕ) (held : List ℕ) (content left : Option (List ℕ)) (end : DiskState) (before : Option (List ℕ)) (fault : KeepFault) → Unread limit content left fault → fault ≡ Memory → RunsOut limit held content left end before before
+unread_out limit held content left end before fault why is = inl (subst (Unread limit content left) is why, refl)
 
 -- ---- records were served
 
@@ -71,16 +65,16 @@ all_left (Some b) None bytes takes none = absurd takes
 all_left (Some b) (Some l) bytes takes none = ap (λ (x : List ℕ). Some x) none
 
 -- what stands behind the magic
-behind_it : (bytes first held taken m l : List ℕ) → bytes ≡ first ++ m → first ≡ command_magic_2 ++ held → m ≡ taken ++ l → bytes ≡ command_magic_2 ++ (held ++ (taken ++ l))
-behind_it bytes first held taken m l opens magic takes =
-    opens ∙ ap (λ (xs : List ℕ). xs ++ m) magic ∙ append_assoc command_magic_2 held m ∙ ap (λ (xs : List ℕ). command_magic_2 ++ (held ++ xs)) takes
+behind_it : (version : Version) (bytes first held taken m l : List ℕ) → bytes ≡ first ++ m → first ≡ (command_magic_of version) ++ held → m ≡ taken ++ l → bytes ≡ (command_magic_of version) ++ (held ++ (taken ++ l))
+behind_it version bytes first held taken m l opens magic takes =
+    opens ∙ ap (λ (xs : List ℕ). xs ++ m) magic ∙ append_assoc (command_magic_of version) held m ∙ ap (λ (xs : List ℕ). (command_magic_of version) ++ (held ++ xs)) takes
 
-module _ (limit : ℕ) (content mid left : Option (List ℕ)) (w : WindowState) (behind : IsBehindMagic limit w content mid) (market : Market) (place : ℕ) (begun end : DiskState) (before after : Option (List ℕ)) where
-  eight : length command_magic_2 ≡ 8
-  eight = refl
+module _ (limit : ℕ) (content mid left : Option (List ℕ)) (w : WindowState) (version : Version) (behind : IsBehindMagic limit version w content mid) (market : Market) (place : ℕ) (begun end : DiskState) (before after : Option (List ℕ)) where
+  of_magic : length (command_magic_of version) ≡ 8
+  of_magic = eight version
 
   first_long : length behind.first ≡ 8 + length w.held
-  first_long = ap length behind.magic.1 ∙ length-append command_magic_2 w.held ∙ ap (λ (n : ℕ). n + length w.held) eight
+  first_long = ap length behind.magic.1 ∙ length-append (command_magic_of version) w.held ∙ ap (λ (n : ℕ). n + length w.held) of_magic
 
   far : w.limit - w.place ≡ limit - 8
   far = omega (arith, behind.limited, behind.place)
@@ -107,9 +101,10 @@ module _ (limit : ℕ) (content mid left : Option (List ℕ)) (w : WindowState) 
     length (behind.first ++ taken),
     sym (ap length (opens ∙ ap (λ (xs : List ℕ). behind.first ++ xs) takes ∙ sym (append_assoc behind.first taken l)) ∙ length-append (behind.first ++ taken) l),
     inr (record {
+      version = version;
       pairs = new;
       more = text;
-      starts = starts_with limit bytes behind.first w.held taken (Some m) (Some l) (asked_of new) opens behind.magic behind.few takes all;
+      starts = starts_with version limit bytes behind.first w.held taken (Some m) (Some l) (asked_of new) opens behind.magic behind.few takes all;
       stands = stands;
       near = omega (arith, few, length-append behind.first taken, length-append w.held taken, first_long, behind.room);
     }),
@@ -132,18 +127,19 @@ module _ (limit : ℕ) (content mid left : Option (List ℕ)) (w : WindowState) 
   read_all (Some bytes) (Some m) (Some l) taken new units rest opens takes is whole none written =
       let later = w.held ++ (taken ++ l) in
       let seen = w.held ++ taken in
-      let all : bytes ≡ command_magic_2 ++ later = behind_it bytes behind.first w.held taken m l opens behind.magic.1 takes in
-      let parts : limit ≡ length command_magic_2 + (limit - 8) = omega (arith, behind.few, first_long, eight) in
-      let counts : length (behind.first ++ taken) ≡ length command_magic_2 + length seen = omega (arith, length-append behind.first taken, length-append w.held taken, first_long, eight) in
-      let within : take limit bytes ≡ command_magic_2 ++ take (limit - 8) later =
-      ap (take limit) all ∙ ap (λ (n : ℕ). take n (command_magic_2 ++ later)) parts ∙ take-append-add command_magic_2 later (limit - 8) in (
+      let all : bytes ≡ (command_magic_of version) ++ later = behind_it version bytes behind.first w.held taken m l opens behind.magic.1 takes in
+      let parts : limit ≡ length (command_magic_of version) + (limit - 8) = omega (arith, behind.few, first_long, of_magic) in
+      let counts : length (behind.first ++ taken) ≡ length (command_magic_of version) + length seen = omega (arith, length-append behind.first taken, length-append w.held taken, first_long, of_magic) in
+      let within : take limit bytes ≡ (command_magic_of version) ++ take (limit - 8) later =
+      ap (take limit) all ∙ ap (λ (n : ℕ). take n ((command_magic_of version) ++ later)) parts ∙ take-append-add (command_magic_of version) later (limit - 8) in (
         length (behind.first ++ taken),
         sym (ap length (opens ∙ ap (λ (xs : List ℕ). behind.first ++ xs) takes ∙ sym (append_assoc behind.first taken l)) ∙ length-append (behind.first ++ taken) l),
         record {
+          version = version;
           pairs = new;
           body = take (length seen) (take (limit - 8) later);
           rest = rest;
-          magic = (tt, ap (take (length (behind.first ++ taken))) within ∙ ap (λ (n : ℕ). take n (command_magic_2 ++ take (limit - 8) later)) counts ∙ take-append-add command_magic_2 (take (limit - 8) later) (length seen));
+          magic = (tt, ap (take (length (behind.first ++ taken))) within ∙ ap (λ (n : ℕ). take n ((command_magic_of version) ++ take (limit - 8) later)) counts ∙ take-append-add (command_magic_of version) (take (limit - 8) later) (length seen));
           whole = whole ∙ ap (λ (l : List Record). spell_all commands.units l ++ rest) (sym is);
           none = none;
           written = written;
@@ -179,22 +175,23 @@ module _ (limit : ℕ) (content mid left : Option (List ℕ)) (w : WindowState) 
 
   -- and where memory may be wanted
   starts_where : (o : Option (List ℕ)) (taken : List ℕ) (records : List Record) → Takes o mid behind.first → Takes mid left taken → BeginsWithAll (take (limit - 8) (w.held ++ known taken left)) records
-      → IfSome o (λ bytes. StartsWith commands limit bytes kept_version records)
+      → IfSome o (λ bytes. StartsWith commands limit bytes version records)
   starts_where None taken records opens takes all = tt
-  starts_where (Some bytes) taken records opens takes all = starts_with limit bytes behind.first w.held taken mid left records opens behind.magic behind.few takes all
+  starts_where (Some bytes) taken records opens takes all = starts_with version limit bytes behind.first w.held taken mid left records opens behind.magic behind.few takes all
 
-  pub wants_next : (held : List ℕ) → IsBegun held market place begun → (result : Result (Unit {0}) KeepFault) → Served result → ◌≡◌ {A = Result (Unit {0}) KeepFault} result (Err Memory) → RunsOut limit held content left end before after
+  pub wants_next : (held : List ℕ) → IsBegun held version market place begun → (result : Result (Unit {0}) KeepFault) → Served result → ◌≡◌ {A = Result (Unit {0}) KeepFault} result (Err Memory) → RunsOut limit held content left end before after
   wants_next held is result on0 lacks =
       let on = subst Served lacks on0 in
       let wanting = all_to_wanting on.market (take (w.limit - w.place) (w.held ++ known on.goes.taken left)) on.new on.more on.goes.goes.0 in
-      let kept = on.ended.2 is.0 is.1.1 is.2 in
+      let kept = on.ended.2 version is.0 (opens_journal held version is.0 market is.1) is.2 in
       inr (record {
+        version = version;
         old = is.0;
         market = market;
         opens = is.1;
         new = on.new;
         now = on.market;
-        goes_on = on.so_far is.0 is.1.1 is.2;
+        goes_on = on.so_far version is.0 (opens_journal held version is.0 market is.1) is.2;
         next = wanting.0;
         starts = starts_where content on.goes.taken (asked_of on.new ++ wanting.0 ∷ []) behind.takes on.goes.takes
             (subst (λ (n : ℕ). BeginsWithAll (take n (w.held ++ known on.goes.taken left)) (asked_of on.new ++ wanting.0 ∷ [])) far wanting.1);

@@ -7,6 +7,7 @@ use Rattle.wire_records.specs.Commands.{Pair}
 use Rattle.wire_records.specs.Grammars.{BeginsWith, BeginsWithNone, spell_all}
 use Rattle.wire_records.specs.Reading.{StartsWith}
 use Rattle.wire_records.specs.Formats.{commands}
+use Rattle.wire_records.specs.declared.version.Version.{Version}
 use Rattle.word_driver.specs.Does.{IsTaken}
 use Rattle.flow_orders.specs.Outcomes.{Outcome}
 use Rattle.journal_records.specs.Pairs.{pair_spelling}
@@ -15,8 +16,8 @@ use Rattle.market_rules.specs.Market.{Market}
 use Rattle.market_rules.specs.Wanting.{RecordMayWant}
 use Rattle.disk_edge.specs.Disks.{DiskState}
 use Rattle.journal_disk.specs.Entries.{Keeps as KeepsAt}
-use Rattle.journal_keeping.specs.Keeping.{kept_version, GoesOn}
-use Rattle.journal_keeping.specs.Openings.{Legal, IsOpening}
+use Rattle.journal_keeping.specs.Keeping.{GoesOn}
+use Rattle.journal_keeping.specs.Openings.{OpensAs}
 use Rattle.journal_keeping.specs.declared.fault.KeepFault.{KeepFault}
 use Rattle.journal_keeping.specs.declared.fault.KeepFault.TheVariants.{Read, Write, Disk, Memory, NotDisk, Damaged, Rejected, NotFlow, Torn, TooLong}
 
@@ -26,19 +27,21 @@ asked_of pairs = map (λ (pair : Pair Record Outcome). pair.asked) pairs
 
 -- The bytes are a magic and the records of these pairs, and no whole record stands behind them. Out gained just these pairs.
 pub record AnswersAll (bytes : List ℕ) (before after : Option (List ℕ)) : Type 0 where
+  pub version : Version
   pub pairs : List (Pair Record Outcome)
   pub body : List ℕ
   pub rest : List ℕ
-  pub magic : BeginsWith commands.magics bytes kept_version body
+  pub magic : BeginsWith commands.magics bytes version body
   pub whole : body ≡ spell_all commands.units (asked_of pairs) ++ rest
   pub none : BeginsWithNone commands.units rest
   pub written : Grows before after (flat_map pair_spelling pairs)
 
 -- These pairs stand whole in what out gained and answer the first records of the bytes, and at most 1,030 bytes were taken past those.
 pub record IsNearPairs (limit : ℕ) (bytes : List ℕ) (taken : ℕ) (before after : Option (List ℕ)) : Type 0 where
+  pub version : Version
   pub pairs : List (Pair Record Outcome)
   pub more : List ℕ
-  pub starts : StartsWith commands limit bytes kept_version (asked_of pairs)
+  pub starts : StartsWith commands limit bytes version (asked_of pairs)
   pub stands : Grows before after (flat_map pair_spelling pairs ++ more)
   pub near : taken ≤ 8 + length (spell_all commands.units (asked_of pairs)) + 1030
 
@@ -71,17 +74,18 @@ KeepsPace limit content left before after (Err TooLong) = ⊤
 -- The disk held the bytes of a legal journal, and the first records of the source were served, from the market of the old pairs on.
 -- Their pairs are kept, and out gained them. Behind them stands a record that may want memory.
 pub record WantsNext (limit : ℕ) (held : List ℕ) (content : Option (List ℕ)) (end : DiskState) (before after : Option (List ℕ)) : Type 0 where
+  pub version : Version
   pub old : List (Pair Record Outcome)
   pub market : Market
-  pub opens : IsOpening held (Legal old market)
+  pub opens : OpensAs held version old market
   pub new : List (Pair Record Outcome)
   pub now : Market
-  pub goes_on : GoesOn old market (asked_of new) new now
+  pub goes_on : GoesOn version old market (asked_of new) new now
   pub next : Record
-  pub starts : IfSome content (λ bytes. StartsWith commands limit bytes kept_version (asked_of new ++ next ∷ []))
+  pub starts : IfSome content (λ bytes. StartsWith commands limit bytes version (asked_of new ++ next ∷ []))
   pub wants : RecordMayWant now next
   pub place : ℕ
-  pub keeps : KeepsAt (map records_of (old ++ new)) place end
+  pub keeps : KeepsAt version (map records_of (old ++ new)) place end
   pub written : Grows before after (flat_map pair_spelling new)
 
 -- where memory ran out: nothing was read or written, or it may be wanted at the next record

@@ -8,6 +8,7 @@ use Rattle.wire_records.specs.Commands.{Pair}
 use Rattle.wire_records.specs.Versions.{IsReadAs}
 use Rattle.wire_records.specs.Grammars.{BeginsWith, BeginsWithNone}
 use Rattle.wire_records.specs.Formats.{commands}
+use Rattle.wire_records.specs.declared.version.Version.{Version}
 use Rattle.flow_orders.specs.Outcomes.{Outcome}
 use Rattle.flow_orders.specs.Own.{IsOwnOutcome}
 use Rattle.journal_records.specs.Pairs.{IsPair, pair_spelling}
@@ -43,8 +44,8 @@ IsReady market place left = (market.next_order + left < 2 ^ 64) × (place + 2631
 
 -- a disk that kept pairs keeps one more, and at each moment since left them with it or without
 pub record KeepsOneMore (pair : Pair Record Outcome) (from to : ℕ) (old new : DiskState) : Type 0 where
-  pub keeps : (pairs : List RecordPair) → KeepsAt pairs from old → KeepsAt (pairs ++ records_of pair ∷ []) to new
-  pub moments : (pairs : List RecordPair) → KeepsAt pairs from old → AtEachMoment old new (WithOrWithout pairs (records_of pair))
+  pub keeps : (version : Version) (pairs : List RecordPair) → KeepsAt version pairs from old → KeepsAt version (pairs ++ records_of pair ∷ []) to new
+  pub moments : (version : Version) (pairs : List RecordPair) → KeepsAt version pairs from old → AtEachMoment old new (WithOrWithout version pairs (records_of pair))
 
 -- the record at the front of the bytes was answered so, by one step of the market, and the pair may stand in a journal
 pub record IsServed (bytes : List ℕ) (old : Market) (pair : Pair Record Outcome) (new : Market) : Type 0 where
@@ -89,7 +90,7 @@ module _ (bytes : List ℕ) (old : Market) (from to : ℕ) (disk later : DiskSta
   BreaksNext Memory = SameDisk × SameOut × HasWanting old bytes
   BreaksNext Disk =
       SameOut × (pair : Pair Record Outcome) × (new : Market) × IsServed bytes old pair new
-      × ((pairs : List RecordPair) → KeepsAt pairs from disk → AtEachMoment disk later (WithOrWithout pairs (records_of pair)))
+      × ((version : Version) (pairs : List RecordPair) → KeepsAt version pairs from disk → AtEachMoment disk later (WithOrWithout version pairs (records_of pair)))
   BreaksNext Write = (pair : Pair Record Outcome) × (new : Market) × IsServed bytes old pair new × KeepsOneMore pair from to disk later × GrowsByFront before after (pair_spelling pair)
   BreaksNext Read = ⊥
   BreaksNext NotDisk = ⊥
@@ -106,7 +107,7 @@ Adds old asked new before after = (pair : Pair Record Outcome) × (pair.asked �
 -- What serving has come to, from a market and a place on: these pairs were kept and written.
 pub record SoFar (start now : DiskState) (before market : Market) (from place : ℕ) (held holds : Option (List ℕ)) (new : List (Pair Record Outcome)) : Type 0 where
   pub written : Grows held holds (flat_map pair_spelling new)
-  pub kept : (old : List (Pair Record Outcome)) → IsKeptJournal old before → KeepsAt (map records_of old) from start → HasKept start now old before place (asked_of new) new market
+  pub kept : (version : Version) (old : List (Pair Record Outcome)) → IsKeptJournal version old before → KeepsAt version (map records_of old) from start → HasKept version start now old before place (asked_of new) new market
   pub told : IsSome now.content → IsSome start.content
 
 -- an end of keeping as one of going through units
@@ -150,10 +151,10 @@ pub record ServesOn (window : WindowState) (rest left : Option (List ℕ)) (resu
   pub more : List (Pair Record Outcome)
   pub acknowledged : ℕ
   pub market : Market
-  pub so_far : (old : List (Pair Record Outcome)) → IsKeptJournal old before → KeepsAt (map records_of old) from start → GoesOn old before (asked_of new) new market
+  pub so_far : (version : Version) (old : List (Pair Record Outcome)) → IsKeptJournal version old before → KeepsAt version (map records_of old) from start → GoesOn version old before (asked_of new) new market
   pub goes : GoesFrom commands Adds (Names market new more) window rest left (as_going result) [] new tt tt
-  pub runs : (old : List (Pair Record Outcome)) → IsKeptJournal old before → KeepsAt (map records_of old) from start → Runs start end old before (asked_of (new ++ more)) (new ++ more) acknowledged
+  pub runs : (version : Version) (old : List (Pair Record Outcome)) → IsKeptJournal version old before → KeepsAt version (map records_of old) from start → Runs version start end old before (asked_of (new ++ more)) (new ++ more) acknowledged
   pub written : StandIn (result ≡ Err Write) held holds (take acknowledged (new ++ more))
   pub whole : (text : List ℕ) × Grows held holds (flat_map pair_spelling new ++ text)
   pub ended : IfEnded result ((more ≡ []) × (acknowledged ≡ length new)
-      × ((old : List (Pair Record Outcome)) → IsKeptJournal old before → KeepsAt (map records_of old) from start → (place : ℕ) × KeepsAt (map records_of (old ++ new)) place end))
+      × ((version : Version) (old : List (Pair Record Outcome)) → IsKeptJournal version old before → KeepsAt version (map records_of old) from start → (place : ℕ) × KeepsAt version (map records_of (old ++ new)) place end))

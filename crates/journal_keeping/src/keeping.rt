@@ -4,26 +4,28 @@ ghost use Rattle.flow_io.specs.Faults.{Blames};
 ghost use Rattle.flow_io.specs.Streams.{TakesAtMost};
 ghost use Rattle.wire_records.specs.Records.{Record};
 ghost use Rattle.wire_records.specs.Commands.{Pair};
+ghost use Rattle.wire_records.specs.declared.version.Version.{Version};
 ghost use Rattle.flow_orders.specs.Outcomes.{Outcome};
 ghost use Rattle.market_rules.specs.Market.{Market};
 ghost use Rattle.journal_disk.specs.Looking.{OnlyLooks};
-ghost use Rattle.journal_keeping.specs.Keeping.{HoldsLegal, KeepsOn};
+ghost use Rattle.journal_keeping.specs.Keeping.{HoldsLegal, KeepsIn};
 ghost use Rattle.journal_keeping.specs.Openings.{KeepNone};
 ghost use Rattle.journal_keeping.specs.Pacing.{KeepsPace, RunsOut};
 ghost use Rattle.journal_keeping.specs.Ended.{ComesTo, IsRefusal, MayBeginAgain};
 
 use crate::fault::KeepFault;
-use crate::opening::{open_disk, open_source};
+use crate::opening::begin;
 use crate::taking::serve_on;
 use disk_edge::Disk;
 use flow_io::{Sink, Source};
 use std::alloc::Global;
 
-/// Serves the records of a command file of version Two, each behind the pairs that a disk keeps: its pair is kept on the disk,
+/// Serves the records of a command file, each behind the pairs that a disk keeps: its pair is kept on the disk,
 /// and then written to out, before the source is asked for more. A crash at any moment leaves on the disk the pairs that were
 /// kept before, each new one that was written to out, and at most one more; on what it leaves a later call goes on.
 ///
-/// First the disk is opened and its pairs are audited, then the source's magic is looked at: so `NotDisk`, `Damaged` and `Rejected`
+/// First the disk is opened and its pairs are audited, then the source's magic is looked at, which has to be of the disk's version. A new
+/// disk takes the version of the source, whose magic is looked at before anything is written to the disk. So `NotDisk`, `Damaged` and `Rejected`
 /// come where the source wasn't asked yet and nothing was written, and leave what the disk holds. `Damaged` has the place
 /// of the first gate that isn't one, `Rejected` the number of the first kept pair that isn't legal, counted from 1. A disk that keeps no
 /// legal journal is changed at no moment, whatever is answered. `NotFlow` leaves the pairs that are kept. At `Ok`, `Torn` and `TooLong` all whole records of the first `limit` bytes of the source are served,
@@ -43,14 +45,14 @@ pub fn keep<S: Source, D: Disk, K: Sink>(
     out: &mut K,
 ) -> Result<(), KeepFault>
     requires few { limit ≤ 2 ^ 32 }
-    ensures keeps { (old : List (Pair Record Outcome)) (market : Market) → HoldsLegal (D.state disk.old) old market →
-        KeepsOn limit (S.rest source.old) (result ≡ Err KeepFault.Write) (D.state disk.old) (D.state disk.new) old market
+    ensures keeps { (version : Version) (old : List (Pair Record Outcome)) (market : Market) → HoldsLegal (D.state disk.old) version old market →
+        KeepsIn limit (S.rest source.old) (result ≡ Err KeepFault.Write) version (D.state disk.old) (D.state disk.new) old market
         (K.held out.old) (K.held out.new) }
-    ensures again { (old : List (Pair Record Outcome)) (market : Market) → HoldsLegal (D.state disk.old) old market →
+    ensures again { (version : Version) (old : List (Pair Record Outcome)) (market : Market) → HoldsLegal (D.state disk.old) version old market →
         MayBeginAgain (D.state disk.old) (D.state disk.new) }
     ensures comes { IfSome (D.state disk.old).content
         (λ held. ComesTo limit held (S.rest source.old) (D.state disk.new) (K.held out.old) (K.held out.new) result) }
-    ensures legal { (old : List (Pair Record Outcome)) (market : Market) → HoldsLegal (D.state disk.old) old market →
+    ensures legal { (version : Version) (old : List (Pair Record Outcome)) (market : Market) → HoldsLegal (D.state disk.old) version old market →
         IfSome (D.state disk.old).content (λ held. length held ≤ 2 ^ 60) → ¬ IsRefusal result }
     ensures untouched { IfSome (D.state disk.old).content
         (λ held. KeepNone held → OnlyLooks (D.state disk.old) (D.state disk.new) × (source.new ≡ source.old) × (out.new ≡ out.old)) }
@@ -63,13 +65,8 @@ pub fn keep<S: Source, D: Disk, K: Sink>(
     ensures source_cause { Blames (result ≡ Err KeepFault.Read) (S.faults source.old) (S.faults source.new) }
     ensures out_cause { Blames (result ≡ Err KeepFault.Write) (K.faults out.old) (K.faults out.new) }
 {
-    let mut keeper = match open_disk(alloc, disk) {
-        Ok(keeper) => keeper,
-        Err(fault) => return Err(fault),
-    };
-    let mut window = match open_source(alloc, limit, source) {
-        Ok(window) => window,
-        Err(fault) => return Err(fault),
-    };
-    serve_on(&mut window, source, &mut keeper, disk, out)
+    match begin(alloc, limit, source, disk) {
+        Ok(mut begun) => serve_on(&mut begun.window, source, &mut begun.keeper, disk, out),
+        Err(fault) => Err(fault),
+    }
 }

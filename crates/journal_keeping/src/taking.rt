@@ -7,6 +7,7 @@ ghost use Rattle.flow_io.specs.declared.window.InputEnd.TheVariants.{Source as s
 ghost use Rattle.wire_records.specs.Records.{Record, AreBytes};
 ghost use Rattle.wire_records.specs.Commands.{Pair};
 ghost use Rattle.wire_records.specs.Formats.{commands};
+ghost use Rattle.wire_records.specs.declared.version.Version.{Version};
 ghost use Rattle.flow_orders.specs.Outcomes.{Outcome};
 ghost use Rattle.journal_records.specs.Formats.{records_of};
 ghost use Rattle.file_units.specs.Units.{IsTaken, StaysReady};
@@ -65,13 +66,13 @@ fn put_pair<D: Disk, K: Sink>(
     requires pair { IsWholePair pair.now }
     requires room { appender.old ≤ 2 ^ 61 }
     requires kept { IfSome (D.state disk.old).content
-        (λ _. (pairs : List RecordPair) × Keeps pairs appender.old (D.state disk.old)) }
-    ensures kept { result ≢ Err KeepFault.Disk → (pairs : List RecordPair) (last : RecordPair) →
-        Keeps pairs appender.old (D.state disk.old) → IsRecordPair last → pair.now ≡ pair_bytes last →
-        Keeps (pairs ++ last ∷ []) appender.new (D.state disk.new) }
-    ensures moments { (pairs : List RecordPair) (last : RecordPair) →
-        Keeps pairs appender.old (D.state disk.old) → IsRecordPair last → pair.now ≡ pair_bytes last →
-        AtEachMoment (D.state disk.old) (D.state disk.new) (WithOrWithout pairs last) }
+        (λ _. (version : Version) × (pairs : List RecordPair) × Keeps version pairs appender.old (D.state disk.old)) }
+    ensures kept { result ≢ Err KeepFault.Disk → (version : Version) (pairs : List RecordPair) (last : RecordPair) →
+        Keeps version pairs appender.old (D.state disk.old) → IsRecordPair last → pair.now ≡ pair_bytes last →
+        Keeps version (pairs ++ last ∷ []) appender.new (D.state disk.new) }
+    ensures moments { (version : Version) (pairs : List RecordPair) (last : RecordPair) →
+        Keeps version pairs appender.old (D.state disk.old) → IsRecordPair last → pair.now ≡ pair_bytes last →
+        AtEachMoment (D.state disk.old) (D.state disk.new) (WithOrWithout version pairs last) }
     ensures told { OnOk result (IsSome (D.state disk.new).content → IsSome (D.state disk.old).content) }
     ensures place { OnOk result (appender.new ≡ appender.old + (5 + length pair.now)) }
     ensures written { OnOk result (Grows (K.held out.old) (K.held out.new) pair.now) }
@@ -100,7 +101,7 @@ fn keep_next<D: Disk, K: Sink>(
     requires ready { (left : ℕ) × (length bytes.now ≤ left) × IsReady keeper.old.session keeper.old.appender left }
     requires room { 1042 ≤ vec_capacity keeper.old.pair }
     requires kept { IfSome (D.state disk.old).content
-        (λ _. (pairs : List RecordPair) × Keeps pairs keeper.old.appender (D.state disk.old)) }
+        (λ _. (version : Version) × (pairs : List RecordPair) × Keeps version pairs keeper.old.appender (D.state disk.old)) }
     ensures taken { IfOk result (λ front. IsTakenNext front bytes.now keeper.old.session keeper.new.session
         keeper.old.appender keeper.new.appender (D.state disk.old) (D.state disk.new) (K.held out.old) (K.held out.new)) }
     ensures room { vec_capacity keeper.old.pair ≤ vec_capacity keeper.new.pair }
@@ -164,8 +165,8 @@ pub(crate) fn serve_on<S: Source, D: Disk, K: Sink>(
     requires open { window.old.over ≡ None }
     requires ready { IsReady keeper.old.session keeper.old.appender (window.old.limit - window.old.place) }
     requires room { 1042 ≤ vec_capacity keeper.old.pair }
-    requires kept { IfSome (D.state disk.old).content (λ _. (old : List (Pair Record Outcome))
-        × IsKeptJournal old keeper.old.session × Keeps (map records_of old) keeper.old.appender (D.state disk.old)) }
+    requires kept { IfSome (D.state disk.old).content (λ _. (version : Version) × (old : List (Pair Record Outcome))
+        × IsKeptJournal version old keeper.old.session × Keeps version (map records_of old) keeper.old.appender (D.state disk.old)) }
     ensures goes { ServesOn window.old (S.rest source.old) (S.rest source.new) result keeper.old.session keeper.old.appender
         (D.state disk.old) (D.state disk.new) (K.held out.old) (K.held out.new) }
     ensures disk_cause { Blames (result ≡ Err KeepFault.Disk) (D.state disk.old).faults (D.state disk.new).faults }

@@ -7,11 +7,12 @@ use Rattle.flow_io.specs.declared.sink.WriteFailed.{WriteFailed}
 use Rattle.flow_io.proofs.Growth.{GrowsByFront-whole}
 use Rattle.wire_records.specs.Records.{Record}
 use Rattle.wire_records.specs.Commands.{Pair}
+use Rattle.wire_records.specs.declared.version.Version.{Version}
 use Rattle.flow_orders.specs.Outcomes.{Outcome}
 use Rattle.market_rules.specs.Market.{Market}
 use Rattle.disk_edge.specs.Disks.{DiskState}
 use Rattle.journal_disk.specs.Looking.{OnlyLooks}
-use Rattle.journal_keeping.specs.Keeping.{HoldsLegal, KeepsOn}
+use Rattle.journal_keeping.specs.Keeping.{HoldsLegal, KeepsIn}
 use Rattle.journal_keeping.specs.Openings.{KeepNone}
 use Rattle.journal_keeping.specs.Pacing.{KeepsPace, IsNear, RunsOut}
 use Rattle.journal_keeping.specs.Ended.{ComesTo, MayBeginAgain}
@@ -24,25 +25,29 @@ use Rattle.kept_exchange.specs.Keeping.{EndsAs, Determines, ServesKeep}
 use Rattle.kept_exchange.proofs.AsStatus.{Kept, blames_as, read_back, write_back, disk_back, memory_back, done_back, refusal_back, determines}
 
 -- what a call keeps, for a wider reason to cut a write short
-keeps_wider : (limit : ℕ) (content : Option (List ℕ)) (Cut Wider : Type 0) (start end : DiskState) (old : List (Pair Record Outcome)) (market : Market) (held holds : Option (List ℕ)) → (Cut → Wider)
-    → KeepsOn limit content Cut start end old market held holds → KeepsOn limit content Wider start end old market held holds
-keeps_wider limit content Cut Wider start end old market held holds wider keeps =
-    let stands = keeps.written in
-    record {
-      records = keeps.records;
-      new = keeps.new;
-      acknowledged = keeps.acknowledged;
-      served = keeps.served;
-      runs = keeps.runs;
-      written = record {
-        whole = stands.whole;
-        last = stands.last;
-        parts = stands.parts;
-        one = stands.one;
-        none = λ not. stands.none (λ cut. not (wider cut));
-        written = stands.written;
-      };
-    }
+keeps_wider : (limit : ℕ) (content : Option (List ℕ)) (Cut Wider : Type 0) (version : Version) (start end : DiskState) (old : List (Pair Record Outcome)) (market : Market) (held holds : Option (List ℕ)) → (Cut → Wider)
+    → KeepsIn limit content Cut version start end old market held holds → KeepsIn limit content Wider version start end old market held holds
+keeps_wider limit content Cut Wider version start end old market held holds wider (of, from, in_version, keeps) =
+    let stands = keeps.written in (
+      of,
+      from,
+      in_version,
+      record {
+        records = keeps.records;
+        new = keeps.new;
+        acknowledged = keeps.acknowledged;
+        served = keeps.served;
+        runs = keeps.runs;
+        written = record {
+          whole = stands.whole;
+          last = stands.last;
+          parts = stands.parts;
+          one = stands.one;
+          none = λ not. stands.none (λ cut. not (wider cut));
+          written = stands.written;
+        };
+      },
+    )
 
 -- a line that no write failed of was written
 written : (result : Result (Unit {0}) WriteFailed) (before after : Option (List ℕ)) (line : List ℕ) (faults now : ℕ) → OnOk result (Grows before after line) → Blames (IsErr result) faults now → (¬ Rose faults now) → Grows before after line
@@ -79,10 +84,10 @@ module _ (limit : ℕ) (result : Kept) (start end : DiskState) (source out : Cha
   near_by paced (inr (inr e)) = paced_by (Err Memory) paced (memory_back limit result e)
 
   pub serves : (notes : Change) (noting : Result (Unit {0}) WriteFailed)
-      → ((old : List (Pair Record Outcome)) (market : Market) → HoldsLegal start old market → KeepsOn limit source.before (◌≡◌ {A = Kept} result (Err Write)) start end old market out.before out.after)
-      → ((old : List (Pair Record Outcome)) (market : Market) → HoldsLegal start old market → MayBeginAgain start end)
+      → ((version : Version) (old : List (Pair Record Outcome)) (market : Market) → HoldsLegal start version old market → KeepsIn limit source.before (◌≡◌ {A = Kept} result (Err Write)) version start end old market out.before out.after)
+      → ((version : Version) (old : List (Pair Record Outcome)) (market : Market) → HoldsLegal start version old market → MayBeginAgain start end)
       → IfSome start.content (λ held. ComesTo limit held source.before end out.before out.after result)
-      → ((old : List (Pair Record Outcome)) (market : Market) → HoldsLegal start old market → IfSome start.content (λ held. length held ≤ 2 ^ 60) → ¬ kept.IsRefusal result)
+      → ((version : Version) (old : List (Pair Record Outcome)) (market : Market) → HoldsLegal start version old market → IfSome start.content (λ held. length held ≤ 2 ^ 60) → ¬ kept.IsRefusal result)
       → IfSome start.content (λ held. KeepNone held → OnlyLooks start end × (source.after ≡ source.before) × (out.after ≡ out.before))
       → TakesAtMost source.before source.after (limit + 1)
       → KeepsPace limit source.before source.after out.before out.after result
@@ -95,9 +100,9 @@ module _ (limit : ℕ) (result : Kept) (start end : DiskState) (source out : Cha
       → Blames (IsErr noting) notes.faults notes.faults_after
       → ServesKeep limit (kept_status limit result) start end source out notes
   serves notes noting keeps again comes legal untouched taken paced wants disk read write line front cause = record {
-    keeps = λ old market holds. keeps_wider limit source.before (◌≡◌ {A = Kept} result (Err Write)) (kept_status limit result ≡ status.WriteFault) start end old market out.before out.after (ap (kept_status limit)) (keeps old market holds);
+    keeps = λ version old market holds. keeps_wider limit source.before (◌≡◌ {A = Kept} result (Err Write)) (kept_status limit result ≡ status.WriteFault) version start end old market out.before out.after (ap (kept_status limit)) (keeps version old market holds);
     again = again;
-    opens = λ old market holds small refused. legal old market holds small (refusal_back limit result refused);
+    opens = λ version old market holds small refused. legal version old market holds small (refusal_back limit result refused);
     ends = ends_as start.content comes;
     complete = λ no_disk no_read no_write memory. completes start.content comes (λ e. no_read (read.rose e)) (λ e. no_write (write.rose e)) (λ e. no_disk (disk.rose e)) memory;
     untouched = untouched;

@@ -5,11 +5,12 @@ use Rattle.flow_io.specs.Streams.{Grows, GrowsByFront, TakesAtMost}
 use Rattle.flow_io.specs.Changes.{Change}
 use Rattle.wire_records.specs.Records.{Record}
 use Rattle.wire_records.specs.Commands.{Pair}
+use Rattle.wire_records.specs.declared.version.Version.{Version}
 use Rattle.flow_orders.specs.Outcomes.{Outcome}
 use Rattle.market_rules.specs.Market.{Market}
 use Rattle.disk_edge.specs.Disks.{DiskState}
 use Rattle.journal_disk.specs.Looking.{OnlyLooks}
-use Rattle.journal_keeping.specs.Keeping.{HoldsLegal, KeepsOn}
+use Rattle.journal_keeping.specs.Keeping.{HoldsLegal, KeepsIn}
 use Rattle.journal_keeping.specs.Openings.{KeepNone}
 use Rattle.journal_keeping.specs.Pacing.{ReadsAll, IsNear, RunsOut}
 use Rattle.journal_keeping.specs.Ended.{ComesTo, MayBeginAgain}
@@ -37,13 +38,14 @@ IsRefusal status = (status ≡ NotDisk) ⊎ ((place : ℕ) × (status ≡ Damage
 pub record ServesKeep (limit : ℕ) (status : Status) (start end : DiskState) (source out notes : Change) : Type 0 where
   -- Where a crash may leave legal journals alone as it begins, a crash at each moment leaves what it might have left then, or the old
   -- pairs and the first of the new ones, which answer the first records of the source and are one legal journal with the old ones.
-  -- Afterwards it leaves each pair that was acknowledged, and at most one more; and these are what out gained.
-  pub keeps : (old : List (Pair Record Outcome)) (market : Market) → HoldsLegal start old market
-      → KeepsOn limit source.before (status ≡ WriteFault) start end old market out.before out.after
+  -- Afterwards it leaves each pair that was acknowledged, and at most one more; and these are what out gained. A new disk takes the
+  -- version of its source, and any other keeps its own.
+  pub keeps : (version : Version) (old : List (Pair Record Outcome)) (market : Market) → HoldsLegal start version old market
+      → KeepsIn limit source.before (status ≡ WriteFault) version start end old market out.before out.after
   -- What a crash leaves is then a disk of which all this holds again.
-  pub again : (old : List (Pair Record Outcome)) (market : Market) → HoldsLegal start old market → MayBeginAgain start end
+  pub again : (version : Version) (old : List (Pair Record Outcome)) (market : Market) → HoldsLegal start version old market → MayBeginAgain start end
   -- Such a disk isn't refused, where it has at most 2^60 bytes.
-  pub opens : (old : List (Pair Record Outcome)) (market : Market) → HoldsLegal start old market
+  pub opens : (version : Version) (old : List (Pair Record Outcome)) (market : Market) → HoldsLegal start version old market
       → IfSome start.content (λ held. length held ≤ 2 ^ 60) → ¬ IsRefusal status
   -- Which status comes, and what then stands on the disk and in out.
   pub ends : IfSome start.content (λ held. EndsAs limit held source.before end out.before out.after status)

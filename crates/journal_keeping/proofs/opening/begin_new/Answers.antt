@@ -1,0 +1,14 @@
+use Rattle.journal_keeping.proofs.Begun.{makes_new}
+use Rattle.journal_keeping.proofs.Whole.{unread_made}
+use Rattle.journal_keeping.proofs.opening.begin_new.Goals as goal
+
+pub returns-in-Ok-make-clause-moments : goal.returns-in-Ok-make-clause-moments
+returns-in-Ok-make-clause-moments g c = λ v old market holds.
+    makes_new (g.D.Disk.state c.args.disk.now) v old market holds (g.D.Disk.state c.make.new.disk) c.requires.found c.make.ensures.moments
+
+pub returns-in-Err-make-clause-moments : goal.returns-in-Err-make-clause-moments
+returns-in-Err-make-clause-moments g c = λ v old market holds.
+    makes_new (g.D.Disk.state c.args.disk.now) v old market holds (g.D.Disk.state c.make.new.disk) c.requires.found c.make.ensures.moments
+
+pub returns-in-Err-make-clause-unread : goal.returns-in-Err-make-clause-unread
+returns-in-Err-make-clause-unread g c = unread_made c.args.limit _ _ (g.S.Source.rest c.args.source.now) (g.S.Source.rest c.open_source.new.source) c.in-Ok-open_source.ensures.behind
