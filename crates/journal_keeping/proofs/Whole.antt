@@ -75,9 +75,9 @@ pub may_begin_again : (limit : ℕ) (content : Option (List ℕ)) (Cut : Type 0)
     → KeepsIn limit content Cut version start end old market held holds → MayBeginAgain start end
 may_begin_again limit content Cut version start end old market held holds legal is_disk (of, from, in_version, keeps) =
     let runs = keeps.runs in
-    let returned = can_begin_again.returned version of start end old keeps.new market from runs.now keeps.records keeps.acknowledged legal runs.goes_on runs.returns in
+    let returned = (can_begin_again start end).returned version of old keeps.new market from runs.now keeps.records keeps.acknowledged legal runs.goes_on runs.returns in
     record {
-      stopped = can_begin_again.during version of start end old keeps.new market from runs.now keeps.records legal runs.goes_on runs.during;
+      stopped = (can_begin_again start end).during version of old keeps.new market from runs.now keeps.records legal runs.goes_on runs.during;
       returned = returned;
       told = legal_again end end.content refl is_disk.content returned;
     }

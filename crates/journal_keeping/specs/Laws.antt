@@ -3,6 +3,7 @@ use Rattle.std.specs.Prelude.{◌≡◌, ◌⊎◌, ℕ, ◌^◌, ◌≤◌, Lis
 use Rattle.wire_records.specs.Records.{Record}
 use Rattle.wire_records.specs.Commands.{Pair}
 use Rattle.wire_records.specs.declared.version.Version.{Version}
+use Rattle.word_driver.specs.Laws.{IsNotDenied}
 use Rattle.flow_orders.specs.Outcomes.{Outcome}
 use Rattle.market_rules.specs.Market.{Market}
 use Rattle.disk_edge.specs.Disks.{DiskState}
@@ -25,11 +26,11 @@ FirstsAreLegal = (version : Version) (old new : List (Pair Record Outcome)) (bef
     → GoesOn version old before records new after → KeepsFirst version old new least most image → IsLegalImage image
 
 -- After a crash at any moment of a call, or after its return, the disk is one that a run may begin on again.
-pub record CanBeginAgain : Type 1 where
-  pub during : (version of : Version) (start end : DiskState) (old new : List (Pair Record Outcome)) (market before after : Market) (records : List Record)
+pub record CanBeginAgain (start end : DiskState) : Type 0 where
+  pub during : (version of : Version) (old new : List (Pair Record Outcome)) (market before after : Market) (records : List Record)
       → HoldsLegal start version old market → GoesOn of old before records new after → DuringCall of start end old new
       → (image : List ℕ) → end.since start.clock image → IsLegalImage image
-  pub returned : (version of : Version) (start end : DiskState) (old new : List (Pair Record Outcome)) (market before after : Market) (records : List Record) (acknowledged : ℕ)
+  pub returned : (version of : Version) (old new : List (Pair Record Outcome)) (market before after : Market) (records : List Record) (acknowledged : ℕ)
       → HoldsLegal start version old market → GoesOn of old before records new after → AtReturn of start end old new acknowledged
       → (image : List ℕ) → end.images image → IsLegalImage image
 
@@ -41,3 +42,7 @@ LegalIsOpened = (version : Version) (pairs : List (Pair Record Outcome)) (market
 -- a disk's bytes are opened in one way
 abbrev pub OneOpening : Type 0
 OneOpening = (bytes : List ℕ) (a b : Opening) → IsOpening bytes a → IsOpening bytes b → a ≡ b
+
+-- and in some way: that none is one isn't so
+abbrev pub SomeOpening : Type 0
+SomeOpening = (bytes : List ℕ) → IsNotDenied ((opening : Opening) × IsOpening bytes opening)
