@@ -6,7 +6,7 @@ ghost use Rattle.journal_disk.specs.Entries.{Holds, EndsAt};
 ghost use Rattle.journal_disk.specs.Looking.{OnlyLooks};
 
 use disk_edge::{Disk, MemoryDisk};
-use journal_disk::{Appender, DiskFault, DiskJournal, Step, is_whole_pair, recover};
+use journal_disk::{Ahead, Appender, DiskFault, DiskJournal, Step, is_whole_pair, recover};
 use std::alloc::Global;
 use std::process::Abort;
 use std::test::Fail;
@@ -30,6 +30,7 @@ fn disk_of(alloc: Global, bytes: &[u8], failing: &[u64]) -> Result<MemoryDisk, F
 
 // Reads the pairs that are kept, up to a gate that isn't open, and answers how many there are, and the last byte of each.
 fn read_kept<D: Disk>(
+    alloc: Global,
     journal: &mut DiskJournal,
     disk: &mut D,
     lasts: &mut Vec<u8>,
@@ -39,8 +40,9 @@ fn read_kept<D: Disk>(
         Holds version pairs journal.old rest (D.state disk.old) → (found : List RecordPair) × EndsAt version found journal.new (D.state disk.new)) }
     ensures looks { OnlyLooks (D.state disk.old) (D.state disk.new) }
 {
+    let mut ahead = Ahead::new(alloc, disk)?;
     'pairs: loop {
-        match journal.next(disk, pair)? {
+        match journal.next(disk, &mut ahead, pair)? {
             Step::Pair => lasts.extend_from_slice(&pair[pair.len().saturating_sub(1)..])?,
             Step::Closed => return Ok(()),
         }
@@ -60,7 +62,7 @@ pub fn keep<D: Disk>(alloc: Global, disk: &mut D, pair: &[u8]) -> Result<Vec<u8>
         }
         Some(_) => {
             let mut journal = DiskJournal::behind_magic();
-            read_kept(&mut journal, disk, &mut lasts, &mut found)?;
+            read_kept(alloc, &mut journal, disk, &mut lasts, &mut found)?;
             journal.begin(alloc, disk)?
         }
     };

@@ -5,11 +5,13 @@ ghost use Rattle.disk_edge.specs.Disks.{AtEachMoment};
 ghost use Rattle.journal_disk.specs.Entries.{StandsFor, Holds, EndsAt, Keeps};
 ghost use Rattle.flow_io.specs.Faults.{Blames};
 ghost use Rattle.journal_disk.specs.Looking.{OnlyLooks};
+ghost use Rattle.journal_disk.specs.Ahead.{IsPiece};
 ghost use Rattle.journal_disk.specs.Stepping.{IsStep};
 ghost use Rattle.journal_disk.specs.Recovering.{IsForeign, IsFound};
 
+use crate::ahead::Ahead;
 use crate::appender::Appender;
-use crate::calls::{OPEN, cut_synced, length_of, synced_length, version_of};
+use crate::calls::{OPEN, cut_synced, synced_length, version_of};
 use crate::fault::{DiskFault, Step};
 use crate::reading::{byte_at, read_pair};
 use disk_edge::Disk;
@@ -73,8 +75,15 @@ impl DiskJournal {
     /// Reads the next pair into `pair`, which is emptied first, and goes behind its entry. `Closed` says that there is a gate and
     /// it isn't open. `Damaged` has the gate's place, and comes exactly where no byte is there, or where the gate is open and
     /// begins no entry of one whole pair in the first 2^60 bytes. `Failed` comes only where the disk's count rose, and `Memory` is
-    /// free. After `Closed` or an error `pair` is empty and the place as before. Changes nothing of the disk.
-    pub fn next<D: Disk>(&mut self, disk: &mut D, pair: &mut Vec<u8>) -> Result<Step, DiskFault>
+    /// free. After `Closed` or an error `pair` is empty and the place as before. Changes nothing of the disk, which is read in pieces ahead.
+    pub fn next<D: Disk>(
+        &mut self,
+        disk: &mut D,
+        ahead: &mut Ahead,
+        pair: &mut Vec<u8>,
+    ) -> Result<Step, DiskFault>
+        requires piece { IfSome (D.state disk.old).content (IsPiece ahead.old) }
+        ensures piece { IfSome (D.state disk.new).content (IsPiece ahead.new) }
         ensures step { IfSome (D.state disk.old).content (IsStep result self.old self.new pair.new.items) }
         ensures stays { result ≢ Ok Step.Pair → (self.new ≡ self.old) × (pair.new.items ≡ []) }
         ensures whole { result ≡ Ok Step.Pair → IsWholePair pair.new.items }
@@ -87,14 +96,14 @@ impl DiskJournal {
     {
         pair.clear();
         let place = self.place;
-        let length = length_of(disk)?;
+        let length = ahead.size();
         if place >= length {
             return Err(DiskFault::Damaged(place));
         }
-        if byte_at(disk, place)? != OPEN {
+        if byte_at(disk, ahead, place)? != OPEN {
             return Ok(Step::Closed);
         }
-        if !read_pair(disk, place + 1, length.min(MOST_BYTES), pair)? {
+        if !read_pair(disk, ahead, place + 1, length.min(MOST_BYTES), pair)? {
             return Err(DiskFault::Damaged(place));
         }
         self.place += 5 + pair.len() as u64;

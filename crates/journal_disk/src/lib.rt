@@ -17,11 +17,12 @@
 //!
 //! # Costs
 //!
-//! A pair that is read costs its bytes and four reads of the disk, one that is added its bytes and two writes with a sync each.
-//! Reading takes memory for the pair in the caller's buffer, and beginning takes an appender's buffer of 263,183 bytes;
+//! Pairs are read in pieces of 65,536 bytes, so one costs its bytes and a share of such a piece, one that is added its bytes and two writes with a sync each.
+//! Reading takes memory for a piece, and for the pair in the caller's buffer, and beginning takes an appender's buffer of 263,183 bytes;
 //! opening and adding take none.
 #![tactic(auto)]
 
+mod ahead;
 mod appender;
 mod calls;
 mod fault;
@@ -31,6 +32,7 @@ mod magic;
 mod pairs;
 mod reading;
 
+pub use ahead::Ahead;
 pub use appender::Appender;
 pub use fault::{DiskFault, Step};
 pub use journal::{DiskJournal, recover};

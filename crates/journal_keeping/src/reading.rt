@@ -17,7 +17,7 @@ ghost use Rattle.journal_keeping.specs.Beginning.{IsOfDisk};
 use crate::fault::KeepFault;
 use batch_audit::{Audit, Legality};
 use disk_edge::Disk;
-use journal_disk::{DiskJournal, Step};
+use journal_disk::{Ahead, DiskJournal, Step};
 use journal_records::{PairFramed, next_pair};
 use std::alloc::Global;
 
@@ -45,8 +45,8 @@ fn judge(audit: &mut Audit, pair: &[u8], number: u64) -> Result<(), KeepFault>
 /// legal journal, whose market the audit has. The audit is at the empty market of the disk's version, and the journal stands behind the magic.
 ///
 /// `Damaged` has the place of the first gate that isn't one, and `Rejected` the number of the first pair that isn't legal, counted
-/// from 1; `Disk` comes only where the disk's count rose, and `Memory` is free. Nothing of the disk is changed. It costs the audit
-/// of the pairs, and the memory of one pair.
+/// from 1; `Disk` comes only where the disk's count rose, and `Memory` is free. Nothing of the disk is changed. The disk is read in pieces
+/// of 65,536 bytes. It costs the audit of the pairs, and the memory of a piece and of one pair.
 pub fn audit_kept<D: Disk>(
     alloc: Global,
     journal: &mut DiskJournal,
@@ -63,10 +63,14 @@ pub fn audit_kept<D: Disk>(
     ensures looks { OnlyLooks (D.state disk.old) (D.state disk.new) }
     ensures cause { Blames (result ≡ Err KeepFault.Disk) (D.state disk.old).faults (D.state disk.new).faults }
 {
+    let mut ahead = match Ahead::new(alloc, disk) {
+        Ok(ahead) => ahead,
+        Err(fault) => return Err(KeepFault::from(fault)),
+    };
     let mut pair = Vec::new(alloc);
     let mut number: u64 = 0;
     'pairs: loop {
-        match journal.next(disk, &mut pair) {
+        match journal.next(disk, &mut ahead, &mut pair) {
             Ok(Step::Closed) => return Ok(()),
             Ok(Step::Pair) => {
                 number = number.saturating_add(1);

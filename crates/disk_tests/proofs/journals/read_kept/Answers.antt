@@ -5,6 +5,13 @@ use Rattle.journal_disk.specs.Stepping.{IsStep}
 use Rattle.journal_disk.proofs.GoingOn.{looks_hold, looks_more, step_holds, step_ends}
 use Rattle.disk_tests.proofs.journals.read_kept.Goals as goal
 
+pub pairs-init : goal.pairs-init
+pairs-init g c =
+    let start = g.D.Disk.state c.args.disk.now in
+    let mid = g.D.Disk.state c.new.new.disk in
+    let e = c.in_ok-ahead.ensures in
+    record { looks = e.looks; piece = e.piece; holds = λ version pairs rest holds. (pairs, rest, looks_hold version pairs c.args.journal.now rest start mid holds e.looks) }
+
 pub pairs-preserved : goal.pairs-preserved
 pairs-preserved g c =
     let e = c.in_ok-next.ensures in
@@ -13,6 +20,7 @@ pairs-preserved g c =
     let taken = subst (λ (s : Step). IfSome mid.content (IsStep (Ok s) c.pairs.journal c.next.new.self c.next.new.pair.items)) c.in-Pair.is e.step in
     record {
       looks = looks_more (g.D.Disk.state c.args.disk.now) mid next c.pairs.invariant.looks e.looks;
+      piece = e.piece;
       holds = λ version pairs rest holds.
           let was = c.pairs.invariant.holds version pairs rest holds in
           let now = step_holds version was.0 c.pairs.journal was.1 mid was.2 c.next.new.self c.next.new.pair.items taken in

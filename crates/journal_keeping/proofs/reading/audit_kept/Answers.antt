@@ -12,13 +12,18 @@ use Rattle.journal_keeping.proofs.Auditing.{none_read, one_read, stops_judged}
 use Rattle.journal_keeping.proofs.reading.audit_kept.Goals as goal
 
 pub pairs-init : goal.pairs-init
-pairs-init g c = record {
-  looks = looks_none (g.D.Disk.state c.args.disk.now) (g.met.D.Disk.is_disk c.args.disk.now);
-  reads = λ version rest new holds. ([], rest, none_read version c.args.audit.now new, refl, holds);
-  next = c.requires.next;
-  small = omega arith;
-  quiet = refl;
-}
+pairs-init g c =
+    let start = g.D.Disk.state c.args.disk.now in
+    let mid = g.D.Disk.state c.new.new.disk in
+    let e = c.in-Ok.ensures in
+    record {
+      looks = e.looks;
+      reads = λ version rest new holds. ([], rest, none_read version c.args.audit.now new, refl, looks_hold version [] c.args.journal.now rest start mid holds e.looks);
+      piece = e.piece;
+      next = c.requires.next;
+      small = omega arith;
+      quiet = e.cause.quiet (λ is. cc is);
+    }
 
 pub pairs-preserved : goal.pairs-preserved
 pairs-preserved g c =
@@ -38,6 +43,7 @@ pairs-preserved g c =
           let legal : IsLegalPair c.pairs.audit now.0 c.judge.new.audit = judged.legal now.0 now.2 (c.deref.ensures.value ∙ now.3) in
           let one = one_read version was.0 c.pairs.audit c.judge.new.audit now.0 was.2 now.2 legal in
           (one.0, now.1, one.1, omega (arith, more, was.3, one.2), looks_hold version (map records_of one.0) c.next.new.self now.1 mid next (subst (λ (l : List RecordPair). Holds version l c.next.new.self now.1 mid) one.3 now.4) e.looks);
+      piece = e.piece;
       next = omega (arith, judged.next, i.next, moves);
       small = omega (arith, more, i.small, moves);
       quiet = e.cause.quiet (λ is. cc is) ∙ i.quiet;
