@@ -14,14 +14,14 @@ use Rattle.journal_disk.specs.declared.fault.DiskFault.{DiskFault}
 use Rattle.journal_disk.specs.declared.fault.DiskFault.TheVariants as disk
 use Rattle.journal_disk.specs.Pairs.{RecordPair}
 use Rattle.journal_disk.specs.Entries.{entries, HasEntries, StandsFor, Holds, EndsAt}
-use Rattle.journal_disk.specs.Entries.{Keeps as KeepsAt}
+use Rattle.journal_disk.specs.Entries.{Keeps}
 use Rattle.journal_disk.specs.Looking.{OnlyLooks}
 use Rattle.journal_disk.specs.Recovering.{IsForeign, IsFound}
 use Rattle.journal_disk.proofs.OneList.{short_none, one_list, one_version}
 use Rattle.journal_keeping.specs.declared.fault.KeepFault.{KeepFault}
 use Rattle.journal_keeping.specs.declared.fault.KeepFault.TheVariants.{Read, Write, Disk, Memory, NotDisk, Damaged, Rejected, NotFlow, Torn, TooLong}
 use Rattle.journal_keeping.specs.Faults.{kept_fault}
-use Rattle.journal_keeping.specs.Keeping.{IsKeptJournal, Keeps, HoldsLegal, GoesOnIn}
+use Rattle.journal_keeping.specs.Keeping.{IsKeptJournal, StandsForJournal, HoldsLegal, GoesOnIn}
 use Rattle.journal_keeping.specs.Openings.{Legal, IsOpening, OpensAs, KeepNone}
 use Rattle.journal_keeping.specs.Openings as opening
 use Rattle.journal_keeping.specs.Auditing.{StopsAs}
@@ -87,7 +87,7 @@ is_failed disk.Memory e = absurd cc
 -- ---- what a crash leaves meanwhile
 
 abbrev pub Opens : Version → DiskState → DiskState → Pairs → Type 0
-Opens version start now old = AtEachMoment start now (λ image. start.images image ⊎ Keeps version old image)
+Opens version start now old = AtEachMoment start now (λ image. start.images image ⊎ StandsForJournal version old image)
 
 -- a disk that was only looked at is still such a disk
 pub looked_legal : (version : Version) (old : Pairs) (market : Market) (start next : DiskState) → HoldsLegal start version old market → OnlyLooks start next → HoldsLegal next version old market
@@ -115,8 +115,8 @@ module _ (start : DiskState) (v : Version) (old : Pairs) (market : Market) (hold
   same_bytes : (held : List ℕ) → start.content ≡ Some held → holds.bytes ≡ held
   same_bytes held told = let both : Some holds.bytes ≡ Some held = sym holds.told ∙ told in cc
 
-  stands_there : (held : List ℕ) → start.content ≡ Some held → Keeps v old held
-  stands_there held told = subst (Keeps v old) (same_bytes held told) holds.stands
+  stands_there : (held : List ℕ) → start.content ≡ Some held → StandsForJournal v old held
+  stands_there held told = subst (StandsForJournal v old) (same_bytes held told) holds.stands
 
   -- another new disk in place of a new one
   pub new_again : (held : List ℕ) → start.content ≡ Some held → length held ≤ 9 → old ≡ []
@@ -136,7 +136,7 @@ module _ (start : DiskState) (v : Version) (old : Pairs) (market : Market) (hold
   begins_on held mid next version m place told looks read moments =
       let same = opened_old held told version read.0 m read.1 in
       then_more start mid next _ (looks_alone v old start mid looks)
-      (weaker mid next _ _ (λ image stands. inr (subst (λ (x : Version). Keeps x old image) (sym same.0) (subst (λ (l : Pairs). Keeps version l image) (sym same.1) stands))) (moments version (map records_of read.0) read.2))
+      (weaker mid next _ _ (λ image stands. inr (subst (λ (x : Version). StandsForJournal x old image) (sym same.0) (subst (λ (l : Pairs). StandsForJournal version l image) (sym same.1) stands))) (moments version (map records_of read.0) read.2))
 
   pub begins_known : (mid next : DiskState) (version : Version) (m : Market) (place : ℕ) → OnlyLooks start mid → IfSome start.content (λ held. IsReadUp held version m place mid)
       → ((w : Version) (pairs : List RecordPair) → EndsAt w pairs place mid → AtEachMoment mid next (StandsFor w pairs)) → Opens v start next old
@@ -153,22 +153,22 @@ module _ (start : DiskState) (v : Version) (old : Pairs) (market : Market) (hold
 
   -- in which version it goes on, and that the old pairs stand there
   begun_is : (held : List ℕ) (next : DiskState) (of : Version) (m : Market) (place : ℕ) → start.content ≡ Some held → IsBegun held of m place next
-      → GoesOnIn start v market of m × IsKeptJournal of old m × KeepsAt of (map records_of old) place next
+      → GoesOnIn start v market of m × IsKeptJournal of old m × Keeps of (map records_of old) place next
   begun_is held next of m place told (other, inl legal, at) =
       let same = opened_old held told of other m legal in (
         inl (sym same.0, sym same.2),
         subst (λ (l : Pairs). IsKeptJournal of l m) (sym same.1) legal.2,
-        subst (λ (l : Pairs). KeepsAt of (map records_of l) place next) (sym same.1) at,
+        subst (λ (l : Pairs). Keeps of (map records_of l) place next) (sym same.1) at,
       )
   begun_is held next of m place told (other, inr new, at) =
       let none = new_again held told new.0 in (
         inr (subst (λ (o : Option (List ℕ)). IfSome o (λ (bytes : List ℕ). length bytes ≤ 9)) (sym told) new.0, new.2),
         subst (λ (l : Pairs). IsKeptJournal of l m) (sym none) (none_read of m new.2),
-        subst (λ (l : Pairs). KeepsAt of (map records_of l) place next) (new.1 ∙ sym none) at,
+        subst (λ (l : Pairs). Keeps of (map records_of l) place next) (new.1 ∙ sym none) at,
       )
 
   pub begun_known : (next : DiskState) (of : Version) (m : Market) (place : ℕ) → IfSome start.content (λ held. IsBegun held of m place next)
-      → GoesOnIn start v market of m × IsKeptJournal of old m × KeepsAt of (map records_of old) place next
+      → GoesOnIn start v market of m × IsKeptJournal of old m × Keeps of (map records_of old) place next
   begun_known next of m place begun =
       begun_is holds.bytes next of m place holds.told (subst (λ (o : Option (List ℕ)). IfSome o (λ (held : List ℕ). IsBegun held of m place next)) holds.told begun)
 
@@ -180,12 +180,12 @@ can_begin content None version m place mid told read = tt
 can_begin None (Some bytes) version m place mid told read = absurd cc
 can_begin (Some held) (Some bytes) version m place mid told read = (version, map records_of read.0, read.2)
 
-pub begun : (content : Option (List ℕ)) (version : Version) (m : Market) (place later : ℕ) (mid next : DiskState) → IfSome content (λ held. IsReadUp held version m place mid) → ((w : Version) (pairs : List RecordPair) → EndsAt w pairs place mid → KeepsAt w pairs later next) → IfSome content (λ held. IsBegun held version m later next)
+pub begun : (content : Option (List ℕ)) (version : Version) (m : Market) (place later : ℕ) (mid next : DiskState) → IfSome content (λ held. IsReadUp held version m place mid) → ((w : Version) (pairs : List RecordPair) → EndsAt w pairs place mid → Keeps w pairs later next) → IfSome content (λ held. IsBegun held version m later next)
 begun None version m place later mid next read keeps = tt
 begun (Some held) version m place later mid next read keeps = (read.0, inl read.1, keeps version (map records_of read.0) read.2)
 
 -- a new one was begun
-pub begun_new : (content : Option (List ℕ)) (version : Version) (m : Market) (place : ℕ) (start next : DiskState) → m ≡ empty_market version → IfSome content (λ held. IsFound None held start) → IfSome content (λ _. KeepsAt version [] place next) → IfSome content (λ held. IsBegun held version m place next)
+pub begun_new : (content : Option (List ℕ)) (version : Version) (m : Market) (place : ℕ) (start next : DiskState) → m ≡ empty_market version → IfSome content (λ held. IsFound None held start) → IfSome content (λ _. Keeps version [] place next) → IfSome content (λ held. IsBegun held version m place next)
 begun_new None version m place start next is found keeps = tt
 begun_new (Some held) version m place start next is found keeps = ([], inr (found.0, refl, is), keeps)
 
@@ -196,7 +196,7 @@ opens_journal held version old m (inr new) = subst (λ (l : Pairs). IsKeptJourna
 
 -- what was begun can be served on
 pub can_serve : (content now : Option (List ℕ)) (version : Version) (m : Market) (place : ℕ) (mid : DiskState) → (IsSome now → IsSome content) → IfSome content (λ held. IsBegun held version m place mid)
-    → IfSome now (λ _. (w : Version) × (old : Pairs) × IsKeptJournal w old m × KeepsAt w (map records_of old) place mid)
+    → IfSome now (λ _. (w : Version) × (old : Pairs) × IsKeptJournal w old m × Keeps w (map records_of old) place mid)
 can_serve content None version m place mid told begun = tt
 can_serve None (Some bytes) version m place mid told begun = absurd (went_well (told refl))
 can_serve (Some held) (Some bytes) version m place mid told begun = (version, begun.0, opens_journal held version begun.0 m begun.1, begun.2)

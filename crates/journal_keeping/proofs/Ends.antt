@@ -19,7 +19,7 @@ use Rattle.file_units.proofs.Gone.{HasGone, gone_broken}
 use Rattle.disk_edge.specs.Disks.{DiskState, IsDisk, AtEachMoment}
 use Rattle.journal_disk.specs.Pairs.{RecordPair}
 use Rattle.journal_disk.specs.Entries.{WithOrWithout}
-use Rattle.journal_disk.specs.Entries.{Keeps as KeepsAt}
+use Rattle.journal_disk.specs.Entries.{Keeps}
 use Rattle.journal_keeping.specs.declared.fault.KeepFault.{KeepFault}
 use Rattle.journal_keeping.specs.declared.fault.KeepFault.TheVariants.{Read, Write, Disk, Memory, NotDisk, Damaged, Rejected, NotFlow, Torn, TooLong}
 use Rattle.journal_keeping.specs.Keeping.{Runs, StandIn}
@@ -60,7 +60,7 @@ module _ (window : WindowState) (rest left : Option (List ℕ)) (start now : Dis
 
   -- at a pair that wasn't kept
   pub serves_failed : (next : DiskState) (after : Market) (pair : Pair Record Outcome) (bytes : List ℕ) → IsDisk next → IsServed bytes market pair after
-      → ((version : Version) (pairs : List RecordPair) → KeepsAt version pairs place now → AtEachMoment now next (WithOrWithout version pairs (records_of pair)))
+      → ((version : Version) (pairs : List RecordPair) → Keeps version pairs place now → AtEachMoment now next (WithOrWithout version pairs (records_of pair)))
       → Goes (pair ∷ []) (Err Disk) → ServesOn window rest left (Err Disk) before from start next held holds
   serves_failed next after pair bytes is_disk served moments goes = record {
     new = new;

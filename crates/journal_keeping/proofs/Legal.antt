@@ -11,7 +11,7 @@ use Rattle.journal_records.specs.Pairs.{IsPair}
 use Rattle.market_rules.specs.Market.{Market, empty_market}
 use Rattle.market_rules.specs.Journal.{Follows}
 use Rattle.disk_edge.specs.Disks.{DiskState}
-use Rattle.journal_keeping.specs.Keeping.{IsKeptJournal, Keeps}
+use Rattle.journal_keeping.specs.Keeping.{IsKeptJournal, StandsForJournal}
 use Rattle.journal_keeping.specs.Laws.{FrontsAreLegal, MorePairsStay, FirstsAreLegal, CanBeginAgain}
 
 abbrev Leads : Market → List (Pair Record Outcome) → Market → Type 0
@@ -34,7 +34,7 @@ more_pairs_stay version old new more least most later image fits grows keeps = (
   keeps.0,
   keeps.1,
   omega (arith, keeps.2, grows),
-  subst (λ (l : List (Pair Record Outcome)). Keeps version (old ++ l) image) (sym (take-append-le keeps.0 new more (omega (arith, keeps.2, fits)))) keeps.3,
+  subst (λ (l : List (Pair Record Outcome)). StandsForJournal version (old ++ l) image) (sym (take-append-le keeps.0 new more (omega (arith, keeps.2, fits)))) keeps.3,
 )
 
 -- a front of two lists

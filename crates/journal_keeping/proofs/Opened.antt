@@ -18,7 +18,7 @@ use Rattle.journal_disk.proofs.Entries.{each_more, same_version}
 use Rattle.journal_disk.proofs.OneList.{one_list, one_version}
 use Rattle.journal_disk.proofs.OpenedEntries.{not_foreign}
 use Rattle.journal_disk.proofs.Excluding.{prefix_of, one_behind, undamaged}
-use Rattle.journal_keeping.specs.Keeping.{IsKeptJournal, Keeps}
+use Rattle.journal_keeping.specs.Keeping.{IsKeptJournal, StandsForJournal}
 use Rattle.journal_keeping.specs.Openings.{Opening, Foreign, New, Damaged, Rejected, Legal, BeginsLegal, IsOpening}
 use Rattle.journal_keeping.specs.Laws.{LegalIsOpened}
 
@@ -50,7 +50,7 @@ module _ (version : Version) (pairs : List (Pair Record Outcome)) (market : Mark
 same_begins : (v w : Version) (bytes : List ℕ) (legal : List (Pair Record Outcome)) (m : Market) (place : ℕ) → v ≡ w → BeginsLegal v bytes legal m place → BeginsLegal w bytes legal m place
 same_begins v w bytes legal m place is begins = subst (λ (x : Version). BeginsLegal x bytes legal m place) is begins
 
-module _ (version : Version) (pairs : List (Pair Record Outcome)) (market : Market) (bytes : List ℕ) (journal : IsKeptJournal version pairs market) (keeps : Keeps version pairs bytes) (small : length bytes ≤ 2 ^ 60) where
+module _ (version : Version) (pairs : List (Pair Record Outcome)) (market : Market) (bytes : List ℕ) (journal : IsKeptJournal version pairs market) (keeps : StandsForJournal version pairs bytes) (small : length bytes ≤ 2 ^ 60) where
   of_same : 9 < length bytes → (v : Version) (legal : List (Pair Record Outcome)) (m : Market) (place : ℕ) → BeginsLegal v bytes legal m place → BeginsLegal version bytes legal m place
   of_same long v legal m place begins =
       let has = has_them version (map records_of pairs) bytes long keeps in

@@ -19,8 +19,8 @@ use Rattle.disk_edge.specs.Disks.{DiskState, IsDisk, AtEachMoment}
 use Rattle.disk_edge.proofs.Moments.{weaker, then_more, at_the_end}
 use Rattle.journal_disk.specs.Pairs.{RecordPair}
 use Rattle.journal_disk.specs.Entries.{StandsFor, WithOrWithout}
-use Rattle.journal_disk.specs.Entries.{Keeps as KeepsAt}
-use Rattle.journal_keeping.specs.Keeping.{IsKeptJournal, Keeps, GoesOn, KeepsFirst, DuringCall, AtReturn, StandIn, Runs}
+use Rattle.journal_disk.specs.Entries.{Keeps}
+use Rattle.journal_keeping.specs.Keeping.{IsKeptJournal, StandsForJournal, GoesOn, KeepsFirst, DuringCall, AtReturn, StandIn, Runs}
 use Rattle.journal_keeping.specs.Serving.{HasKept, IsNext}
 use Rattle.journal_keeping.proofs.Legal.{more_pairs_stay}
 
@@ -49,7 +49,7 @@ stand_whole Cut before after pairs grows = record {
 
 module _ (version : Version) where
   -- a disk that keeps pairs leaves an image that stands for them
-  kept_stands : (pairs : List RecordPair) (place : ℕ) (disk : DiskState) (image : List ℕ) → KeepsAt version pairs place disk → disk.images image → StandsFor version pairs image
+  kept_stands : (pairs : List RecordPair) (place : ℕ) (disk : DiskState) (image : List ℕ) → Keeps version pairs place disk → disk.images image → StandsFor version pairs image
   kept_stands pairs place disk image keeps left =
       inr (record { each = keeps.2.each; gate = keeps.0; shut = keeps.1; rest = []; spelled = keeps.2.durable image left })
 
@@ -79,31 +79,31 @@ module _ (version : Version) where
   with_or_without : (old new : Pairs) (pair : Pair Record Outcome) (image : List ℕ) → WithOrWithout version (map records_of (old ++ new)) (records_of pair) image → KeepsFirst version old (new ++ pair ∷ []) (length new) (length (new ++ pair ∷ [])) image
   with_or_without old new pair image (inl without) =
       let same : take (length new) (new ++ pair ∷ []) ≡ new = take-append-le (length new) new (pair ∷ []) (omega arith) ∙ take_all (length new) new (omega arith) in
-      (length new, omega arith, omega (arith, length-append new (pair ∷ [])), subst (λ (l : Pairs). Keeps version (old ++ l) image) (sym same) without)
+      (length new, omega arith, omega (arith, length-append new (pair ∷ [])), subst (λ (l : Pairs). StandsForJournal version (old ++ l) image) (sym same) without)
   with_or_without old new pair image (inr with_it) =
       let more = new ++ pair ∷ [] in
-      let stands : Keeps version (old ++ more) image = subst (λ (l : List RecordPair). StandsFor version l image) (records_more old new pair) with_it in
-      (length more, omega (arith, length-append new (pair ∷ [])), omega arith, subst (λ (l : Pairs). Keeps version (old ++ l) image) (sym (take_all (length more) more (omega arith))) stands)
+      let stands : StandsForJournal version (old ++ more) image = subst (λ (l : List RecordPair). StandsFor version l image) (records_more old new pair) with_it in
+      (length more, omega (arith, length-append new (pair ∷ [])), omega arith, subst (λ (l : Pairs). StandsForJournal version (old ++ l) image) (sym (take_all (length more) more (omega arith))) stands)
 
-  pub kept_none : (start now : DiskState) (old : Pairs) (before : Market) (place : ℕ) → IsKeptJournal version old before → KeepsAt version (map records_of old) place now
-      → AtEachMoment start now (λ image. start.images image ⊎ Keeps version old image) → HasKept version start now old before place [] [] before
+  pub kept_none : (start now : DiskState) (old : Pairs) (before : Market) (place : ℕ) → IsKeptJournal version old before → Keeps version (map records_of old) place now
+      → AtEachMoment start now (λ image. start.images image ⊎ StandsForJournal version old image) → HasKept version start now old before place [] [] before
   kept_none start now old before place is keeps opens = record {
     goes_on = goes_none old before is;
-    keeps = subst (λ (l : Pairs). KeepsAt version (map records_of l) place now) (sym (append-nil old)) keeps;
-    during = weaker start now _ _ (λ image was. ⊎_elim (λ early. inl early) (λ (stands : Keeps version old image). inr (0, omega arith, omega arith, subst (λ (l : Pairs). Keeps version l image) (sym (append-nil old)) stands)) was) opens;
+    keeps = subst (λ (l : Pairs). Keeps version (map records_of l) place now) (sym (append-nil old)) keeps;
+    during = weaker start now _ _ (λ image was. ⊎_elim (λ early. inl early) (λ (stands : StandsForJournal version old image). inr (0, omega arith, omega arith, subst (λ (l : Pairs). StandsForJournal version l image) (sym (append-nil old)) stands)) was) opens;
   }
 
   -- a run that ends before a pair is kept leaves the start's images, or the old pairs
-  pub opened_returns : (start next : DiskState) (old : Pairs) → IsDisk next → AtEachMoment start next (λ image. start.images image ⊎ Keeps version old image) → AtReturn version start next old [] 0
+  pub opened_returns : (start next : DiskState) (old : Pairs) → IsDisk next → AtEachMoment start next (λ image. start.images image ⊎ StandsForJournal version old image) → AtReturn version start next old [] 0
   opened_returns start next old is_disk opens image left =
-      ⊎_elim (λ early. inl (early, refl)) (λ (stands : Keeps version old image). inr (0, omega arith, omega arith, subst (λ (l : Pairs). Keeps version l image) (sym (append-nil old)) stands))
+      ⊎_elim (λ early. inl (early, refl)) (λ (stands : StandsForJournal version old image). inr (0, omega arith, omega arith, subst (λ (l : Pairs). StandsForJournal version l image) (sym (append-nil old)) stands))
       (at_the_end start next _ is_disk opens image left)
 
   module _ (start now : DiskState) (old : Pairs) (before : Market) (place : ℕ) (records : List Record) (new : Pairs) (market : Market) (kept : HasKept version start now old before place records new market) where
     -- a run that ends here leaves each pair that was acknowledged
     pub kept_returns : AtReturn version start now old new (length new)
     kept_returns image left =
-        inr (length new, omega arith, omega arith, subst (λ (l : Pairs). Keeps version (old ++ l) image) (sym (take_all (length new) new (omega arith))) (kept_stands (map records_of (old ++ new)) place now image kept.keeps left))
+        inr (length new, omega arith, omega arith, subst (λ (l : Pairs). StandsForJournal version (old ++ l) image) (sym (take_all (length new) new (omega arith))) (kept_stands (map records_of (old ++ new)) place now image kept.keeps left))
 
     module _ (next : DiskState) (pair : Pair Record Outcome) (moments : AtEachMoment now next (WithOrWithout version (map records_of (old ++ new)) (records_of pair))) where
       -- an append, whatever it answers
@@ -122,10 +122,10 @@ module _ (version : Version) where
 
       -- one that answered Ok
       pub kept_more : (later : ℕ) (after : Market) → IsPair pair → IsNext market pair after → Step IsReadAs IsRightOutcome market pair.asked pair.answer after
-          → KeepsAt version (map records_of (old ++ new) ++ records_of pair ∷ []) later next → HasKept version start next old before later (records ++ pair.asked ∷ []) (new ++ pair ∷ []) after
+          → Keeps version (map records_of (old ++ new) ++ records_of pair ∷ []) later next → HasKept version start next old before later (records ++ pair.asked ∷ []) (new ++ pair ∷ []) after
       kept_more later after fits own right keeps = record {
         goes_on = goes_more old before records new market pair after kept.goes_on fits own right;
-        keeps = subst (λ (l : List RecordPair). KeepsAt version l later next) (records_more old new pair) keeps;
+        keeps = subst (λ (l : List RecordPair). Keeps version l later next) (records_more old new pair) keeps;
         during = more_during;
       }
 
@@ -157,19 +157,19 @@ module _ (version : Version) where
 
   -- .. or before the first one.
   pub unbegun : (start next : DiskState) (old : Pairs) (before : Market) → IsKeptJournal version old before → IsDisk next
-      → AtEachMoment start next (λ image. start.images image ⊎ Keeps version old image) → Runs version start next old before [] [] 0
+      → AtEachMoment start next (λ image. start.images image ⊎ StandsForJournal version old image) → Runs version start next old before [] [] 0
   unbegun start next old before is is_disk opens = record {
     now = before;
     within = omega arith;
     all_but_one = omega arith;
     goes_on = goes_none old before is;
-    during = weaker start next _ _ (λ image was. ⊎_elim (λ early. inl early) (λ (stands : Keeps version old image). inr (0, omega arith, omega arith, subst (λ (l : Pairs). Keeps version l image) (sym (append-nil old)) stands)) was) opens;
+    during = weaker start next _ _ (λ image was. ⊎_elim (λ early. inl early) (λ (stands : StandsForJournal version old image). inr (0, omega arith, omega arith, subst (λ (l : Pairs). StandsForJournal version l image) (sym (append-nil old)) stands)) was) opens;
     returns = opened_returns start next old is_disk opens;
   }
 
   -- a run whose disk was opened first
   pub opened_first : (first start end : DiskState) (old : Pairs) (before : Market) (place : ℕ) (records : List Record) (new : Pairs) (acknowledged : ℕ)
-      → AtEachMoment first start (λ image. first.images image ⊎ Keeps version old image) → KeepsAt version (map records_of old) place start
+      → AtEachMoment first start (λ image. first.images image ⊎ StandsForJournal version old image) → Keeps version (map records_of old) place start
       → Runs version start end old before records new acknowledged → Runs version first end old before records new acknowledged
   opened_first first start end old before place records new acknowledged opens keeps runs =
       record {
@@ -178,10 +178,10 @@ module _ (version : Version) where
         all_but_one = runs.all_but_one;
         goes_on = runs.goes_on;
         during = then_more first start end _
-            (weaker first start _ _ (λ image was. ⊎_elim (λ early. inl early) (λ (stands : Keeps version old image). inr (0, omega arith, omega arith, subst (λ (l : Pairs). Keeps version l image) (sym (append-nil old)) stands)) was) opens)
-            (weaker start end _ _ (λ image was. ⊎_elim (λ (early : start.images image). inr (0, omega arith, omega arith, subst (λ (l : Pairs). Keeps version l image) (sym (append-nil old)) (kept_stands (map records_of old) place start image keeps early))) (λ later. inr later) was) runs.during);
+            (weaker first start _ _ (λ image was. ⊎_elim (λ early. inl early) (λ (stands : StandsForJournal version old image). inr (0, omega arith, omega arith, subst (λ (l : Pairs). StandsForJournal version l image) (sym (append-nil old)) stands)) was) opens)
+            (weaker start end _ _ (λ image was. ⊎_elim (λ (early : start.images image). inr (0, omega arith, omega arith, subst (λ (l : Pairs). StandsForJournal version l image) (sym (append-nil old)) (kept_stands (map records_of old) place start image keeps early))) (λ later. inr later) was) runs.during);
         returns = λ image left. ⊎_elim
-            (λ (early : start.images image × (acknowledged ≡ 0)). inr (0, omega (arith, early.1), omega arith, subst (λ (l : Pairs). Keeps version l image) (sym (append-nil old)) (kept_stands (map records_of old) place start image keeps early.0)))
+            (λ (early : start.images image × (acknowledged ≡ 0)). inr (0, omega (arith, early.1), omega arith, subst (λ (l : Pairs). StandsForJournal version l image) (sym (append-nil old)) (kept_stands (map records_of old) place start image keeps early.0)))
             (λ later. inr later)
             (runs.returns image left);
       }

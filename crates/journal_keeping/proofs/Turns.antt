@@ -21,7 +21,7 @@ use Rattle.market_rules.proofs.LawProofs.{journals_hold_deposits, steps_keep_sou
 use Rattle.disk_edge.specs.Disks.{DiskState, IsDisk}
 use Rattle.disk_edge.proofs.Moments.{no_call}
 use Rattle.journal_disk.specs.Pairs.{IsRecordPair, pair_bytes, IsWholePair}
-use Rattle.journal_disk.specs.Entries.{Keeps as KeepsAt}
+use Rattle.journal_disk.specs.Entries.{Keeps}
 use Rattle.journal_keeping.specs.Keeping.{IsKeptJournal}
 use Rattle.journal_keeping.specs.Serving.{HasKept}
 use Rattle.journal_keeping.specs.Private.{KeepsOneMore, SoFar}
@@ -65,7 +65,7 @@ module _ (start now next : DiskState) (before market after : Market) (from place
     (so : SoFar start now before market from place held holds new) (fits : IsPair pair) (step : Step IsReadAs IsOwnOutcome market pair.asked pair.answer after)
     (keeps : KeepsOneMore pair place later now next) where
   -- the disk keeps one more
-  pub kept_one_more : (version : Version) (old : Pairs) → IsKeptJournal version old before → KeepsAt version (map records_of old) from start → HasKept version start next old before later (asked_of (new ++ pair ∷ [])) (new ++ pair ∷ []) after
+  pub kept_one_more : (version : Version) (old : Pairs) → IsKeptJournal version old before → Keeps version (map records_of old) from start → HasKept version start next old before later (asked_of (new ++ pair ∷ [])) (new ++ pair ∷ []) after
   kept_one_more version old is at =
       let kept = so.kept version old is at in
       let right = own_is_right version (old ++ new) market pair after kept.goes_on.journal step in

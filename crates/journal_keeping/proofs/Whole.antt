@@ -23,10 +23,10 @@ use Rattle.file_units.proofs.Endings.{reads_alike}
 use Rattle.disk_edge.specs.Disks.{DiskState, IsDisk}
 use Rattle.disk_edge.specs.Images.{LeavesOnly}
 use Rattle.journal_disk.specs.Recovering.{IsFound}
-use Rattle.journal_disk.specs.Entries.{Keeps as KeepsAt}
+use Rattle.journal_disk.specs.Entries.{Keeps}
 use Rattle.journal_keeping.specs.declared.fault.KeepFault.{KeepFault}
 use Rattle.journal_keeping.specs.declared.fault.KeepFault.TheVariants.{Read, Write, Disk, Memory, NotDisk, Damaged, Rejected, NotFlow, Torn, TooLong}
-use Rattle.journal_keeping.specs.Keeping.{IsKeptJournal, Keeps, IsLegalImage, HoldsLegal, GoesOn, GoesOnIn, StandIn, Runs, KeepsOn, KeepsIn}
+use Rattle.journal_keeping.specs.Keeping.{IsKeptJournal, StandsForJournal, IsLegalImage, HoldsLegal, GoesOn, GoesOnIn, StandIn, Runs, KeepsOn, KeepsIn}
 use Rattle.journal_keeping.specs.Openings.{Opening, New, Legal, IsOpening, OpensAs}
 use Rattle.journal_keeping.specs.Openings as opening
 use Rattle.journal_keeping.specs.Ended.{IsRefused, HasKeptAll, HasLeftAll, ComesTo, IsRefusal, MayBeginAgain}
@@ -158,7 +158,7 @@ not_begun_disk limit held content end (Torn place) is = absurd is
 not_begun_disk limit held content end TooLong is = absurd is
 
 -- and of a source, behind a disk that keeps pairs or a new one
-left_kept : (limit : ℕ) (held : List ℕ) (content : Option (List ℕ)) (end : DiskState) (version : Version) (old : Pairs) (m : Market) (place : ℕ) → IsOpening held (Legal version old m) → KeepsAt version (map records_of old) place end
+left_kept : (limit : ℕ) (held : List ℕ) (content : Option (List ℕ)) (end : DiskState) (version : Version) (old : Pairs) (m : Market) (place : ℕ) → IsOpening held (Legal version old m) → Keeps version (map records_of old) place end
     → IfSome content (λ bytes. IsNoneOf (Some version) (take limit bytes)) → NotBegun limit held content end NotFlow
 left_kept limit held content end version old m place is keeps none = λ before. (Grows-nothing before, inl (version, old, m, is, none, place, keeps))
 
@@ -271,7 +271,7 @@ module _ (limit : ℕ) (held : List ℕ) (content : Option (List ℕ)) (begun : 
     -- all records were served
     all_kept : (result : Result (Unit {0}) KeepFault) (ends : Ending) (on : ServesOn w mid left result market place begun end before after) → (¬ (result ≡ Err Write))
         → GoesToEnd commands Adds w.place (w.limit - w.place < length (bytes on.goes.taken)) (take (w.limit - w.place) (bytes on.goes.taken)) (ending_of ends) [] on.new tt tt
-        → (on.more ≡ []) × (on.acknowledged ≡ length on.new) × ((v : Version) (old : Pairs) → IsKeptJournal v old market → KeepsAt v (map records_of old) place begun → (later : ℕ) × KeepsAt v (map records_of (old ++ on.new)) later end)
+        → (on.more ≡ []) × (on.acknowledged ≡ length on.new) × ((v : Version) (old : Pairs) → IsKeptJournal v old market → Keeps v (map records_of old) place begun → (later : ℕ) × Keeps v (map records_of (old ++ on.new)) later end)
         → (records : List Record) × HasKeptAll limit held content end before after records (ending_of ends)
     all_kept result ends on uncut goes ended =
         let runs = on.runs version is.0 journal is.2 in
@@ -323,7 +323,7 @@ module _ (limit : ℕ) (held : List ℕ) (content : Option (List ℕ)) (begun : 
 
 -- the records that were served are the source's first, and what became of disk and out
 pub keeps_served : (limit : ℕ) (content mid left : Option (List ℕ)) (w : WindowState) (of : Version) (behind : IsBehindMagic limit of w content mid) (result : Result (Unit {0}) KeepFault) (version : Version) (start begun end : DiskState) (old : Pairs) (market session : Market) (place : ℕ) (before after : Option (List ℕ))
-    → Opens version start begun old → GoesOnIn start version market of session × IsKeptJournal of old session × KeepsAt of (map records_of old) place begun → Opens of start begun old
+    → Opens version start begun old → GoesOnIn start version market of session × IsKeptJournal of old session × Keeps of (map records_of old) place begun → Opens of start begun old
     → ServesOn w mid left result session place begun end before after → KeepsIn limit content (result ≡ Err Write) version start end old market before after
 keeps_served limit content mid left w of behind result version start begun end old market session place before after opens0 is opens on =
     let all = on.new ++ on.more in
@@ -359,7 +359,7 @@ not_of_serving (Err (Torn n)) P ended refusal = refusal
 not_of_serving (Err TooLong) P ended refusal = refusal
 
 -- a disk that keeps a legal journal is not refused
-module _ (version : Version) (held : List ℕ) (old : Pairs) (market : Market) (legal : IsKeptJournal version old market) (keeps : Keeps version old held) (small : length held ≤ 2 ^ 60) (end : DiskState) where
+module _ (version : Version) (held : List ℕ) (old : Pairs) (market : Market) (legal : IsKeptJournal version old market) (keeps : StandsForJournal version old held) (small : length held ≤ 2 ^ 60) (end : DiskState) where
   opened : (opens : Opening) → IsRefused held opens end → (opens ≡ New) ⊎ (opens ≡ Legal version old market)
   opened opens refused = legal_is_opened version old market held opens legal keeps small refused.is
 

@@ -13,7 +13,7 @@ use Rattle.journal_records.specs.Formats.{records_of}
 use Rattle.market_rules.specs.Market.{Market}
 use Rattle.disk_edge.specs.Disks.{DiskState}
 use Rattle.journal_disk.specs.Entries.{EndsAt}
-use Rattle.journal_disk.specs.Entries.{Keeps as KeepsAt}
+use Rattle.journal_disk.specs.Entries.{Keeps}
 use Rattle.journal_keeping.specs.Openings.{Legal, IsOpening, OpensAs}
 use Rattle.journal_keeping.specs.Openings as opening
 use Rattle.journal_keeping.specs.Ended.{IsRefused, HasLeftAll}
@@ -26,7 +26,7 @@ IsReadUp held version market place now = (old : List (Pair Record Outcome)) × I
 
 -- and nothing behind it; or the disk was new, and was made one of the version
 abbrev pub IsBegun : List ℕ → Version → Market → ℕ → DiskState → Type 0
-IsBegun held version market place now = (old : List (Pair Record Outcome)) × OpensAs held version old market × KeepsAt version (map records_of old) place now
+IsBegun held version market place now = (old : List (Pair Record Outcome)) × OpensAs held version old market × Keeps version (map records_of old) place now
 
 -- what a fault at the opening says of the disk's bytes
 abbrev pub OpensNot : List ℕ → DiskState → KeepFault → Type 0

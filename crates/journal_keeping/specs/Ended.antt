@@ -14,7 +14,7 @@ use Rattle.journal_records.specs.Formats.{records_of}
 use Rattle.market_rules.specs.Market.{Market}
 use Rattle.disk_edge.specs.Disks.{DiskState}
 use Rattle.disk_edge.specs.Images.{LeavesOnly}
-use Rattle.journal_disk.specs.Entries.{Keeps as KeepsAt}
+use Rattle.journal_disk.specs.Entries.{Keeps}
 use Rattle.journal_keeping.specs.Keeping.{IsLegalImage, HoldsLegal, GoesOn}
 use Rattle.journal_keeping.specs.Openings.{Opening, New, Legal, IsOpening, OpensAs, ReadsKept}
 use Rattle.journal_keeping.specs.Openings as opening
@@ -39,7 +39,7 @@ pub record HasKeptAll (limit : ℕ) (held : List ℕ) (content : Option (List �
   pub now : Market
   pub goes_on : GoesOn version old market records new now
   pub place : ℕ
-  pub keeps : KeepsAt version (map records_of (old ++ new)) place end
+  pub keeps : Keeps version (map records_of (old ++ new)) place end
   pub written : Grows before after (flat_map pair_spelling new)
 
 -- The source is no command file of the disk's version: the disk keeps the old pairs, and a crash leaves just them. Or it is none at all,
@@ -48,7 +48,7 @@ abbrev pub HasLeftAll : ℕ → List ℕ → Option (List ℕ) → DiskState →
 HasLeftAll limit held content end before after =
     Grows before after []
     × (((version : Version) × (old : List (Pair Record Outcome)) × (market : Market) × IsOpening held (Legal version old market)
-    × IfSome content (λ bytes. ReadsKept version limit bytes reading.NotFlow) × (place : ℕ) × KeepsAt version (map records_of old) place end)
+    × IfSome content (λ bytes. ReadsKept version limit bytes reading.NotFlow) × (place : ℕ) × Keeps version (map records_of old) place end)
     ⊎ (IsOpening held New × IfSome content (λ bytes. Reads commands limit bytes reading.NotFlow) × (end.content ≡ Some held) × LeavesOnly end.images held))
 
 -- what it comes to where the disk tells these bytes

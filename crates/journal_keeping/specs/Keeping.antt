@@ -24,12 +24,12 @@ abbrev pub IsKeptJournal : Version → List (Pair Record Outcome) → Market →
 IsKeptJournal version pairs market = IsLegalJournal version pairs market
 
 -- the image stands for these pairs of a journal of the version
-abbrev pub Keeps : Version → List (Pair Record Outcome) → Images
-Keeps version pairs image = StandsFor version (map records_of pairs) image
+abbrev pub StandsForJournal : Version → List (Pair Record Outcome) → Images
+StandsForJournal version pairs image = StandsFor version (map records_of pairs) image
 
 -- the image stands for the pairs of a legal journal
 abbrev pub IsLegalImage : Images
-IsLegalImage image = (version : Version) × (pairs : List (Pair Record Outcome)) × (market : Market) × IsKeptJournal version pairs market × Keeps version pairs image
+IsLegalImage image = (version : Version) × (pairs : List (Pair Record Outcome)) × (market : Market) × IsKeptJournal version pairs market × StandsForJournal version pairs image
 
 -- A disk that a run may begin on: it tells what it holds, which stands for these pairs of a legal journal, and a crash leaves
 -- a legal journal too, not always that one. A new disk holds no pairs, in any version.
@@ -37,7 +37,7 @@ pub record HoldsLegal (disk : DiskState) (version : Version) (old : List (Pair R
   pub bytes : List ℕ
   pub told : disk.content ≡ Some bytes
   pub journal : IsKeptJournal version old market
-  pub stands : Keeps version old bytes
+  pub stands : StandsForJournal version old bytes
   pub each : (image : List ℕ) → disk.images image → IsLegalImage image
 
 -- The version and the market in which a run goes on: those of the old pairs; and of a new disk any version, which is that of its source,
@@ -54,7 +54,7 @@ pub record GoesOn (version : Version) (old : List (Pair Record Outcome)) (before
 
 -- the image stands for the old pairs, and behind them for the first of the new ones: at least and at most so many
 abbrev pub KeepsFirst : Version → List (Pair Record Outcome) → List (Pair Record Outcome) → ℕ → ℕ → Images
-KeepsFirst version old new least most image = (count : ℕ) × (least ≤ count) × (count ≤ most) × Keeps version (old ++ take count new) image
+KeepsFirst version old new least most image = (count : ℕ) × (least ≤ count) × (count ≤ most) × StandsForJournal version (old ++ take count new) image
 
 -- At each moment of the call a crash leaves an image that was there at its start, or the old pairs and the first of the new ones.
 abbrev pub DuringCall : Version → DiskState → DiskState → List (Pair Record Outcome) → List (Pair Record Outcome) → Type 0

@@ -7,7 +7,7 @@ use Rattle.word_driver.specs.Laws.{IsNotDenied}
 use Rattle.flow_orders.specs.Outcomes.{Outcome}
 use Rattle.market_rules.specs.Market.{Market}
 use Rattle.disk_edge.specs.Disks.{DiskState}
-use Rattle.journal_keeping.specs.Keeping.{IsKeptJournal, Keeps, IsLegalImage, HoldsLegal, GoesOn, KeepsFirst, DuringCall, AtReturn}
+use Rattle.journal_keeping.specs.Keeping.{IsKeptJournal, StandsForJournal, IsLegalImage, HoldsLegal, GoesOn, KeepsFirst, DuringCall, AtReturn}
 use Rattle.journal_keeping.specs.Openings.{Opening, New, Legal, IsOpening}
 
 -- the first pairs of a legal journal are one
@@ -37,7 +37,7 @@ pub record CanBeginAgain (start end : DiskState) : Type 0 where
 -- bytes that keep a legal journal are opened as that, and as nothing else, where they are at most 2^60; a new disk as a new one
 abbrev pub LegalIsOpened : Type 0
 LegalIsOpened = (version : Version) (pairs : List (Pair Record Outcome)) (market : Market) (bytes : List ℕ) (opening : Opening)
-    → IsKeptJournal version pairs market → Keeps version pairs bytes → length bytes ≤ 2 ^ 60 → IsOpening bytes opening → (opening ≡ New) ⊎ (opening ≡ Legal version pairs market)
+    → IsKeptJournal version pairs market → StandsForJournal version pairs bytes → length bytes ≤ 2 ^ 60 → IsOpening bytes opening → (opening ≡ New) ⊎ (opening ≡ Legal version pairs market)
 
 -- a disk's bytes are opened in one way
 abbrev pub OneOpening : Type 0

@@ -15,7 +15,7 @@ use Rattle.journal_records.specs.Formats.{records_of}
 use Rattle.market_rules.specs.Market.{Market}
 use Rattle.market_rules.specs.Wanting.{RecordMayWant}
 use Rattle.disk_edge.specs.Disks.{DiskState}
-use Rattle.journal_disk.specs.Entries.{Keeps as KeepsAt}
+use Rattle.journal_disk.specs.Entries.{Keeps}
 use Rattle.journal_keeping.specs.Keeping.{GoesOn}
 use Rattle.journal_keeping.specs.Openings.{OpensAs}
 use Rattle.journal_keeping.specs.declared.fault.KeepFault.{KeepFault}
@@ -85,7 +85,7 @@ pub record WantsNext (limit : ℕ) (held : List ℕ) (content : Option (List ℕ
   pub starts : IfSome content (λ bytes. StartsWith commands limit bytes version (asked_of new ++ next ∷ []))
   pub wants : RecordMayWant now next
   pub place : ℕ
-  pub keeps : KeepsAt version (map records_of (old ++ new)) place end
+  pub keeps : Keeps version (map records_of (old ++ new)) place end
   pub written : Grows before after (flat_map pair_spelling new)
 
 -- where memory ran out: nothing was read or written, or it may be wanted at the next record

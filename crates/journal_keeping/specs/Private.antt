@@ -27,7 +27,7 @@ use Rattle.exchange_session.specs.Serving.{AnswersOne}
 use Rattle.disk_edge.specs.Disks.{DiskState, AtEachMoment}
 use Rattle.journal_disk.specs.Pairs.{RecordPair}
 use Rattle.journal_disk.specs.Entries.{WithOrWithout}
-use Rattle.journal_disk.specs.Entries.{Keeps as KeepsAt}
+use Rattle.journal_disk.specs.Entries.{Keeps}
 use Rattle.journal_keeping.specs.Keeping.{IsKeptJournal, GoesOn, Runs, StandIn}
 use Rattle.journal_keeping.specs.Serving.{HasKept}
 use Rattle.journal_keeping.specs.Pacing.{asked_of}
@@ -44,8 +44,8 @@ IsReady market place left = (market.next_order + left < 2 ^ 64) × (place + 2631
 
 -- a disk that kept pairs keeps one more, and at each moment since left them with it or without
 pub record KeepsOneMore (pair : Pair Record Outcome) (from to : ℕ) (old new : DiskState) : Type 0 where
-  pub keeps : (version : Version) (pairs : List RecordPair) → KeepsAt version pairs from old → KeepsAt version (pairs ++ records_of pair ∷ []) to new
-  pub moments : (version : Version) (pairs : List RecordPair) → KeepsAt version pairs from old → AtEachMoment old new (WithOrWithout version pairs (records_of pair))
+  pub keeps : (version : Version) (pairs : List RecordPair) → Keeps version pairs from old → Keeps version (pairs ++ records_of pair ∷ []) to new
+  pub moments : (version : Version) (pairs : List RecordPair) → Keeps version pairs from old → AtEachMoment old new (WithOrWithout version pairs (records_of pair))
 
 -- the record at the front of the bytes was answered so, by one step of the market, and the pair may stand in a journal
 pub record IsServed (bytes : List ℕ) (old : Market) (pair : Pair Record Outcome) (new : Market) : Type 0 where
@@ -90,7 +90,7 @@ module _ (bytes : List ℕ) (old : Market) (from to : ℕ) (disk later : DiskSta
   BreaksNext Memory = SameDisk × SameOut × HasWanting old bytes
   BreaksNext Disk =
       SameOut × (pair : Pair Record Outcome) × (new : Market) × IsServed bytes old pair new
-      × ((version : Version) (pairs : List RecordPair) → KeepsAt version pairs from disk → AtEachMoment disk later (WithOrWithout version pairs (records_of pair)))
+      × ((version : Version) (pairs : List RecordPair) → Keeps version pairs from disk → AtEachMoment disk later (WithOrWithout version pairs (records_of pair)))
   BreaksNext Write = (pair : Pair Record Outcome) × (new : Market) × IsServed bytes old pair new × KeepsOneMore pair from to disk later × GrowsByFront before after (pair_spelling pair)
   BreaksNext Read = ⊥
   BreaksNext NotDisk = ⊥
@@ -107,7 +107,7 @@ Adds old asked new before after = (pair : Pair Record Outcome) × (pair.asked �
 -- What serving has come to, from a market and a place on: these pairs were kept and written.
 pub record SoFar (start now : DiskState) (before market : Market) (from place : ℕ) (held holds : Option (List ℕ)) (new : List (Pair Record Outcome)) : Type 0 where
   pub written : Grows held holds (flat_map pair_spelling new)
-  pub kept : (version : Version) (old : List (Pair Record Outcome)) → IsKeptJournal version old before → KeepsAt version (map records_of old) from start → HasKept version start now old before place (asked_of new) new market
+  pub kept : (version : Version) (old : List (Pair Record Outcome)) → IsKeptJournal version old before → Keeps version (map records_of old) from start → HasKept version start now old before place (asked_of new) new market
   pub told : IsSome now.content → IsSome start.content
 
 -- an end of keeping as one of going through units
@@ -151,10 +151,10 @@ pub record ServesOn (window : WindowState) (rest left : Option (List ℕ)) (resu
   pub more : List (Pair Record Outcome)
   pub acknowledged : ℕ
   pub market : Market
-  pub so_far : (version : Version) (old : List (Pair Record Outcome)) → IsKeptJournal version old before → KeepsAt version (map records_of old) from start → GoesOn version old before (asked_of new) new market
+  pub so_far : (version : Version) (old : List (Pair Record Outcome)) → IsKeptJournal version old before → Keeps version (map records_of old) from start → GoesOn version old before (asked_of new) new market
   pub goes : GoesFrom commands Adds (Names market new more) window rest left (as_going result) [] new tt tt
-  pub runs : (version : Version) (old : List (Pair Record Outcome)) → IsKeptJournal version old before → KeepsAt version (map records_of old) from start → Runs version start end old before (asked_of (new ++ more)) (new ++ more) acknowledged
+  pub runs : (version : Version) (old : List (Pair Record Outcome)) → IsKeptJournal version old before → Keeps version (map records_of old) from start → Runs version start end old before (asked_of (new ++ more)) (new ++ more) acknowledged
   pub written : StandIn (result ≡ Err Write) held holds (take acknowledged (new ++ more))
   pub whole : (text : List ℕ) × Grows held holds (flat_map pair_spelling new ++ text)
   pub ended : IfEnded result ((more ≡ []) × (acknowledged ≡ length new)
-      × ((version : Version) (old : List (Pair Record Outcome)) → IsKeptJournal version old before → KeepsAt version (map records_of old) from start → (place : ℕ) × KeepsAt version (map records_of (old ++ new)) place end))
+      × ((version : Version) (old : List (Pair Record Outcome)) → IsKeptJournal version old before → Keeps version (map records_of old) from start → (place : ℕ) × Keeps version (map records_of (old ++ new)) place end))

@@ -10,14 +10,14 @@ use Rattle.journal_records.specs.Formats.{records_of}
 use Rattle.market_rules.specs.Market.{Market}
 use Rattle.market_rules.specs.Journal.{Step}
 use Rattle.disk_edge.specs.Disks.{DiskState}
-use Rattle.journal_disk.specs.Entries.{Keeps as KeepsAt}
+use Rattle.journal_disk.specs.Entries.{Keeps}
 use Rattle.journal_keeping.specs.Keeping.{GoesOn, DuringCall}
 
 -- So far these records were served, from the market of the old pairs to this one, and each new pair is kept. The disk has them
 -- up to the appender's place, and at each moment since the start a crash left the start's images or the first of the pairs.
 pub record HasKept (version : Version) (start now : DiskState) (old : List (Pair Record Outcome)) (before : Market) (place : ℕ) (records : List Record) (new : List (Pair Record Outcome)) (market : Market) : Type 0 where
   pub goes_on : GoesOn version old before records new market
-  pub keeps : KeepsAt version (map records_of (old ++ new)) place now
+  pub keeps : Keeps version (map records_of (old ++ new)) place now
   pub during : DuringCall version start now old new
 
 -- the pair of a record that is served next

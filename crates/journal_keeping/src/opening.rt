@@ -12,7 +12,7 @@ ghost use Rattle.market_rules.specs.Market.{Market as market_value, empty_market
 ghost use Rattle.disk_edge.specs.Disks.{AtEachMoment};
 ghost use Rattle.journal_disk.specs.Looking.{OnlyLooks};
 ghost use Rattle.journal_disk.specs.Recovering.{IsFound};
-ghost use Rattle.journal_keeping.specs.Keeping.{Keeps, HoldsLegal};
+ghost use Rattle.journal_keeping.specs.Keeping.{StandsForJournal, HoldsLegal};
 ghost use Rattle.journal_keeping.specs.Openings.{KeepNone};
 ghost use Rattle.journal_keeping.specs.Beginning.{IsBegun, OpensNot, IsOfDisk, IsBehindMagic, IsWanted, IsNoneOf, IsOfSource, NotBegun, Unread, Asked};
 
@@ -67,7 +67,7 @@ fn open_kept<D: Disk>(
     ensures of_disk { IfErr result IsOfDisk }
     ensures untouched { IfSome (D.state disk.old).content (λ held. KeepNone held → OnlyLooks (D.state disk.old) (D.state disk.new)) }
     ensures moments { (v : version_value) (old : List (Pair Record Outcome)) (market : market_value) → HoldsLegal (D.state disk.old) v old market →
-        AtEachMoment (D.state disk.old) (D.state disk.new) (λ image. (D.state disk.old).images image ⊎ Keeps v old image) }
+        AtEachMoment (D.state disk.old) (D.state disk.new) (λ image. (D.state disk.old).images image ⊎ StandsForJournal v old image) }
     ensures told { OnOk result (IsSome (D.state disk.new).content → IsSome (D.state disk.old).content) }
     ensures room { IfOk result (λ keeper. 1042 ≤ vec_capacity keeper.pair) }
     ensures near { IfOk result (λ keeper. (keeper.session.next_order ≤ keeper.appender) × (keeper.appender ≤ 2 ^ 60)) }
@@ -163,7 +163,7 @@ fn begin_kept<S: Source, D: Disk>(
     ensures untouched { IfSome (D.state disk.old).content
         (λ held. KeepNone held → IsErr result × OnlyLooks (D.state disk.old) (D.state disk.new) × (source.new ≡ source.old)) }
     ensures moments { (v : version_value) (old : List (Pair Record Outcome)) (market : market_value) → HoldsLegal (D.state disk.old) v old market →
-        AtEachMoment (D.state disk.old) (D.state disk.new) (λ image. (D.state disk.old).images image ⊎ Keeps v old image) }
+        AtEachMoment (D.state disk.old) (D.state disk.new) (λ image. (D.state disk.old).images image ⊎ StandsForJournal v old image) }
     ensures told { OnOk result (IsSome (D.state disk.new).content → IsSome (D.state disk.old).content) }
     ensures disk_cause { Blames (result ≡ Err KeepFault.Disk) (D.state disk.old).faults (D.state disk.new).faults }
     ensures source_cause { Blames (result ≡ Err KeepFault.Read) (S.faults source.old) (S.faults source.new) }
@@ -205,7 +205,7 @@ fn begin_new<S: Source, D: Disk>(
     ensures untouched { IfSome (D.state disk.old).content
         (λ held. KeepNone held → IsErr result × OnlyLooks (D.state disk.old) (D.state disk.new) × (source.new ≡ source.old)) }
     ensures moments { (v : version_value) (old : List (Pair Record Outcome)) (market : market_value) → HoldsLegal (D.state disk.old) v old market →
-        AtEachMoment (D.state disk.old) (D.state disk.new) (λ image. (D.state disk.old).images image ⊎ Keeps v old image) }
+        AtEachMoment (D.state disk.old) (D.state disk.new) (λ image. (D.state disk.old).images image ⊎ StandsForJournal v old image) }
     ensures told { OnOk result (IsSome (D.state disk.new).content → IsSome (D.state disk.old).content) }
     ensures disk_cause { Blames (result ≡ Err KeepFault.Disk) (D.state disk.old).faults (D.state disk.new).faults }
     ensures source_cause { Blames (result ≡ Err KeepFault.Read) (S.faults source.old) (S.faults source.new) }
@@ -255,7 +255,7 @@ pub(crate) fn begin<S: Source, D: Disk>(
     ensures untouched { IfSome (D.state disk.old).content
         (λ held. KeepNone held → IsErr result × OnlyLooks (D.state disk.old) (D.state disk.new) × (source.new ≡ source.old)) }
     ensures moments { (v : version_value) (old : List (Pair Record Outcome)) (market : market_value) → HoldsLegal (D.state disk.old) v old market →
-        AtEachMoment (D.state disk.old) (D.state disk.new) (λ image. (D.state disk.old).images image ⊎ Keeps v old image) }
+        AtEachMoment (D.state disk.old) (D.state disk.new) (λ image. (D.state disk.old).images image ⊎ StandsForJournal v old image) }
     ensures told { OnOk result (IsSome (D.state disk.new).content → IsSome (D.state disk.old).content) }
     ensures disk_cause { Blames (result ≡ Err KeepFault.Disk) (D.state disk.old).faults (D.state disk.new).faults }
     ensures source_cause { Blames (result ≡ Err KeepFault.Read) (S.faults source.old) (S.faults source.new) }

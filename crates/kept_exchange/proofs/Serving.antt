@@ -21,7 +21,7 @@ use Rattle.journal_keeping.specs.declared.fault.KeepFault.TheVariants.{Read, Wri
 use Rattle.flow_exchange.specs.declared.status.Status.TheVariants as status
 use Rattle.flow_exchange.specs.Statuses.{line_of}
 use Rattle.kept_exchange.specs.Statuses.{kept_status}
-use Rattle.kept_exchange.specs.Keeping.{EndsAs, Determines, ServesKeep}
+use Rattle.kept_exchange.specs.Keeping.{ComesToStatus, Determines, ServesKeep}
 use Rattle.kept_exchange.proofs.AsStatus.{Kept, blames_as, read_back, write_back, disk_back, memory_back, done_back, refusal_back, determines}
 
 -- what a call keeps, for a wider reason to cut a write short
@@ -62,7 +62,7 @@ cut_line (Err e) before after line grows front = front
 module _ (limit : ℕ) (result : Kept) (start end : DiskState) (source out : Change) where
   -- what it came to, as a status
   ends_as : (content : Option (List ℕ)) → IfSome content (λ held. ComesTo limit held source.before end out.before out.after result)
-      → IfSome content (λ held. EndsAs limit held source.before end out.before out.after (kept_status limit result))
+      → IfSome content (λ held. ComesToStatus limit held source.before end out.before out.after (kept_status limit result))
   ends_as None comes = tt
   ends_as (Some held) comes = (result, comes, refl)
 

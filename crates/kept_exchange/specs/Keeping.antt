@@ -21,8 +21,8 @@ use Rattle.flow_exchange.specs.Statuses.{line_of}
 use Rattle.kept_exchange.specs.Statuses.{kept_status, AsksStatus}
 
 -- It ended so, and came to this: what was found on the disk and in the source, and what then stands on the disk and in out.
-abbrev pub EndsAs : ℕ → List ℕ → Option (List ℕ) → DiskState → Option (List ℕ) → Option (List ℕ) → Status → Type 0
-EndsAs limit held content end before after status =
+abbrev pub ComesToStatus : ℕ → List ℕ → Option (List ℕ) → DiskState → Option (List ℕ) → Option (List ℕ) → Status → Type 0
+ComesToStatus limit held content end before after status =
     (result : Result (Unit {0}) KeepFault) × ComesTo limit held content end before after result × (status ≡ kept_status limit result)
 
 -- the bytes of the disk and of the source ask for this status, and for no other
@@ -48,7 +48,7 @@ pub record ServesKeep (limit : ℕ) (status : Status) (start end : DiskState) (s
   pub opens : (version : Version) (old : List (Pair Record Outcome)) (market : Market) → HoldsLegal start version old market
       → IfSome start.content (λ held. length held ≤ 2 ^ 60) → ¬ IsRefusal status
   -- Which status comes, and what then stands on the disk and in out.
-  pub ends : IfSome start.content (λ held. EndsAs limit held source.before end out.before out.after status)
+  pub ends : IfSome start.content (λ held. ComesToStatus limit held source.before end out.before out.after status)
   -- Where no count rose, the status is want of memory or the one that the bytes determine.
   pub complete : (¬ Rose start.faults end.faults) → (¬ Rose source.faults source.faults_after) → (¬ Rose out.faults out.faults_after) → status ≢ NoMemory
       → IfSome start.content (λ held. IfSome source.before (λ bytes. Determines limit held bytes status))
