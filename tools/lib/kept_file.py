@@ -3,7 +3,9 @@ import struct
 
 from formats import HEAD
 
-MAGIC = b"FLOWDSK2"
+# By the version of the journal.
+MAGICS = {1: b"FLOWDSK1", 2: b"FLOWDSK2", 3: b"FLOWDSK3"}
+MAGIC = MAGICS[2]
 OPEN, CLOSED = b"\x01", b"\0"
 
 # A file of at most so many bytes is a new one, whatever it holds.
@@ -34,17 +36,20 @@ def is_pair(pair):
 
 
 def begin(file):
-    """Looks at the front of an open file: whether entries may follow, and not where it is a new one."""
+    """Looks at the front of an open file, behind which entries may follow: its version, or None where it is a new one."""
     front = file.read(MOST_NEW + 1)
-    if len(front) > MOST_NEW and not front.startswith(MAGIC):
-        raise Foreign
     file.seek(len(MAGIC))
-    return len(front) > MOST_NEW
+    if len(front) <= MOST_NEW:
+        return None
+    for version, magic in MAGICS.items():
+        if front.startswith(magic):
+            return version
+    raise Foreign
 
 
 def kept_pairs(file):
     """The pairs that an open file keeps, one after the other."""
-    if not begin(file):
+    if begin(file) is None:
         return
     place = len(MAGIC)
     while True:
@@ -61,6 +66,6 @@ def kept_pairs(file):
         place += 1 + 4 + length
 
 
-def file_of(pairs, behind=CLOSED):
-    """The bytes of a file that keeps these pairs, and what stands behind them."""
-    return MAGIC + b"".join(OPEN + struct.pack(">I", len(pair)) + pair for pair in pairs) + behind
+def file_of(pairs, behind=CLOSED, version=2):
+    """The bytes of a file that keeps these pairs of a version, and what stands behind them."""
+    return MAGICS[version] + b"".join(OPEN + struct.pack(">I", len(pair)) + pair for pair in pairs) + behind

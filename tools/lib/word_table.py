@@ -55,7 +55,7 @@ WORDS = [
          "NotFlow Torn Rejected TooLong BadCheckpoint",
          "a journal or a checkpoint, and commands: write their pairs"),
     Word("keep", ["FILE"],
-         "COMMANDS", "a command file of version 2",
+         "COMMANDS", "a command file of FILE's version, or of any where FILE is new",
          "PAIRS", "the pair of each record, once [FILE](#kept-files), made where it isn't there, keeps it",
          "NotFlow Torn Rejected TooLong DiskFault NotDisk Damaged",
          "a command file: keep its journal in a file"),

@@ -7,6 +7,11 @@ pub record FileState : Type 0 where
   pub is_open : Bool
   pub faults : ℕ
 
+-- whether no file is at a path, and what is seen of the one that was opened there
+pub record PathState : Type 0 where
+  pub is_missing : Bool
+  pub file : FileState
+
 -- a real file as a disk: it tells no content, and a crash may leave anything
 abbrev pub file_state : FileState → DiskState
 file_state file = record {

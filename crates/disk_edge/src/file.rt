@@ -4,11 +4,10 @@ ghost use Rattle.flow_io.specs.Faults.{Blames};
 ghost use Rattle.disk_edge.specs.Images.{TornWrite, TornCut, AddsBy, AddsNoLonger};
 
 use crate::{Disk, DiskFailed};
-use std::fs::{File, Files, OpenOptions};
+use std::fs::File;
 use std::io;
 use std::marker::Model;
 use std::os::unix::fs::FileExt;
-use std::path::{AsPath, Path};
 
 /// A real file as a disk. It tells no content, and of what a crash may leave it says nothing: that its calls do to the
 /// file what those of a disk do is trusted. Over a file that couldn't be opened each call fails.
@@ -37,12 +36,11 @@ impl FileDisk {
         FileDisk { file, faults: 0 }
     }
 
-    /// A disk over the file at this path, which is made where none is there. It holds the file's one lock until it is dropped, so
-    /// no two of these disks are over one file. Where another process has the lock, or the file can't be opened, each call fails.
-    pub fn open<R: Files<File = File>>(files: &R, path: &str) -> FileDisk
-        ensures { result.faults ≡ 0 }
+    // Puts a file, or one whose opening failed, in the place of its own.
+    pub(crate) fn put(&mut self, file: Option<File>)
+        ensures { self.new ≡ record { is_open = is_some file; faults = self.old.faults } }
     {
-        FileDisk::new(open_locked(files, path).ok())
+        self.file = file;
     }
 
     // The answer of a call of the system. One that failed is counted.
@@ -64,28 +62,6 @@ impl FileDisk {
     {
         self.faults = self.faults.saturating_add(1);
         Err(DiskFailed)
-    }
-}
-
-// Opens the file at this path, or makes it, and locks it. The name of one that is still empty is made to outlast a crash.
-fn open_locked<R: Files<File = File>>(files: &R, path: &str) -> io::Result<File> {
-    let file = OpenOptions::new()
-        .read(true)
-        .write(true)
-        .create(true)
-        .open(files, path)?;
-    file.try_lock()?;
-    if file.metadata()?.len() == 0 {
-        File::open(files, folder_of(path))?.sync_all()?;
-    }
-    Ok(file)
-}
-
-// The folder in which a path names a file.
-fn folder_of<'a>(path: &'a str) -> Path<'a> {
-    match Path::new(path).parent() {
-        Some(folder) if !folder.path_text().is_empty() => folder,
-        _ => Path::new("."),
     }
 }
 

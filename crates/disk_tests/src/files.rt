@@ -1,8 +1,9 @@
 //! A real file as a disk.
 use crate::journals::keeps;
-use disk_edge::{Disk, DiskFailed, FileDisk};
+use disk_edge::{Disk, DiskFailed, FileDisk, PathDisk};
 use std::fs;
 use std::fs::{File, OpenOptions};
+use std::os::unix::fs::symlink;
 use std::test::Fail;
 
 // What was written is there when the file is opened again. A file that can't be written or that couldn't be opened fails.
@@ -45,7 +46,7 @@ fn file_keeps_pairs(rt: HostRuntime) -> Result<(), Fail> {
     let alloc = rt.alloc();
     let path = "pairs.disk";
     for want in [b"".as_slice(), b"\x07", b"\x07\x07"] {
-        let mut disk = FileDisk::open(&rt, path);
+        let mut disk = PathDisk::open(&rt, path);
         keeps(
             &rt,
             alloc,
@@ -53,20 +54,40 @@ fn file_keeps_pairs(rt: HostRuntime) -> Result<(), Fail> {
             b"\x02\0\0\0\0\x82\0\0\0\x01\x07",
             want,
         );
-        let mut second = FileDisk::open(&rt, path);
+        let mut second = PathDisk::open(&rt, path);
         assert_eq!(rt; second.sync(), Err(DiskFailed));
     }
     assert_eq!(rt; fs::read(&rt, path)?.len(), 9 + 3 * 16);
     fs::remove_file(&rt, path)?;
-    for path in ["", ".", "no/such/folder"] {
-        let mut none = FileDisk::open(&rt, path);
+    Ok(())
+}
+
+// A file that isn't there is an empty disk. The first write makes it, and nothing else does. A link isn't made a file, and where none can
+// be made the write fails, and each call from then on.
+#[test]
+fn file_is_made_by_a_write(rt: HostRuntime) -> Result<(), Fail> {
+    fs::create_dir(&rt, "folder")?;
+    let path = "folder/../folder/new.disk";
+    let mut disk = PathDisk::open(&rt, path);
+    assert_eq!(rt; disk.sync(), Ok(()));
+    assert_eq!(rt; disk.length(), Ok(0));
+    assert_eq!(rt; fs::exists(&rt, path)?, false);
+    assert_eq!(rt; disk.write_at(0, b"abc"), Ok(()));
+    assert_eq!(rt; disk.length(), Ok(3));
+    assert_eq!(rt; fs::read(&rt, path)?.as_slice(), b"abc".as_slice());
+    let mut second = PathDisk::open(&rt, path);
+    assert_eq!(rt; second.length(), Err(DiskFailed));
+    fs::remove_file(&rt, path)?;
+    fs::remove_dir(&rt, "folder")?;
+    symlink(&rt, "nothing", "link")?;
+    for path in ["", "no/such/folder", "link"] {
+        let mut none = PathDisk::open(&rt, path);
+        assert_eq!(rt; none.length(), Ok(0), "{path}");
+        assert_eq!(rt; none.write_at(0, b"abc"), Err(DiskFailed), "{path}");
         assert_eq!(rt; none.length(), Err(DiskFailed), "{path}");
     }
-    fs::create_dir(&rt, "folder")?;
-    let deep_path = "folder/../folder/pairs.disk";
-    let mut deep = FileDisk::open(&rt, deep_path);
-    assert_eq!(rt; deep.length(), Ok(0));
-    fs::remove_file(&rt, deep_path)?;
-    fs::remove_dir(&rt, "folder")?;
+    fs::remove_file(&rt, "link")?;
+    let mut folder = PathDisk::open(&rt, ".");
+    assert_eq!(rt; folder.length(), Err(DiskFailed));
     Ok(())
 }

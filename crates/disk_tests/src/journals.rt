@@ -1,15 +1,17 @@
 //! A journal on a disk: what it holds, what a stop in any call leaves, faults, and disks that hold something else.
 ghost use Rattle.std.specs.Prelude.{ℕ, List, IfOk};
+ghost use Rattle.wire_records.specs.declared.version.Version.{Version as version_value};
 ghost use Rattle.journal_disk.specs.Pairs.{RecordPair};
 ghost use Rattle.journal_disk.specs.Entries.{Holds, EndsAt};
 ghost use Rattle.journal_disk.specs.Looking.{OnlyLooks};
 
 use disk_edge::Disk;
-use journal_disk::{DiskFault, DiskJournal, Step, is_whole_pair};
+use journal_disk::{Ahead, Appender, DiskFault, DiskJournal, Step, is_whole_pair, recover};
 use memory_disk::MemoryDisk;
 use std::alloc::Global;
 use std::process::Abort;
 use std::test::Fail;
+use wire_records::Version;
 
 // An account is opened: its number is the last byte.
 const FIRST: [u8; 14] = *b"\x02\0\0\0\0\x82\0\0\0\x04\0\0\0\x01";
@@ -29,30 +31,42 @@ fn disk_of(alloc: Global, bytes: &[u8], failing: &[u64]) -> Result<MemoryDisk, F
 
 // Reads the pairs that are kept, up to a gate that isn't open, and answers how many there are, and the last byte of each.
 fn read_kept<D: Disk>(
+    alloc: Global,
     journal: &mut DiskJournal,
     disk: &mut D,
     lasts: &mut Vec<u8>,
     pair: &mut Vec<u8>,
 ) -> Result<(), DiskFault>
-    ensures ends { IfOk result (λ _. (pairs : List RecordPair) (rest : List ℕ) → Holds pairs journal.old rest (D.state disk.old) →
-        (found : List RecordPair) × EndsAt found journal.new (D.state disk.new)) }
+    ensures ends { IfOk result (λ _. (version : version_value) (pairs : List RecordPair) (rest : List ℕ) →
+        Holds version pairs journal.old rest (D.state disk.old) → (found : List RecordPair) × EndsAt version found journal.new (D.state disk.new)) }
     ensures looks { OnlyLooks (D.state disk.old) (D.state disk.new) }
 {
+    let mut ahead = Ahead::new(alloc, disk)?;
     'pairs: loop {
-        match journal.next(disk, pair)? {
+        match journal.next(disk, &mut ahead, pair)? {
             Step::Pair => lasts.extend_from_slice(&pair[pair.len().saturating_sub(1)..])?,
             Step::Closed => return Ok(()),
         }
     }
 }
 
-// Opens a disk, reads the pairs that are kept, and adds one. Answers the last byte of each pair that was kept.
+// Opens a disk, reads the pairs that are kept, and adds one. A new disk is made one of version Two. Answers the last byte of each pair
+// that was kept.
 pub fn keep<D: Disk>(alloc: Global, disk: &mut D, pair: &[u8]) -> Result<Vec<u8>, DiskFault> {
     let mut lasts = Vec::new(alloc);
     let mut found = Vec::new(alloc);
-    let mut journal = DiskJournal::recover(disk)?;
-    read_kept(&mut journal, disk, &mut lasts, &mut found)?;
-    let mut appender = journal.begin(alloc, disk)?;
+    let mut appender = match recover(disk)? {
+        None => {
+            let mut appender = Appender::for_new(alloc)?;
+            appender.make(disk, Version::Two)?;
+            appender
+        }
+        Some(_) => {
+            let mut journal = DiskJournal::behind_magic();
+            read_kept(alloc, &mut journal, disk, &mut lasts, &mut found)?;
+            journal.begin(alloc, disk)?
+        }
+    };
     if is_whole_pair(pair) {
         appender.append(disk, pair)?;
     }
@@ -120,11 +134,11 @@ fn stop_in_any_call(rt: HostRuntime) -> Result<(), Fail> {
     Ok(())
 }
 
-// Each call fails in turn. An empty disk is opened, read and added to by 12 calls.
+// Each call fails in turn. An empty disk is opened, made and added to by 8 calls.
 #[test]
 fn each_call_fails(rt: HostRuntime) -> Result<(), Fail> {
     let alloc = rt.alloc();
-    for call in 1..13 {
+    for call in 1..9 {
         let mut disk = disk_of(alloc, b"", &[call])?;
         assert_eq!(rt;
             keep(alloc, &mut disk, &FIRST).err(),
@@ -132,9 +146,9 @@ fn each_call_fails(rt: HostRuntime) -> Result<(), Fail> {
             "call {call}"
         );
     }
-    let mut disk = disk_of(alloc, b"", &[13])?;
+    let mut disk = disk_of(alloc, b"", &[9])?;
     keeps(&rt, alloc, &mut disk, &FIRST, b"");
-    assert_eq!(rt; disk.recorded(), 12);
+    assert_eq!(rt; disk.recorded(), 8);
     Ok(())
 }
 
@@ -158,7 +172,7 @@ fn broken_disks(rt: HostRuntime) -> Result<(), Fail> {
         (b"FLOWDSK2\x01\0", DiskFault::Damaged(8)),
         (b"FLOWDSK2\x01\0\0\0\0\0", DiskFault::Damaged(8)),
         (b"\0\0\0\0\0\0\0\0\0\0", DiskFault::NotDisk),
-        (b"FLOWDSK1\0\0", DiskFault::NotDisk),
+        (b"FLOWDSK4\0\0", DiskFault::NotDisk),
     ] {
         refuses(&rt, alloc, bytes, want)?;
     }

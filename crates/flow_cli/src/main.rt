@@ -1,7 +1,7 @@
 //! The program `flow`: its words, standard input, output and error, given to the exchange, and for the words `keep FILE` that file.
 #![tactic(auto)]
 
-use disk_edge::FileDisk;
+use disk_edge::PathDisk;
 use flow_exchange::{Status, flow};
 use flow_io::{StdSink, StdSource};
 use kept_exchange::{flow_disk, kept_file};
@@ -41,7 +41,7 @@ fn main(rt: HostRuntime) -> ExitCode {
         Ok(words) => match kept_file(&words) {
             Some(path) => {
                 let _held = hold_places(&rt);
-                let mut disk = FileDisk::open(&rt, path);
+                let mut disk = PathDisk::open(&rt, path);
                 flow_disk(alloc, &mut source, &mut disk, &mut out, &mut notes)
             }
             None => flow(alloc, &words, &mut source, &mut out, &mut notes),

@@ -3,6 +3,7 @@ use Rattle.std.proofs.Common.{◌≡◌, ℕ, List, [], ◌∷◌, ◌++◌, Opt
 use Rattle.std.proofs.lemmas.List.{drop_at}
 use Rattle.disk_edge.specs.Disks.{DiskState, IsDisk}
 use Rattle.disk_edge.proofs.Moments.{weaker, then_more, no_call}
+use Rattle.wire_records.specs.declared.version.Version.{Version}
 use Rattle.journal_disk.specs.declared.fault.Step.TheVariants as step
 use Rattle.journal_disk.specs.Pairs.{RecordPair, IsRecordPair, pair_bytes}
 use Rattle.journal_disk.specs.Entries.{entry, entries, Holds, EndsAt}
@@ -11,8 +12,8 @@ use Rattle.journal_disk.specs.Stepping.{IsStep}
 use Rattle.journal_disk.proofs.Entries.{entries_more, each_more, length-framed}
 
 -- a disk on which a call only looked holds what it held
-pub looks_hold : (pairs : List RecordPair) (place : ℕ) (rest : List ℕ) (old new : DiskState) → Holds pairs place rest old → OnlyLooks old new → Holds pairs place rest new
-looks_hold pairs place rest old new holds looks = record {
+pub looks_hold : (version : Version) (pairs : List RecordPair) (place : ℕ) (rest : List ℕ) (old new : DiskState) → Holds version pairs place rest old → OnlyLooks old new → Holds version pairs place rest new
+looks_hold version pairs place rest old new holds looks = record {
   each = holds.each;
   begins = holds.begins;
   content = looks.content ∙ holds.content;
@@ -30,35 +31,35 @@ looks_more a b c first second = record {
 pub looks_none : (disk : DiskState) → IsDisk disk → OnlyLooks disk disk
 looks_none disk is_disk = record { content = refl; images = λ image left. left; moments = no_call disk _ is_disk (λ image left. left) }
 
-module _ (pairs : List RecordPair) (place : ℕ) (rest : List ℕ) (disk : DiskState) (holds : Holds pairs place rest disk) where
-  at_place : drop place (entries pairs ++ rest) ≡ rest
-  at_place = drop_at (entries pairs) rest place (sym holds.begins)
+module _ (version : Version) (pairs : List RecordPair) (place : ℕ) (rest : List ℕ) (disk : DiskState) (holds : Holds version pairs place rest disk) where
+  at_place : drop place (entries version pairs ++ rest) ≡ rest
+  at_place = drop_at (entries version pairs) rest place (sym holds.begins)
 
-  told : (Q : List ℕ → Type 0) → IfSome disk.content Q → Q (entries pairs ++ rest)
+  told : (Q : List ℕ → Type 0) → IfSome disk.content Q → Q (entries version pairs ++ rest)
   told Q has = subst (λ (o : Option (List ℕ)). IfSome o Q) holds.content has
 
   -- a step over an entry
-  pub step_holds : (next : ℕ) (found : List ℕ) → IfSome disk.content (IsStep (Ok step.Pair) place next found) → (p : RecordPair) × (left : List ℕ) × IsRecordPair p × (found ≡ pair_bytes p) × Holds (pairs ++ p ∷ []) next left disk
+  pub step_holds : (next : ℕ) (found : List ℕ) → IfSome disk.content (IsStep (Ok step.Pair) place next found) → (p : RecordPair) × (left : List ℕ) × IsRecordPair p × (found ≡ pair_bytes p) × Holds version (pairs ++ p ∷ []) next left disk
   step_holds next found is =
       let found_step = told (IsStep (Ok step.Pair) place next found) is in
       let has = found_step.2 in
       let after : rest ≡ entry found_step.0 ++ found_step.1 = sym at_place ∙ has.spelled in
-      let whole : entries pairs ++ rest ≡ entries (pairs ++ found_step.0 ∷ []) ++ found_step.1 =
-      ap (λ (l : List ℕ). entries pairs ++ l) after ∙ sym (append_assoc (entries pairs) (entry found_step.0) found_step.1) ∙ ap (λ (l : List ℕ). l ++ found_step.1) (sym (entries_more pairs found_step.0)) in (
+      let whole : entries version pairs ++ rest ≡ entries version (pairs ++ found_step.0 ∷ []) ++ found_step.1 =
+      ap (λ (l : List ℕ). entries version pairs ++ l) after ∙ sym (append_assoc (entries version pairs) (entry found_step.0) found_step.1) ∙ ap (λ (l : List ℕ). l ++ found_step.1) (sym (entries_more version pairs found_step.0)) in (
         found_step.0,
         found_step.1,
         has.is_pair,
         found_step.3,
         record {
           each = each_more IsRecordPair pairs found_step.0 holds.each has.is_pair;
-          begins = omega (arith, holds.begins, found_step.4, ap length found_step.3, ap length (entries_more pairs found_step.0), length-append (entries pairs) (entry found_step.0), length-framed (pair_bytes found_step.0));
+          begins = omega (arith, holds.begins, found_step.4, ap length found_step.3, ap length (entries_more version pairs found_step.0), length-append (entries version pairs) (entry found_step.0), length-framed (pair_bytes found_step.0));
           content = holds.content ∙ ap (λ (l : List ℕ). Some l) whole;
           durable = λ image left. holds.durable image left ∙ whole;
         },
       )
 
   -- a step to a gate that isn't open
-  pub step_ends : (found : List ℕ) → IfSome disk.content (IsStep (Ok step.Closed) place place found) → EndsAt pairs place disk
+  pub step_ends : (found : List ℕ) → IfSome disk.content (IsStep (Ok step.Closed) place place found) → EndsAt version pairs place disk
   step_ends found is =
       let found_step = told (IsStep (Ok step.Closed) place place found) is in
-      (found_step.0, found_step.1, found_step.2, subst (λ (l : List ℕ). Holds pairs place l disk) (sym at_place ∙ found_step.3) holds)
+      (found_step.0, found_step.1, found_step.2, subst (λ (l : List ℕ). Holds version pairs place l disk) (sym at_place ∙ found_step.3) holds)

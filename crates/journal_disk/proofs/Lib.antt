@@ -10,3 +10,4 @@ pub mod GoingOn
 pub mod Excluding
 pub mod Undamaged
 pub mod OpenedEntries
+mod Pieces

@@ -4,3 +4,4 @@ pub mod Looking
 pub mod Recovering
 pub mod Stepping
 pub mod Frames
+pub mod Ahead

@@ -1,11 +1,13 @@
-ghost use Rattle.std.specs.Prelude.{◌≡◌, ◌≢◌, ◌≤◌, ◌+◌, ◌^◌, ◌++◌, [], ◌∷◌, List, length, IfSome, IsSome, ◌↔◌, IfOk, OnOk, OnErr, Err, IsErrOf, vec_capacity};
+ghost use Rattle.std.specs.Prelude.{◌≡◌, ◌≢◌, ◌≤◌, ◌+◌, ◌^◌, ◌++◌, [], ◌∷◌, List, length, IfSome, IsSome, ◌↔◌, IfOk, IfErr, OnOk, OnErr, Err, IsErrOf, ◌⊎◌, ℕ, Some, vec_capacity};
+ghost use Rattle.wire_records.specs.declared.version.Version.{Version};
 ghost use Rattle.journal_disk.specs.Pairs.{RecordPair, IsRecordPair, pair_bytes, IsWholePair, longest_pair};
 ghost use Rattle.disk_edge.specs.Disks.{AtEachMoment};
+ghost use Rattle.disk_edge.specs.Images.{LeavesOnly};
 ghost use Rattle.journal_disk.specs.Entries.{framed, WithOrWithout, Keeps};
 ghost use Rattle.flow_io.specs.Faults.{Blames};
 
 use crate::DiskFault;
-use crate::calls::{open_gate, write_synced};
+use crate::calls::{make_new, open_gate, write_synced};
 use crate::pairs::LONGEST_PAIR;
 use disk_edge::Disk;
 use std::alloc::{AllocError, Global};
@@ -54,6 +56,34 @@ impl Appender {
         })
     }
 
+    /// An appender for a new disk, which [`make`](Appender::make) makes one of a version. It takes the memory of an entry.
+    pub fn for_new(alloc: Global) -> Result<Appender, AllocError>
+        ensures { IfOk result (λ appender. appender ≡ 8) }
+    {
+        Appender::at(alloc, 8)
+    }
+
+    /// Makes a new disk, of at most 9 bytes, one of a version, by the magic and a closed gate. A crash at any moment leaves a new
+    /// disk. `Failed`, only where the disk's count rose, is the one error. Takes no memory.
+    pub fn make<D: Disk>(
+        &mut self,
+        disk: &mut D,
+        version: wire_records::Version,
+    ) -> Result<(), DiskFault>
+        requires new { IfSome (D.state disk.old).content (λ bytes. length bytes ≤ 9) }
+        requires first { self.old ≡ 8 }
+        ensures keeps { OnOk result (IfSome (D.state disk.old).content (λ _. Keeps version [] self.new (D.state disk.new))) }
+        ensures moments { (bytes : List ℕ) → (D.state disk.old).content ≡ Some bytes → LeavesOnly (D.state disk.old).images bytes →
+            AtEachMoment (D.state disk.old) (D.state disk.new) (λ image. length image ≤ 9) }
+        ensures told { OnOk result (IsSome (D.state disk.new).content ↔ IsSome (D.state disk.old).content) }
+        ensures place { self.new ≡ 8 }
+        ensures failed { OnErr result (result ≡ Err DiskFault.Failed) }
+        ensures cause { Blames (IsErrOf result DiskFault.Failed) (D.state disk.old).faults (D.state disk.new).faults }
+    {
+        make_new(disk, version)?;
+        Ok(())
+    }
+
     /// Adds the bytes of one whole pair. At Ok it is acknowledged: from then on a crash leaves it. A crash at any moment before
     /// leaves the pairs that were kept, with this one or without. `Failed`, only where the disk's count rose, is the one error;
     /// the disk is then to be opened again. Takes no memory. The place is at most 2^61.
@@ -61,13 +91,13 @@ impl Appender {
         requires pair { IsWholePair pair.now }
         requires room { self.old ≤ 2 ^ 61 }
         requires kept { IfSome (D.state disk.old).content
-            (λ _. (pairs : List RecordPair) × Keeps pairs self.old (D.state disk.old)) }
-        ensures kept { OnOk result ((pairs : List RecordPair) (last : RecordPair) →
-            Keeps pairs self.old (D.state disk.old) → IsRecordPair last → pair.now ≡ pair_bytes last →
-            Keeps (pairs ++ last ∷ []) self.new (D.state disk.new)) }
-        ensures moments { (pairs : List RecordPair) (last : RecordPair) →
-            Keeps pairs self.old (D.state disk.old) → IsRecordPair last → pair.now ≡ pair_bytes last →
-            AtEachMoment (D.state disk.old) (D.state disk.new) (WithOrWithout pairs last) }
+            (λ _. (version : Version) × (pairs : List RecordPair) × Keeps version pairs self.old (D.state disk.old)) }
+        ensures kept { OnOk result ((version : Version) (pairs : List RecordPair) (last : RecordPair) →
+            Keeps version pairs self.old (D.state disk.old) → IsRecordPair last → pair.now ≡ pair_bytes last →
+            Keeps version (pairs ++ last ∷ []) self.new (D.state disk.new)) }
+        ensures moments { (version : Version) (pairs : List RecordPair) (last : RecordPair) →
+            Keeps version pairs self.old (D.state disk.old) → IsRecordPair last → pair.now ≡ pair_bytes last →
+            AtEachMoment (D.state disk.old) (D.state disk.new) (WithOrWithout version pairs last) }
         ensures told { OnOk result (IsSome (D.state disk.new).content ↔ IsSome (D.state disk.old).content) }
         ensures place { OnOk result (self.new ≡ self.old + (5 + length pair.now)) }
         ensures failed { OnErr result (result ≡ Err DiskFault.Failed) }

@@ -4,13 +4,13 @@ ghost use Rattle.disk_edge.specs.Disks.{AtEachMoment};
 ghost use Rattle.flow_io.specs.Faults.{Blames};
 ghost use Rattle.disk_edge.specs.Images.{written, TornWrite, TornCut, After, LeavesOnly};
 ghost use Rattle.wire_fields.specs.Numbers.{unsigned};
-ghost use Rattle.journal_disk.specs.Entries.{disk_magic};
+ghost use Rattle.journal_disk.specs.Entries.{disk_magic_of};
+ghost use Rattle.journal_disk.specs.Recovering.{IsMagicOf};
 ghost use Rattle.journal_disk.specs.Looking.{OnlyLooks};
 
+use crate::magic::{disk_version, new_disk};
 use disk_edge::{Disk, DiskFailed};
-
-// The magic of a disk.
-const MAGIC: [u8; 8] = *b"FLOWDSK2";
+use wire_records::Version;
 
 // An open gate. Any other byte is a closed one.
 pub(crate) const OPEN: u8 = 1;
@@ -97,28 +97,28 @@ pub(crate) fn read_from<D: Disk>(
     disk.read_at(place, into)
 }
 
-// Whether the disk begins with the magic. It has 8 bytes.
-pub(crate) fn has_magic<D: Disk>(disk: &mut D) -> Result<bool, DiskFailed>
+// The version of which the disk begins. It has 8 bytes.
+pub(crate) fn version_of<D: Disk>(disk: &mut D) -> Result<Option<Version>, DiskFailed>
     requires { IfSome (D.state disk.old).content (λ bytes. 8 ≤ length bytes) }
-    ensures magic { IfOk result (λ has. IfSome (D.state disk.old).content
-        (λ bytes. IsTrue has ↔ (take 8 bytes ≡ disk_magic))) }
+    ensures magic { IfOk result (λ found. IfSome (D.state disk.old).content (IsMagicOf found)) }
     ensures looks { OnlyLooks (D.state disk.old) (D.state disk.new) }
     ensures cause { Blames (IsErr result) (D.state disk.old).faults (D.state disk.new).faults }
 {
     let mut front = [0; 8];
     read_from(disk, 0, &mut front)?;
-    Ok(front.starts_with(&MAGIC))
+    Ok(disk_version(&front))
 }
 
-// Makes the disk new: the magic, and a closed gate.
-pub(crate) fn make_new<D: Disk>(disk: &mut D) -> Result<(), DiskFailed>
+// Makes the disk a new one of a version: the magic, and a closed gate.
+pub(crate) fn make_new<D: Disk>(disk: &mut D, version: Version) -> Result<(), DiskFailed>
     requires { IfSome (D.state disk.old).content (λ bytes. length bytes ≤ 9) }
     ensures written { OnOk result
-        ((D.state disk.new).content ≡ option_map (λ _. disk_magic ++ 0 ∷ []) (D.state disk.old).content) }
+        ((D.state disk.new).content ≡ option_map (λ _. disk_magic_of version ++ 0 ∷ []) (D.state disk.old).content) }
     ensures kept { OnOk result (IfSome (D.state disk.new).content (LeavesOnly (D.state disk.new).images)) }
     ensures moments { AtEachMoment (D.state disk.old) (D.state disk.new)
         (After (TornWrite 0 9) (D.state disk.old).images) }
     ensures cause { Blames (IsErr result) (D.state disk.old).faults (D.state disk.new).faults }
 {
-    write_synced(disk, 0, b"FLOWDSK2\0")
+    let bytes = new_disk(version);
+    write_synced(disk, 0, &bytes)
 }

@@ -1,25 +1,52 @@
 ghost use Rattle.std.specs.Prelude.{◌≡◌, ◌≢◌, ◌⊎◌, ◌≤◌, ◌<◌, ◌+◌, ◌^◌, [], ◌∷◌, ℕ, List, length, IfSome, IsSome, ◌↔◌, IfOk, IfErr, IsErrOf, Err, OnOk};
+ghost use Rattle.wire_records.specs.declared.version.Version.{Version as version_value};
 ghost use Rattle.journal_disk.specs.Pairs.{RecordPair, IsWholePair};
 ghost use Rattle.disk_edge.specs.Disks.{AtEachMoment};
 ghost use Rattle.journal_disk.specs.Entries.{StandsFor, Holds, EndsAt, Keeps};
 ghost use Rattle.flow_io.specs.Faults.{Blames};
 ghost use Rattle.journal_disk.specs.Looking.{OnlyLooks};
+ghost use Rattle.journal_disk.specs.Ahead.{IsPiece};
 ghost use Rattle.journal_disk.specs.Stepping.{IsStep};
-ghost use Rattle.journal_disk.specs.Recovering.{IsForeign, IsOpened, IsStillNew};
+ghost use Rattle.journal_disk.specs.Recovering.{IsForeign, IsFound};
 
+use crate::ahead::Ahead;
 use crate::appender::Appender;
-use crate::calls::{OPEN, cut_synced, has_magic, length_of, make_new, synced_length};
+use crate::calls::{OPEN, cut_synced, synced_length, version_of};
 use crate::fault::{DiskFault, Step};
 use crate::reading::{byte_at, read_pair};
 use disk_edge::Disk;
 use std::alloc::Global;
 use std::marker::Model;
+use wire_records::Version;
 
 // A disk of at most so many bytes is new.
 const MOST_NEW: u64 = 9;
 
 // A journal has at most so many bytes.
 const MOST_BYTES: u64 = 1 << 60;
+
+/// Opens a disk that a crash may have left, after a sync, and says its version; `None` comes exactly where it is new, which is one of at
+/// most 9 bytes, whatever it holds. `NotDisk` comes exactly where it has more than 2^60 bytes, or more than 9 that begin with none of
+/// the magics, and `Failed` only where the disk's count rose. Takes no memory, and changes nothing of the disk.
+pub fn recover<D: Disk>(disk: &mut D) -> Result<Option<Version>, DiskFault>
+    ensures found { IfOk result (λ found. IfSome (D.state disk.old).content (λ bytes. IsFound found bytes (D.state disk.new))) }
+    ensures foreign { IsErrOf result DiskFault.NotDisk → IfSome (D.state disk.old).content IsForeign }
+    ensures looks { OnlyLooks (D.state disk.old) (D.state disk.new) }
+    ensures refused { IfErr result (λ fault. (fault ≡ DiskFault.Failed) ⊎ (fault ≡ DiskFault.NotDisk)) }
+    ensures cause { Blames (IsErrOf result DiskFault.Failed) (D.state disk.old).faults (D.state disk.new).faults }
+{
+    let length = synced_length(disk)?;
+    if length <= MOST_NEW {
+        return Ok(None);
+    }
+    if length > MOST_BYTES {
+        return Err(DiskFault::NotDisk);
+    }
+    match version_of(disk)? {
+        Some(version) => Ok(Some(version)),
+        None => Err(DiskFault::NotDisk),
+    }
+}
 
 /// A disk's journal while it is read. Contracts see it as the place of the next gate.
 #[derive(Drop)]
@@ -38,37 +65,25 @@ impl Model for DiskJournal {
 }
 
 impl DiskJournal {
-    /// Opens a disk that a crash may have left, after a sync. One of at most 9 bytes is taken as new, whatever it holds, and
-    /// gets the magic and a closed gate. `NotDisk` comes exactly where it has more than 2^60 bytes, or more than 9 without the
-    /// magic, and `Failed` only where the disk's count rose. Takes no memory. A crash at any moment leaves what it might have
-    /// left before, or another new disk in place of a new one.
-    pub fn recover<D: Disk>(disk: &mut D) -> Result<DiskJournal, DiskFault>
-        ensures opened { OnOk result (IfSome (D.state disk.old).content (λ bytes. IsOpened bytes (D.state disk.new))) }
-        ensures foreign { IsErrOf result DiskFault.NotDisk → IfSome (D.state disk.old).content IsForeign }
-        ensures stays { IsErrOf result DiskFault.NotDisk → (D.state disk.new).content ≡ (D.state disk.old).content }
-        ensures moments { AtEachMoment (D.state disk.old) (D.state disk.new)
-            (λ image. (D.state disk.old).images image ⊎ IsStillNew (D.state disk.old).content image) }
-        ensures told { OnOk result (IsSome (D.state disk.new).content ↔ IsSome (D.state disk.old).content) }
-        ensures place { IfOk result (λ journal. journal ≡ 8) }
-        ensures refused { IfErr result (λ fault. (fault ≡ DiskFault.Failed) ⊎ (fault ≡ DiskFault.NotDisk)) }
-        ensures cause { Blames (IsErrOf result DiskFault.Failed) (D.state disk.old).faults (D.state disk.new).faults }
+    /// The reading of a disk that was recovered as one of a version, before its first pair.
+    pub fn behind_magic() -> DiskJournal
+        ensures { result ≡ 8 }
     {
-        let length = synced_length(disk)?;
-        if length <= MOST_NEW {
-            make_new(disk)?;
-            return Ok(DiskJournal { place: 8 });
-        }
-        if length > MOST_BYTES || !has_magic(disk)? {
-            return Err(DiskFault::NotDisk);
-        }
-        Ok(DiskJournal { place: 8 })
+        DiskJournal { place: 8 }
     }
 
     /// Reads the next pair into `pair`, which is emptied first, and goes behind its entry. `Closed` says that there is a gate and
     /// it isn't open. `Damaged` has the gate's place, and comes exactly where no byte is there, or where the gate is open and
     /// begins no entry of one whole pair in the first 2^60 bytes. `Failed` comes only where the disk's count rose, and `Memory` is
-    /// free. After `Closed` or an error `pair` is empty and the place as before. Changes nothing of the disk.
-    pub fn next<D: Disk>(&mut self, disk: &mut D, pair: &mut Vec<u8>) -> Result<Step, DiskFault>
+    /// free. After `Closed` or an error `pair` is empty and the place as before. Changes nothing of the disk, which is read in pieces ahead.
+    pub fn next<D: Disk>(
+        &mut self,
+        disk: &mut D,
+        ahead: &mut Ahead,
+        pair: &mut Vec<u8>,
+    ) -> Result<Step, DiskFault>
+        requires piece { IfSome (D.state disk.old).content (IsPiece ahead.old) }
+        ensures piece { IfSome (D.state disk.new).content (IsPiece ahead.new) }
         ensures step { IfSome (D.state disk.old).content (IsStep result self.old self.new pair.new.items) }
         ensures stays { result ≢ Ok Step.Pair → (self.new ≡ self.old) × (pair.new.items ≡ []) }
         ensures whole { result ≡ Ok Step.Pair → IsWholePair pair.new.items }
@@ -81,14 +96,14 @@ impl DiskJournal {
     {
         pair.clear();
         let place = self.place;
-        let length = length_of(disk)?;
+        let length = ahead.size();
         if place >= length {
             return Err(DiskFault::Damaged(place));
         }
-        if byte_at(disk, place)? != OPEN {
+        if byte_at(disk, ahead, place)? != OPEN {
             return Ok(Step::Closed);
         }
-        if !read_pair(disk, place + 1, length.min(MOST_BYTES), pair)? {
+        if !read_pair(disk, ahead, place + 1, length.min(MOST_BYTES), pair)? {
             return Err(DiskFault::Damaged(place));
         }
         self.place += 5 + pair.len() as u64;
@@ -99,11 +114,12 @@ impl DiskJournal {
     /// any moment leaves the same pairs. `Failed` comes only where the disk's count rose, and `Memory` is free: the disk is then to
     /// be opened again. Takes the memory of the longest entry, in which pairs are put together.
     pub fn begin<D: Disk>(self, alloc: Global, disk: &mut D) -> Result<Appender, DiskFault>
-        requires { IfSome (D.state disk.old).content (λ _. (pairs : List RecordPair) × EndsAt pairs self (D.state disk.old)) }
-        ensures keeps { IfOk result (λ appender. (pairs : List RecordPair) →
-            EndsAt pairs self (D.state disk.old) → Keeps pairs appender (D.state disk.new)) }
-        ensures moments { (pairs : List RecordPair) → EndsAt pairs self (D.state disk.old) →
-            AtEachMoment (D.state disk.old) (D.state disk.new) (StandsFor pairs) }
+        requires { IfSome (D.state disk.old).content
+            (λ _. (version : version_value) × (pairs : List RecordPair) × EndsAt version pairs self (D.state disk.old)) }
+        ensures keeps { IfOk result (λ appender. (version : version_value) (pairs : List RecordPair) →
+            EndsAt version pairs self (D.state disk.old) → Keeps version pairs appender (D.state disk.new)) }
+        ensures moments { (version : version_value) (pairs : List RecordPair) → EndsAt version pairs self (D.state disk.old) →
+            AtEachMoment (D.state disk.old) (D.state disk.new) (StandsFor version pairs) }
         ensures told { OnOk result (IsSome (D.state disk.new).content ↔ IsSome (D.state disk.old).content) }
         ensures place { IfOk result (λ appender. (appender ≡ self) × (appender ≤ 2 ^ 60)) }
         ensures refused { IfErr result (λ fault. (fault ≡ DiskFault.Failed) ⊎ (fault ≡ DiskFault.Memory)) }

@@ -1,12 +1,13 @@
 //! A journal on a disk that outlives a crash at any moment.
 //!
-//! A disk of a journal has the eight bytes `FLOWDSK2`, and then entries: a gate byte, the length of a pair in four bytes, and
-//! the pair, two records as in a journal of version Two. An entry counts where its gate is open, which is 1; a closed gate is
+//! A disk of a journal has the eight bytes `FLOWDSK1`, `FLOWDSK2` or `FLOWDSK3`, by the version of the journal, and then entries: a
+//! gate byte, the length of a pair in four bytes, and the pair, two records as in a journal. An entry counts where its gate is open, which is 1; a closed gate is
 //! written as 0, and any other byte is closed too. The first gate that isn't open ends the journal, and what stands behind it
-//! counts for nothing. A disk of at most 9 bytes is a new one, whatever it holds. [`laws`] says that bytes stand for one list of
-//! pairs at most.
+//! counts for nothing. A disk of at most 9 bytes is a new one, whatever it holds, and has no version yet. [`laws`] says that bytes
+//! stand for one list of pairs at most, of one version.
 //!
-//! [`DiskJournal::recover`] opens a disk that a crash may have left, [`DiskJournal::next`] reads pair by pair up to the gate
+//! [`recover`] opens a disk that a crash may have left, and says its version; [`Appender::make`] makes a new disk one of a version.
+//! [`DiskJournal::next`] reads pair by pair up to the gate
 //! that isn't open, and [`DiskJournal::begin`] cuts off what is behind that. [`Appender::append`] then adds a pair: it writes the
 //! entry behind the closed gate, with a closed gate behind it, and syncs; then it opens the gate, and syncs. So a crash at any
 //! moment leaves the pairs that were kept, with this one or without, and once the call has answered Ok, with it. What a pair's
@@ -16,20 +17,23 @@
 //!
 //! # Costs
 //!
-//! A pair that is read costs its bytes and four reads of the disk, one that is added its bytes and two writes with a sync each.
-//! Reading takes memory for the pair in the caller's buffer, and beginning takes an appender's buffer of 263,183 bytes;
+//! Pairs are read in pieces of 65,536 bytes, so one costs its bytes and a share of such a piece, one that is added its bytes and two writes with a sync each.
+//! Reading takes memory for a piece, and for the pair in the caller's buffer, and beginning takes an appender's buffer of 263,183 bytes;
 //! opening and adding take none.
 #![tactic(auto)]
 
+mod ahead;
 mod appender;
 mod calls;
 mod fault;
 mod journal;
 pub mod laws;
+mod magic;
 mod pairs;
 mod reading;
 
+pub use ahead::Ahead;
 pub use appender::Appender;
 pub use fault::{DiskFault, Step};
-pub use journal::DiskJournal;
+pub use journal::{DiskJournal, recover};
 pub use pairs::is_whole_pair;

@@ -1,26 +1,31 @@
 //! What stands behind a gate, read part by part.
-ghost use Rattle.std.specs.Prelude.{◌≡◌, ◌≤◌, ◌<◌, ◌+◌, ◌^◌, ◌++◌, ℕ, List, [], ◌∷◌, IfSome, IfOk, OnErr, OnOk, Err, Ok, ◌⊎◌, ◌≢◌, length, take, drop, slice_index, IsErr, IsErrOf, true, false};
+ghost use Rattle.std.specs.Prelude.{◌≡◌, ◌≤◌, ◌<◌, ◌+◌, ◌^◌, ◌++◌, ℕ, List, [], ◌∷◌, IfSome, IfOk, IfErr, OnErr, OnOk, Err, Ok, ◌⊎◌, ◌≢◌, length, take, drop, slice_index, IsErr, IsErrOf, true, false};
 ghost use Rattle.wire_fields.specs.Numbers.{unsigned};
 ghost use Rattle.flow_io.specs.Faults.{Blames};
 ghost use Rattle.journal_disk.specs.Looking.{OnlyLooks};
+ghost use Rattle.journal_disk.specs.Ahead.{IsPiece};
 ghost use Rattle.journal_disk.specs.Frames.{IsFramed};
 ghost use Rattle.journal_disk.specs.Pairs.{IsWholePair};
 
-use crate::calls::read_from;
+use crate::ahead::Ahead;
 use crate::fault::DiskFault;
 use crate::pairs::{LONGEST_PAIR, is_whole_pair};
-use disk_edge::{Disk, DiskFailed};
+use disk_edge::Disk;
 use wire_fields::Cursor;
 
 // The byte at a place.
-pub(crate) fn byte_at<D: Disk>(disk: &mut D, place: u64) -> Result<u8, DiskFailed>
-    requires { IfSome (D.state disk.old).content (λ bytes. place < length bytes) }
+pub(crate) fn byte_at<D: Disk>(disk: &mut D, ahead: &mut Ahead, place: u64) -> Result<u8, DiskFault>
+    requires inside { place + 1 ≤ ahead.old.size }
+    requires piece { IfSome (D.state disk.old).content (IsPiece ahead.old) }
     ensures byte { IfOk result (λ byte. IfSome (D.state disk.old).content (λ bytes. byte ≡ slice_index bytes place)) }
+    ensures piece { IfSome (D.state disk.new).content (IsPiece ahead.new) }
+    ensures size { ahead.new.size ≡ ahead.old.size }
+    ensures refused { IfErr result (λ fault. (fault ≡ DiskFault.Failed) ⊎ (fault ≡ DiskFault.Memory)) }
     ensures looks { OnlyLooks (D.state disk.old) (D.state disk.new) }
-    ensures cause { Blames (IsErr result) (D.state disk.old).faults (D.state disk.new).faults }
+    ensures cause { Blames (IsErrOf result DiskFault.Failed) (D.state disk.old).faults (D.state disk.new).faults }
 {
     let mut one = [0; 1];
-    read_from(disk, place, &mut one)?;
+    ahead.read_at(disk, place, &mut one)?;
     Ok(one[0])
 }
 
@@ -37,28 +42,40 @@ fn number_of(bytes: &[u8]) -> u32
 }
 
 // The number at a place, of four bytes.
-pub(crate) fn number_at<D: Disk>(disk: &mut D, place: u64) -> Result<u32, DiskFailed>
-    requires { IfSome (D.state disk.old).content (λ bytes. place + 4 ≤ length bytes) }
+pub(crate) fn number_at<D: Disk>(
+    disk: &mut D,
+    ahead: &mut Ahead,
+    place: u64,
+) -> Result<u32, DiskFault>
+    requires inside { place + 4 ≤ ahead.old.size }
+    requires piece { IfSome (D.state disk.old).content (IsPiece ahead.old) }
     ensures number { IfOk result (λ number. IfSome (D.state disk.old).content
         (λ bytes. take 4 (drop place bytes) ≡ unsigned 4 number)) }
+    ensures piece { IfSome (D.state disk.new).content (IsPiece ahead.new) }
+    ensures size { ahead.new.size ≡ ahead.old.size }
+    ensures refused { IfErr result (λ fault. (fault ≡ DiskFault.Failed) ⊎ (fault ≡ DiskFault.Memory)) }
     ensures looks { OnlyLooks (D.state disk.old) (D.state disk.new) }
-    ensures cause { Blames (IsErr result) (D.state disk.old).faults (D.state disk.new).faults }
+    ensures cause { Blames (IsErrOf result DiskFault.Failed) (D.state disk.old).faults (D.state disk.new).faults }
 {
     let mut four = [0; 4];
-    read_from(disk, place, &mut four)?;
+    ahead.read_at(disk, place, &mut four)?;
     Ok(number_of(&four))
 }
 
 // Takes the bytes at a place, where they are there, into an empty vector.
 fn load<D: Disk>(
     disk: &mut D,
+    ahead: &mut Ahead,
     place: u64,
     count: usize,
     into: &mut Vec<u8>,
 ) -> Result<(), DiskFault>
-    requires there { IfSome (D.state disk.old).content (λ bytes. place + count ≤ length bytes) }
+    requires there { place + count ≤ ahead.old.size }
+    requires piece { IfSome (D.state disk.old).content (IsPiece ahead.old) }
     requires empty { into.old.items ≡ [] }
     ensures read { OnOk result (IfSome (D.state disk.old).content (λ bytes. into.new.items ≡ take count (drop place bytes))) }
+    ensures piece { IfSome (D.state disk.new).content (IsPiece ahead.new) }
+    ensures size { ahead.new.size ≡ ahead.old.size }
     ensures len { OnOk result (length into.new.items ≡ count) }
     ensures empty { OnErr result (into.new.items ≡ []) }
     ensures refused { OnErr result ((result ≡ Err DiskFault.Failed) ⊎ (result ≡ Err DiskFault.Memory)) }
@@ -66,11 +83,11 @@ fn load<D: Disk>(
     ensures cause { Blames (IsErrOf result DiskFault.Failed) (D.state disk.old).faults (D.state disk.new).faults }
 {
     into.resize(count, 0)?;
-    match read_from(disk, place, into) {
+    match ahead.read_at(disk, place, into) {
         Ok(()) => Ok(()),
-        Err(failed) => {
+        Err(fault) => {
             into.clear();
-            Err(DiskFault::from(failed))
+            Err(fault)
         }
     }
 }
@@ -79,14 +96,18 @@ fn load<D: Disk>(
 // there is one.
 pub(crate) fn read_pair<D: Disk>(
     disk: &mut D,
+    ahead: &mut Ahead,
     place: u64,
     end: u64,
     pair: &mut Vec<u8>,
 ) -> Result<bool, DiskFault>
-    requires there { IfSome (D.state disk.old).content (λ bytes. end ≤ length bytes) }
+    requires there { end ≤ ahead.old.size }
+    requires piece { IfSome (D.state disk.old).content (IsPiece ahead.old) }
     requires near { place ≤ 2 ^ 61 }
     requires empty { pair.old.items ≡ [] }
     ensures framed { IfOk result (λ is. IfSome (D.state disk.old).content (IsFramed is place end pair.new.items)) }
+    ensures piece { IfSome (D.state disk.new).content (IsPiece ahead.new) }
+    ensures size { ahead.new.size ≡ ahead.old.size }
     ensures within { result ≡ Ok true → place + (4 + length pair.new.items) ≤ end }
     ensures whole { result ≡ Ok true → IsWholePair pair.new.items }
     ensures empty { result ≢ Ok true → pair.new.items ≡ [] }
@@ -97,14 +118,14 @@ pub(crate) fn read_pair<D: Disk>(
     if end < place + 4 {
         return Ok(false);
     }
-    let count = number_at(disk, place)? as u64;
+    let count = number_at(disk, ahead, place)? as u64;
     if count > LONGEST_PAIR {
         return Ok(false);
     }
     if end - (place + 4) < count {
         return Ok(false);
     }
-    load(disk, place + 4, count as usize, pair)?;
+    load(disk, ahead, place + 4, count as usize, pair)?;
     if is_whole_pair(pair) {
         return Ok(true);
     }

@@ -1,12 +1,13 @@
 -- How serving records onto a disk ends.
 use Rattle.std.proofs.Common.{◌≡◌, inl, inr, ℕ, ◌+◌, ◌≤◌, List, [], ◌∷◌, ◌++◌, Option, Result, Err, length, map, take, flat_map, refl, sym, ap, subst, ◌∙◌, arith}
 use Rattle.std.proofs.lemmas.List.{append-nil, map-append, take_all, take-append-le}
-use Rattle.flow_io.specs.Streams.{GrowsByFront}
+use Rattle.flow_io.specs.Streams.{Grows, GrowsByFront}
 use Rattle.flow_io.specs.Windows.{WindowState}
 use Rattle.flow_io.proofs.Growth.{Grows-more}
 use Rattle.wire_records.specs.Records.{Record}
 use Rattle.wire_records.specs.Commands.{Pair}
 use Rattle.wire_records.specs.Formats.{commands}
+use Rattle.wire_records.specs.declared.version.Version.{Version}
 use Rattle.flow_orders.specs.Outcomes.{Outcome}
 use Rattle.journal_records.specs.Pairs.{pair_spelling}
 use Rattle.journal_records.specs.Formats.{records_of}
@@ -18,11 +19,12 @@ use Rattle.file_units.proofs.Gone.{HasGone, gone_broken}
 use Rattle.disk_edge.specs.Disks.{DiskState, IsDisk, AtEachMoment}
 use Rattle.journal_disk.specs.Pairs.{RecordPair}
 use Rattle.journal_disk.specs.Entries.{WithOrWithout}
-use Rattle.journal_disk.specs.Entries.{Keeps as KeepsAt}
+use Rattle.journal_disk.specs.Entries.{Keeps}
 use Rattle.journal_keeping.specs.declared.fault.KeepFault.{KeepFault}
 use Rattle.journal_keeping.specs.declared.fault.KeepFault.TheVariants.{Read, Write, Disk, Memory, NotDisk, Damaged, Rejected, NotFlow, Torn, TooLong}
 use Rattle.journal_keeping.specs.Keeping.{Runs, StandIn}
-use Rattle.journal_keeping.specs.Private.{KeepsOneMore, IsServed, BreaksNext, Adds, asked_of, SoFar, as_going, Names, IfEnded, ServesOn}
+use Rattle.journal_keeping.specs.Private.{KeepsOneMore, IsServed, BreaksNext, Adds, SoFar, as_going, Names, IfEnded, ServesOn}
+use Rattle.journal_keeping.specs.Pacing.{asked_of}
 use Rattle.journal_keeping.proofs.Serving.{ended, failed, stand_whole}
 use Rattle.journal_keeping.proofs.Turns.{Pairs, own_is_right, kept_one_more}
 
@@ -39,7 +41,7 @@ take_first new pair = take-append-le (length new) new (pair ∷ []) (omega arith
 module _ (window : WindowState) (rest left : Option (List ℕ)) (start now : DiskState) (before market : Market) (from place : ℕ) (held holds : Option (List ℕ)) (new : Pairs)
     (so : SoFar start now before market from place held holds new) where
   abbrev Goes : Pairs → Result (Unit {0}) KeepFault → Type 0
-  Goes more result = GoesFrom commands Adds (Names new more) window rest left (as_going result) [] new tt tt
+  Goes more result = GoesFrom commands Adds (Names market new more) window rest left (as_going result) [] new tt tt
 
   -- behind a pair, without a fault of disk or out
   pub serves_so : (result : Result (Unit {0}) KeepFault) → Goes [] result → ((P : Type 0) → P → IfEnded result P) → ServesOn window rest left result before from start now held holds
@@ -47,26 +49,32 @@ module _ (window : WindowState) (rest left : Option (List ℕ)) (start now : Dis
     new = new;
     more = [];
     acknowledged = length new;
+    market = market;
+    so_far = λ version old is at. (so.kept version old is at).goes_on;
     goes = goes;
-    runs = λ old is at. subst (λ (l : Pairs). Runs start now old before (asked_of l) l (length new)) (sym (append-nil new)) (ended start now old before place (asked_of new) new market (so.kept old is at));
+    whole = ([], subst (Grows held holds) (sym (append-nil (flat_map pair_spelling new))) so.written);
+    runs = λ version old is at. subst (λ (l : Pairs). Runs version start now old before (asked_of l) l (length new)) (sym (append-nil new)) (ended version start now old before place (asked_of new) new market (so.kept version old is at));
     written = subst (λ (l : Pairs). StandIn (result ≡ Err Write) held holds l) (sym (take_every new)) (stand_whole (result ≡ Err Write) held holds new so.written);
-    ended = ends _ (refl, refl, λ old is at. (place, (so.kept old is at).keeps));
+    ended = ends _ (refl, refl, λ version old is at. (place, (so.kept version old is at).keeps));
   }
 
   -- at a pair that wasn't kept
   pub serves_failed : (next : DiskState) (after : Market) (pair : Pair Record Outcome) (bytes : List ℕ) → IsDisk next → IsServed bytes market pair after
-      → ((pairs : List RecordPair) → KeepsAt pairs place now → AtEachMoment now next (WithOrWithout pairs (records_of pair)))
+      → ((version : Version) (pairs : List RecordPair) → Keeps version pairs place now → AtEachMoment now next (WithOrWithout version pairs (records_of pair)))
       → Goes (pair ∷ []) (Err Disk) → ServesOn window rest left (Err Disk) before from start next held holds
   serves_failed next after pair bytes is_disk served moments goes = record {
     new = new;
     more = pair ∷ [];
     acknowledged = length new;
+    market = market;
+    so_far = λ version old is at. (so.kept version old is at).goes_on;
     goes = goes;
-    runs = λ old is at.
-        let kept = so.kept old is at in
-        let right = own_is_right (old ++ new) market pair after kept.goes_on.journal served.step in
-        subst (λ (l : List Record). Runs start next old before l (new ++ pair ∷ []) (length new)) (asked_more new pair)
-        (failed start now next old before place (asked_of new) new market after pair kept is_disk served.fits served.step right (moments (map records_of (old ++ new)) kept.keeps));
+    whole = ([], subst (Grows held holds) (sym (append-nil (flat_map pair_spelling new))) so.written);
+    runs = λ version old is at.
+        let kept = so.kept version old is at in
+        let right = own_is_right version (old ++ new) market pair after kept.goes_on.journal served.step in
+        subst (λ (l : List Record). Runs version start next old before l (new ++ pair ∷ []) (length new)) (asked_more new pair)
+        (failed version start now next old before place (asked_of new) new market after pair kept is_disk served.fits served.step right (moments version (map records_of (old ++ new)) kept.keeps));
     written = subst (λ (l : Pairs). StandIn (◌≡◌ {A = Result (Unit {0}) KeepFault} (Err Disk) (Err Write)) held holds l) (sym (take_first new pair)) (stand_whole _ held holds new so.written);
     ended = tt;
   }
@@ -82,9 +90,12 @@ module _ (window : WindowState) (rest left : Option (List ℕ)) (start now : Dis
         new = new;
         more = pair ∷ [];
         acknowledged = length all;
+        market = market;
+        so_far = λ version old is at. (so.kept version old is at).goes_on;
         goes = goes;
-        runs = λ old is at. ended start next old before later (asked_of all) all after
-            (kept_one_more start now next before market after from place later held holds last new pair so served.fits served.step keeps old is at);
+        whole = (take cut.0 (pair_spelling pair), Grows-more held holds last (flat_map pair_spelling new) (take cut.0 (pair_spelling pair)) so.written cut.2);
+        runs = λ version old is at. ended version start next old before later (asked_of all) all after
+            (kept_one_more start now next before market after from place later held holds last new pair so served.fits served.step keeps version old is at);
         written = subst (λ (l : Pairs). StandIn (◌≡◌ {A = Result (Unit {0}) KeepFault} (Err Write) (Err Write)) held last l) (sym (take_all (length all) all (omega arith))) (record {
           whole = new;
           last = pair ∷ [];
@@ -105,11 +116,11 @@ module _ (window : WindowState) (rest left : Option (List ℕ)) (start now : Dis
 module _ {R D K : Type 0} (rest : R → Option (List ℕ)) (faults : R → ℕ) (state : D → DiskState) (held : K → Option (List ℕ)) (Ready : ℕ → Type 0) (first w : WindowState) (from_source source : R)
     (begun now next : D) (begun_out out last : K) (before market : Market) (from place later : ℕ) (new : Pairs) (gone : HasGone commands Adds rest faults Ready first w from_source source [] new tt tt)
     (so : SoFar (state begun) (state now) before market from place (held begun_out) (held out) new) (inside : w.place + length w.held ≤ w.limit) (few : length w.held ≤ w.room) (is_disk : IsDisk (state next)) where
-  broken : (more : Pairs) (fault : KeepFault) → BreaksOff commands (Names new more) w.held new fault tt tt → GoesFrom commands Adds (Names new more) first (rest from_source) (rest source) (Err (Broken fault)) [] new tt tt
-  broken more fault off = gone_broken commands Adds rest faults first w from_source source [] new tt tt (Names new more) Ready gone inside fault new tt few off
+  broken : (more : Pairs) (fault : KeepFault) → BreaksOff commands (Names market new more) w.held new fault tt tt → GoesFrom commands Adds (Names market new more) first (rest from_source) (rest source) (Err (Broken fault)) [] new tt tt
+  broken more fault off = gone_broken commands Adds rest faults first w from_source source [] new tt tt (Names market new more) Ready gone inside fault new tt few off
 
-  at_pair : (pair : Pair Record Outcome) (after : Market) (fault : KeepFault) → IsServed w.held market pair after → BreaksOff commands (Names new (pair ∷ [])) w.held new fault tt tt
-  at_pair pair after fault served = record { unit = pair.asked; rest = served.rest; lawful = served.lawful; front = served.front; broken = (refl, inr refl) }
+  at_pair : (pair : Pair Record Outcome) (after : Market) (fault : KeepFault) → (¬ (fault ≡ Memory)) → IsServed w.held market pair after → BreaksOff commands (Names market new (pair ∷ [])) w.held new fault tt tt
+  at_pair pair after fault other served = record { unit = pair.asked; rest = served.rest; lawful = served.lawful; front = served.front; broken = (refl, inr refl, λ is. absurd (other is)) }
 
   abbrev Broke : KeepFault → Type 0
   Broke fault = BreaksNext w.held market place later (state now) (state next) (held out) (held last) (next ≡ now) (last ≡ out) fault
@@ -121,13 +132,13 @@ module _ {R D K : Type 0} (rest : R → Option (List ℕ)) (faults : R → ℕ) 
   serves_broken Memory broke =
       let there = broke.2 in
       rw (broke.0, broke.1) (serves_so first (rest from_source) (rest source) (state begun) (state now) before market from place (held begun_out) (held out) new so (Err Memory)
-      (broken [] Memory (record { unit = there.0; rest = there.1; lawful = there.2.0; front = there.2.1; broken = (refl, inl refl) })) (λ P p. p))
+      (broken [] Memory (record { unit = there.0; rest = there.1; lawful = there.2.0; front = there.2.1; broken = (refl, inl refl, λ _. there.3) })) (λ P p. p))
   serves_broken Disk broke =
       rw (broke.0) (serves_failed first (rest from_source) (rest source) (state begun) (state now) before market from place (held begun_out) (held out) new so (state next) broke.2 broke.1 w.held is_disk broke.3 broke.4
-      (broken (broke.1 ∷ []) Disk (at_pair broke.1 broke.2 Disk broke.3)))
+      (broken (broke.1 ∷ []) Disk (at_pair broke.1 broke.2 Disk (λ is. cc is) broke.3)))
   serves_broken Write broke =
       serves_cut first (rest from_source) (rest source) (state begun) (state now) before market from place (held begun_out) (held out) new so (state next) broke.1 later (held last) broke.0 w.held broke.2 broke.3 broke.4
-      (broken (broke.0 ∷ []) Write (at_pair broke.0 broke.1 Write broke.2))
+      (broken (broke.0 ∷ []) Write (at_pair broke.0 broke.1 Write (λ is. cc is) broke.2))
   serves_broken Read broke = absurd broke
   serves_broken NotDisk broke = absurd broke
   serves_broken (Damaged place) broke = absurd broke

@@ -5,11 +5,13 @@ use Rattle.std.proofs.lemmas.List.Elements.{All-take}
 use Rattle.wire_records.specs.Records.{Record}
 use Rattle.wire_records.specs.Commands.{Pair}
 use Rattle.wire_records.specs.Versions.{IsReadAs}
+use Rattle.wire_records.specs.declared.version.Version.{Version}
 use Rattle.flow_orders.specs.Outcomes.{Outcome, IsRightOutcome}
 use Rattle.journal_records.specs.Pairs.{IsPair}
 use Rattle.market_rules.specs.Market.{Market, empty_market}
 use Rattle.market_rules.specs.Journal.{Follows}
-use Rattle.journal_keeping.specs.Keeping.{kept_version, IsKeptJournal, Keeps}
+use Rattle.disk_edge.specs.Disks.{DiskState}
+use Rattle.journal_keeping.specs.Keeping.{IsKeptJournal, StandsForJournal}
 use Rattle.journal_keeping.specs.Laws.{FrontsAreLegal, MorePairsStay, FirstsAreLegal, CanBeginAgain}
 
 abbrev Leads : Market → List (Pair Record Outcome) → Market → Type 0
@@ -23,16 +25,16 @@ front_leads old (pair ∷ pairs) new (suc count) leads =
     (rest.0, (leads.0, leads.1, rest.1))
 
 pub fronts_are_legal : FrontsAreLegal
-fronts_are_legal pairs market count is =
-    let front = front_leads (empty_market kept_version) pairs market count is.steps in
+fronts_are_legal version pairs market count is =
+    let front = front_leads (empty_market version) pairs market count is.steps in
     (front.0, record { each = All-take IsPair count pairs is.each; steps = front.1 })
 
 pub more_pairs_stay : MorePairsStay
-more_pairs_stay old new more least most later image fits grows keeps = (
+more_pairs_stay version old new more least most later image fits grows keeps = (
   keeps.0,
   keeps.1,
   omega (arith, keeps.2, grows),
-  subst (λ (l : List (Pair Record Outcome)). Keeps (old ++ l) image) (sym (take-append-le keeps.0 new more (omega (arith, keeps.2, fits)))) keeps.3,
+  subst (λ (l : List (Pair Record Outcome)). StandsForJournal version (old ++ l) image) (sym (take-append-le keeps.0 new more (omega (arith, keeps.2, fits)))) keeps.3,
 )
 
 -- a front of two lists
@@ -43,15 +45,15 @@ front_of_both (pair ∷ old) new count =
     (suc rest.0, ap (λ (l : List (Pair Record Outcome)). pair ∷ l) rest.1)
 
 pub firsts_are_legal : FirstsAreLegal
-firsts_are_legal old new before after records least most image on keeps =
+firsts_are_legal version old new before after records least most image on keeps =
     let both = front_of_both old new keeps.0 in
-    let front = fronts_are_legal (old ++ new) after both.0 on.journal in
-    (old ++ take keeps.0 new, front.0, subst (λ (l : List (Pair Record Outcome)). IsKeptJournal l front.0) (sym both.1) front.1, keeps.3)
+    let front = fronts_are_legal version (old ++ new) after both.0 on.journal in
+    (version, old ++ take keeps.0 new, front.0, subst (λ (l : List (Pair Record Outcome)). IsKeptJournal version l front.0) (sym both.1) front.1, keeps.3)
 
-pub can_begin_again : CanBeginAgain
-can_begin_again = record {
-  during = λ start end old new before after records holds on run image left.
-      ⊎_elim (λ early. holds.each image early) (λ keeps. firsts_are_legal old new before after records 0 (length new) image on keeps) (run.each image left);
-  returned = λ start end old new before after records acknowledged holds on returns image left.
-      ⊎_elim (λ early. holds.each image early.0) (λ keeps. firsts_are_legal old new before after records acknowledged (acknowledged + 1) image on keeps) (returns image left);
+pub can_begin_again : (start end : DiskState) → CanBeginAgain start end
+can_begin_again start end = record {
+  during = λ version of old new market before after records holds on run image left.
+      ⊎_elim (λ early. holds.each image early) (λ keeps. firsts_are_legal of old new before after records 0 (length new) image on keeps) (run.each image left);
+  returned = λ version of old new market before after records acknowledged holds on returns image left.
+      ⊎_elim (λ early. holds.each image early.0) (λ keeps. firsts_are_legal of old new before after records acknowledged (acknowledged + 1) image on keeps) (returns image left);
 }

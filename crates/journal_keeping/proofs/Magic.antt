@@ -1,44 +1,64 @@
 -- A source that is opened behind its magic.
-use Rattle.std.proofs.Common.{◌≡◌, ℕ, ◌+◌, ◌-◌, ◌≤◌, ◌<◌, List, [], ◌++◌, Option, Some, None, IfSome, length, take, drop, refl, sym, ap, subst, ◌∙◌, arith, append-nil, length-append, length-take, take-append-drop}
+use Rattle.std.proofs.Common.{◌≡◌, ◌↔◌, ℕ, ◌+◌, ◌-◌, ◌≤◌, ◌<◌, List, [], ◌++◌, Option, Some, None, IfSome, length, take, drop, refl, sym, ap, subst, ◌∙◌, arith, append-nil, length-append, length-take, take-append-drop}
 use Rattle.std.proofs.lemmas.List.{take_at, drop_at, take-append-le}
-use Rattle.flow_io.specs.Streams.{Takes}
+use Rattle.flow_io.specs.Streams.{Takes, TakesAtMost}
 use Rattle.flow_io.specs.Windows.{WindowState, Fills, IsPast, IsWithin, empty_window}
 use Rattle.flow_io.specs.declared.window.InputEnd.{InputEnd}
 use Rattle.flow_io.specs.declared.window.InputEnd.TheVariants.{Source, Limit}
-use Rattle.wire_records.specs.Records.{command_magic_2}
 use Rattle.wire_records.specs.Grammars.{BeginsWith}
-use Rattle.wire_records.specs.Reading as reading
-use Rattle.wire_records.specs.Formats.{commands}
+use Rattle.wire_records.specs.Formats.{commands, command_magic_of}
+use Rattle.wire_records.proofs.RecordCode.{eight}
 use Rattle.wire_records.specs.declared.version.Version.{Version}
-use Rattle.wire_records.specs.declared.version.Version.TheVariants.{One, Two, Three}
+use Rattle.word_driver.specs.Does.{IsTaken}
 use Rattle.file_units.proofs.Gone.{considered, within_limit}
-use Rattle.journal_keeping.specs.Keeping.{kept_version}
-use Rattle.journal_keeping.specs.Openings.{ReadsKept}
-use Rattle.journal_keeping.specs.Beginning.{IsBehindMagic}
-
-pub one_is_other : (v : Version) → v ≡ One → ◌≡◌ {A = Option Version} (Some v) (Some Two) → ⊥
-one_is_other v one two = absurd cc
-
-pub three_is_other : (v : Version) → v ≡ Three → ◌≡◌ {A = Option Version} (Some v) (Some Two) → ⊥
-three_is_other v three two = absurd cc
+use Rattle.journal_keeping.specs.Beginning.{IsBehindMagic, IsWanted, IsNoneOf}
 
 -- fewer than eight bytes have no magic
-short_has_none : (bytes body : List ℕ) → length bytes < 8 → ¬ BeginsWith commands.magics bytes kept_version body
-short_has_none bytes body few begins =
-    let eight : length command_magic_2 ≡ 8 = refl in
-    omega (arith, few, eight, ap length begins.1, length-append command_magic_2 body)
+pub short_has_none : (version : Version) (bytes body : List ℕ) → length bytes < 8 → ¬ BeginsWith commands.magics bytes version body
+short_has_none version bytes body few begins = omega (arith, few, eight version, ap length begins.1, length-append (command_magic_of version) body)
 
--- what begins with the magic has it in its first eight bytes
-front_has : (held more body : List ℕ) → 8 ≤ length held → held ++ more ≡ command_magic_2 ++ body → BeginsWith commands.magics held kept_version (drop 8 held)
-front_has held more body some is =
-    let front : take 8 held ≡ command_magic_2 = sym (take-append-le 8 held more some) ∙ ap (take 8) is ∙ take_at command_magic_2 body 8 refl in
+-- what begins with a magic has it in its first eight bytes
+front_has : (version : Version) (held more body : List ℕ) → 8 ≤ length held → held ++ more ≡ command_magic_of version ++ body → BeginsWith commands.magics held version (drop 8 held)
+front_has version held more body some is =
+    let front : take 8 held ≡ command_magic_of version = sym (take-append-le 8 held more some) ∙ ap (take 8) is ∙ take_at (command_magic_of version) body 8 (eight version) in
     (tt, sym (take-append-drop 8 held) ∙ ap (λ (l : List ℕ). l ++ drop 8 held) front)
+
+none_of_short : (wanted : Option Version) (bytes : List ℕ) → length bytes < 8 → IsNoneOf wanted bytes
+none_of_short None bytes few = λ version body lawful is. short_has_none version bytes body few (lawful, is)
+none_of_short (Some own) bytes few = λ body begins. short_has_none own bytes body few begins
+
+none_of_more : (wanted : Option Version) (held more : List ℕ) → 8 ≤ length held → IsNoneOf wanted held → IsNoneOf wanted (held ++ more)
+none_of_more None held more some none = λ version body lawful is. none version (drop 8 held) tt (front_has version held more body some is).1
+none_of_more (Some own) held more some none = λ body begins. none (drop 8 held) (front_has own held more body some begins.1)
+
+some_same : (v w : Version) → ◌≡◌ {A = Option Version} (Some v) (Some w) → v ≡ w
+some_same v w e = cc
+
+-- the version that was found isn't the one that is wanted
+pub none_wanted : (wanted found : Option Version) (version : Version) (held : List ℕ) → found ≡ Some version → ((v : Version) → (found ≡ Some v) ↔ ((body : List ℕ) × BeginsWith commands.magics held v body)) → (¬ IsWanted wanted version) → IsNoneOf wanted held
+none_wanted None found version held is exact other = absurd (other tt)
+none_wanted (Some own) found version held is exact other = λ body begins. other (some_same version own (sym is ∙ (exact own).1 (body, begins)))
 
 not_limit : ◌≡◌ {A = Option InputEnd} None (Some Limit) → ⊥
 not_limit e = absurd cc
 
 source_no_limit : ◌≡◌ {A = Option InputEnd} (Some Source) (Some Limit) → ⊥
 source_no_limit e = absurd cc
+
+-- how many bytes were taken
+pub at_most : (before after : Option (List ℕ)) (bytes : List ℕ) (most : ℕ) → Takes before after bytes → length bytes ≤ most → TakesAtMost before after most
+at_most None after bytes most takes few = tt
+at_most (Some b) None bytes most takes few = absurd takes
+at_most (Some b) (Some a) bytes most takes few = omega (arith, ap length takes, length-append bytes a, few)
+
+pub none_taken : (content : Option (List ℕ)) (most : ℕ) → TakesAtMost content content most
+none_taken None most = tt
+none_taken (Some bytes) most = omega arith
+
+pub counted : (before after : Option (List ℕ)) (bytes : List ℕ) (P : ℕ → Type 0) → Takes before after bytes → P (length bytes) → IfSome before (λ b. (n : ℕ) × IsTaken b after n × P n)
+counted None after bytes P takes p = tt
+counted (Some b) None bytes P takes p = absurd takes
+counted (Some b) (Some a) bytes P takes p = (length bytes, sym (ap length takes ∙ length-append bytes a), p)
 
 -- ---- a new window was filled
 
@@ -63,50 +83,66 @@ module _ (limit : ℕ) (filled : WindowState) (before after : Option (List ℕ))
   takes_held : (¬ (filled.over ≡ Some Limit)) → Takes before after filled.held
   takes_held other = subst (Takes before after) (ap (λ (l : List ℕ). fills.joined ++ l) (past_none filled.over refl other) ∙ append-nil fills.joined ∙ sym held) fills.taken
 
+  past_few : (over : Option InputEnd) → IsPast None over fills.past → length fills.past ≤ 1
+  past_few None is = omega (arith, ap length is)
+  past_few (Some Source) is = omega (arith, ap length is)
+  past_few (Some Limit) is = omega (arith, is)
+
+  -- one byte past the limit is taken at most
+  pub taken_few : TakesAtMost before after (limit + 1)
+  taken_few = at_most before after (fills.joined ++ fills.past) (limit + 1) fills.taken
+      (omega (arith, length-append fills.joined fills.past, past_few filled.over fills.beyond, within, ap length held))
+
+  -- a read failed before eight bytes were held
+  pub unread_few : filled.over ≡ None → length filled.held < 8 → IfSome before (λ bytes. (n : ℕ) × IsTaken bytes after n × (n < 8))
+  unread_few open_still few = counted before after filled.held (λ n. n < 8) (takes_held (λ is. not_limit (sym open_still ∙ is))) few
+
   -- the magic stands there
-  pub behind_magic : (window : WindowState) (body : List ℕ) → filled.over ≡ None → 8 ≤ length filled.held → BeginsWith commands.magics filled.held kept_version body
-      → window ≡ record filled { held = drop 8 filled.held; place = filled.place + 8 } → IsBehindMagic limit window before after
-  behind_magic window body open_still some magic advanced = record {
+  pub behind_magic : (version : Version) (window : WindowState) (body : List ℕ) → filled.over ≡ None → BeginsWith commands.magics filled.held version body
+      → window ≡ record filled { held = drop 8 filled.held; place = filled.place + 8 } → length filled.held ≤ filled.room → IsBehindMagic limit version window before after
+  behind_magic version window body open_still magic advanced few = record {
     limited = ap (λ (w : WindowState). w.limit) advanced ∙ limited;
     place = ap (λ (w : WindowState). w.place) advanced ∙ ap (λ (n : ℕ). n + 8) place;
     room = ap (λ (w : WindowState). w.room) advanced ∙ ap (λ (w : WindowState). w.room) fills.holds;
     over = ap (λ (w : WindowState). w.over) advanced ∙ open_still;
     first = filled.held;
     takes = takes_held (λ is. not_limit (sym open_still ∙ is));
-    magic = (tt, magic.1 ∙ ap (λ (l : List ℕ). command_magic_2 ++ l) (sym (ap (λ (w : WindowState). w.held) advanced ∙ ap (drop 8) magic.1 ∙ drop_at command_magic_2 body 8 refl)));
+    magic = (tt, magic.1 ∙ ap (λ (l : List ℕ). command_magic_of version ++ l) (sym (ap (λ (w : WindowState). w.held) advanced ∙ ap (drop 8) magic.1 ∙ drop_at (command_magic_of version) body 8 (eight version))));
     few = within;
+    held = omega (arith, few, ap (λ (w : WindowState). w.room) fills.holds);
   }
 
-  -- the source ended before eight bytes
-  ended_short : length filled.held < 8 → filled.over ≡ Some Source → IfSome after (λ left. left ≡ []) → (told left : Option (List ℕ)) → told ≡ before → left ≡ after → IfSome told (λ bytes. ReadsKept limit bytes reading.NotFlow)
-  ended_short few over all None left is also = tt
-  ended_short few over all (Some bytes) None is also =
-      absurd (subst (λ (o : Option (List ℕ)). Takes o None filled.held) (sym is) (subst (λ (o : Option (List ℕ)). Takes before o filled.held) (sym also) (takes_held (λ e. source_no_limit (sym over ∙ e)))))
-  ended_short few over all (Some bytes) (Some left) is also =
-      let taken : bytes ≡ filled.held ++ left = subst (λ (o : Option (List ℕ)). Takes o (Some left) filled.held) (sym is) (subst (λ (o : Option (List ℕ)). Takes before o filled.held) (sym also) (takes_held (λ e. source_no_limit (sym over ∙ e)))) in
-      let none : left ≡ [] = subst (λ (o : Option (List ℕ)). IfSome o (λ (l : List ℕ). l ≡ [])) (sym also) all in
-      λ body begins. short_has_none (take limit bytes) body (omega (arith, few, ap length taken, ap length none, length-append filled.held left, length-take limit bytes)) begins
+  module _ (wanted : Option Version) where
+    -- the source ended before eight bytes
+    ended_short : length filled.held < 8 → filled.over ≡ Some Source → IfSome after (λ left. left ≡ []) → (told left : Option (List ℕ)) → told ≡ before → left ≡ after → IfSome told (λ bytes. IsNoneOf wanted (take limit bytes))
+    ended_short few over all None left is also = tt
+    ended_short few over all (Some bytes) None is also =
+        absurd (subst (λ (o : Option (List ℕ)). Takes o None filled.held) (sym is) (subst (λ (o : Option (List ℕ)). Takes before o filled.held) (sym also) (takes_held (λ e. source_no_limit (sym over ∙ e)))))
+    ended_short few over all (Some bytes) (Some left) is also =
+        let taken : bytes ≡ filled.held ++ left = subst (λ (o : Option (List ℕ)). Takes o (Some left) filled.held) (sym is) (subst (λ (o : Option (List ℕ)). Takes before o filled.held) (sym also) (takes_held (λ e. source_no_limit (sym over ∙ e)))) in
+        let none : left ≡ [] = subst (λ (o : Option (List ℕ)). IfSome o (λ (l : List ℕ). l ≡ [])) (sym also) all in
+        none_of_short wanted (take limit bytes) (omega (arith, few, ap length taken, ap length none, length-append filled.held left, length-take limit bytes))
 
-  pub ended_before : length filled.held < 8 → filled.over ≡ Some Source → IfSome after (λ left. left ≡ []) → IfSome before (λ bytes. ReadsKept limit bytes reading.NotFlow)
-  ended_before few over all = ended_short few over all before after refl refl
+    pub ended_before : length filled.held < 8 → filled.over ≡ Some Source → IfSome after (λ left. left ≡ []) → IfSome before (λ bytes. IsNoneOf wanted (take limit bytes))
+    ended_before few over all = ended_short few over all before after refl refl
 
-  -- the limit was reached before eight bytes
-  limit_short : limit < 8 → (told : Option (List ℕ)) → IfSome told (λ bytes. ReadsKept limit bytes reading.NotFlow)
-  limit_short few None = tt
-  limit_short few (Some bytes) = λ body begins. short_has_none (take limit bytes) body (omega (arith, few, length-take limit bytes)) begins
+    -- the limit was reached before eight bytes
+    limit_short : limit < 8 → (told : Option (List ℕ)) → IfSome told (λ bytes. IsNoneOf wanted (take limit bytes))
+    limit_short few None = tt
+    limit_short few (Some bytes) = none_of_short wanted (take limit bytes) (omega (arith, few, length-take limit bytes))
 
-  pub limit_before : length filled.held < 8 → filled.over ≡ Some Limit → IfSome before (λ bytes. ReadsKept limit bytes reading.NotFlow)
-  limit_before few over =
-      let full : filled.place + length filled.held ≡ filled.limit = subst (λ (o : Option InputEnd). IsWithin filled.place (length filled.held) filled.limit o) over inside in
-      limit_short (omega (arith, full, few, place, limited)) before
+    pub limit_before : length filled.held < 8 → filled.over ≡ Some Limit → IfSome before (λ bytes. IsNoneOf wanted (take limit bytes))
+    limit_before few over =
+        let full : filled.place + length filled.held ≡ filled.limit = subst (λ (o : Option InputEnd). IsWithin filled.place (length filled.held) filled.limit o) over inside in
+        limit_short (omega (arith, full, few, place, limited)) before
 
-  -- another magic, or none
-  other : 8 ≤ length filled.held → ((body : List ℕ) → ¬ BeginsWith commands.magics filled.held kept_version body) → (told left : Option (List ℕ)) → Takes told left filled.held → IfSome told (λ bytes. ReadsKept limit bytes reading.NotFlow)
-  other some none None left takes = tt
-  other some none (Some bytes) None takes = absurd takes
-  other some none (Some bytes) (Some left) takes = λ body begins.
-      let whole : filled.held ++ take (limit - length filled.held) left ≡ command_magic_2 ++ body = sym (considered limit filled.held left within) ∙ ap (take limit) (sym takes) ∙ begins.1 in
-      none (drop 8 filled.held) (front_has filled.held (take (limit - length filled.held) left) body some whole)
+    -- another magic, or none
+    other : 8 ≤ length filled.held → IsNoneOf wanted filled.held → (told left : Option (List ℕ)) → Takes told left filled.held → IfSome told (λ bytes. IsNoneOf wanted (take limit bytes))
+    other some none None left takes = tt
+    other some none (Some bytes) None takes = absurd takes
+    other some none (Some bytes) (Some left) takes =
+        let whole : take limit bytes ≡ filled.held ++ take (limit - length filled.held) left = ap (take limit) takes ∙ considered limit filled.held left within in
+        subst (IsNoneOf wanted) (sym whole) (none_of_more wanted filled.held (take (limit - length filled.held) left) some none)
 
-  pub other_magic : filled.over ≡ None → 8 ≤ length filled.held → ((body : List ℕ) → ¬ BeginsWith commands.magics filled.held kept_version body) → IfSome before (λ bytes. ReadsKept limit bytes reading.NotFlow)
-  other_magic open_still some none = other some none before after (takes_held (λ is. not_limit (sym open_still ∙ is)))
+    pub other_magic : filled.over ≡ None → 8 ≤ length filled.held → IsNoneOf wanted filled.held → IfSome before (λ bytes. IsNoneOf wanted (take limit bytes))
+    other_magic open_still some none = other some none before after (takes_held (λ is. not_limit (sym open_still ∙ is)))

@@ -4,6 +4,7 @@ use Rattle.flow_io.specs.Streams.{Grows, GrowsByFront}
 use Rattle.wire_records.specs.Records.{Record}
 use Rattle.wire_records.specs.Commands.{Pair}
 use Rattle.wire_records.specs.Formats.{commands}
+use Rattle.wire_records.specs.declared.version.Version.{Version}
 use Rattle.flow_orders.specs.Outcomes.{Outcome}
 use Rattle.journal_records.specs.Pairs.{IsPair}
 use Rattle.journal_records.specs.Formats.{records_of}
@@ -13,7 +14,7 @@ use Rattle.file_units.specs.Units.{TakesOne}
 use Rattle.disk_edge.specs.Disks.{DiskState, AtEachMoment}
 use Rattle.journal_disk.specs.Pairs.{RecordPair, IsRecordPair, pair_bytes, IsWholePair}
 use Rattle.journal_disk.specs.Entries.{WithOrWithout}
-use Rattle.journal_disk.specs.Entries.{Keeps as KeepsAt}
+use Rattle.journal_disk.specs.Entries.{Keeps}
 use Rattle.journal_disk.proofs.Entries.{pair_short}
 use Rattle.journal_keeping.specs.declared.fault.KeepFault.{KeepFault}
 use Rattle.journal_keeping.specs.declared.fault.KeepFault.TheVariants.{Disk, Write}
@@ -61,8 +62,8 @@ module _ (n : ℕ) (bytes : List ℕ) (old new : Market) (text : List ℕ) (one 
 
   -- where it wasn't kept, or not written whole
   pub breaks : (from to : ℕ) (disk later : DiskState) (before after : Option (List ℕ)) (SameDisk SameOut : Type 0) (fault : KeepFault) → (fault ≡ Disk) ⊎ (fault ≡ Write) → (fault ≡ Disk → SameOut)
-      → ((pairs : List RecordPair) → KeepsAt pairs from disk → AtEachMoment disk later (WithOrWithout pairs (records_of pair_of)))
-      → (fault ≡ Write → (pairs : List RecordPair) → KeepsAt pairs from disk → KeepsAt (pairs ++ records_of pair_of ∷ []) to later) → (fault ≡ Write → GrowsByFront before after text)
+      → ((version : Version) (pairs : List RecordPair) → Keeps version pairs from disk → AtEachMoment disk later (WithOrWithout version pairs (records_of pair_of)))
+      → (fault ≡ Write → (version : Version) (pairs : List RecordPair) → Keeps version pairs from disk → Keeps version (pairs ++ records_of pair_of ∷ []) to later) → (fault ≡ Write → GrowsByFront before after text)
       → BreaksNext bytes old from to disk later before after SameDisk SameOut fault
   breaks from to disk later before after SameDisk SameOut fault refused silent moments keeps cut =
       let there : IsServed bytes old pair_of new = record { lawful = one.lawful; rest = drop n bytes; front = one.front; step = one.step.step; fits = fits } in

@@ -6,13 +6,15 @@ use Rattle.flow_io.specs.Windows.{WindowState}
 use Rattle.wire_records.specs.Records.{Record}
 use Rattle.wire_records.specs.Grammars.{BeginsWith}
 use Rattle.wire_records.specs.Formats.{commands}
+use Rattle.wire_records.specs.declared.version.Version.{Version}
 use Rattle.market_rules.specs.Market.{Market}
 use Rattle.file_units.specs.Inputs.{known}
 use Rattle.disk_edge.specs.Disks.{DiskState}
 use Rattle.journal_keeping.specs.declared.fault.KeepFault.{KeepFault}
 use Rattle.journal_keeping.specs.declared.fault.KeepFault.TheVariants.{Read, Write, Disk, Memory, NotDisk, Damaged, Rejected, NotFlow, Torn, TooLong}
-use Rattle.journal_keeping.specs.Keeping.{kept_version, AreServed}
-use Rattle.journal_keeping.specs.Private.{asked_of, ServesOn}
+use Rattle.journal_keeping.specs.Keeping.{AreServed}
+use Rattle.journal_keeping.specs.Private.{ServesOn}
+use Rattle.journal_keeping.specs.Pacing.{asked_of}
 use Rattle.journal_keeping.proofs.Turns.{Pairs}
 use Rattle.journal_keeping.proofs.Sources.{BeginsWithAll, all_to_end, all_to_break, longer, starts_with}
 
@@ -28,16 +30,16 @@ served_first window mid left (Err (Torn n)) before from start end held holds on 
 served_first window mid left (Err TooLong) before from start end held holds on = none_more _ on.new on.more on.ended.0 (all_to_end _ _ _ _ on.new on.goes.goes.0)
 served_first window mid left (Err Read) before from start end held holds on =
     longer (length (window.held ++ on.goes.taken)) _ _ (none_more _ on.new on.more on.ended.0 (all_to_end _ _ _ _ on.new on.goes.goes))
-served_first window mid left (Err Write) before from start end held holds on = all_to_break _ Write on.new on.more on.goes.goes.0
-served_first window mid left (Err Disk) before from start end held holds on = all_to_break _ Disk on.new on.more on.goes.goes.0
-served_first window mid left (Err Memory) before from start end held holds on = all_to_break _ Memory on.new on.more on.goes.goes.0
+served_first window mid left (Err Write) before from start end held holds on = all_to_break on.market _ Write on.new on.more on.goes.goes.0
+served_first window mid left (Err Disk) before from start end held holds on = all_to_break on.market _ Disk on.new on.more on.goes.goes.0
+served_first window mid left (Err Memory) before from start end held holds on = all_to_break on.market _ Memory on.new on.more on.goes.goes.0
 served_first window mid left (Err NotDisk) before from start end held holds on = absurd on.ended
 served_first window mid left (Err (Damaged n)) before from start end held holds on = absurd on.ended
 served_first window mid left (Err (Rejected n)) before from start end held holds on = absurd on.ended
 served_first window mid left (Err NotFlow) before from start end held holds on = absurd on.ended
 
 -- and so the source's, behind the magic
-pub are_served : (limit : ℕ) (content mid left : Option (List ℕ)) (first held taken : List ℕ) (records : List Record) → Takes content mid first → BeginsWith commands.magics first kept_version held → length first ≤ limit → Takes mid left taken
-    → BeginsWithAll (take (limit - 8) (held ++ known taken left)) records → AreServed limit content records
-are_served limit None mid left first held taken records opens magic few takes all = inr tt
-are_served limit (Some bytes) mid left first held taken records opens magic few takes all = inr (starts_with limit bytes first held taken mid left records opens magic few takes all)
+pub are_served : (version : Version) (limit : ℕ) (content mid left : Option (List ℕ)) (first held taken : List ℕ) (records : List Record) → Takes content mid first → BeginsWith commands.magics first version held → length first ≤ limit → Takes mid left taken
+    → BeginsWithAll (take (limit - 8) (held ++ known taken left)) records → AreServed limit version content records
+are_served version limit None mid left first held taken records opens magic few takes all = inr tt
+are_served version limit (Some bytes) mid left first held taken records opens magic few takes all = inr (starts_with version limit bytes first held taken mid left records opens magic few takes all)

@@ -6,17 +6,22 @@ use Rattle.std.proofs.lemmas.List.Elements.{All-append, All-cons, All-nil}
 use Rattle.std.proofs.lemmas.Grind.{flat_map-append}
 use Rattle.std.proofs.Math.Seq.{take-append-add}
 use Rattle.flow_io.specs.Streams.{Takes}
-use Rattle.wire_records.specs.Records.{Record, command_magic_2}
+use Rattle.wire_records.specs.Records.{Record}
 use Rattle.wire_records.specs.Commands.{Pair}
 use Rattle.wire_records.specs.Grammars.{BeginsWith, spell_all}
 use Rattle.wire_records.specs.Reading.{Ending, StartsWith}
-use Rattle.wire_records.specs.Formats.{commands}
+use Rattle.wire_records.specs.Formats.{commands, command_magic_of}
+use Rattle.wire_records.proofs.RecordCode.{eight}
+use Rattle.wire_records.specs.declared.version.Version.{Version}
 use Rattle.flow_orders.specs.Outcomes.{Outcome}
+use Rattle.market_rules.specs.Market.{Market}
+use Rattle.market_rules.specs.Wanting.{RecordMayWant}
 use Rattle.file_units.specs.Units.{Leads, GoesToEnd, GoesToBreak}
 use Rattle.file_units.specs.Inputs.{known}
-use Rattle.journal_keeping.specs.Keeping.{kept_version}
 use Rattle.journal_keeping.specs.declared.fault.KeepFault.{KeepFault}
-use Rattle.journal_keeping.specs.Private.{Adds, asked_of, Names}
+use Rattle.journal_keeping.specs.declared.fault.KeepFault.TheVariants.{Memory}
+use Rattle.journal_keeping.specs.Private.{Adds, Names}
+use Rattle.journal_keeping.specs.Pacing.{asked_of}
 use Rattle.journal_keeping.proofs.Turns.{Pairs}
 
 -- bytes that begin with these records
@@ -44,8 +49,8 @@ all_to_end place More bytes ending new goes =
     subst (λ (l : List Record). BeginsWithAll bytes l) (sym is) (record { rest = goes.reads.rest; whole = goes.reads.whole; each = goes.reads.each })
 
 -- and the one at which it broke off
-pub all_to_break : (bytes : List ℕ) (fault : KeepFault) (new more : Pairs) → GoesToBreak commands Adds (Names new more) bytes fault [] tt tt → BeginsWithAll bytes (asked_of (new ++ more))
-all_to_break bytes fault new more goes =
+pub all_to_break : (market : Market) (bytes : List ℕ) (fault : KeepFault) (new more : Pairs) → GoesToBreak commands Adds (Names market new more) bytes fault [] tt tt → BeginsWithAll bytes (asked_of (new ++ more))
+all_to_break market bytes fault new more goes =
     let off = goes.breaks in
     let named = off.broken in
     let is : asked_of new ≡ goes.units = ap asked_of (sym named.0) ∙ asked_are_units [] goes.units goes.middle tt goes.between goes.leads in
@@ -61,6 +66,30 @@ all_to_break bytes fault new more goes =
     }))
     named.1
 
+-- those before it
+pub all_before_break : (market : Market) (bytes : List ℕ) (fault : KeepFault) (new more : Pairs) (goes : GoesToBreak commands Adds (Names market new more) bytes fault [] tt tt)
+    → BeginsWithAll bytes (asked_of new) × (asked_of new ≡ goes.units)
+all_before_break market bytes fault new more goes =
+    let is : asked_of new ≡ goes.units = ap asked_of (sym goes.breaks.broken.0) ∙ asked_are_units [] goes.units goes.middle tt goes.between goes.leads in
+    (subst (λ (l : List Record). BeginsWithAll bytes l) (sym is) (record { rest = goes.left; whole = goes.begins; each = goes.each }), is)
+
+-- and with it, where it may want memory
+pub all_to_wanting : (market : Market) (bytes : List ℕ) (new more : Pairs) → GoesToBreak commands Adds (Names market new more) bytes Memory [] tt tt
+    → (next : Record) × BeginsWithAll bytes (asked_of new ++ next ∷ []) × RecordMayWant market next
+all_to_wanting market bytes new more goes =
+    let off = goes.breaks in
+    let before = all_before_break market bytes Memory new more goes in (
+      off.unit,
+      subst (λ (l : List Record). BeginsWithAll bytes (l ++ off.unit ∷ [])) (sym before.1) (record {
+        rest = off.rest;
+        whole = goes.begins ∙ ap (λ (l : List ℕ). spell_all commands.units goes.units ++ l) off.front
+            ∙ sym (append_assoc (spell_all commands.units goes.units) (commands.units.spell off.unit) off.rest)
+            ∙ ap (λ (l : List ℕ). l ++ off.rest) (sym (flat_map-append commands.units.spell goes.units (off.unit ∷ []) ∙ ap (λ (l : List ℕ). spell_all commands.units goes.units ++ l) (append-nil (commands.units.spell off.unit))));
+        each = All-append commands.units.IsLawful goes.units (off.unit ∷ []) goes.each (All-cons commands.units.IsLawful off.unit [] off.lawful (All-nil commands.units.IsLawful));
+      }),
+      off.broken.2 refl,
+    )
+
 -- what begins with them begins with them also where more is seen
 pub longer : (n : ℕ) (bytes : List ℕ) (records : List Record) → BeginsWithAll (take n bytes) records → BeginsWithAll bytes records
 longer n bytes records all = record {
@@ -70,19 +99,19 @@ longer n bytes records all = record {
 }
 
 -- behind the magic, in the bytes of a source that tells them
-pub starts_with : (limit : ℕ) (bytes first held taken : List ℕ) (mid left : Option (List ℕ)) (records : List Record) → Takes (Some bytes) mid first → BeginsWith commands.magics first kept_version held → length first ≤ limit → Takes mid left taken
-    → BeginsWithAll (take (limit - 8) (held ++ known taken left)) records → StartsWith commands limit bytes kept_version records
-starts_with limit bytes first held taken None left records opens magic few takes all = absurd opens
-starts_with limit bytes first held taken (Some m) None records opens magic few takes all = absurd takes
-starts_with limit bytes first held taken (Some m) (Some l) records opens magic few takes all =
+pub starts_with : (version : Version) (limit : ℕ) (bytes first held taken : List ℕ) (mid left : Option (List ℕ)) (records : List Record) → Takes (Some bytes) mid first → BeginsWith commands.magics first version held → length first ≤ limit → Takes mid left taken
+    → BeginsWithAll (take (limit - 8) (held ++ known taken left)) records → StartsWith commands limit bytes version records
+starts_with version limit bytes first held taken None left records opens magic few takes all = absurd opens
+starts_with version limit bytes first held taken (Some m) None records opens magic few takes all = absurd takes
+starts_with version limit bytes first held taken (Some m) (Some l) records opens magic few takes all =
     let behind = held ++ (taken ++ l) in
-    let whole : bytes ≡ command_magic_2 ++ behind = opens ∙ ap (λ (xs : List ℕ). xs ++ m) magic.1 ∙ append_assoc command_magic_2 held m ∙ ap (λ (xs : List ℕ). command_magic_2 ++ (held ++ xs)) takes in
-    let eight : length command_magic_2 ≡ 8 = refl in
-    let parts : limit ≡ length command_magic_2 + (limit - 8) = omega (arith, few, ap length magic.1, length-append command_magic_2 held, eight) in
+    let whole : bytes ≡ (command_magic_of version) ++ behind = opens ∙ ap (λ (xs : List ℕ). xs ++ m) magic.1 ∙ append_assoc (command_magic_of version) held m ∙ ap (λ (xs : List ℕ). (command_magic_of version) ++ (held ++ xs)) takes in
+    let of_magic : length (command_magic_of version) ≡ 8 = eight version in
+    let parts : limit ≡ length (command_magic_of version) + (limit - 8) = omega (arith, few, ap length magic.1, length-append (command_magic_of version) held, of_magic) in
     record {
       body = take (limit - 8) behind;
       rest = all.rest;
-      magic = (tt, ap (take limit) whole ∙ ap (λ (n : ℕ). take n (command_magic_2 ++ behind)) parts ∙ take-append-add command_magic_2 behind (limit - 8));
+      magic = (tt, ap (take limit) whole ∙ ap (λ (n : ℕ). take n ((command_magic_of version) ++ behind)) parts ∙ take-append-add (command_magic_of version) behind (limit - 8));
       whole = all.whole;
       each = all.each;
     }

@@ -9,6 +9,7 @@ use Rattle.wire_records.specs.Records.{Record}
 use Rattle.wire_records.specs.Commands.{Pair}
 use Rattle.wire_records.specs.Versions.{IsReadAs}
 use Rattle.wire_records.proofs.Readings.{read_own}
+use Rattle.wire_records.specs.declared.version.Version.{Version}
 use Rattle.flow_orders.specs.Outcomes.{Outcome, IsRightOutcome}
 use Rattle.own_rule.specs.Own.{IsOwnOutcome}
 use Rattle.journal_records.specs.Pairs.{IsPair, pair_spelling}
@@ -20,19 +21,20 @@ use Rattle.market_rules.proofs.LawProofs.{journals_hold_deposits, steps_keep_sou
 use Rattle.disk_edge.specs.Disks.{DiskState, IsDisk}
 use Rattle.disk_edge.proofs.Moments.{no_call}
 use Rattle.journal_disk.specs.Pairs.{IsRecordPair, pair_bytes, IsWholePair}
-use Rattle.journal_disk.specs.Entries.{Keeps as KeepsAt}
-use Rattle.journal_keeping.specs.Keeping.{kept_version, IsKeptJournal}
+use Rattle.journal_disk.specs.Entries.{Keeps}
+use Rattle.journal_keeping.specs.Keeping.{IsKeptJournal}
 use Rattle.journal_keeping.specs.Serving.{HasKept}
-use Rattle.journal_keeping.specs.Private.{KeepsOneMore, asked_of, SoFar}
+use Rattle.journal_keeping.specs.Private.{KeepsOneMore, SoFar}
+use Rattle.journal_keeping.specs.Pacing.{asked_of}
 use Rattle.journal_keeping.proofs.Serving.{kept_none, kept_more}
 
 abbrev pub Pairs : Type 0
 Pairs = List (Pair Record Outcome)
 
 -- an own step from the market of a legal journal is a right one
-pub own_is_right : (pairs : Pairs) (m : Market) (pair : Pair Record Outcome) (n : Market) → IsKeptJournal pairs m → Step IsReadAs IsOwnOutcome m pair.asked pair.answer n → Step IsReadAs IsRightOutcome m pair.asked pair.answer n
-own_is_right pairs m pair n legal step =
-    let sound = (journals_hold_deposits (empty_market kept_version) pairs m (steps_keep_soundness.0 kept_version) legal.steps).sound in
+pub own_is_right : (version : Version) (pairs : Pairs) (m : Market) (pair : Pair Record Outcome) (n : Market) → IsKeptJournal version pairs m → Step IsReadAs IsOwnOutcome m pair.asked pair.answer n → Step IsReadAs IsRightOutcome m pair.asked pair.answer n
+own_is_right version pairs m pair n legal step =
+    let sound = (journals_hold_deposits (empty_market version) pairs m (steps_keep_soundness.0 version) legal.steps).sound in
     let right = own_follows_are_right IsReadAs read_own m (pair ∷ []) n sound (n, step, refl) in
     subst (λ (x : Market). Step IsReadAs IsRightOutcome m pair.asked pair.answer x) (sym right.2) right.1
 
@@ -55,7 +57,7 @@ spelled_more new pair = sym (flat_map-append pair_spelling new (pair ∷ []) ∙
 pub so_none : (start : DiskState) (before : Market) (from : ℕ) (held : Option (List ℕ)) → IsDisk start → SoFar start start before before from from held held []
 so_none start before from held is_disk = record {
   written = Grows-nothing held;
-  kept = λ old is keeps. kept_none start start old before from is keeps (no_call start _ is_disk (λ image left. inl left));
+  kept = λ version old is keeps. kept_none version start start old before from is keeps (no_call start _ is_disk (λ image left. inl left));
   told = λ some. some;
 }
 
@@ -63,12 +65,12 @@ module _ (start now next : DiskState) (before market after : Market) (from place
     (so : SoFar start now before market from place held holds new) (fits : IsPair pair) (step : Step IsReadAs IsOwnOutcome market pair.asked pair.answer after)
     (keeps : KeepsOneMore pair place later now next) where
   -- the disk keeps one more
-  pub kept_one_more : (old : Pairs) → IsKeptJournal old before → KeepsAt (map records_of old) from start → HasKept start next old before later (asked_of (new ++ pair ∷ [])) (new ++ pair ∷ []) after
-  kept_one_more old is at =
-      let kept = so.kept old is at in
-      let right = own_is_right (old ++ new) market pair after kept.goes_on.journal step in
-      let more = kept_more start now old before place (asked_of new) new market kept next pair (keeps.moments (map records_of (old ++ new)) kept.keeps) later after fits step right (keeps.keeps (map records_of (old ++ new)) kept.keeps) in
-      subst (λ (l : List Record). HasKept start next old before later l (new ++ pair ∷ []) after) (sym (map-append (λ (p : Pair Record Outcome). p.asked) new (pair ∷ []))) more
+  pub kept_one_more : (version : Version) (old : Pairs) → IsKeptJournal version old before → Keeps version (map records_of old) from start → HasKept version start next old before later (asked_of (new ++ pair ∷ [])) (new ++ pair ∷ []) after
+  kept_one_more version old is at =
+      let kept = so.kept version old is at in
+      let right = own_is_right version (old ++ new) market pair after kept.goes_on.journal step in
+      let more = kept_more version start now old before place (asked_of new) new market kept next pair (keeps.moments version (map records_of (old ++ new)) kept.keeps) later after fits step right (keeps.keeps version (map records_of (old ++ new)) kept.keeps) in
+      subst (λ (l : List Record). HasKept version start next old before later l (new ++ pair ∷ []) after) (sym (map-append (λ (p : Pair Record Outcome). p.asked) new (pair ∷ []))) more
 
   -- and it was written
   pub so_more : (IsSome next.content → IsSome now.content) → Grows holds last (pair_spelling pair) → SoFar start next before after from later held last (new ++ pair ∷ [])

@@ -2,6 +2,7 @@
 use Rattle.std.specs.Prelude.{◌≡◌, ℕ, ◌+◌, List, length, ⊤}
 use Rattle.wire_records.specs.Records.{Record}
 use Rattle.wire_records.specs.Commands.{Pair}
+use Rattle.wire_records.specs.declared.version.Version.{Version}
 use Rattle.flow_orders.specs.Outcomes.{Outcome}
 use Rattle.market_rules.specs.Market.{Market}
 use Rattle.batch_audit.specs.Legal.{IsLegalPair, IsIllegalPair}
@@ -12,20 +13,20 @@ use Rattle.journal_keeping.specs.declared.fault.KeepFault.{KeepFault}
 use Rattle.journal_keeping.specs.declared.fault.KeepFault.TheVariants.{Read, Write, Disk, Memory, NotDisk, Damaged, Rejected, NotFlow, Torn, TooLong}
 
 -- Behind the entries of legal pairs the bytes are damaged at this place, or have the pair of this number, which isn't legal.
-abbrev pub StopsAs : KeepFault → List ℕ → Type 0
-StopsAs (Damaged place) bytes =
-    (legal : List (Pair Record Outcome)) × (market : Market) × BeginsLegal bytes legal market place × IsDamagedAt place bytes
-StopsAs (Rejected number) bytes =
-    (legal : List (Pair Record Outcome)) × (market : Market) × (place : ℕ) × BeginsLegal bytes legal market place
+abbrev pub StopsAs : Version → KeepFault → List ℕ → Type 0
+StopsAs version (Damaged place) bytes =
+    (legal : List (Pair Record Outcome)) × (market : Market) × BeginsLegal version bytes legal market place × IsDamagedAt place bytes
+StopsAs version (Rejected number) bytes =
+    (legal : List (Pair Record Outcome)) × (market : Market) × (place : ℕ) × BeginsLegal version bytes legal market place
     × (bad : RecordPair) × (rest : List ℕ) × HasEntryAt place bad rest bytes × IsIllegalPair market bad × (number ≡ length legal + 1)
-StopsAs Disk bytes = ⊤
-StopsAs Memory bytes = ⊤
-StopsAs NotDisk bytes = ⊥
-StopsAs Read bytes = ⊥
-StopsAs Write bytes = ⊥
-StopsAs NotFlow bytes = ⊥
-StopsAs (Torn place) bytes = ⊥
-StopsAs TooLong bytes = ⊥
+StopsAs version Disk bytes = ⊤
+StopsAs version Memory bytes = ⊤
+StopsAs version NotDisk bytes = ⊥
+StopsAs version Read bytes = ⊥
+StopsAs version Write bytes = ⊥
+StopsAs version NotFlow bytes = ⊥
+StopsAs version (Torn place) bytes = ⊥
+StopsAs version TooLong bytes = ⊥
 
 -- the bytes of a pair are legal in a market, and make another of it
 abbrev pub AreLegalBytes : Market → List ℕ → Market → Type 0

@@ -1,19 +1,22 @@
 -- What keeping a journal comes to, by its answer, and on what a later run may begin.
-use Rattle.std.specs.Prelude.{◌≡◌, ℕ, List, ◌++◌, map, Option, Some, IfSome, Result, Ok, Err, ⊤}
+use Rattle.std.specs.Prelude.{◌≡◌, ◌⊎◌, ℕ, List, [], ◌++◌, map, Option, Some, IfSome, Result, Ok, Err, ⊤}
 use Rattle.std.specs.List.{flat_map}
 use Rattle.flow_io.specs.Streams.{Grows}
 use Rattle.wire_records.specs.Records.{Record}
 use Rattle.wire_records.specs.Commands.{Pair}
+use Rattle.wire_records.specs.Reading.{Reads}
 use Rattle.wire_records.specs.Reading as reading
+use Rattle.wire_records.specs.Formats.{commands}
 use Rattle.wire_records.specs.declared.version.Version.{Version}
 use Rattle.flow_orders.specs.Outcomes.{Outcome}
 use Rattle.journal_records.specs.Pairs.{pair_spelling}
 use Rattle.journal_records.specs.Formats.{records_of}
 use Rattle.market_rules.specs.Market.{Market}
 use Rattle.disk_edge.specs.Disks.{DiskState}
-use Rattle.journal_disk.specs.Entries.{Keeps as KeepsAt}
-use Rattle.journal_keeping.specs.Keeping.{kept_version, IsLegalImage, HoldsLegal, GoesOn}
-use Rattle.journal_keeping.specs.Openings.{Opening, Legal, IsOpening, ReadsKept, records_in}
+use Rattle.disk_edge.specs.Images.{LeavesOnly}
+use Rattle.journal_disk.specs.Entries.{Keeps}
+use Rattle.journal_keeping.specs.Keeping.{IsLegalImage, HoldsLegal, GoesOn}
+use Rattle.journal_keeping.specs.Openings.{Opening, New, Legal, IsOpening, OpensAs, ReadsKept}
 use Rattle.journal_keeping.specs.Openings as opening
 use Rattle.journal_keeping.specs.declared.fault.KeepFault.{KeepFault}
 use Rattle.journal_keeping.specs.declared.fault.KeepFault.TheVariants.{Read, Write, Disk, Memory, NotDisk, Damaged, Rejected, NotFlow, Torn, TooLong}
@@ -23,31 +26,37 @@ pub record IsRefused (held : List ℕ) (opens : Opening) (end : DiskState) : Typ
   pub is : IsOpening held opens
   pub stays : end.content ≡ Some held
 
--- The disk held the bytes of a legal journal, and the source this reading, where it tells its bytes. All records of it were served, from
--- the market of the old pairs on. The disk keeps the old pairs and behind them the new ones, a crash leaves just that, and out gained
--- just the bytes of the new ones.
-pub record HasKeptAll (limit : ℕ) (held : List ℕ) (content : Option (List ℕ)) (end : DiskState) (before after : Option (List ℕ)) (all : reading.Reading Version Record) : Type 0 where
+-- The disk held the bytes of a legal journal, or was new, and the source these records and this ending, where it tells its bytes, in the
+-- version of the disk. All records of it were served, from the market of the old pairs on. The disk keeps the old pairs and behind them
+-- the new ones, a crash leaves just that, and out gained just the bytes of the new ones.
+pub record HasKeptAll (limit : ℕ) (held : List ℕ) (content : Option (List ℕ)) (end : DiskState) (before after : Option (List ℕ)) (records : List Record) (ending : reading.Ending) : Type 0 where
+  pub version : Version
   pub old : List (Pair Record Outcome)
   pub market : Market
-  pub opens : IsOpening held (Legal old market)
-  pub reads : IfSome content (λ bytes. ReadsKept limit bytes all)
+  pub opens : OpensAs held version old market
+  pub reads : IfSome content (λ bytes. Reads commands limit bytes (reading.File version records ending))
   pub new : List (Pair Record Outcome)
   pub now : Market
-  pub goes_on : GoesOn old market (records_in all) new now
+  pub goes_on : GoesOn version old market records new now
   pub place : ℕ
-  pub keeps : KeepsAt (map records_of (old ++ new)) place end
+  pub keeps : Keeps version (map records_of (old ++ new)) place end
   pub written : Grows before after (flat_map pair_spelling new)
 
--- the records of a file that ends so
-abbrev pub file_of : List Record → reading.Ending → reading.Reading Version Record
-file_of records ending = reading.File kept_version records ending
+-- The source is no command file of the disk's version: the disk keeps the old pairs, and a crash leaves just them. Or it is none at all,
+-- and the disk stays new, with what it held.
+abbrev pub HasLeftAll : ℕ → List ℕ → Option (List ℕ) → DiskState → Option (List ℕ) → Option (List ℕ) → Type 0
+HasLeftAll limit held content end before after =
+    Grows before after []
+    × (((version : Version) × (old : List (Pair Record Outcome)) × (market : Market) × IsOpening held (Legal version old market)
+    × IfSome content (λ bytes. ReadsKept version limit bytes reading.NotFlow) × (place : ℕ) × Keeps version (map records_of old) place end)
+    ⊎ (IsOpening held New × IfSome content (λ bytes. Reads commands limit bytes reading.NotFlow) × (end.content ≡ Some held) × LeavesOnly end.images held))
 
 -- what it comes to where the disk tells these bytes
 abbrev pub ComesTo : (limit : ℕ) → List ℕ → Option (List ℕ) → DiskState → Option (List ℕ) → Option (List ℕ) → Result (Unit {0}) KeepFault → Type 0
-ComesTo limit held content end before after (Ok done) = (records : List Record) × HasKeptAll limit held content end before after (file_of records reading.End)
-ComesTo limit held content end before after (Err (Torn place)) = (records : List Record) × HasKeptAll limit held content end before after (file_of records (reading.Torn place))
-ComesTo limit held content end before after (Err TooLong) = (records : List Record) × HasKeptAll limit held content end before after (file_of records reading.TooLong)
-ComesTo limit held content end before after (Err NotFlow) = HasKeptAll limit held content end before after reading.NotFlow
+ComesTo limit held content end before after (Ok done) = (records : List Record) × HasKeptAll limit held content end before after records reading.End
+ComesTo limit held content end before after (Err (Torn place)) = (records : List Record) × HasKeptAll limit held content end before after records (reading.Torn place)
+ComesTo limit held content end before after (Err TooLong) = (records : List Record) × HasKeptAll limit held content end before after records reading.TooLong
+ComesTo limit held content end before after (Err NotFlow) = HasLeftAll limit held content end before after
 ComesTo limit held content end before after (Err NotDisk) = IsRefused held opening.Foreign end
 ComesTo limit held content end before after (Err (Damaged place)) = IsRefused held (opening.Damaged place) end
 ComesTo limit held content end before after (Err (Rejected number)) = IsRefused held (opening.Rejected number) end
@@ -74,4 +83,4 @@ IsRefusal (Err TooLong) = ⊥
 pub record MayBeginAgain (start end : DiskState) : Type 0 where
   pub stopped : (image : List ℕ) → end.since start.clock image → IsLegalImage image
   pub returned : (image : List ℕ) → end.images image → IsLegalImage image
-  pub told : IfSome end.content (λ bytes. (pairs : List (Pair Record Outcome)) × (market : Market) × HoldsLegal end pairs market)
+  pub told : IfSome end.content (λ bytes. (version : Version) × (pairs : List (Pair Record Outcome)) × (market : Market) × HoldsLegal end version pairs market)

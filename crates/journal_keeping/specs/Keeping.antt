@@ -8,66 +8,67 @@ use Rattle.wire_records.specs.Versions.{IsReadAs}
 use Rattle.wire_records.specs.Reading.{StartsWith}
 use Rattle.wire_records.specs.Formats.{commands}
 use Rattle.wire_records.specs.declared.version.Version.{Version}
-use Rattle.wire_records.specs.declared.version.Version.TheVariants.{Two}
 use Rattle.flow_orders.specs.Outcomes.{Outcome}
 use Rattle.own_rule.specs.Own.{IsOwnOutcome}
 use Rattle.journal_records.specs.Pairs.{pair_spelling}
 use Rattle.journal_records.specs.Formats.{records_of}
-use Rattle.market_rules.specs.Market.{Market}
+use Rattle.market_rules.specs.Market.{Market, empty_market}
 use Rattle.market_rules.specs.Journal.{IsAnswered}
 use Rattle.batch_audit.specs.Legal.{IsLegalJournal}
 use Rattle.disk_edge.specs.Disks.{DiskState, AtEachMoment}
 use Rattle.disk_edge.specs.Images.{Images}
 use Rattle.journal_disk.specs.Entries.{StandsFor}
 
--- the version of the records that are kept, and of their answers
-abbrev pub kept_version : Version
-kept_version = Two
+-- the pairs are a legal journal of a version, and lead to this market
+abbrev pub IsKeptJournal : Version → List (Pair Record Outcome) → Market → Type 0
+IsKeptJournal version pairs market = IsLegalJournal version pairs market
 
--- the pairs are a legal journal of that version, and lead to this market
-abbrev pub IsKeptJournal : List (Pair Record Outcome) → Market → Type 0
-IsKeptJournal pairs market = IsLegalJournal kept_version pairs market
-
--- the image stands for these pairs of a journal
-abbrev pub Keeps : List (Pair Record Outcome) → Images
-Keeps pairs image = StandsFor (map records_of pairs) image
+-- the image stands for these pairs of a journal of the version
+abbrev pub StandsForJournal : Version → List (Pair Record Outcome) → Images
+StandsForJournal version pairs image = StandsFor version (map records_of pairs) image
 
 -- the image stands for the pairs of a legal journal
 abbrev pub IsLegalImage : Images
-IsLegalImage image = (pairs : List (Pair Record Outcome)) × (market : Market) × IsKeptJournal pairs market × Keeps pairs image
+IsLegalImage image = (version : Version) × (pairs : List (Pair Record Outcome)) × (market : Market) × IsKeptJournal version pairs market × StandsForJournal version pairs image
 
 -- A disk that a run may begin on: it tells what it holds, which stands for these pairs of a legal journal, and a crash leaves
--- a legal journal too, not always that one.
-pub record HoldsLegal (disk : DiskState) (old : List (Pair Record Outcome)) (market : Market) : Type 0 where
+-- a legal journal too, not always that one. A new disk holds no pairs, in any version.
+pub record HoldsLegal (disk : DiskState) (version : Version) (old : List (Pair Record Outcome)) (market : Market) : Type 0 where
   pub bytes : List ℕ
   pub told : disk.content ≡ Some bytes
-  pub journal : IsKeptJournal old market
-  pub stands : Keeps old bytes
+  pub journal : IsKeptJournal version old market
+  pub stands : StandsForJournal version old bytes
   pub each : (image : List ℕ) → disk.images image → IsLegalImage image
+
+-- The version and the market in which a run goes on: those of the old pairs; and of a new disk any version, which is that of its source,
+-- and the empty market.
+abbrev pub GoesOnIn : DiskState → Version → Market → Version → Market → Type 0
+GoesOnIn start version market of from =
+    ((of ≡ version) × (from ≡ market)) ⊎ (IfSome start.content (λ bytes. length bytes ≤ 9) × (from ≡ empty_market of))
 
 -- The new pairs answer these records by the program's own rule, from the market of the old ones on, and with them they are
 -- one legal journal.
-pub record GoesOn (old : List (Pair Record Outcome)) (before : Market) (records : List Record) (new : List (Pair Record Outcome)) (after : Market) : Type 0 where
+pub record GoesOn (version : Version) (old : List (Pair Record Outcome)) (before : Market) (records : List Record) (new : List (Pair Record Outcome)) (after : Market) : Type 0 where
   pub answers : IsAnswered IsReadAs IsOwnOutcome before records new after
-  pub journal : IsKeptJournal (old ++ new) after
+  pub journal : IsKeptJournal version (old ++ new) after
 
 -- the image stands for the old pairs, and behind them for the first of the new ones: at least and at most so many
-abbrev pub KeepsFirst : List (Pair Record Outcome) → List (Pair Record Outcome) → ℕ → ℕ → Images
-KeepsFirst old new least most image = (count : ℕ) × (least ≤ count) × (count ≤ most) × Keeps (old ++ take count new) image
+abbrev pub KeepsFirst : Version → List (Pair Record Outcome) → List (Pair Record Outcome) → ℕ → ℕ → Images
+KeepsFirst version old new least most image = (count : ℕ) × (least ≤ count) × (count ≤ most) × StandsForJournal version (old ++ take count new) image
 
 -- At each moment of the call a crash leaves an image that was there at its start, or the old pairs and the first of the new ones.
-abbrev pub DuringCall : DiskState → DiskState → List (Pair Record Outcome) → List (Pair Record Outcome) → Type 0
-DuringCall start end old new = AtEachMoment start end (λ image. start.images image ⊎ KeepsFirst old new 0 (length new) image)
+abbrev pub DuringCall : Version → DiskState → DiskState → List (Pair Record Outcome) → List (Pair Record Outcome) → Type 0
+DuringCall version start end old new = AtEachMoment start end (λ image. start.images image ⊎ KeepsFirst version old new 0 (length new) image)
 
 -- Afterwards it leaves an image that was there at the start, and no pair was acknowledged; or the old pairs, each
 -- acknowledged one, and at most one more.
-abbrev pub AtReturn : DiskState → DiskState → List (Pair Record Outcome) → List (Pair Record Outcome) → ℕ → Type 0
-AtReturn start end old new acknowledged =
-    (image : List ℕ) → end.images image → (start.images image × (acknowledged ≡ 0)) ⊎ KeepsFirst old new acknowledged (acknowledged + 1) image
+abbrev pub AtReturn : Version → DiskState → DiskState → List (Pair Record Outcome) → List (Pair Record Outcome) → ℕ → Type 0
+AtReturn version start end old new acknowledged =
+    (image : List ℕ) → end.images image → (start.images image × (acknowledged ≡ 0)) ⊎ KeepsFirst version old new acknowledged (acknowledged + 1) image
 
 -- These records were served: the first of those that stand in the first limit bytes of the source, where it tells them; or none.
-abbrev pub AreServed : ℕ → Option (List ℕ) → List Record → Type 0
-AreServed limit content records = (records ≡ []) ⊎ IfSome content (λ bytes. StartsWith commands limit bytes kept_version records)
+abbrev pub AreServed : ℕ → Version → Option (List ℕ) → List Record → Type 0
+AreServed limit version content records = (records ≡ []) ⊎ IfSome content (λ bytes. StartsWith commands limit bytes version records)
 
 -- What out gained are these pairs, whole; but that where a write was cut short only a front of the last one may be there.
 pub record StandIn (Cut : Type 0) (before after : Option (List ℕ)) (pairs : List (Pair Record Outcome)) : Type 0 where
@@ -79,20 +80,25 @@ pub record StandIn (Cut : Type 0) (before after : Option (List ℕ)) (pairs : Li
   pub written : (text : List ℕ) × Grows before after text × (count : ℕ) × (text ≡ flat_map pair_spelling whole ++ take count (flat_map pair_spelling last))
 
 -- What a run does to the disk: these records were served, and their new pairs acknowledged, up to one at most.
-pub record Runs (start end : DiskState) (old : List (Pair Record Outcome)) (market : Market) (records : List Record) (new : List (Pair Record Outcome)) (acknowledged : ℕ) : Type 0 where
+pub record Runs (version : Version) (start end : DiskState) (old : List (Pair Record Outcome)) (market : Market) (records : List Record) (new : List (Pair Record Outcome)) (acknowledged : ℕ) : Type 0 where
   pub now : Market
   pub within : acknowledged ≤ length new
   pub all_but_one : length new ≤ acknowledged + 1
-  pub goes_on : GoesOn old market records new now
-  pub during : DuringCall start end old new
-  pub returns : AtReturn start end old new acknowledged
+  pub goes_on : GoesOn version old market records new now
+  pub during : DuringCall version start end old new
+  pub returns : AtReturn version start end old new acknowledged
 
 -- What it does to the disk and to out: the records that were served are the first ones of the source, and out gained the pairs that
 -- were acknowledged.
-pub record KeepsOn (limit : ℕ) (content : Option (List ℕ)) (Cut : Type 0) (start end : DiskState) (old : List (Pair Record Outcome)) (market : Market) (before after : Option (List ℕ)) : Type 0 where
+pub record KeepsOn (limit : ℕ) (content : Option (List ℕ)) (Cut : Type 0) (version : Version) (start end : DiskState) (old : List (Pair Record Outcome)) (market : Market) (before after : Option (List ℕ)) : Type 0 where
   pub records : List Record
   pub new : List (Pair Record Outcome)
   pub acknowledged : ℕ
-  pub served : AreServed limit content records
-  pub runs : Runs start end old market records new acknowledged
+  pub served : AreServed limit version content records
+  pub runs : Runs version start end old market records new acknowledged
   pub written : StandIn Cut before after (take acknowledged new)
+
+-- the same in the version in which it goes on
+abbrev pub KeepsIn : ℕ → Option (List ℕ) → Type 0 → Version → DiskState → DiskState → List (Pair Record Outcome) → Market → Option (List ℕ) → Option (List ℕ) → Type 0
+KeepsIn limit content Cut version start end old market before after =
+    (of : Version) × (from : Market) × GoesOnIn start version market of from × KeepsOn limit content Cut of start end old from before after

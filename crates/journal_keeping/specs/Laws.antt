@@ -1,42 +1,48 @@
 -- What holds of kept journals, whatever code there is.
-use Rattle.std.specs.Prelude.{◌≡◌, ℕ, ◌^◌, ◌≤◌, List, ◌++◌, length, take}
+use Rattle.std.specs.Prelude.{◌≡◌, ◌⊎◌, ℕ, ◌^◌, ◌≤◌, List, ◌++◌, length, take}
 use Rattle.wire_records.specs.Records.{Record}
 use Rattle.wire_records.specs.Commands.{Pair}
+use Rattle.wire_records.specs.declared.version.Version.{Version}
+use Rattle.word_driver.specs.Laws.{IsNotDenied}
 use Rattle.flow_orders.specs.Outcomes.{Outcome}
 use Rattle.market_rules.specs.Market.{Market}
 use Rattle.disk_edge.specs.Disks.{DiskState}
-use Rattle.journal_keeping.specs.Keeping.{IsKeptJournal, Keeps, IsLegalImage, HoldsLegal, GoesOn, KeepsFirst, DuringCall, AtReturn}
-use Rattle.journal_keeping.specs.Openings.{Opening, Legal, IsOpening}
+use Rattle.journal_keeping.specs.Keeping.{IsKeptJournal, StandsForJournal, IsLegalImage, HoldsLegal, GoesOn, KeepsFirst, DuringCall, AtReturn}
+use Rattle.journal_keeping.specs.Openings.{Opening, New, Legal, IsOpening}
 
 -- the first pairs of a legal journal are one
 abbrev pub FrontsAreLegal : Type 0
-FrontsAreLegal = (pairs : List (Pair Record Outcome)) (market : Market) (count : ℕ)
-    → IsKeptJournal pairs market → (before : Market) × IsKeptJournal (take count pairs) before
+FrontsAreLegal = (version : Version) (pairs : List (Pair Record Outcome)) (market : Market) (count : ℕ)
+    → IsKeptJournal version pairs market → (before : Market) × IsKeptJournal version (take count pairs) before
 
 -- what an image stands for stays when more new pairs come
 abbrev pub MorePairsStay : Type 0
-MorePairsStay = (old new more : List (Pair Record Outcome)) (least most later : ℕ) (image : List ℕ)
-    → most ≤ length new → most ≤ later → KeepsFirst old new least most image → KeepsFirst old (new ++ more) least later image
+MorePairsStay = (version : Version) (old new more : List (Pair Record Outcome)) (least most later : ℕ) (image : List ℕ)
+    → most ≤ length new → most ≤ later → KeepsFirst version old new least most image → KeepsFirst version old (new ++ more) least later image
 
 -- old pairs and the first of the new ones are a legal journal
 abbrev pub FirstsAreLegal : Type 0
-FirstsAreLegal = (old new : List (Pair Record Outcome)) (before after : Market) (records : List Record) (least most : ℕ) (image : List ℕ)
-    → GoesOn old before records new after → KeepsFirst old new least most image → IsLegalImage image
+FirstsAreLegal = (version : Version) (old new : List (Pair Record Outcome)) (before after : Market) (records : List Record) (least most : ℕ) (image : List ℕ)
+    → GoesOn version old before records new after → KeepsFirst version old new least most image → IsLegalImage image
 
 -- After a crash at any moment of a call, or after its return, the disk is one that a run may begin on again.
-pub record CanBeginAgain : Type 1 where
-  pub during : (start end : DiskState) (old new : List (Pair Record Outcome)) (before after : Market) (records : List Record)
-      → HoldsLegal start old before → GoesOn old before records new after → DuringCall start end old new
+pub record CanBeginAgain (start end : DiskState) : Type 0 where
+  pub during : (version of : Version) (old new : List (Pair Record Outcome)) (market before after : Market) (records : List Record)
+      → HoldsLegal start version old market → GoesOn of old before records new after → DuringCall of start end old new
       → (image : List ℕ) → end.since start.clock image → IsLegalImage image
-  pub returned : (start end : DiskState) (old new : List (Pair Record Outcome)) (before after : Market) (records : List Record) (acknowledged : ℕ)
-      → HoldsLegal start old before → GoesOn old before records new after → AtReturn start end old new acknowledged
+  pub returned : (version of : Version) (old new : List (Pair Record Outcome)) (market before after : Market) (records : List Record) (acknowledged : ℕ)
+      → HoldsLegal start version old market → GoesOn of old before records new after → AtReturn of start end old new acknowledged
       → (image : List ℕ) → end.images image → IsLegalImage image
 
--- bytes that keep a legal journal are opened as that, and as nothing else, where they are at most 2^60
+-- bytes that keep a legal journal are opened as that, and as nothing else, where they are at most 2^60; a new disk as a new one
 abbrev pub LegalIsOpened : Type 0
-LegalIsOpened = (pairs : List (Pair Record Outcome)) (market : Market) (bytes : List ℕ) (opening : Opening)
-    → IsKeptJournal pairs market → Keeps pairs bytes → length bytes ≤ 2 ^ 60 → IsOpening bytes opening → opening ≡ Legal pairs market
+LegalIsOpened = (version : Version) (pairs : List (Pair Record Outcome)) (market : Market) (bytes : List ℕ) (opening : Opening)
+    → IsKeptJournal version pairs market → StandsForJournal version pairs bytes → length bytes ≤ 2 ^ 60 → IsOpening bytes opening → (opening ≡ New) ⊎ (opening ≡ Legal version pairs market)
 
 -- a disk's bytes are opened in one way
 abbrev pub OneOpening : Type 0
 OneOpening = (bytes : List ℕ) (a b : Opening) → IsOpening bytes a → IsOpening bytes b → a ≡ b
+
+-- and in some way: that none is one isn't so
+abbrev pub SomeOpening : Type 0
+SomeOpening = (bytes : List ℕ) → IsNotDenied ((opening : Opening) × IsOpening bytes opening)

@@ -8,12 +8,14 @@ use Rattle.wire_records.specs.Commands.{Pair}
 use Rattle.wire_records.specs.Versions.{IsReadAs}
 use Rattle.wire_records.specs.Grammars.{BeginsWith, BeginsWithNone}
 use Rattle.wire_records.specs.Formats.{commands}
+use Rattle.wire_records.specs.declared.version.Version.{Version}
 use Rattle.flow_orders.specs.Outcomes.{Outcome}
 use Rattle.own_rule.specs.Own.{IsOwnOutcome}
 use Rattle.journal_records.specs.Pairs.{IsPair, pair_spelling}
 use Rattle.journal_records.specs.Formats.{records_of}
 use Rattle.market_rules.specs.Market.{Market}
 use Rattle.market_rules.specs.Journal.{Step}
+use Rattle.market_rules.specs.Wanting.{RecordMayWant}
 use Rattle.file_units.specs.declared.units.Front.{Front}
 use Rattle.file_units.specs.declared.units.Front.TheVariants.{Taken, NoBytes, Overlong, Short}
 use Rattle.file_units.specs.declared.units.Ending.{Ending}
@@ -25,9 +27,10 @@ use Rattle.exchange_session.specs.Serving.{AnswersOne}
 use Rattle.disk_edge.specs.Disks.{DiskState, AtEachMoment}
 use Rattle.journal_disk.specs.Pairs.{RecordPair}
 use Rattle.journal_disk.specs.Entries.{WithOrWithout}
-use Rattle.journal_disk.specs.Entries.{Keeps as KeepsAt}
-use Rattle.journal_keeping.specs.Keeping.{IsKeptJournal, Runs, StandIn}
+use Rattle.journal_disk.specs.Entries.{Keeps}
+use Rattle.journal_keeping.specs.Keeping.{IsKeptJournal, GoesOn, Runs, StandIn}
 use Rattle.journal_keeping.specs.Serving.{HasKept}
+use Rattle.journal_keeping.specs.Pacing.{asked_of}
 use Rattle.journal_keeping.specs.declared.fault.KeepFault.{KeepFault}
 use Rattle.journal_keeping.specs.declared.fault.KeepFault.TheVariants.{Read, Write, Disk, Memory, NotDisk, Damaged, Rejected, NotFlow, Torn, TooLong}
 
@@ -41,8 +44,8 @@ IsReady market place left = (market.next_order + left < 2 ^ 64) × (place + 2631
 
 -- a disk that kept pairs keeps one more, and at each moment since left them with it or without
 pub record KeepsOneMore (pair : Pair Record Outcome) (from to : ℕ) (old new : DiskState) : Type 0 where
-  pub keeps : (pairs : List RecordPair) → KeepsAt pairs from old → KeepsAt (pairs ++ records_of pair ∷ []) to new
-  pub moments : (pairs : List RecordPair) → KeepsAt pairs from old → AtEachMoment old new (WithOrWithout pairs (records_of pair))
+  pub keeps : (version : Version) (pairs : List RecordPair) → Keeps version pairs from old → Keeps version (pairs ++ records_of pair ∷ []) to new
+  pub moments : (version : Version) (pairs : List RecordPair) → Keeps version pairs from old → AtEachMoment old new (WithOrWithout version pairs (records_of pair))
 
 -- the record at the front of the bytes was answered so, by one step of the market, and the pair may stand in a journal
 pub record IsServed (bytes : List ℕ) (old : Market) (pair : Pair Record Outcome) (new : Market) : Type 0 where
@@ -77,17 +80,17 @@ IsStill NoBytes Same = Same
 IsStill Overlong Same = Same
 IsStill Short Same = Same
 
--- a whole record stands at the front
-abbrev pub HasRecord : List ℕ → Type 0
-HasRecord bytes = (asked : Record) × (rest : List ℕ) × BeginsWith commands.units bytes asked rest
+-- a whole record stands at the front, and it may want memory
+abbrev pub HasWanting : Market → List ℕ → Type 0
+HasWanting market bytes = (asked : Record) × (rest : List ℕ) × BeginsWith commands.units bytes asked rest × RecordMayWant market asked
 
 -- why the record at the front wasn't served, kept and written, where disk and out may have stayed
 module _ (bytes : List ℕ) (old : Market) (from to : ℕ) (disk later : DiskState) (before after : Option (List ℕ)) (SameDisk SameOut : Type 0) where
   abbrev pub BreaksNext : KeepFault → Type 0
-  BreaksNext Memory = SameDisk × SameOut × HasRecord bytes
+  BreaksNext Memory = SameDisk × SameOut × HasWanting old bytes
   BreaksNext Disk =
       SameOut × (pair : Pair Record Outcome) × (new : Market) × IsServed bytes old pair new
-      × ((pairs : List RecordPair) → KeepsAt pairs from disk → AtEachMoment disk later (WithOrWithout pairs (records_of pair)))
+      × ((version : Version) (pairs : List RecordPair) → Keeps version pairs from disk → AtEachMoment disk later (WithOrWithout version pairs (records_of pair)))
   BreaksNext Write = (pair : Pair Record Outcome) × (new : Market) × IsServed bytes old pair new × KeepsOneMore pair from to disk later × GrowsByFront before after (pair_spelling pair)
   BreaksNext Read = ⊥
   BreaksNext NotDisk = ⊥
@@ -101,14 +104,10 @@ module _ (bytes : List ℕ) (old : Market) (from to : ℕ) (disk later : DiskSta
 abbrev pub Adds : List (Pair Record Outcome) → Record → List (Pair Record Outcome) → Unit {0} → Unit {0} → Type 0
 Adds old asked new before after = (pair : Pair Record Outcome) × (pair.asked ≡ asked) × (new ≡ old ++ pair ∷ [])
 
--- the records of pairs
-abbrev pub asked_of : List (Pair Record Outcome) → List Record
-asked_of pairs = map (λ (pair : Pair Record Outcome). pair.asked) pairs
-
 -- What serving has come to, from a market and a place on: these pairs were kept and written.
 pub record SoFar (start now : DiskState) (before market : Market) (from place : ℕ) (held holds : Option (List ℕ)) (new : List (Pair Record Outcome)) : Type 0 where
   pub written : Grows held holds (flat_map pair_spelling new)
-  pub kept : (old : List (Pair Record Outcome)) → IsKeptJournal old before → KeepsAt (map records_of old) from start → HasKept start now old before place (asked_of new) new market
+  pub kept : (version : Version) (old : List (Pair Record Outcome)) → IsKeptJournal version old before → Keeps version (map records_of old) from start → HasKept version start now old before place (asked_of new) new market
   pub told : IsSome now.content → IsSome start.content
 
 -- an end of keeping as one of going through units
@@ -125,9 +124,11 @@ as_going (Err (Damaged place)) = Err (fault.Broken (Damaged place))
 as_going (Err (Rejected number)) = Err (fault.Broken (Rejected number))
 as_going (Err NotFlow) = Err (fault.Broken NotFlow)
 
--- it broke off behind the pairs that were written, at the record of the next pair, where there is one
-abbrev pub Names : (new more : List (Pair Record Outcome)) → List (Pair Record Outcome) → Record → KeepFault → Unit {0} → Unit {0} → Type 0
-Names new more done asked why before after = (done ≡ new) × ((more ≡ []) ⊎ (asked_of more ≡ asked ∷ []))
+-- it broke off behind the pairs that were written, at the record of the next pair, where there is one; for want of memory at a record
+-- that may want it
+abbrev pub Names : Market → (new more : List (Pair Record Outcome)) → List (Pair Record Outcome) → Record → KeepFault → Unit {0} → Unit {0} → Type 0
+Names market new more done asked why before after =
+    (done ≡ new) × ((more ≡ []) ⊎ (asked_of more ≡ asked ∷ [])) × (why ≡ Memory → RecordMayWant market asked)
 
 -- where no pair was at hand as it ended
 abbrev pub IfEnded : Result (Unit {0}) KeepFault → Type 0 → Type 0
@@ -149,8 +150,11 @@ pub record ServesOn (window : WindowState) (rest left : Option (List ℕ)) (resu
   pub new : List (Pair Record Outcome)
   pub more : List (Pair Record Outcome)
   pub acknowledged : ℕ
-  pub goes : GoesFrom commands Adds (Names new more) window rest left (as_going result) [] new tt tt
-  pub runs : (old : List (Pair Record Outcome)) → IsKeptJournal old before → KeepsAt (map records_of old) from start → Runs start end old before (asked_of (new ++ more)) (new ++ more) acknowledged
+  pub market : Market
+  pub so_far : (version : Version) (old : List (Pair Record Outcome)) → IsKeptJournal version old before → Keeps version (map records_of old) from start → GoesOn version old before (asked_of new) new market
+  pub goes : GoesFrom commands Adds (Names market new more) window rest left (as_going result) [] new tt tt
+  pub runs : (version : Version) (old : List (Pair Record Outcome)) → IsKeptJournal version old before → Keeps version (map records_of old) from start → Runs version start end old before (asked_of (new ++ more)) (new ++ more) acknowledged
   pub written : StandIn (result ≡ Err Write) held holds (take acknowledged (new ++ more))
+  pub whole : (text : List ℕ) × Grows held holds (flat_map pair_spelling new ++ text)
   pub ended : IfEnded result ((more ≡ []) × (acknowledged ≡ length new)
-      × ((old : List (Pair Record Outcome)) → IsKeptJournal old before → KeepsAt (map records_of old) from start → (place : ℕ) × KeepsAt (map records_of (old ++ new)) place end))
+      × ((version : Version) (old : List (Pair Record Outcome)) → IsKeptJournal version old before → Keeps version (map records_of old) from start → (place : ℕ) × Keeps version (map records_of (old ++ new)) place end))

@@ -19,7 +19,7 @@ pub enum KeepFault {
     Damaged(u64),
     /// The kept pair of this number, counted from 1, isn't legal.
     Rejected(u64),
-    /// The source is no command file of version Two.
+    /// The source is no command file of the version of the disk, or where that is new none at all.
     NotFlow,
     /// The source breaks off or states too long a record; the broken record begins at this byte, from 0.
     Torn(u64),

@@ -1,30 +1,40 @@
 //! A journal that is kept on a disk while the records of a source are served.
-ghost use Rattle.std.specs.Prelude.{◌≡◌, ◌≤◌, ◌^◌, ℕ, List, length, Err, IfSome};
+ghost use Rattle.std.specs.Prelude.{◌≡◌, ◌≤◌, ◌+◌, ◌^◌, ℕ, List, length, Err, IfSome};
 ghost use Rattle.flow_io.specs.Faults.{Blames};
+ghost use Rattle.flow_io.specs.Streams.{TakesAtMost};
 ghost use Rattle.wire_records.specs.Records.{Record};
 ghost use Rattle.wire_records.specs.Commands.{Pair};
+ghost use Rattle.wire_records.specs.declared.version.Version.{Version};
 ghost use Rattle.flow_orders.specs.Outcomes.{Outcome};
 ghost use Rattle.market_rules.specs.Market.{Market};
-ghost use Rattle.journal_keeping.specs.Keeping.{HoldsLegal, KeepsOn};
+ghost use Rattle.journal_disk.specs.Looking.{OnlyLooks};
+ghost use Rattle.journal_keeping.specs.Keeping.{HoldsLegal, KeepsIn};
+ghost use Rattle.journal_keeping.specs.Openings.{KeepNone};
+ghost use Rattle.journal_keeping.specs.Making.{IsMadeBehindMagic};
+ghost use Rattle.journal_keeping.specs.Pacing.{KeepsPace, RunsOut};
 ghost use Rattle.journal_keeping.specs.Ended.{ComesTo, IsRefusal, MayBeginAgain};
 
 use crate::fault::KeepFault;
-use crate::opening::{open_disk, open_source};
+use crate::opening::begin;
 use crate::taking::serve_on;
 use disk_edge::Disk;
 use flow_io::{Sink, Source};
 use std::alloc::Global;
 
-/// Serves the records of a command file of version Two, each behind the pairs that a disk keeps: its pair is kept on the disk,
+/// Serves the records of a command file, each behind the pairs that a disk keeps: its pair is kept on the disk,
 /// and then written to out, before the source is asked for more. A crash at any moment leaves on the disk the pairs that were
 /// kept before, each new one that was written to out, and at most one more; on what it leaves a later call goes on.
 ///
-/// First the disk is opened and its pairs are audited, then the source's magic is looked at: so `NotDisk`, `Damaged` and `Rejected`
+/// First the disk is opened and its pairs are audited, then the source's magic is looked at, which has to be of the disk's version. A new
+/// disk takes the version of the source, whose magic is looked at before anything is written to the disk. So `NotDisk`, `Damaged` and `Rejected`
 /// come where the source wasn't asked yet and nothing was written, and leave what the disk holds. `Damaged` has the place
-/// of the first gate that isn't one, `Rejected` the number of the first kept pair that isn't legal, counted from 1. `NotFlow` leaves
-/// the pairs that are kept. At `Ok`, `Torn` and `TooLong` all whole records of the first `limit` bytes of the source are served,
+/// of the first gate that isn't one, `Rejected` the number of the first kept pair that isn't legal, counted from 1. A disk that keeps no
+/// legal journal is changed at no moment, whatever is answered, and neither is a new one before the magic of a command file was taken. `NotFlow` leaves the pairs that are kept. At `Ok`, `Torn` and `TooLong` all whole records of the first `limit` bytes of the source are served,
 /// kept and written. `Disk`, `Read` and `Write` come only where the count of faults of the disk, the source or out rose, which
-/// stands still in every other case; `Memory` is free.
+/// stands still in every other case. `Memory` comes before anything is read of the source, or at a record that may want it.
+///
+/// The source is read no further than 1,030 bytes past the last record whose pair was written; where a read of it fails, all whole
+/// records that were taken are answered. In all at most one byte past the limit is taken.
 ///
 /// It costs the audit of the kept pairs, and of each record what serving it costs, two writes of the disk with a sync each, and one
 /// write of out. A window of the longest command record is held, and a buffer of the longest entry of a disk; the limit is at most 2^32 bytes.
@@ -36,27 +46,30 @@ pub fn keep<S: Source, D: Disk, K: Sink>(
     out: &mut K,
 ) -> Result<(), KeepFault>
     requires few { limit ≤ 2 ^ 32 }
-    ensures keeps { (old : List (Pair Record Outcome)) (market : Market) → HoldsLegal (D.state disk.old) old market →
-        KeepsOn limit (S.rest source.old) (result ≡ Err KeepFault.Write) (D.state disk.old) (D.state disk.new) old market
+    ensures keeps { (version : Version) (old : List (Pair Record Outcome)) (market : Market) → HoldsLegal (D.state disk.old) version old market →
+        KeepsIn limit (S.rest source.old) (result ≡ Err KeepFault.Write) version (D.state disk.old) (D.state disk.new) old market
         (K.held out.old) (K.held out.new) }
-    ensures again { (old : List (Pair Record Outcome)) (market : Market) → HoldsLegal (D.state disk.old) old market →
+    ensures again { (version : Version) (old : List (Pair Record Outcome)) (market : Market) → HoldsLegal (D.state disk.old) version old market →
         MayBeginAgain (D.state disk.old) (D.state disk.new) }
     ensures comes { IfSome (D.state disk.old).content
         (λ held. ComesTo limit held (S.rest source.old) (D.state disk.new) (K.held out.old) (K.held out.new) result) }
-    ensures legal { (old : List (Pair Record Outcome)) (market : Market) → HoldsLegal (D.state disk.old) old market →
+    ensures legal { (version : Version) (old : List (Pair Record Outcome)) (market : Market) → HoldsLegal (D.state disk.old) version old market →
         IfSome (D.state disk.old).content (λ held. length held ≤ 2 ^ 60) → ¬ IsRefusal result }
+    ensures untouched { IfSome (D.state disk.old).content
+        (λ held. KeepNone held → OnlyLooks (D.state disk.old) (D.state disk.new) × (source.new ≡ source.old) × (out.new ≡ out.old)) }
+    ensures made { IfSome (D.state disk.old).content
+        (λ held. IsMadeBehindMagic limit held (D.state disk.old) (D.state disk.new) (S.rest source.old) (S.rest source.new)) }
+    ensures taken { TakesAtMost (S.rest source.old) (S.rest source.new) (limit + 1) }
+    ensures paced { KeepsPace limit (S.rest source.old) (S.rest source.new) (K.held out.old) (K.held out.new) result }
+    ensures wants { result ≡ Err KeepFault.Memory → IfSome (D.state disk.old).content
+        (λ held. RunsOut limit held (S.rest source.old) (S.rest source.new) (D.state disk.new) (K.held out.old) (K.held out.new)) }
     ensures unasked { IsRefusal result → (source.new ≡ source.old) × (out.new ≡ out.old) }
     ensures disk_cause { Blames (result ≡ Err KeepFault.Disk) (D.state disk.old).faults (D.state disk.new).faults }
     ensures source_cause { Blames (result ≡ Err KeepFault.Read) (S.faults source.old) (S.faults source.new) }
     ensures out_cause { Blames (result ≡ Err KeepFault.Write) (K.faults out.old) (K.faults out.new) }
 {
-    let mut keeper = match open_disk(alloc, disk) {
-        Ok(keeper) => keeper,
-        Err(fault) => return Err(fault),
-    };
-    let mut window = match open_source(alloc, limit, source) {
-        Ok(window) => window,
-        Err(fault) => return Err(fault),
-    };
-    serve_on(&mut window, source, &mut keeper, disk, out)
+    match begin(alloc, limit, source, disk) {
+        Ok(mut begun) => serve_on(&mut begun.window, source, &mut begun.keeper, disk, out),
+        Err(fault) => Err(fault),
+    }
 }

@@ -3,20 +3,21 @@ ghost use Rattle.std.specs.Prelude.{◌≡◌, ◌≤◌, ◌<◌, ◌+◌, ◌^
 ghost use Rattle.flow_io.specs.Faults.{Blames};
 ghost use Rattle.wire_records.specs.Records.{Record};
 ghost use Rattle.wire_records.specs.Commands.{Pair};
+ghost use Rattle.wire_records.specs.declared.version.Version.{Version};
 ghost use Rattle.flow_orders.specs.Outcomes.{Outcome};
 ghost use Rattle.journal_records.specs.Formats.{records_of};
 ghost use Rattle.market_rules.specs.Market.{empty_market};
 ghost use Rattle.journal_disk.specs.Pairs.{IsWholePair};
 ghost use Rattle.journal_disk.specs.Entries.{Holds, EndsAt};
 ghost use Rattle.journal_disk.specs.Looking.{OnlyLooks};
-ghost use Rattle.journal_keeping.specs.Keeping.{kept_version, IsKeptJournal};
+ghost use Rattle.journal_keeping.specs.Keeping.{IsKeptJournal};
 ghost use Rattle.journal_keeping.specs.Auditing.{StopsAs, AreLegalBytes, AreIllegalBytes};
 ghost use Rattle.journal_keeping.specs.Beginning.{IsOfDisk};
 
 use crate::fault::KeepFault;
 use batch_audit::{Audit, Legality};
 use disk_edge::Disk;
-use journal_disk::{DiskJournal, Step};
+use journal_disk::{Ahead, DiskJournal, Step};
 use journal_records::{PairFramed, next_pair};
 use std::alloc::Global;
 
@@ -41,32 +42,35 @@ fn judge(audit: &mut Audit, pair: &[u8], number: u64) -> Result<(), KeepFault>
 }
 
 /// Reads the pairs that a disk keeps one after the other and audits each, up to a gate that isn't open: at Ok all of them are a
-/// legal journal, whose market the audit has. The audit is at the empty market of version Two, and the journal was just opened.
+/// legal journal, whose market the audit has. The audit is at the empty market of the disk's version, and the journal stands behind the magic.
 ///
 /// `Damaged` has the place of the first gate that isn't one, and `Rejected` the number of the first pair that isn't legal, counted
-/// from 1; `Disk` comes only where the disk's count rose, and `Memory` is free. Nothing of the disk is changed. It costs the audit
-/// of the pairs, and the memory of one pair.
+/// from 1; `Disk` comes only where the disk's count rose, and `Memory` is free. Nothing of the disk is changed. The disk is read in pieces
+/// of 65,536 bytes. It costs the audit of the pairs, and the memory of a piece and of one pair.
 pub fn audit_kept<D: Disk>(
     alloc: Global,
     journal: &mut DiskJournal,
     disk: &mut D,
     audit: &mut Audit,
 ) -> Result<(), KeepFault>
-    requires new { audit.old ≡ empty_market kept_version }
     requires next { audit.old.next_order ≤ journal.old }
-    ensures ends { IfOk result (λ _. (rest : List ℕ) → Holds [] journal.old rest (D.state disk.old) →
-        (legal : List (Pair Record Outcome)) × IsKeptJournal legal audit.new × EndsAt (map records_of legal) journal.new (D.state disk.new)) }
-    ensures stops { IfErr result (λ fault. (rest bytes : List ℕ) → Holds [] journal.old rest (D.state disk.old) →
-        (D.state disk.old).content ≡ Some bytes → StopsAs fault bytes) }
+    ensures ends { IfOk result (λ _. (version : Version) (rest : List ℕ) → audit.old ≡ empty_market version → Holds version [] journal.old rest (D.state disk.old) →
+        (legal : List (Pair Record Outcome)) × IsKeptJournal version legal audit.new × EndsAt version (map records_of legal) journal.new (D.state disk.new)) }
+    ensures stops { IfErr result (λ fault. (version : Version) (rest bytes : List ℕ) → audit.old ≡ empty_market version →
+        Holds version [] journal.old rest (D.state disk.old) → (D.state disk.old).content ≡ Some bytes → StopsAs version fault bytes) }
     ensures of_disk { IfErr result IsOfDisk }
     ensures next { OnOk result (audit.new.next_order ≤ journal.new) }
     ensures looks { OnlyLooks (D.state disk.old) (D.state disk.new) }
     ensures cause { Blames (result ≡ Err KeepFault.Disk) (D.state disk.old).faults (D.state disk.new).faults }
 {
+    let mut ahead = match Ahead::new(alloc, disk) {
+        Ok(ahead) => ahead,
+        Err(fault) => return Err(KeepFault::from(fault)),
+    };
     let mut pair = Vec::new(alloc);
     let mut number: u64 = 0;
     'pairs: loop {
-        match journal.next(disk, &mut pair) {
+        match journal.next(disk, &mut ahead, &mut pair) {
             Ok(Step::Closed) => return Ok(()),
             Ok(Step::Pair) => {
                 number = number.saturating_add(1);

@@ -1,5 +1,5 @@
 //! Records that are served onto a disk, one after the other.
-ghost use Rattle.std.specs.Prelude.{◌≡◌, ◌≢◌, ◌≤◌, ◌<◌, ◌+◌, ◌-◌, ◌^◌, ◌⊎◌, ◌++◌, ℕ, List, [], ◌∷◌, length, map, Some, None, Err, IsErr, IfSome, IsSome, IfOk, IfErr, OnOk, OnErr};
+ghost use Rattle.std.specs.Prelude.{◌≡◌, ◌≢◌, ◌≤◌, ◌<◌, ◌+◌, ◌-◌, ◌^◌, ◌⊎◌, ◌++◌, ℕ, List, [], ◌∷◌, length, map, Some, None, Err, IsErr, IfSome, IsSome, IfOk, IfErr, OnOk, OnErr, vec_capacity};
 ghost use Rattle.flow_io.specs.Faults.{Blames};
 ghost use Rattle.flow_io.specs.Streams.{Grows, GrowsByFront};
 ghost use Rattle.flow_io.specs.Windows.{Fills, IsWithin};
@@ -7,6 +7,7 @@ ghost use Rattle.flow_io.specs.declared.window.InputEnd.TheVariants.{Source as s
 ghost use Rattle.wire_records.specs.Records.{Record, AreBytes};
 ghost use Rattle.wire_records.specs.Commands.{Pair};
 ghost use Rattle.wire_records.specs.Formats.{commands};
+ghost use Rattle.wire_records.specs.declared.version.Version.{Version};
 ghost use Rattle.flow_orders.specs.Outcomes.{Outcome};
 ghost use Rattle.journal_records.specs.Formats.{records_of};
 ghost use Rattle.file_units.specs.Units.{IsTaken, StaysReady};
@@ -15,7 +16,7 @@ ghost use Rattle.disk_edge.specs.Disks.{AtEachMoment};
 ghost use Rattle.journal_disk.specs.Pairs.{RecordPair, IsRecordPair, pair_bytes, IsWholePair};
 ghost use Rattle.journal_disk.specs.Entries.{WithOrWithout, Keeps};
 ghost use Rattle.journal_keeping.specs.Keeping.{IsKeptJournal};
-ghost use Rattle.journal_keeping.specs.Private.{Answers, IsReady, IsTakenNext, IsStill, HasRecord, BreaksNext, ServesOn};
+ghost use Rattle.journal_keeping.specs.Private.{Answers, IsReady, IsTakenNext, IsStill, HasWanting, BreaksNext, ServesOn};
 
 use crate::fault::KeepFault;
 use disk_edge::Disk;
@@ -37,10 +38,12 @@ pub(crate) struct Keeper {
 fn serve_next(session: &mut Session, bytes: &[u8], text: &mut Vec<u8>) -> Result<Front, Memory>
     requires ready { (left : ℕ) × (length bytes.now ≤ left) × (session.old.next_order + left < 2 ^ 64) }
     requires empty { text.old.items ≡ [] }
+    requires room { 1042 ≤ vec_capacity text.old }
     ensures taken { IfOk result (λ front. IsTaken commands Answers front bytes.now session.old session.new [] text.new.items) }
     ensures stays { IfOk result (λ front. (left : ℕ) → length bytes.now ≤ left → session.old.next_order + left < 2 ^ 64 →
         StaysReady (λ left. session.new.next_order + left < 2 ^ 64) front left) }
-    ensures wanted { OnErr result (HasRecord bytes.now) }
+    ensures room { vec_capacity text.old ≤ vec_capacity text.new }
+    ensures wanted { OnErr result (HasWanting session.old bytes.now) }
 {
     match next_record(bytes, MOST_BODY) {
         Framed::Whole(asked, taken) => match session.serve(&asked, text) {
@@ -63,13 +66,13 @@ fn put_pair<D: Disk, K: Sink>(
     requires pair { IsWholePair pair.now }
     requires room { appender.old ≤ 2 ^ 61 }
     requires kept { IfSome (D.state disk.old).content
-        (λ _. (pairs : List RecordPair) × Keeps pairs appender.old (D.state disk.old)) }
-    ensures kept { result ≢ Err KeepFault.Disk → (pairs : List RecordPair) (last : RecordPair) →
-        Keeps pairs appender.old (D.state disk.old) → IsRecordPair last → pair.now ≡ pair_bytes last →
-        Keeps (pairs ++ last ∷ []) appender.new (D.state disk.new) }
-    ensures moments { (pairs : List RecordPair) (last : RecordPair) →
-        Keeps pairs appender.old (D.state disk.old) → IsRecordPair last → pair.now ≡ pair_bytes last →
-        AtEachMoment (D.state disk.old) (D.state disk.new) (WithOrWithout pairs last) }
+        (λ _. (version : Version) × (pairs : List RecordPair) × Keeps version pairs appender.old (D.state disk.old)) }
+    ensures kept { result ≢ Err KeepFault.Disk → (version : Version) (pairs : List RecordPair) (last : RecordPair) →
+        Keeps version pairs appender.old (D.state disk.old) → IsRecordPair last → pair.now ≡ pair_bytes last →
+        Keeps version (pairs ++ last ∷ []) appender.new (D.state disk.new) }
+    ensures moments { (version : Version) (pairs : List RecordPair) (last : RecordPair) →
+        Keeps version pairs appender.old (D.state disk.old) → IsRecordPair last → pair.now ≡ pair_bytes last →
+        AtEachMoment (D.state disk.old) (D.state disk.new) (WithOrWithout version pairs last) }
     ensures told { OnOk result (IsSome (D.state disk.new).content → IsSome (D.state disk.old).content) }
     ensures place { OnOk result (appender.new ≡ appender.old + (5 + length pair.now)) }
     ensures written { OnOk result (Grows (K.held out.old) (K.held out.new) pair.now) }
@@ -96,10 +99,12 @@ fn keep_next<D: Disk, K: Sink>(
     out: &mut K,
 ) -> Result<Front, KeepFault>
     requires ready { (left : ℕ) × (length bytes.now ≤ left) × IsReady keeper.old.session keeper.old.appender left }
+    requires room { 1042 ≤ vec_capacity keeper.old.pair }
     requires kept { IfSome (D.state disk.old).content
-        (λ _. (pairs : List RecordPair) × Keeps pairs keeper.old.appender (D.state disk.old)) }
+        (λ _. (version : Version) × (pairs : List RecordPair) × Keeps version pairs keeper.old.appender (D.state disk.old)) }
     ensures taken { IfOk result (λ front. IsTakenNext front bytes.now keeper.old.session keeper.new.session
         keeper.old.appender keeper.new.appender (D.state disk.old) (D.state disk.new) (K.held out.old) (K.held out.new)) }
+    ensures room { vec_capacity keeper.old.pair ≤ vec_capacity keeper.new.pair }
     ensures still { IfOk result (λ front. IsStill front ((keeper.new.session ≡ keeper.old.session)
         × (keeper.new.appender ≡ keeper.old.appender) × (disk.new ≡ disk.old) × (out.new ≡ out.old))) }
     ensures stays { IfOk result (λ front. (left : ℕ) → length bytes.now ≤ left → IsReady keeper.old.session keeper.old.appender left →
@@ -159,8 +164,9 @@ pub(crate) fn serve_on<S: Source, D: Disk, K: Sink>(
     requires longest { HasLongest commands window.old.room }
     requires open { window.old.over ≡ None }
     requires ready { IsReady keeper.old.session keeper.old.appender (window.old.limit - window.old.place) }
-    requires kept { IfSome (D.state disk.old).content (λ _. (old : List (Pair Record Outcome))
-        × IsKeptJournal old keeper.old.session × Keeps (map records_of old) keeper.old.appender (D.state disk.old)) }
+    requires room { 1042 ≤ vec_capacity keeper.old.pair }
+    requires kept { IfSome (D.state disk.old).content (λ _. (version : Version) × (old : List (Pair Record Outcome))
+        × IsKeptJournal version old keeper.old.session × Keeps version (map records_of old) keeper.old.appender (D.state disk.old)) }
     ensures goes { ServesOn window.old (S.rest source.old) (S.rest source.new) result keeper.old.session keeper.old.appender
         (D.state disk.old) (D.state disk.new) (K.held out.old) (K.held out.new) }
     ensures disk_cause { Blames (result ≡ Err KeepFault.Disk) (D.state disk.old).faults (D.state disk.new).faults }

@@ -3,9 +3,11 @@ use Rattle.std.proofs.Common.{◌≡◌, ◌≢◌, inl, inr, ℕ, List, Option,
 use Rattle.flow_io.specs.Faults.{Blames}
 use Rattle.wire_records.specs.Records.{Record}
 use Rattle.wire_records.specs.Reading as reading
+use Rattle.wire_records.specs.declared.version.Version.TheVariants.{One}
 use Rattle.disk_edge.specs.Disks.{DiskState}
 use Rattle.journal_keeping.specs.Openings as opening
-use Rattle.journal_keeping.specs.Ended.{ComesTo, HasKeptAll, file_of}
+use Rattle.journal_keeping.specs.Ended.{ComesTo, HasKeptAll, HasLeftAll}
+use Rattle.journal_keeping.specs.Openings.{OpensAs}
 use Rattle.journal_keeping.specs.Ended as kept
 use Rattle.journal_keeping.specs.declared.fault.KeepFault.{KeepFault}
 use Rattle.journal_keeping.specs.declared.fault.KeepFault.TheVariants.{Read, Write, Disk, Memory, NotDisk, Damaged, Rejected, NotFlow, Torn, TooLong}
@@ -14,6 +16,10 @@ use Rattle.flow_exchange.specs.declared.status.Status.TheVariants as status
 use Rattle.kept_exchange.specs.Statuses.{kept_status, AsksStatus}
 use Rattle.kept_exchange.specs.Keeping.{Determines, IsRefusal}
 use Rattle.kept_exchange.proofs.OneStatus.{one_status}
+
+pub if_some : {T : Type 0} (o : Option T) (P Q : T → Type 0) → ((x : T) → P x → Q x) → IfSome o P → IfSome o Q
+if_some None P Q f p = tt
+if_some (Some x) P Q f p = f x p
 
 -- how it ended
 abbrev pub Kept : Type 0
@@ -66,6 +72,32 @@ disk_back limit (Err NotFlow) e = absurd cc
 disk_back limit (Err (Torn place)) e = absurd cc
 disk_back limit (Err TooLong) e = absurd cc
 
+pub memory_back : (limit : ℕ) (result : Kept) → kept_status limit result ≡ status.NoMemory → ◌≡◌ {A = Kept} result (Err Memory)
+memory_back limit (Ok done) e = absurd cc
+memory_back limit (Err Read) e = absurd cc
+memory_back limit (Err Write) e = absurd cc
+memory_back limit (Err Disk) e = absurd cc
+memory_back limit (Err Memory) e = refl
+memory_back limit (Err NotDisk) e = absurd cc
+memory_back limit (Err (Damaged place)) e = absurd cc
+memory_back limit (Err (Rejected number)) e = absurd cc
+memory_back limit (Err NotFlow) e = absurd cc
+memory_back limit (Err (Torn place)) e = absurd cc
+memory_back limit (Err TooLong) e = absurd cc
+
+pub done_back : (limit : ℕ) (result : Kept) → kept_status limit result ≡ status.Done → ◌≡◌ {A = Kept} result (Ok tt)
+done_back limit (Ok done) e = refl
+done_back limit (Err Read) e = absurd cc
+done_back limit (Err Write) e = absurd cc
+done_back limit (Err Disk) e = absurd cc
+done_back limit (Err Memory) e = absurd cc
+done_back limit (Err NotDisk) e = absurd cc
+done_back limit (Err (Damaged place)) e = absurd cc
+done_back limit (Err (Rejected number)) e = absurd cc
+done_back limit (Err NotFlow) e = absurd cc
+done_back limit (Err (Torn place)) e = absurd cc
+done_back limit (Err TooLong) e = absurd cc
+
 -- the disk was refused by the one where it was by the other
 pub refusal_back : (limit : ℕ) (result : Kept) → IsRefusal (kept_status limit result) → kept.IsRefusal result
 refusal_back limit (Err NotDisk) r = tt
@@ -98,14 +130,23 @@ refusal_back limit (Err TooLong) (inr (inr e)) = absurd cc
 
 module _ (limit : ℕ) (held : List ℕ) (end : DiskState) (before after : Option (List ℕ)) where
   -- all was kept: the status is that of the reading
-  asks_all : (bytes : List ℕ) (all : reading.Reading _ Record) → HasKeptAll limit held (Some bytes) end before after all → AsksStatus limit held bytes (reading_status limit all)
-  asks_all bytes all has = (opening.Legal has.old has.market, has.opens, (all, has.reads, refl))
+  asks_all : (bytes : List ℕ) (records : List Record) (ending : reading.Ending) → HasKeptAll limit held (Some bytes) end before after records ending → AsksStatus limit held bytes (reading_status limit (reading.File One records ending))
+  asks_all bytes records ending has = by_opening has.opens
+    where
+      by_opening : OpensAs held has.version has.old has.market → AsksStatus limit held bytes (reading_status limit (reading.File One records ending))
+      by_opening (inl legal) = (opening.Legal has.version has.old has.market, legal, (reading.File has.version records ending, (refl, has.reads), refl))
+      by_opening (inr new) = (opening.New, new.0, (reading.File has.version records ending, has.reads, refl))
+
+  -- the source was none
+  asks_left : (bytes : List ℕ) → HasLeftAll limit held (Some bytes) end before after → AsksStatus limit held bytes status.NotFlow
+  asks_left bytes (grows, inl kept) = (opening.Legal kept.0 kept.1 kept.2, kept.3, (reading.NotFlow, kept.4, refl))
+  asks_left bytes (grows, inr new) = (opening.New, new.0, (reading.NotFlow, new.1, refl))
 
   -- what it came to is what the bytes ask for, but for faults and want of memory
   asks : (bytes : List ℕ) (result : Kept) → ComesTo limit held (Some bytes) end before after result
       → ((◌≡◌ {A = Kept} result (Err Read)) → ⊥) → ((◌≡◌ {A = Kept} result (Err Write)) → ⊥) → ((◌≡◌ {A = Kept} result (Err Disk)) → ⊥) → kept_status limit result ≢ status.NoMemory
       → AsksStatus limit held bytes (kept_status limit result)
-  asks bytes (Ok done) x r w d m = asks_all bytes (file_of x.0 reading.End) x.1
+  asks bytes (Ok done) x r w d m = asks_all bytes x.0 reading.End x.1
   asks bytes (Err Read) x r w d m = absurd (r refl)
   asks bytes (Err Write) x r w d m = absurd (w refl)
   asks bytes (Err Disk) x r w d m = absurd (d refl)
@@ -113,9 +154,9 @@ module _ (limit : ℕ) (held : List ℕ) (end : DiskState) (before after : Optio
   asks bytes (Err NotDisk) x r w d m = (opening.Foreign, x.is, refl)
   asks bytes (Err (Damaged place)) x r w d m = (opening.Damaged place, x.is, refl)
   asks bytes (Err (Rejected number)) x r w d m = (opening.Rejected number, x.is, refl)
-  asks bytes (Err NotFlow) x r w d m = asks_all bytes reading.NotFlow x
-  asks bytes (Err (Torn place)) x r w d m = asks_all bytes (file_of x.0 (reading.Torn place)) x.1
-  asks bytes (Err TooLong) x r w d m = asks_all bytes (file_of x.0 reading.TooLong) x.1
+  asks bytes (Err NotFlow) x r w d m = asks_left bytes x
+  asks bytes (Err (Torn place)) x r w d m = asks_all bytes x.0 (reading.Torn place) x.1
+  asks bytes (Err TooLong) x r w d m = asks_all bytes x.0 reading.TooLong x.1
 
   pub determines : (content : Option (List ℕ)) (result : Kept) → ComesTo limit held content end before after result
       → ((◌≡◌ {A = Kept} result (Err Read)) → ⊥) → ((◌≡◌ {A = Kept} result (Err Write)) → ⊥) → ((◌≡◌ {A = Kept} result (Err Disk)) → ⊥) → kept_status limit result ≢ status.NoMemory

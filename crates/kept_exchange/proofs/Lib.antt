@@ -1,4 +1,5 @@
 mod OneStatus
+mod SomeStatus
 mod AsStatus
 mod Serving
 mod TwoWords

@@ -1,45 +1,54 @@
 -- A call that keeps a journal does what is promised of it.
-use Rattle.std.proofs.Common.{◌≡◌, ◌≢◌, ◌≤◌, ◌^◌, ℕ, List, length, Option, Some, None, IfSome, Result, Ok, Err, OnOk, OnErr, IsErr, refl, ap}
+use Rattle.std.proofs.Common.{◌≡◌, ◌≢◌, ◌⊎◌, ◌+◌, ◌≤◌, ◌^◌, inl, inr, ℕ, List, [], subst, length, Option, Some, None, IfSome, Result, Ok, Err, OnOk, OnErr, IsErr, refl, ap}
 use Rattle.flow_io.specs.Faults.{Rose, Blames}
-use Rattle.flow_io.specs.Streams.{Grows, GrowsByFront}
+use Rattle.flow_io.specs.Streams.{Grows, GrowsByFront, TakesAtMost}
 use Rattle.flow_io.specs.Changes.{Change}
 use Rattle.flow_io.specs.declared.sink.WriteFailed.{WriteFailed}
 use Rattle.flow_io.proofs.Growth.{GrowsByFront-whole}
 use Rattle.wire_records.specs.Records.{Record}
 use Rattle.wire_records.specs.Commands.{Pair}
+use Rattle.wire_records.specs.declared.version.Version.{Version}
 use Rattle.flow_orders.specs.Outcomes.{Outcome}
 use Rattle.market_rules.specs.Market.{Market}
 use Rattle.disk_edge.specs.Disks.{DiskState}
-use Rattle.journal_keeping.specs.Keeping.{HoldsLegal, KeepsOn}
+use Rattle.journal_disk.specs.Looking.{OnlyLooks}
+use Rattle.journal_keeping.specs.Keeping.{HoldsLegal, KeepsIn}
+use Rattle.journal_keeping.specs.Openings.{KeepNone}
+use Rattle.journal_keeping.specs.Making.{IsMadeBehindMagic}
+use Rattle.journal_keeping.specs.Pacing.{KeepsPace, IsNear, RunsOut}
 use Rattle.journal_keeping.specs.Ended.{ComesTo, MayBeginAgain}
 use Rattle.journal_keeping.specs.Ended as kept
-use Rattle.journal_keeping.specs.declared.fault.KeepFault.TheVariants.{Read, Write, Disk}
+use Rattle.journal_keeping.specs.declared.fault.KeepFault.TheVariants.{Read, Write, Disk, Memory}
 use Rattle.flow_exchange.specs.declared.status.Status.TheVariants as status
 use Rattle.flow_exchange.specs.Statuses.{line_of}
 use Rattle.kept_exchange.specs.Statuses.{kept_status}
-use Rattle.kept_exchange.specs.Keeping.{EndsAs, Determines, ServesKeep}
-use Rattle.kept_exchange.proofs.AsStatus.{Kept, blames_as, read_back, write_back, disk_back, refusal_back, determines}
+use Rattle.kept_exchange.specs.Keeping.{ComesToStatus, Determines, ServesKeep}
+use Rattle.kept_exchange.proofs.AsStatus.{Kept, blames_as, read_back, write_back, disk_back, memory_back, done_back, refusal_back, determines}
 
 -- what a call keeps, for a wider reason to cut a write short
-keeps_wider : (limit : ℕ) (content : Option (List ℕ)) (Cut Wider : Type 0) (start end : DiskState) (old : List (Pair Record Outcome)) (market : Market) (held holds : Option (List ℕ)) → (Cut → Wider)
-    → KeepsOn limit content Cut start end old market held holds → KeepsOn limit content Wider start end old market held holds
-keeps_wider limit content Cut Wider start end old market held holds wider keeps =
-    let stands = keeps.written in
-    record {
-      records = keeps.records;
-      new = keeps.new;
-      acknowledged = keeps.acknowledged;
-      served = keeps.served;
-      runs = keeps.runs;
-      written = record {
-        whole = stands.whole;
-        last = stands.last;
-        parts = stands.parts;
-        one = stands.one;
-        none = λ not. stands.none (λ cut. not (wider cut));
-        written = stands.written;
-      };
-    }
+keeps_wider : (limit : ℕ) (content : Option (List ℕ)) (Cut Wider : Type 0) (version : Version) (start end : DiskState) (old : List (Pair Record Outcome)) (market : Market) (held holds : Option (List ℕ)) → (Cut → Wider)
+    → KeepsIn limit content Cut version start end old market held holds → KeepsIn limit content Wider version start end old market held holds
+keeps_wider limit content Cut Wider version start end old market held holds wider (of, from, in_version, keeps) =
+    let stands = keeps.written in (
+      of,
+      from,
+      in_version,
+      record {
+        records = keeps.records;
+        new = keeps.new;
+        acknowledged = keeps.acknowledged;
+        served = keeps.served;
+        runs = keeps.runs;
+        written = record {
+          whole = stands.whole;
+          last = stands.last;
+          parts = stands.parts;
+          one = stands.one;
+          none = λ not. stands.none (λ cut. not (wider cut));
+          written = stands.written;
+        };
+      },
+    )
 
 -- a line that no write failed of was written
 written : (result : Result (Unit {0}) WriteFailed) (before after : Option (List ℕ)) (line : List ℕ) (faults now : ℕ) → OnOk result (Grows before after line) → Blames (IsErr result) faults now → (¬ Rose faults now) → Grows before after line
@@ -54,7 +63,7 @@ cut_line (Err e) before after line grows front = front
 module _ (limit : ℕ) (result : Kept) (start end : DiskState) (source out : Change) where
   -- what it came to, as a status
   ends_as : (content : Option (List ℕ)) → IfSome content (λ held. ComesTo limit held source.before end out.before out.after result)
-      → IfSome content (λ held. EndsAs limit held source.before end out.before out.after (kept_status limit result))
+      → IfSome content (λ held. ComesToStatus limit held source.before end out.before out.after (kept_status limit result))
   ends_as None comes = tt
   ends_as (Some held) comes = (result, comes, refl)
 
@@ -65,11 +74,26 @@ module _ (limit : ℕ) (result : Kept) (start end : DiskState) (source out : Cha
   completes None comes r w d m = tt
   completes (Some held) comes r w d m = determines limit held end out.before out.after source.before result comes r w d m
 
+  -- how it kept pace, by the status
+  paced_by : (other : Kept) → KeepsPace limit source.before source.after out.before out.after result → ◌≡◌ {A = Kept} result other → KeepsPace limit source.before source.after out.before out.after other
+  paced_by other paced is = subst (KeepsPace limit source.before source.after out.before out.after) is paced
+
+  near_by : KeepsPace limit source.before source.after out.before out.after result → (kept_status limit result ≡ status.WriteFault) ⊎ (kept_status limit result ≡ status.DiskFault) ⊎ (kept_status limit result ≡ status.NoMemory)
+      → IsNear limit source.before source.after out.before out.after
+  near_by paced (inl e) = paced_by (Err Write) paced (write_back limit result e)
+  near_by paced (inr (inl e)) = paced_by (Err Disk) paced (disk_back limit result e)
+  near_by paced (inr (inr e)) = paced_by (Err Memory) paced (memory_back limit result e)
+
   pub serves : (notes : Change) (noting : Result (Unit {0}) WriteFailed)
-      → ((old : List (Pair Record Outcome)) (market : Market) → HoldsLegal start old market → KeepsOn limit source.before (◌≡◌ {A = Kept} result (Err Write)) start end old market out.before out.after)
-      → ((old : List (Pair Record Outcome)) (market : Market) → HoldsLegal start old market → MayBeginAgain start end)
+      → ((version : Version) (old : List (Pair Record Outcome)) (market : Market) → HoldsLegal start version old market → KeepsIn limit source.before (◌≡◌ {A = Kept} result (Err Write)) version start end old market out.before out.after)
+      → ((version : Version) (old : List (Pair Record Outcome)) (market : Market) → HoldsLegal start version old market → MayBeginAgain start end)
       → IfSome start.content (λ held. ComesTo limit held source.before end out.before out.after result)
-      → ((old : List (Pair Record Outcome)) (market : Market) → HoldsLegal start old market → IfSome start.content (λ held. length held ≤ 2 ^ 60) → ¬ kept.IsRefusal result)
+      → ((version : Version) (old : List (Pair Record Outcome)) (market : Market) → HoldsLegal start version old market → IfSome start.content (λ held. length held ≤ 2 ^ 60) → ¬ kept.IsRefusal result)
+      → IfSome start.content (λ held. KeepNone held → OnlyLooks start end × (source.after ≡ source.before) × (out.after ≡ out.before))
+      → IfSome start.content (λ held. IsMadeBehindMagic limit held start end source.before source.after)
+      → TakesAtMost source.before source.after (limit + 1)
+      → KeepsPace limit source.before source.after out.before out.after result
+      → (◌≡◌ {A = Kept} result (Err Memory) → IfSome start.content (λ held. RunsOut limit held source.before source.after end out.before out.after))
       → Blames (◌≡◌ {A = Kept} result (Err Disk)) start.faults end.faults
       → Blames (◌≡◌ {A = Kept} result (Err Read)) source.faults source.faults_after
       → Blames (◌≡◌ {A = Kept} result (Err Write)) out.faults out.faults_after
@@ -77,12 +101,19 @@ module _ (limit : ℕ) (result : Kept) (start end : DiskState) (source out : Cha
       → OnErr noting (GrowsByFront notes.before notes.after (line_of (kept_status limit result)))
       → Blames (IsErr noting) notes.faults notes.faults_after
       → ServesKeep limit (kept_status limit result) start end source out notes
-  serves notes noting keeps again comes legal disk read write line front cause = record {
-    keeps = λ old market holds. keeps_wider limit source.before (◌≡◌ {A = Kept} result (Err Write)) (kept_status limit result ≡ status.WriteFault) start end old market out.before out.after (ap (kept_status limit)) (keeps old market holds);
+  serves notes noting keeps again comes legal untouched made taken paced wants disk read write line front cause = record {
+    keeps = λ version old market holds. keeps_wider limit source.before (◌≡◌ {A = Kept} result (Err Write)) (kept_status limit result ≡ status.WriteFault) version start end old market out.before out.after (ap (kept_status limit)) (keeps version old market holds);
     again = again;
-    opens = λ old market holds small refused. legal old market holds small (refusal_back limit result refused);
+    opens = λ version old market holds small refused. legal version old market holds small (refusal_back limit result refused);
     ends = ends_as start.content comes;
     complete = λ no_disk no_read no_write memory. completes start.content comes (λ e. no_read (read.rose e)) (λ e. no_write (write.rose e)) (λ e. no_disk (disk.rose e)) memory;
+    untouched = untouched;
+    made = made;
+    taken = taken;
+    left = λ e. paced_by (Ok tt) paced (done_back limit result e);
+    read = λ e. paced_by (Err Read) paced (read_back limit result e);
+    near = near_by paced;
+    wants = λ e. wants (memory_back limit result e);
     disks = blames_as _ _ _ _ (ap (kept_status limit)) (disk_back limit result) disk;
     reads = blames_as _ _ _ _ (ap (kept_status limit)) (read_back limit result) read;
     writes = blames_as _ _ _ _ (ap (kept_status limit)) (write_back limit result) write;

@@ -1,24 +1,29 @@
 -- What the program does with the words `keep FILE`: what a crash may leave on the disk, what out gains, and which status comes.
-use Rattle.std.specs.Prelude.{◌≡◌, ◌≢◌, ◌⊎◌, ◌≤◌, ◌^◌, ℕ, List, length, Option, IfSome, Result}
+use Rattle.std.specs.Prelude.{◌≡◌, ◌≢◌, ◌⊎◌, ◌+◌, ◌≤◌, ◌^◌, ℕ, List, [], length, Option, Some, IfSome, Result}
 use Rattle.flow_io.specs.Faults.{Rose, Blames}
-use Rattle.flow_io.specs.Streams.{Grows, GrowsByFront}
+use Rattle.flow_io.specs.Streams.{Grows, GrowsByFront, TakesAtMost}
 use Rattle.flow_io.specs.Changes.{Change}
 use Rattle.wire_records.specs.Records.{Record}
 use Rattle.wire_records.specs.Commands.{Pair}
+use Rattle.wire_records.specs.declared.version.Version.{Version}
 use Rattle.flow_orders.specs.Outcomes.{Outcome}
 use Rattle.market_rules.specs.Market.{Market}
 use Rattle.disk_edge.specs.Disks.{DiskState}
-use Rattle.journal_keeping.specs.Keeping.{HoldsLegal, KeepsOn}
+use Rattle.journal_disk.specs.Looking.{OnlyLooks}
+use Rattle.journal_keeping.specs.Keeping.{HoldsLegal, KeepsIn}
+use Rattle.journal_keeping.specs.Openings.{KeepNone}
+use Rattle.journal_keeping.specs.Making.{IsMadeBehindMagic}
+use Rattle.journal_keeping.specs.Pacing.{ReadsAll, IsNear, RunsOut}
 use Rattle.journal_keeping.specs.Ended.{ComesTo, MayBeginAgain}
 use Rattle.journal_keeping.specs.declared.fault.KeepFault.{KeepFault}
 use Rattle.flow_exchange.specs.declared.status.Status.{Status}
-use Rattle.flow_exchange.specs.declared.status.Status.TheVariants.{ReadFault, WriteFault, NoMemory, Rejected, DiskFault, NotDisk, Damaged}
+use Rattle.flow_exchange.specs.declared.status.Status.TheVariants.{Done, ReadFault, WriteFault, NoMemory, Rejected, DiskFault, NotDisk, Damaged}
 use Rattle.flow_exchange.specs.Statuses.{line_of}
 use Rattle.kept_exchange.specs.Statuses.{kept_status, AsksStatus}
 
 -- It ended so, and came to this: what was found on the disk and in the source, and what then stands on the disk and in out.
-abbrev pub EndsAs : ℕ → List ℕ → Option (List ℕ) → DiskState → Option (List ℕ) → Option (List ℕ) → Status → Type 0
-EndsAs limit held content end before after status =
+abbrev pub ComesToStatus : ℕ → List ℕ → Option (List ℕ) → DiskState → Option (List ℕ) → Option (List ℕ) → Status → Type 0
+ComesToStatus limit held content end before after status =
     (result : Result (Unit {0}) KeepFault) × ComesTo limit held content end before after result × (status ≡ kept_status limit result)
 
 -- the bytes of the disk and of the source ask for this status, and for no other
@@ -34,19 +39,35 @@ IsRefusal status = (status ≡ NotDisk) ⊎ ((place : ℕ) × (status ≡ Damage
 pub record ServesKeep (limit : ℕ) (status : Status) (start end : DiskState) (source out notes : Change) : Type 0 where
   -- Where a crash may leave legal journals alone as it begins, a crash at each moment leaves what it might have left then, or the old
   -- pairs and the first of the new ones, which answer the first records of the source and are one legal journal with the old ones.
-  -- Afterwards it leaves each pair that was acknowledged, and at most one more; and these are what out gained.
-  pub keeps : (old : List (Pair Record Outcome)) (market : Market) → HoldsLegal start old market
-      → KeepsOn limit source.before (status ≡ WriteFault) start end old market out.before out.after
+  -- Afterwards it leaves each pair that was acknowledged, and at most one more; and these are what out gained. A new disk takes the
+  -- version of its source, and any other keeps its own.
+  pub keeps : (version : Version) (old : List (Pair Record Outcome)) (market : Market) → HoldsLegal start version old market
+      → KeepsIn limit source.before (status ≡ WriteFault) version start end old market out.before out.after
   -- What a crash leaves is then a disk of which all this holds again.
-  pub again : (old : List (Pair Record Outcome)) (market : Market) → HoldsLegal start old market → MayBeginAgain start end
+  pub again : (version : Version) (old : List (Pair Record Outcome)) (market : Market) → HoldsLegal start version old market → MayBeginAgain start end
   -- Such a disk isn't refused, where it has at most 2^60 bytes.
-  pub opens : (old : List (Pair Record Outcome)) (market : Market) → HoldsLegal start old market
+  pub opens : (version : Version) (old : List (Pair Record Outcome)) (market : Market) → HoldsLegal start version old market
       → IfSome start.content (λ held. length held ≤ 2 ^ 60) → ¬ IsRefusal status
   -- Which status comes, and what then stands on the disk and in out.
-  pub ends : IfSome start.content (λ held. EndsAs limit held source.before end out.before out.after status)
+  pub ends : IfSome start.content (λ held. ComesToStatus limit held source.before end out.before out.after status)
   -- Where no count rose, the status is want of memory or the one that the bytes determine.
   pub complete : (¬ Rose start.faults end.faults) → (¬ Rose source.faults source.faults_after) → (¬ Rose out.faults out.faults_after) → status ≢ NoMemory
       → IfSome start.content (λ held. IfSome source.before (λ bytes. Determines limit held bytes status))
+  -- A disk that keeps no legal journal, as it is no kept file, is damaged, or has a pair that isn't legal, is changed at no moment, whatever
+  -- the status, and nothing is read or written then.
+  pub untouched : IfSome start.content (λ held. KeepNone held → OnlyLooks start end × (source.after ≡ source.before) × (out.after ≡ out.before))
+  -- A new disk is changed at no moment, whatever the status, unless the magic of a command file was taken of the source.
+  pub made : IfSome start.content (λ held. IsMadeBehindMagic limit held start end source.before source.after)
+  -- How much of the source was taken, and that nothing is left of it on Done.
+  pub taken : TakesAtMost source.before source.after (limit + 1)
+  pub left : status ≡ Done → IfSome source.before (λ bytes. source.after ≡ Some [])
+  -- After a fault of the source all whole records that were taken were answered, and no others.
+  pub read : status ≡ ReadFault → ReadsAll limit source.before source.after out.before out.after
+  -- Where a write failed, the disk failed, or memory ran out, the source was read no further than 1,030 bytes past the last record whose
+  -- pair was written, or past the first eight bytes.
+  pub near : (status ≡ WriteFault) ⊎ (status ≡ DiskFault) ⊎ (status ≡ NoMemory) → IsNear limit source.before source.after out.before out.after
+  -- Memory runs out before anything is read or written, or at a record that may want it.
+  pub wants : status ≡ NoMemory → IfSome start.content (λ held. RunsOut limit held source.before source.after end out.before out.after)
   -- A fault is answered only where its count rose, and else the count stays.
   pub disks : Blames (status ≡ DiskFault) start.faults end.faults
   pub reads : Blames (status ≡ ReadFault) source.faults source.faults_after

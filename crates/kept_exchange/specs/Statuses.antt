@@ -1,11 +1,12 @@
 -- Which status keeping a journal comes to.
 use Rattle.std.specs.Prelude.{◌≡◌, ℕ, List, Result, Ok, Err}
 use Rattle.wire_records.specs.Records.{Record}
-use Rattle.wire_records.specs.Reading.{Reading}
+use Rattle.wire_records.specs.Reading.{Reading, Reads}
+use Rattle.wire_records.specs.Formats.{commands}
 use Rattle.wire_records.specs.declared.version.Version.{Version}
 use Rattle.journal_keeping.specs.declared.fault.KeepFault.{KeepFault}
 use Rattle.journal_keeping.specs.declared.fault.KeepFault.TheVariants as kept
-use Rattle.journal_keeping.specs.Openings.{Opening, Foreign, Damaged, Rejected, Legal, IsOpening, ReadsKept}
+use Rattle.journal_keeping.specs.Openings.{Opening, Foreign, New, Damaged, Rejected, Legal, IsOpening, ReadsKept}
 use Rattle.flow_exchange.specs.declared.status.Status.{Status}
 use Rattle.flow_exchange.specs.declared.status.Status.TheVariants as status
 use Rattle.flow_exchange.specs.Statuses.{reading_status}
@@ -24,12 +25,14 @@ kept_status limit (Err kept.NotFlow) = status.NotFlow
 kept_status limit (Err (kept.Torn place)) = status.Torn place
 kept_status limit (Err kept.TooLong) = status.TooLong limit
 
--- Of a disk that was opened so: one that is refused has a status of its own, and else it is that of the source, as a run has it.
+-- Of a disk that was opened so: one that is refused has a status of its own, and else it is that of the source, as a run has it; behind
+-- a disk of a version a source of another one is none.
 abbrev pub OpensTo : ℕ → List ℕ → Opening → Status → Type 0
 OpensTo limit bytes Foreign ends = ends ≡ status.NotDisk
 OpensTo limit bytes (Damaged place) ends = ends ≡ status.Damaged place
 OpensTo limit bytes (Rejected number) ends = ends ≡ status.Rejected number
-OpensTo limit bytes (Legal pairs market) ends = (reading : Reading Version Record) × ReadsKept limit bytes reading × (ends ≡ reading_status limit reading)
+OpensTo limit bytes New ends = (reading : Reading Version Record) × Reads commands limit bytes reading × (ends ≡ reading_status limit reading)
+OpensTo limit bytes (Legal version pairs market) ends = (reading : Reading Version Record) × ReadsKept version limit bytes reading × (ends ≡ reading_status limit reading)
 
 -- the status that the bytes of a disk and of a source ask for, where no call fails and there is memory
 abbrev pub AsksStatus : ℕ → List ℕ → List ℕ → Status → Type 0

@@ -1,84 +1,157 @@
-use Rattle.std.proofs.Common.{ℕ, List, sym, subst}
+use Rattle.std.proofs.Common.{inr, ℕ, List, refl, sym, subst}
 use Rattle.wire_records.specs.Formats.{commands}
 use Rattle.file_units.specs.Inputs.{HasLongest}
 use Rattle.exchange_session.proofs.RunLaws.{run_is_exact}
 use Rattle.journal_keeping.proofs.Counts.{if_some}
-use Rattle.journal_keeping.proofs.Begun.{begun_known}
-use Rattle.journal_keeping.proofs.Whole.{keeps_none, may_begin_again, comes_unread, comes_served, keeps_served, not_of_serving, refused_not_legal}
+use Rattle.journal_keeping.proofs.Making.{each_some, magic_taken}
+use Rattle.journal_keeping.proofs.Begun.{begun_known, legal_in, none_begun, can_serve}
+use Rattle.journal_keeping.proofs.Pacing.{paced_unread, unread_out, taken_at_most, paced_served, wants_next}
+use Rattle.journal_keeping.proofs.Whole.{keeps_none, may_begin_again, comes_not_begun, comes_served, keeps_served, not_of_serving, refused_not_legal, asked_refused}
 use Rattle.journal_keeping.proofs.keeping.keep.Goals as goal
 
--- ---- the disk wasn't opened
+-- ---- nothing was served
 
 pub returns-in-Err-clause-keeps : goal.returns-in-Err-clause-keeps
-returns-in-Err-clause-keeps g c = λ old market holds.
-    keeps_none c.args.limit (g.S.Source.rest c.args.source.now) _ (g.D.Disk.state c.args.disk.now) (g.D.Disk.state c.open_disk.new.disk) old market (g.K.Sink.held c.args.out.now) holds.journal (g.met.D.Disk.is_disk c.open_disk.new.disk) (c.open_disk.ensures.moments old market holds)
+returns-in-Err-clause-keeps g c = λ version old market legal.
+    keeps_none c.args.limit (g.S.Source.rest c.args.source.now) _ version (g.D.Disk.state c.args.disk.now) (g.D.Disk.state c.begin.new.disk) old market (g.K.Sink.held c.args.out.now) legal.journal (g.met.D.Disk.is_disk c.begin.new.disk) (c.begin.ensures.moments version old market legal)
 
 pub returns-in-Err-clause-again : goal.returns-in-Err-clause-again
-returns-in-Err-clause-again g c = λ old market holds.
+returns-in-Err-clause-again g c = λ version old market legal.
     let start = g.D.Disk.state c.args.disk.now in
-    let end = g.D.Disk.state c.open_disk.new.disk in
+    let end = g.D.Disk.state c.begin.new.disk in
     let content = g.S.Source.rest c.args.source.now in
     let held = g.K.Sink.held c.args.out.now in
-    let is_disk = g.met.D.Disk.is_disk c.open_disk.new.disk in
-    may_begin_again c.args.limit content (Unit {0}) start end old market held held holds is_disk (keeps_none c.args.limit content (Unit {0}) start end old market held holds.journal is_disk (c.open_disk.ensures.moments old market holds))
+    let is_disk = g.met.D.Disk.is_disk c.begin.new.disk in
+    may_begin_again c.args.limit content (Unit {0}) version start end old market held held legal is_disk (keeps_none c.args.limit content (Unit {0}) version start end old market held legal.journal is_disk (c.begin.ensures.moments version old market legal))
+
+pub returns-in-Err-clause-comes : goal.returns-in-Err-clause-comes
+returns-in-Err-clause-comes g c =
+    if_some (g.D.Disk.state c.args.disk.now).content _ _
+    (λ (held : List ℕ) why. comes_not_begun c.args.limit held (g.S.Source.rest c.args.source.now) (g.D.Disk.state c.begin.new.disk) (g.K.Sink.held c.args.out.now) c.in-Err.fault why)
+    c.in-Err.ensures.refused
 
 pub returns-in-Err-clause-legal : goal.returns-in-Err-clause-legal
-returns-in-Err-clause-legal g c = λ old market holds small.
-    refused_not_legal (g.D.Disk.state c.args.disk.now) (g.D.Disk.state c.open_disk.new.disk) old market c.in-Err.fault holds small c.in-Err.ensures.refused
+returns-in-Err-clause-legal g c = λ version old market legal small.
+    refused_not_legal version c.args.limit (g.S.Source.rest c.args.source.now) (g.D.Disk.state c.args.disk.now) (g.D.Disk.state c.begin.new.disk) old market c.in-Err.fault legal small c.in-Err.ensures.refused
 
--- ---- the source wasn't opened
+pub returns-in-Err-clause-untouched : goal.returns-in-Err-clause-untouched
+returns-in-Err-clause-untouched g c =
+    if_some (g.D.Disk.state c.args.disk.now).content _ _ (λ (held : List ℕ) looks. λ none. let it = looks none in (it.1, it.2, refl)) c.in-Err.ensures.untouched
 
-pub returns-in-Err-open_source-clause-keeps : goal.returns-in-Err-open_source-clause-keeps
-returns-in-Err-open_source-clause-keeps g c = λ old market holds.
-    keeps_none c.args.limit (g.S.Source.rest c.args.source.now) _ (g.D.Disk.state c.args.disk.now) (g.D.Disk.state c.open_disk.new.disk) old market (g.K.Sink.held c.args.out.now) holds.journal (g.met.D.Disk.is_disk c.open_disk.new.disk) (c.open_disk.ensures.moments old market holds)
+pub returns-in-Err-clause-paced : goal.returns-in-Err-clause-paced
+returns-in-Err-clause-paced g c = paced_unread c.args.limit (g.S.Source.rest c.args.source.now) (g.S.Source.rest c.begin.new.source) (g.K.Sink.held c.args.out.now) c.in-Err.fault c.in-Err.ensures.unread
 
-pub returns-in-Err-open_source-clause-again : goal.returns-in-Err-open_source-clause-again
-returns-in-Err-open_source-clause-again g c = λ old market holds.
-    let start = g.D.Disk.state c.args.disk.now in
-    let end = g.D.Disk.state c.open_disk.new.disk in
-    let content = g.S.Source.rest c.args.source.now in
-    let held = g.K.Sink.held c.args.out.now in
-    let is_disk = g.met.D.Disk.is_disk c.open_disk.new.disk in
-    may_begin_again c.args.limit content (Unit {0}) start end old market held held holds is_disk (keeps_none c.args.limit content (Unit {0}) start end old market held holds.journal is_disk (c.open_disk.ensures.moments old market holds))
-
-pub returns-in-Err-open_source-clause-comes : goal.returns-in-Err-open_source-clause-comes
-returns-in-Err-open_source-clause-comes g c =
+pub returns-in-Err-clause-wants : goal.returns-in-Err-clause-wants
+returns-in-Err-clause-wants g c = λ lacks.
     if_some (g.D.Disk.state c.args.disk.now).content _ _
-    (λ (held : List ℕ) begun. comes_unread c.args.limit held (g.S.Source.rest c.args.source.now) (g.D.Disk.state c.open_disk.new.disk) c.in-Ok.keeper.session c.in-Ok.keeper.appender begun (g.K.Sink.held c.args.out.now) c.in-Err-open_source.fault c.in-Err-open_source.ensures.of_source)
-    c.in-Ok.ensures.begun
+    (λ (held : List ℕ) why. unread_out c.args.limit held (g.S.Source.rest c.args.source.now) (g.S.Source.rest c.begin.new.source) (g.D.Disk.state c.begin.new.disk) (g.K.Sink.held c.args.out.now) c.in-Err.fault c.in-Err.ensures.unread (cc lacks))
+    c.in-Err.ensures.refused
+
+pub returns-in-Err-clause-unasked : goal.returns-in-Err-clause-unasked
+returns-in-Err-clause-unasked g c = λ refusal. (asked_refused _ c.in-Err.fault c.in-Err.ensures.unasked refusal, refl)
 
 -- ---- records were served
 
 pub serve_on-requires-clause-longest : goal.serve_on-requires-clause-longest
-serve_on-requires-clause-longest g c = subst (HasLongest commands) (sym c.in-Ok-open_source.ensures.behind.room) run_is_exact.longest
+serve_on-requires-clause-longest g c = subst (HasLongest commands) (sym c.in-Ok.ensures.behind.room) run_is_exact.longest
 
-pub returns-clause-keeps : goal.returns-clause-keeps
-returns-clause-keeps g c = λ old market holds.
-    let start = g.D.Disk.state c.args.disk.now in
-    let begun = g.D.Disk.state c.open_disk.new.disk in
-    keeps_served c.args.limit (g.S.Source.rest c.args.source.now) (g.S.Source.rest c.open_source.new.source) (g.S.Source.rest c.serve_on.new.source) c.in-Ok-open_source.window c.in-Ok-open_source.ensures.behind c.serve_on.result start begun (g.D.Disk.state c.serve_on.new.disk)
-    old market c.in-Ok.keeper.session c.in-Ok.keeper.appender (g.K.Sink.held c.args.out.now) (g.K.Sink.held c.serve_on.new.out) holds.journal (c.in-Ok.ensures.moments old market holds)
-    (begun_known start old market holds begun c.in-Ok.keeper.session c.in-Ok.keeper.appender c.in-Ok.ensures.begun) c.serve_on.ensures.goes
+pub serve_on-requires-clause-kept : goal.serve_on-requires-clause-kept
+serve_on-requires-clause-kept g c =
+    can_serve (g.D.Disk.state c.args.disk.now).content (g.D.Disk.state c.begin.new.disk).content c.in-Ok.begun.version c.in-Ok.begun.keeper.session c.in-Ok.begun.keeper.appender (g.D.Disk.state c.begin.new.disk) c.in-Ok.ensures.told c.in-Ok.ensures.begun
 
-pub returns-clause-again : goal.returns-clause-again
-returns-clause-again g c = λ old market holds.
+pub returns-in-Ok-clause-keeps : goal.returns-in-Ok-clause-keeps
+returns-in-Ok-clause-keeps g c = λ version old market legal.
     let start = g.D.Disk.state c.args.disk.now in
-    let begun = g.D.Disk.state c.open_disk.new.disk in
+    let mid = g.D.Disk.state c.begin.new.disk in
     let end = g.D.Disk.state c.serve_on.new.disk in
     let content = g.S.Source.rest c.args.source.now in
-    let before = g.K.Sink.held c.args.out.now in
-    let after = g.K.Sink.held c.serve_on.new.out in
-    may_begin_again c.args.limit content _ start end old market before after holds (g.met.D.Disk.is_disk c.serve_on.new.disk)
-    (keeps_served c.args.limit content (g.S.Source.rest c.open_source.new.source) (g.S.Source.rest c.serve_on.new.source) c.in-Ok-open_source.window c.in-Ok-open_source.ensures.behind c.serve_on.result start begun end
-    old market c.in-Ok.keeper.session c.in-Ok.keeper.appender before after holds.journal (c.in-Ok.ensures.moments old market holds)
-    (begun_known start old market holds begun c.in-Ok.keeper.session c.in-Ok.keeper.appender c.in-Ok.ensures.begun) c.serve_on.ensures.goes)
+    let after = g.S.Source.rest c.begin.new.source in
+    let left = g.S.Source.rest c.serve_on.new.source in
+    let held = g.K.Sink.held c.args.out.now in
+    let holds_out = g.K.Sink.held c.serve_on.new.out in
+    let known = begun_known start version old market legal mid c.in-Ok.begun.version c.in-Ok.begun.keeper.session c.in-Ok.begun.keeper.appender c.in-Ok.ensures.begun in
+    keeps_served c.args.limit content after left c.in-Ok.begun.window c.in-Ok.begun.version c.in-Ok.ensures.behind c.serve_on.result version start mid end old market c.in-Ok.begun.keeper.session c.in-Ok.begun.keeper.appender held holds_out
+    (c.in-Ok.ensures.moments version old market legal) known (c.in-Ok.ensures.moments c.in-Ok.begun.version old c.in-Ok.begun.keeper.session (legal_in start version old market legal c.in-Ok.begun.version c.in-Ok.begun.keeper.session known.0)) c.serve_on.ensures.goes
 
-pub returns-clause-comes : goal.returns-clause-comes
-returns-clause-comes g c =
-    if_some (g.D.Disk.state c.args.disk.now).content _ _
-    (λ (held : List ℕ) begun. comes_served c.args.limit held (g.S.Source.rest c.args.source.now) (g.D.Disk.state c.open_disk.new.disk) c.in-Ok.keeper.session c.in-Ok.keeper.appender begun (g.S.Source.rest c.open_source.new.source) (g.S.Source.rest c.serve_on.new.source)
-    c.in-Ok-open_source.window c.in-Ok-open_source.ensures.behind (g.D.Disk.state c.serve_on.new.disk) (g.K.Sink.held c.args.out.now) (g.K.Sink.held c.serve_on.new.out) c.serve_on.result c.serve_on.ensures.goes)
+pub returns-in-Ok-clause-again : goal.returns-in-Ok-clause-again
+returns-in-Ok-clause-again g c = λ version old market legal.
+    let start = g.D.Disk.state c.args.disk.now in
+    let mid = g.D.Disk.state c.begin.new.disk in
+    let end = g.D.Disk.state c.serve_on.new.disk in
+    let content = g.S.Source.rest c.args.source.now in
+    let after = g.S.Source.rest c.begin.new.source in
+    let left = g.S.Source.rest c.serve_on.new.source in
+    let held = g.K.Sink.held c.args.out.now in
+    let holds_out = g.K.Sink.held c.serve_on.new.out in
+    let known = begun_known start version old market legal mid c.in-Ok.begun.version c.in-Ok.begun.keeper.session c.in-Ok.begun.keeper.appender c.in-Ok.ensures.begun in
+    may_begin_again c.args.limit content _ version start end old market held holds_out legal (g.met.D.Disk.is_disk c.serve_on.new.disk)
+    (keeps_served c.args.limit content after left c.in-Ok.begun.window c.in-Ok.begun.version c.in-Ok.ensures.behind c.serve_on.result version start mid end old market c.in-Ok.begun.keeper.session c.in-Ok.begun.keeper.appender held holds_out
+    (c.in-Ok.ensures.moments version old market legal) known (c.in-Ok.ensures.moments c.in-Ok.begun.version old c.in-Ok.begun.keeper.session (legal_in start version old market legal c.in-Ok.begun.version c.in-Ok.begun.keeper.session known.0)) c.serve_on.ensures.goes)
+
+pub returns-in-Ok-clause-comes : goal.returns-in-Ok-clause-comes
+returns-in-Ok-clause-comes g c =
+    let start = g.D.Disk.state c.args.disk.now in
+    let mid = g.D.Disk.state c.begin.new.disk in
+    let end = g.D.Disk.state c.serve_on.new.disk in
+    let content = g.S.Source.rest c.args.source.now in
+    let after = g.S.Source.rest c.begin.new.source in
+    let left = g.S.Source.rest c.serve_on.new.source in
+    let before = g.K.Sink.held c.args.out.now in
+    let holds_out = g.K.Sink.held c.serve_on.new.out in
+    if_some start.content _ _
+    (λ (held : List ℕ) begun. comes_served c.args.limit held content mid c.in-Ok.begun.version c.in-Ok.begun.keeper.session c.in-Ok.begun.keeper.appender begun after left
+    c.in-Ok.begun.window c.in-Ok.ensures.behind end before holds_out c.serve_on.result c.serve_on.ensures.goes)
     c.in-Ok.ensures.begun
 
-pub returns-clause-unasked : goal.returns-clause-unasked
-returns-clause-unasked g c = λ refusal. absurd (not_of_serving c.serve_on.result _ c.serve_on.ensures.goes.ended refusal)
+pub returns-in-Ok-clause-legal : goal.returns-in-Ok-clause-legal
+returns-in-Ok-clause-legal g c = λ version old market legal small refusal. absurd (not_of_serving c.serve_on.result _ c.serve_on.ensures.goes.ended refusal)
+
+pub returns-in-Ok-clause-unasked : goal.returns-in-Ok-clause-unasked
+returns-in-Ok-clause-unasked g c = λ refusal. absurd (not_of_serving c.serve_on.result _ c.serve_on.ensures.goes.ended refusal)
+
+pub returns-in-Ok-clause-untouched : goal.returns-in-Ok-clause-untouched
+returns-in-Ok-clause-untouched g c =
+    none_begun (g.D.Disk.state c.args.disk.now).content c.in-Ok.begun.version c.in-Ok.begun.keeper.session c.in-Ok.begun.keeper.appender (g.D.Disk.state c.begin.new.disk) _ c.in-Ok.ensures.begun
+
+pub returns-in-Ok-clause-taken : goal.returns-in-Ok-clause-taken
+returns-in-Ok-clause-taken g c =
+    let start = g.D.Disk.state c.args.disk.now in
+    let mid = g.D.Disk.state c.begin.new.disk in
+    let end = g.D.Disk.state c.serve_on.new.disk in
+    let content = g.S.Source.rest c.args.source.now in
+    let after = g.S.Source.rest c.begin.new.source in
+    let left = g.S.Source.rest c.serve_on.new.source in
+    let held = g.K.Sink.held c.args.out.now in
+    let holds_out = g.K.Sink.held c.serve_on.new.out in
+    taken_at_most c.args.limit content after left c.in-Ok.begun.window c.in-Ok.begun.version c.in-Ok.ensures.behind c.in-Ok.begun.keeper.session c.in-Ok.begun.keeper.appender mid end held holds_out c.serve_on.result c.serve_on.ensures.goes
+
+pub returns-in-Ok-clause-paced : goal.returns-in-Ok-clause-paced
+returns-in-Ok-clause-paced g c =
+    let start = g.D.Disk.state c.args.disk.now in
+    let mid = g.D.Disk.state c.begin.new.disk in
+    let end = g.D.Disk.state c.serve_on.new.disk in
+    let content = g.S.Source.rest c.args.source.now in
+    let after = g.S.Source.rest c.begin.new.source in
+    let left = g.S.Source.rest c.serve_on.new.source in
+    let held = g.K.Sink.held c.args.out.now in
+    let holds_out = g.K.Sink.held c.serve_on.new.out in
+    paced_served c.args.limit content after left c.in-Ok.begun.window c.in-Ok.begun.version c.in-Ok.ensures.behind c.in-Ok.begun.keeper.session c.in-Ok.begun.keeper.appender mid end held holds_out c.serve_on.result c.serve_on.ensures.goes
+
+pub returns-in-Ok-clause-wants : goal.returns-in-Ok-clause-wants
+returns-in-Ok-clause-wants g c = λ lacks.
+    let start = g.D.Disk.state c.args.disk.now in
+    let mid = g.D.Disk.state c.begin.new.disk in
+    let end = g.D.Disk.state c.serve_on.new.disk in
+    let content = g.S.Source.rest c.args.source.now in
+    let after = g.S.Source.rest c.begin.new.source in
+    let left = g.S.Source.rest c.serve_on.new.source in
+    let before = g.K.Sink.held c.args.out.now in
+    let holds_out = g.K.Sink.held c.serve_on.new.out in
+    if_some start.content _ _
+    (λ (held : List ℕ) begun. wants_next c.args.limit content after left c.in-Ok.begun.window c.in-Ok.begun.version c.in-Ok.ensures.behind c.in-Ok.begun.keeper.session c.in-Ok.begun.keeper.appender mid end before holds_out held begun c.serve_on.result c.serve_on.ensures.goes lacks)
+    c.in-Ok.ensures.begun
+
+pub returns-in-Ok-clause-made : goal.returns-in-Ok-clause-made
+returns-in-Ok-clause-made g c =
+    each_some (g.D.Disk.state c.args.disk.now).content _
+    (λ (held : List ℕ) short. inr (magic_taken c.args.limit c.in-Ok.begun.window c.in-Ok.begun.version (g.S.Source.rest c.args.source.now) (g.S.Source.rest c.begin.new.source) (g.S.Source.rest c.serve_on.new.source) c.serve_on.ensures.goes.goes.taken c.in-Ok.ensures.behind c.serve_on.ensures.goes.goes.takes))

@@ -12,13 +12,18 @@ use Rattle.journal_keeping.proofs.Auditing.{none_read, one_read, stops_judged}
 use Rattle.journal_keeping.proofs.reading.audit_kept.Goals as goal
 
 pub pairs-init : goal.pairs-init
-pairs-init g c = record {
-  looks = looks_none (g.D.Disk.state c.args.disk.now) (g.met.D.Disk.is_disk c.args.disk.now);
-  reads = λ rest holds. ([], rest, none_read c.args.audit.now c.requires.new, refl, holds);
-  next = c.requires.next;
-  small = omega arith;
-  quiet = refl;
-}
+pairs-init g c =
+    let start = g.D.Disk.state c.args.disk.now in
+    let mid = g.D.Disk.state c.new.new.disk in
+    let e = c.in-Ok.ensures in
+    record {
+      looks = e.looks;
+      reads = λ version rest new holds. ([], rest, none_read version c.args.audit.now new, refl, looks_hold version [] c.args.journal.now rest start mid holds e.looks);
+      piece = e.piece;
+      next = c.requires.next;
+      small = omega arith;
+      quiet = e.cause.quiet (λ is. cc is);
+    }
 
 pub pairs-preserved : goal.pairs-preserved
 pairs-preserved g c =
@@ -32,12 +37,13 @@ pairs-preserved g c =
     let judged = c.in_ok-judge-in-Ok-Pair.ensures in
     record {
       looks = looks_more (g.D.Disk.state c.args.disk.now) mid next i.looks e.looks;
-      reads = λ rest holds.
-          let was = i.reads rest holds in
-          let now = step_holds (map records_of was.0) c.pairs.journal was.1 mid was.4 c.next.new.self c.next.new.pair.items taken in
+      reads = λ version rest new holds.
+          let was = i.reads version rest new holds in
+          let now = step_holds version (map records_of was.0) c.pairs.journal was.1 mid was.4 c.next.new.self c.next.new.pair.items taken in
           let legal : IsLegalPair c.pairs.audit now.0 c.judge.new.audit = judged.legal now.0 now.2 (c.deref.ensures.value ∙ now.3) in
-          let one = one_read was.0 c.pairs.audit c.judge.new.audit now.0 was.2 now.2 legal in
-          (one.0, now.1, one.1, omega (arith, more, was.3, one.2), looks_hold (map records_of one.0) c.next.new.self now.1 mid next (subst (λ (l : List RecordPair). Holds l c.next.new.self now.1 mid) one.3 now.4) e.looks);
+          let one = one_read version was.0 c.pairs.audit c.judge.new.audit now.0 was.2 now.2 legal in
+          (one.0, now.1, one.1, omega (arith, more, was.3, one.2), looks_hold version (map records_of one.0) c.next.new.self now.1 mid next (subst (λ (l : List RecordPair). Holds version l c.next.new.self now.1 mid) one.3 now.4) e.looks);
+      piece = e.piece;
       next = omega (arith, judged.next, i.next, moves);
       small = omega (arith, more, i.small, moves);
       quiet = e.cause.quiet (λ is. cc is) ∙ i.quiet;
@@ -53,6 +59,6 @@ returns-in_err-judge-in-Ok-Pair-clause-stops g c =
     let more : c.saturating_add-number.result ≡ c.pairs.number + 1 = omega (arith, c.saturating_add-number.ensures, i.small, e.near, moves) in
     let judged = c.in_err-judge-in-Ok-Pair.ensures in
     let p = err_from_is_err_and c.from_residual.result c.from_residual.ensures.1 in
-    rw (p.1, p.2) (λ rest bytes holds told.
-    let was = i.reads rest holds in
-    stops_judged was.0 c.pairs.audit c.pairs.journal was.1 bytes mid was.2 was.4 (i.looks.content ∙ told) c.in_err-judge-in-Ok-Pair.field-0.0 c.saturating_add-number.result c.next.new.self c.next.new.pair.items (omega (arith, more, was.3)) taken judged.refused (λ is. subst (AreIllegalBytes c.pairs.audit) c.deref.ensures.value (judged.illegal (ap Err is))))
+    rw (p.1, p.2) (λ version rest bytes new holds told.
+    let was = i.reads version rest new holds in
+    stops_judged version was.0 c.pairs.audit c.pairs.journal was.1 bytes mid was.2 was.4 (i.looks.content ∙ told) c.in_err-judge-in-Ok-Pair.field-0.0 c.saturating_add-number.result c.next.new.self c.next.new.pair.items (omega (arith, more, was.3)) taken judged.refused (λ is. subst (AreIllegalBytes c.pairs.audit) c.deref.ensures.value (judged.illegal (ap Err is))))

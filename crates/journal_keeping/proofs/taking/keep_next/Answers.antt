@@ -17,7 +17,7 @@ returns-in-Ok-clause-taken g c =
     let two = two_records c.in-Ok-Taken.taken c.args.bytes.now c.args.keeper.now.session c.serve_next.new.session c.serve_next.new.text.items one ready.0 ready.1 ready.2.0 in
     let bytes = c.deref.ensures.value ∙ their_bytes c.in-Ok-Taken.taken c.args.bytes.now c.args.keeper.now.session c.serve_next.new.session c.serve_next.new.text.items one ready.0 ready.1 ready.2.0 in
     takes c.in-Ok-Taken.taken c.args.bytes.now c.args.keeper.now.session c.serve_next.new.session c.serve_next.new.text.items one ready.0 ready.1 ready.2.0 c.args.keeper.now.appender c.put_pair.new.appender (g.D.Disk.state c.args.disk.now) (g.D.Disk.state c.put_pair.new.disk) (g.K.Sink.held c.args.out.now) (g.K.Sink.held c.put_pair.new.out)
-    (record { keeps = λ pairs at. c.in-Ok.ensures.kept (λ is. cc is) pairs (records_of pair) at two bytes; moments = λ pairs at. c.in-Ok.ensures.moments pairs (records_of pair) at two bytes })
+    (record { keeps = λ version pairs at. c.in-Ok.ensures.kept (λ is. cc is) version pairs (records_of pair) at two bytes; moments = λ version pairs at. c.in-Ok.ensures.moments version pairs (records_of pair) at two bytes })
     c.in-Ok.ensures.told (rw c.deref.ensures.value at c.in-Ok.ensures.written)
 
 pub returns-in-Ok-clause-stays : goal.returns-in-Ok-clause-stays
@@ -35,5 +35,5 @@ returns-in-Err-put_pair-clause-broken g c =
     let bytes = c.deref.ensures.value ∙ their_bytes c.in-Ok-Taken.taken c.args.bytes.now c.args.keeper.now.session c.serve_next.new.session c.serve_next.new.text.items one ready.0 ready.1 ready.2.0 in
     let put = c.in-Err-put_pair.ensures in
     breaks c.in-Ok-Taken.taken c.args.bytes.now c.args.keeper.now.session c.serve_next.new.session c.serve_next.new.text.items one ready.0 ready.1 ready.2.0 c.args.keeper.now.appender c.put_pair.new.appender (g.D.Disk.state c.args.disk.now) (g.D.Disk.state c.put_pair.new.disk) (g.K.Sink.held c.args.out.now) (g.K.Sink.held c.put_pair.new.out)
-    (c.put_pair.new.disk ≡ c.args.disk.now) (c.put_pair.new.out ≡ c.args.out.now) c.in-Err-put_pair.fault put.refused (λ is. put.unasked (ap Err is)) (λ pairs at. put.moments pairs (records_of pair) at two bytes)
-    (λ is pairs at. put.kept (λ bad. cc (bad, is)) pairs (records_of pair) at two bytes) (λ is. rw c.deref.ensures.value at put.cut (ap Err is))
+    (c.put_pair.new.disk ≡ c.args.disk.now) (c.put_pair.new.out ≡ c.args.out.now) c.in-Err-put_pair.fault put.refused (λ is. put.unasked (ap Err is)) (λ version pairs at. put.moments version pairs (records_of pair) at two bytes)
+    (λ is version pairs at. put.kept (λ bad. cc (bad, is)) version pairs (records_of pair) at two bytes) (λ is. rw c.deref.ensures.value at put.cut (ap Err is))

@@ -1,4 +1,5 @@
-use Rattle.std.proofs.Common.{◌≡◌, List, ℕ, refl, sym, subst, drop, arith}
+use Rattle.std.proofs.Common.{◌≡◌, ⊎_elim, List, ℕ, length, refl, sym, ap, subst, drop, arith}
+use Rattle.wire_records.proofs.Spelled.{length-spelling}
 use Rattle.own_journals.proofs.LawProofs.{steps_number_one}
 use Rattle.exchange_session.specs.Serving.{AnswersOne}
 use Rattle.journal_keeping.proofs.Frames.{record_within, no_front-from_none, not_overlong-from_none, no_front-from_large, not_overlong-from_stated}
@@ -44,4 +45,13 @@ returns-in-Short-clause-taken c =
     (record { none = short.1; state = refl; output = c.requires.empty }, short.0, not_overlong-from_stated c.args.bytes.now short.2)
 
 pub returns-in-Err-clause-wanted : goal.returns-in-Err-clause-wanted
-returns-in-Err-clause-wanted c = (c.in-Whole.asked, drop c.in-Whole.taken c.args.bytes.now, (c.in-Whole.ensures.0, c.in-Whole.ensures.2))
+returns-in-Err-clause-wanted c =
+    let lawful = c.in-Whole.ensures.0 in (
+      c.in-Whole.asked,
+      drop c.in-Whole.taken c.args.bytes.now,
+      (lawful, c.in-Whole.ensures.2),
+      ⊎_elim
+          (λ small. absurd (omega (arith, small, c.requires.room, ap length c.requires.empty, length-spelling c.in-Whole.asked, lawful.body)))
+          (λ wants. wants)
+          c.in-Err.ensures.wanted,
+    )

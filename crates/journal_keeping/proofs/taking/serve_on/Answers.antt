@@ -16,6 +16,7 @@ units-init g c = (
   so_none (g.D.Disk.state c.args.disk.now) c.args.keeper.now.session c.args.keeper.now.appender (g.K.Sink.held c.args.out.now) (g.met.D.Disk.is_disk c.args.disk.now),
   refl,
   refl,
+  c.requires.room,
 )
 
 pub units-preserved-in-Taken : goal.units-preserved-in-Taken
@@ -32,6 +33,7 @@ units-preserved-in-Taken g c =
       so_more _ _ _ _ _ _ _ _ _ _ _ _ i.0 one.pair i.2 one.served.fits one.served.step one.keeps one.told one.written,
       c.in-Ok.ensures.disk_cause.quiet (λ is. cc is) ∙ i.3,
       c.in-Ok.ensures.out_cause.quiet (λ is. cc is) ∙ i.4,
+      omega (arith, i.5, c.in-Ok.ensures.room),
     )
 
 pub returns-in-Err-clause-goes : goal.returns-in-Err-clause-goes
@@ -51,7 +53,7 @@ returns-in-Overlong-clause-goes g c =
     let inside = within_limit w.place (length w.held) w.limit w.over c.held.ensures.within in
     let none = rw (c.in-Overlong.is, c.bytes_of.ensures.value, c.held.ensures.held) at c.in-Ok.ensures.taken in
     let same = rw (c.in-Overlong.is) at c.in-Ok.ensures.still in
-    rw (c.place.ensures, same.2, same.3) (serves_so c.args.window.now (g.S.Source.rest c.args.source.now) (g.S.Source.rest c.units.source) (g.D.Disk.state c.args.disk.now) (g.D.Disk.state c.units.disk) c.args.keeper.now.session c.units.keeper.session c.args.keeper.now.appender c.units.keeper.appender (g.K.Sink.held c.args.out.now) (g.K.Sink.held c.units.out) i.0 i.2 (Err (Torn w.place)) (gone_overlong commands Adds g.S.Source.rest g.S.Source.faults c.args.window.now w c.args.source.now c.units.source [] i.0 tt tt (Names i.0 []) (IsReady c.units.keeper.session c.units.keeper.appender) i.1 inside c.requires.longest i.0 tt refl refl none.1) (λ P p. p))
+    rw (c.place.ensures, same.2, same.3) (serves_so c.args.window.now (g.S.Source.rest c.args.source.now) (g.S.Source.rest c.units.source) (g.D.Disk.state c.args.disk.now) (g.D.Disk.state c.units.disk) c.args.keeper.now.session c.units.keeper.session c.args.keeper.now.appender c.units.keeper.appender (g.K.Sink.held c.args.out.now) (g.K.Sink.held c.units.out) i.0 i.2 (Err (Torn w.place)) (gone_overlong commands Adds g.S.Source.rest g.S.Source.faults c.args.window.now w c.args.source.now c.units.source [] i.0 tt tt (Names c.units.keeper.session i.0 []) (IsReady c.units.keeper.session c.units.keeper.appender) i.1 inside c.requires.longest i.0 tt refl refl none.1) (λ P p. p))
 
 pub units-smaller-in-Ok-Enough : goal.units-smaller-in-Ok-Enough
 units-smaller-in-Ok-Enough g c = falls c.units.window c.read_on.new.window (g.S.Source.rest c.units.source) (g.S.Source.rest c.read_on.new.source) c.read_on.ensures.fills (c.in-Ok-Enough.ensures.more c.in-Ok-Enough.field-0-is).0 c.read_on.ensures.within
@@ -71,6 +73,7 @@ units-preserved-in-Ok-Enough g c =
       rw (same.0, same.1, same.2, same.3) i.2,
       rw same.2 i.3,
       rw same.3 i.4,
+      omega (arith, i.5, c.in-Ok.ensures.room),
     )
 
 pub units-smaller : goal.units-smaller
@@ -91,6 +94,7 @@ units-preserved g c =
       rw (same.0, same.1, same.2, same.3) i.2,
       rw same.2 i.3,
       rw same.3 i.4,
+      omega (arith, i.5, c.in-Ok.ensures.room),
     )
 
 pub returns-in-Ok-Limited-clause-goes : goal.returns-in-Ok-Limited-clause-goes
@@ -101,7 +105,7 @@ returns-in-Ok-Limited-clause-goes g c =
     let none = rw (c.in-Short.is, c.bytes_of.ensures.value, c.held.ensures.held) at c.in-Ok.ensures.taken in
     let same = rw (c.in-Short.is) at c.in-Ok.ensures.still in
     let how = c.in-Ok-Limited.ensures.limited c.in-Ok-Limited.field-0-is in
-    rw (same.2, same.3) (serves_so c.args.window.now (g.S.Source.rest c.args.source.now) (g.S.Source.rest c.read_on.new.source) (g.D.Disk.state c.args.disk.now) (g.D.Disk.state c.units.disk) c.args.keeper.now.session c.units.keeper.session c.args.keeper.now.appender c.units.keeper.appender (g.K.Sink.held c.args.out.now) (g.K.Sink.held c.units.out) i.0 i.2 (Err TooLong) (gone_limited commands Adds g.S.Source.rest g.S.Source.faults c.args.window.now w c.args.source.now c.units.source [] i.0 tt tt (Names i.0 []) (IsReady c.units.keeper.session c.units.keeper.appender) i.1 inside c.read_on.new.window c.read_on.new.source c.read_on.ensures.fills how.0 i.0 tt refl refl none.0 none.2 how.1 (limit_reached w c.read_on.new.window (g.S.Source.rest c.units.source) (g.S.Source.rest c.read_on.new.source) c.read_on.ensures.fills how.0 how.1 c.read_on.ensures.within)) (λ P p. p))
+    rw (same.2, same.3) (serves_so c.args.window.now (g.S.Source.rest c.args.source.now) (g.S.Source.rest c.read_on.new.source) (g.D.Disk.state c.args.disk.now) (g.D.Disk.state c.units.disk) c.args.keeper.now.session c.units.keeper.session c.args.keeper.now.appender c.units.keeper.appender (g.K.Sink.held c.args.out.now) (g.K.Sink.held c.units.out) i.0 i.2 (Err TooLong) (gone_limited commands Adds g.S.Source.rest g.S.Source.faults c.args.window.now w c.args.source.now c.units.source [] i.0 tt tt (Names c.units.keeper.session i.0 []) (IsReady c.units.keeper.session c.units.keeper.appender) i.1 inside c.read_on.new.window c.read_on.new.source c.read_on.ensures.fills how.0 i.0 tt refl refl none.0 none.2 how.1 (limit_reached w c.read_on.new.window (g.S.Source.rest c.units.source) (g.S.Source.rest c.read_on.new.source) c.read_on.ensures.fills how.0 how.1 c.read_on.ensures.within)) (λ P p. p))
 
 pub returns-in-Ok-Ended-clause-goes : goal.returns-in-Ok-Ended-clause-goes
 returns-in-Ok-Ended-clause-goes g c =
@@ -111,7 +115,7 @@ returns-in-Ok-Ended-clause-goes g c =
     let none = rw (c.in-Short.is, c.bytes_of.ensures.value, c.held.ensures.held) at c.in-Ok.ensures.taken in
     let same = rw (c.in-Short.is) at c.in-Ok.ensures.still in
     let how = c.in-Ok-Ended.ensures.ended c.in-Ok-Ended.field-0-is in
-    rw (c.place-in-Ok-Ended.ensures ∙ ap (λ (x : WindowState). x.place) c.read_on.ensures.fills.holds, same.2, same.3) (serves_so c.args.window.now (g.S.Source.rest c.args.source.now) (g.S.Source.rest c.read_on.new.source) (g.D.Disk.state c.args.disk.now) (g.D.Disk.state c.units.disk) c.args.keeper.now.session c.units.keeper.session c.args.keeper.now.appender c.units.keeper.appender (g.K.Sink.held c.args.out.now) (g.K.Sink.held c.units.out) i.0 i.2 (Err (Torn w.place)) (gone_torn commands Adds g.S.Source.rest g.S.Source.faults c.args.window.now w c.args.source.now c.units.source [] i.0 tt tt (Names i.0 []) (IsReady c.units.keeper.session c.units.keeper.appender) i.1 inside c.read_on.new.window c.read_on.new.source c.read_on.ensures.fills how.0 i.0 tt refl refl none.0 none.2 how.1 (c.read_on.ensures.all how.1) none.1) (λ P p. p))
+    rw (c.place-in-Ok-Ended.ensures ∙ ap (λ (x : WindowState). x.place) c.read_on.ensures.fills.holds, same.2, same.3) (serves_so c.args.window.now (g.S.Source.rest c.args.source.now) (g.S.Source.rest c.read_on.new.source) (g.D.Disk.state c.args.disk.now) (g.D.Disk.state c.units.disk) c.args.keeper.now.session c.units.keeper.session c.args.keeper.now.appender c.units.keeper.appender (g.K.Sink.held c.args.out.now) (g.K.Sink.held c.units.out) i.0 i.2 (Err (Torn w.place)) (gone_torn commands Adds g.S.Source.rest g.S.Source.faults c.args.window.now w c.args.source.now c.units.source [] i.0 tt tt (Names c.units.keeper.session i.0 []) (IsReady c.units.keeper.session c.units.keeper.appender) i.1 inside c.read_on.new.window c.read_on.new.source c.read_on.ensures.fills how.0 i.0 tt refl refl none.0 none.2 how.1 (c.read_on.ensures.all how.1) none.1) (λ P p. p))
 
 pub returns-in-Err-read_on-clause-goes : goal.returns-in-Err-read_on-clause-goes
 returns-in-Err-read_on-clause-goes g c =
@@ -121,7 +125,7 @@ returns-in-Err-read_on-clause-goes g c =
     let none = rw (c.in-Short.is, c.bytes_of.ensures.value, c.held.ensures.held) at c.in-Ok.ensures.taken in
     let same = rw (c.in-Short.is) at c.in-Ok.ensures.still in
     let how = c.in-Err-read_on.ensures.failed in
-    rw (same.2, same.3) (serves_so c.args.window.now (g.S.Source.rest c.args.source.now) (g.S.Source.rest c.read_on.new.source) (g.D.Disk.state c.args.disk.now) (g.D.Disk.state c.units.disk) c.args.keeper.now.session c.units.keeper.session c.args.keeper.now.appender c.units.keeper.appender (g.K.Sink.held c.args.out.now) (g.K.Sink.held c.units.out) i.0 i.2 (Err Read) (gone_unread commands Adds g.S.Source.rest g.S.Source.faults c.args.window.now w c.args.source.now c.units.source [] i.0 tt tt (Names i.0 []) (IsReady c.units.keeper.session c.units.keeper.appender) i.1 inside c.read_on.new.window c.read_on.new.source c.read_on.ensures.fills how.0 i.0 tt refl refl none.0 none.2 how.1) (λ P p. p))
+    rw (same.2, same.3) (serves_so c.args.window.now (g.S.Source.rest c.args.source.now) (g.S.Source.rest c.read_on.new.source) (g.D.Disk.state c.args.disk.now) (g.D.Disk.state c.units.disk) c.args.keeper.now.session c.units.keeper.session c.args.keeper.now.appender c.units.keeper.appender (g.K.Sink.held c.args.out.now) (g.K.Sink.held c.units.out) i.0 i.2 (Err Read) (gone_unread commands Adds g.S.Source.rest g.S.Source.faults c.args.window.now w c.args.source.now c.units.source [] i.0 tt tt (Names c.units.keeper.session i.0 []) (IsReady c.units.keeper.session c.units.keeper.appender) i.1 inside c.read_on.new.window c.read_on.new.source c.read_on.ensures.fills how.0 i.0 tt refl refl none.0 none.2 how.1) (λ P p. p))
 
 pub returns-in-Ok-Limited-read_on-clause-goes : goal.returns-in-Ok-Limited-read_on-clause-goes
 returns-in-Ok-Limited-read_on-clause-goes g c =
@@ -131,7 +135,7 @@ returns-in-Ok-Limited-read_on-clause-goes g c =
     let none = rw (c.in-NoBytes.is, c.bytes_of.ensures.value, c.held.ensures.held) at c.in-Ok.ensures.taken in
     let same = rw (c.in-NoBytes.is) at c.in-Ok.ensures.still in
     let how = c.in-Ok-Limited-read_on.ensures.limited c.in-Ok-Limited-read_on.field-0-is in
-    rw (same.2, same.3) (serves_so c.args.window.now (g.S.Source.rest c.args.source.now) (g.S.Source.rest c.read_on-in-NoBytes.new.source) (g.D.Disk.state c.args.disk.now) (g.D.Disk.state c.units.disk) c.args.keeper.now.session c.units.keeper.session c.args.keeper.now.appender c.units.keeper.appender (g.K.Sink.held c.args.out.now) (g.K.Sink.held c.units.out) i.0 i.2 (Err TooLong) (gone_limited commands Adds g.S.Source.rest g.S.Source.faults c.args.window.now w c.args.source.now c.units.source [] i.0 tt tt (Names i.0 []) (IsReady c.units.keeper.session c.units.keeper.appender) i.1 inside c.read_on-in-NoBytes.new.window c.read_on-in-NoBytes.new.source c.read_on-in-NoBytes.ensures.fills how.0 i.0 tt refl refl none.0 none.2 how.1 (limit_reached w c.read_on-in-NoBytes.new.window (g.S.Source.rest c.units.source) (g.S.Source.rest c.read_on-in-NoBytes.new.source) c.read_on-in-NoBytes.ensures.fills how.0 how.1 c.read_on-in-NoBytes.ensures.within)) (λ P p. p))
+    rw (same.2, same.3) (serves_so c.args.window.now (g.S.Source.rest c.args.source.now) (g.S.Source.rest c.read_on-in-NoBytes.new.source) (g.D.Disk.state c.args.disk.now) (g.D.Disk.state c.units.disk) c.args.keeper.now.session c.units.keeper.session c.args.keeper.now.appender c.units.keeper.appender (g.K.Sink.held c.args.out.now) (g.K.Sink.held c.units.out) i.0 i.2 (Err TooLong) (gone_limited commands Adds g.S.Source.rest g.S.Source.faults c.args.window.now w c.args.source.now c.units.source [] i.0 tt tt (Names c.units.keeper.session i.0 []) (IsReady c.units.keeper.session c.units.keeper.appender) i.1 inside c.read_on-in-NoBytes.new.window c.read_on-in-NoBytes.new.source c.read_on-in-NoBytes.ensures.fills how.0 i.0 tt refl refl none.0 none.2 how.1 (limit_reached w c.read_on-in-NoBytes.new.window (g.S.Source.rest c.units.source) (g.S.Source.rest c.read_on-in-NoBytes.new.source) c.read_on-in-NoBytes.ensures.fills how.0 how.1 c.read_on-in-NoBytes.ensures.within)) (λ P p. p))
 
 pub returns-in-Ok-Ended-read_on-clause-goes : goal.returns-in-Ok-Ended-read_on-clause-goes
 returns-in-Ok-Ended-read_on-clause-goes g c =
@@ -141,7 +145,7 @@ returns-in-Ok-Ended-read_on-clause-goes g c =
     let none = rw (c.in-NoBytes.is, c.bytes_of.ensures.value, c.held.ensures.held) at c.in-Ok.ensures.taken in
     let same = rw (c.in-NoBytes.is) at c.in-Ok.ensures.still in
     let how = c.in-Ok-Ended-read_on.ensures.ended c.in-Ok-Ended-read_on.field-0-is in
-    rw (same.2, same.3) (serves_so c.args.window.now (g.S.Source.rest c.args.source.now) (g.S.Source.rest c.read_on-in-NoBytes.new.source) (g.D.Disk.state c.args.disk.now) (g.D.Disk.state c.units.disk) c.args.keeper.now.session c.units.keeper.session c.args.keeper.now.appender c.units.keeper.appender (g.K.Sink.held c.args.out.now) (g.K.Sink.held c.units.out) i.0 i.2 (Ok tt) (gone_to_end commands Adds g.S.Source.rest g.S.Source.faults c.args.window.now w c.args.source.now c.units.source [] i.0 tt tt (Names i.0 []) (IsReady c.units.keeper.session c.units.keeper.appender) i.1 inside c.read_on-in-NoBytes.new.window c.read_on-in-NoBytes.new.source c.read_on-in-NoBytes.ensures.fills how.0 i.0 tt refl refl none.0 none.2 how.1 (c.read_on-in-NoBytes.ensures.all how.1) none.1) (λ P p. p))
+    rw (same.2, same.3) (serves_so c.args.window.now (g.S.Source.rest c.args.source.now) (g.S.Source.rest c.read_on-in-NoBytes.new.source) (g.D.Disk.state c.args.disk.now) (g.D.Disk.state c.units.disk) c.args.keeper.now.session c.units.keeper.session c.args.keeper.now.appender c.units.keeper.appender (g.K.Sink.held c.args.out.now) (g.K.Sink.held c.units.out) i.0 i.2 (Ok tt) (gone_to_end commands Adds g.S.Source.rest g.S.Source.faults c.args.window.now w c.args.source.now c.units.source [] i.0 tt tt (Names c.units.keeper.session i.0 []) (IsReady c.units.keeper.session c.units.keeper.appender) i.1 inside c.read_on-in-NoBytes.new.window c.read_on-in-NoBytes.new.source c.read_on-in-NoBytes.ensures.fills how.0 i.0 tt refl refl none.0 none.2 how.1 (c.read_on-in-NoBytes.ensures.all how.1) none.1) (λ P p. p))
 
 pub returns-in-Err-read_on-2-clause-goes : goal.returns-in-Err-read_on-2-clause-goes
 returns-in-Err-read_on-2-clause-goes g c =
@@ -151,7 +155,7 @@ returns-in-Err-read_on-2-clause-goes g c =
     let none = rw (c.in-NoBytes.is, c.bytes_of.ensures.value, c.held.ensures.held) at c.in-Ok.ensures.taken in
     let same = rw (c.in-NoBytes.is) at c.in-Ok.ensures.still in
     let how = c.in-Err-read_on-2.ensures.failed in
-    rw (same.2, same.3) (serves_so c.args.window.now (g.S.Source.rest c.args.source.now) (g.S.Source.rest c.read_on-in-NoBytes.new.source) (g.D.Disk.state c.args.disk.now) (g.D.Disk.state c.units.disk) c.args.keeper.now.session c.units.keeper.session c.args.keeper.now.appender c.units.keeper.appender (g.K.Sink.held c.args.out.now) (g.K.Sink.held c.units.out) i.0 i.2 (Err Read) (gone_unread commands Adds g.S.Source.rest g.S.Source.faults c.args.window.now w c.args.source.now c.units.source [] i.0 tt tt (Names i.0 []) (IsReady c.units.keeper.session c.units.keeper.appender) i.1 inside c.read_on-in-NoBytes.new.window c.read_on-in-NoBytes.new.source c.read_on-in-NoBytes.ensures.fills how.0 i.0 tt refl refl none.0 none.2 how.1) (λ P p. p))
+    rw (same.2, same.3) (serves_so c.args.window.now (g.S.Source.rest c.args.source.now) (g.S.Source.rest c.read_on-in-NoBytes.new.source) (g.D.Disk.state c.args.disk.now) (g.D.Disk.state c.units.disk) c.args.keeper.now.session c.units.keeper.session c.args.keeper.now.appender c.units.keeper.appender (g.K.Sink.held c.args.out.now) (g.K.Sink.held c.units.out) i.0 i.2 (Err Read) (gone_unread commands Adds g.S.Source.rest g.S.Source.faults c.args.window.now w c.args.source.now c.units.source [] i.0 tt tt (Names c.units.keeper.session i.0 []) (IsReady c.units.keeper.session c.units.keeper.appender) i.1 inside c.read_on-in-NoBytes.new.window c.read_on-in-NoBytes.new.source c.read_on-in-NoBytes.ensures.fills how.0 i.0 tt refl refl none.0 none.2 how.1) (λ P p. p))
 
 pub read_on-requires-clause-room : goal.read_on-requires-clause-room
 read_on-requires-clause-room g c =

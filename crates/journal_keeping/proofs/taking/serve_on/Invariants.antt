@@ -1,4 +1,5 @@
-use Rattle.std.proofs.Common.{◌≡◌, ◌-◌, ◌+◌, List, [], length}
+use Rattle.std.proofs.Common.{◌≡◌, ◌≤◌, ◌-◌, ◌+◌, List, [], length}
+use Rattle.std.specs.Prelude.{vec_capacity}
 use Rattle.wire_records.specs.Commands.{Pair}
 use Rattle.wire_records.specs.Records.{Record}
 use Rattle.wire_records.specs.Formats.{commands}
@@ -14,6 +15,7 @@ invariant-units g l =
     × SoFar (g.D.Disk.state l.fn.disk) (g.D.Disk.state l.disk) l.fn.keeper.session l.keeper.session l.fn.keeper.appender l.keeper.appender (g.K.Sink.held l.fn.out) (g.K.Sink.held l.out) new
     × ((g.D.Disk.state l.disk).faults ≡ (g.D.Disk.state l.fn.disk).faults)
     × (g.K.Sink.faults l.out ≡ g.K.Sink.faults l.fn.out)
+    × (1042 ≤ vec_capacity l.keeper.pair)
 
 -- the bytes that may be given up yet, and those that may be read
 abbrev pub decreases-units : goal.decreases-units

@@ -1,0 +1,106 @@
+//! A disk that is read ahead in pieces.
+ghost use Rattle.std.specs.Prelude.{◌≡◌, ◌≤◌, ◌+◌, ◌-◌, ◌⊎◌, length, take, drop, IfSome, IfOk, IfErr, OnOk, OnErr, Err, IsErrOf};
+ghost use Rattle.flow_io.specs.Faults.{Blames};
+ghost use Rattle.journal_disk.specs.Looking.{OnlyLooks};
+ghost use Rattle.journal_disk.specs.Ahead.{IsPiece};
+
+use crate::calls::{length_of, read_from};
+use crate::fault::DiskFault;
+use disk_edge::Disk;
+use std::alloc::Global;
+use std::marker::Model;
+
+// As many bytes are read at once, where there are as many.
+const PIECE: usize = 65_536;
+
+/// A piece of a disk that was read ahead, so that the pairs in it are read without a call of the disk for each. Contracts see the
+/// piece, where it begins, and how many bytes the disk has.
+#[derive(Drop)]
+pub struct Ahead {
+    held: Vec<u8>,
+    from: u64,
+    size: u64,
+}
+
+impl Model for Ahead {
+    ghost use Rattle.journal_disk.specs.Ahead.{AheadState};
+
+    ghost Value = { AheadState };
+
+    ghost view = { λ ahead. record { held = ahead.held.items; from = ahead.from; size = ahead.size } };
+}
+
+impl Ahead {
+    /// Nothing is read ahead yet. Asks the disk for its length. Takes the memory of a piece of 65,536 bytes; a longer entry makes it
+    /// grow.
+    pub fn new<D: Disk>(alloc: Global, disk: &mut D) -> Result<Ahead, DiskFault>
+        ensures piece { IfOk result (λ ahead. IfSome (D.state disk.new).content (IsPiece ahead)) }
+        ensures refused { IfErr result (λ fault. (fault ≡ DiskFault.Failed) ⊎ (fault ≡ DiskFault.Memory)) }
+        ensures looks { OnlyLooks (D.state disk.old) (D.state disk.new) }
+        ensures cause { Blames (IsErrOf result DiskFault.Failed) (D.state disk.old).faults (D.state disk.new).faults }
+    {
+        let size = length_of(disk)?;
+        Ok(Ahead {
+            held: Vec::with_capacity(alloc, PIECE)?,
+            from: 0,
+            size,
+        })
+    }
+
+    // How many bytes the disk has.
+    pub(crate) fn size(&self) -> u64
+        ensures { result ≡ self.now.size }
+    {
+        self.size
+    }
+
+    // Reads a piece from a place on that has so many bytes, where these aren't held.
+    fn see<D: Disk>(&mut self, disk: &mut D, place: u64, count: usize) -> Result<(), DiskFault>
+        requires inside { place + count ≤ self.old.size }
+        requires piece { IfSome (D.state disk.old).content (IsPiece self.old) }
+        ensures seen { OnOk result ((self.new.from ≤ place) × (place + count ≤ self.new.from + length self.new.held)) }
+        ensures piece { IfSome (D.state disk.new).content (IsPiece self.new) }
+        ensures size { self.new.size ≡ self.old.size }
+        ensures refused { OnErr result ((result ≡ Err DiskFault.Failed) ⊎ (result ≡ Err DiskFault.Memory)) }
+        ensures looks { OnlyLooks (D.state disk.old) (D.state disk.new) }
+        ensures cause { Blames (IsErrOf result DiskFault.Failed) (D.state disk.old).faults (D.state disk.new).faults }
+    {
+        if self.from <= place && place - self.from + count as u64 <= self.held.len() as u64 {
+            return Ok(());
+        }
+        let most = (self.size - place).min(PIECE as u64) as usize;
+        self.held.clear();
+        self.from = place;
+        self.held.resize(most.max(count), 0)?;
+        match read_from(disk, place, &mut self.held) {
+            Ok(()) => Ok(()),
+            Err(failed) => {
+                self.held.clear();
+                Err(DiskFault::from(failed))
+            }
+        }
+    }
+
+    // Fills `into` with the bytes at a place, all of which are inside.
+    pub(crate) fn read_at<D: Disk>(
+        &mut self,
+        disk: &mut D,
+        place: u64,
+        into: &mut [u8],
+    ) -> Result<(), DiskFault>
+        requires inside { place + length into.old ≤ self.old.size }
+        requires piece { IfSome (D.state disk.old).content (IsPiece self.old) }
+        ensures read { OnOk result (IfSome (D.state disk.old).content
+            (λ bytes. into.new ≡ take (length into.old) (drop place bytes))) }
+        ensures piece { IfSome (D.state disk.new).content (IsPiece self.new) }
+        ensures size { self.new.size ≡ self.old.size }
+        ensures refused { OnErr result ((result ≡ Err DiskFault.Failed) ⊎ (result ≡ Err DiskFault.Memory)) }
+        ensures looks { OnlyLooks (D.state disk.old) (D.state disk.new) }
+        ensures cause { Blames (IsErrOf result DiskFault.Failed) (D.state disk.old).faults (D.state disk.new).faults }
+    {
+        self.see(disk, place, into.len())?;
+        let first = (place - self.from) as usize;
+        into.copy_from_slice(&self.held[first..first + into.len()]);
+        Ok(())
+    }
+}

@@ -1,0 +1,202 @@
+-- What was read and written where keeping a journal ended.
+use Rattle.std.proofs.Common.{◌≡◌, inl, inr, ℕ, ◌+◌, ◌-◌, ◌≤◌, ◌<◌, List, [], ◌∷◌, ◌++◌, Option, Some, None, IfSome, Result, Ok, Err, length, map, take, flat_map, refl, sym, ap, subst, ◌∙◌, arith, append_assoc, length-append}
+use Rattle.std.proofs.Math.Seq.{take-append-add}
+use Rattle.flow_io.specs.Streams.{Takes, TakesAtMost, Grows}
+use Rattle.flow_io.specs.Windows.{WindowState}
+use Rattle.flow_io.proofs.Reading.{Takes-more}
+use Rattle.flow_io.proofs.Growth.{Grows-nothing}
+use Rattle.wire_records.specs.Records.{Record}
+use Rattle.wire_records.specs.Grammars.{BeginsWithNone, spell_all}
+use Rattle.wire_records.specs.Reading.{StartsWith}
+use Rattle.wire_records.specs.Formats.{commands, command_magic_of}
+use Rattle.wire_records.proofs.RecordCode.{eight}
+use Rattle.wire_records.specs.declared.version.Version.{Version}
+use Rattle.word_driver.specs.Does.{IsTaken}
+use Rattle.journal_records.specs.Pairs.{pair_spelling}
+use Rattle.market_rules.specs.Market.{Market}
+use Rattle.file_units.specs.Units.{GoesToBreak}
+use Rattle.file_units.specs.Inputs.{known}
+use Rattle.disk_edge.specs.Disks.{DiskState}
+use Rattle.journal_keeping.specs.declared.fault.KeepFault.{KeepFault}
+use Rattle.journal_keeping.specs.declared.fault.KeepFault.TheVariants.{Read, Write, Disk, Memory, NotDisk, Damaged, Rejected, NotFlow, Torn, TooLong}
+use Rattle.journal_keeping.specs.Pacing.{asked_of, AnswersAll, IsNearPairs, IsNear, KeepsPace, WantsNext, RunsOut}
+use Rattle.journal_keeping.specs.Private.{Adds, Names, ServesOn}
+use Rattle.journal_keeping.specs.Beginning.{IsBegun, IsBehindMagic, Unread}
+use Rattle.journal_keeping.proofs.Turns.{Pairs}
+use Rattle.journal_keeping.proofs.Magic.{at_most, counted}
+use Rattle.journal_keeping.proofs.Sources.{BeginsWithAll, asked_are_units, all_before_break, all_to_wanting, starts_with}
+use Rattle.journal_keeping.proofs.Begun.{opens_journal}
+use Rattle.journal_keeping.proofs.Whole.{all_written}
+
+-- ---- before a record was served
+
+near_none : (limit : ℕ) (content held : Option (List ℕ)) → IsNear limit content content held held
+near_none limit None held = tt
+near_none limit (Some bytes) held = (0, omega arith, inl (omega arith))
+
+read_few : (limit : ℕ) (content left held : Option (List ℕ)) → IfSome content (λ bytes. (n : ℕ) × IsTaken bytes left n × (n < 8)) → KeepsPace limit content left held held (Err Read)
+read_few limit None left held few = tt
+read_few limit (Some bytes) left held few = (few.0, few.1, inl (few.2, Grows-nothing held))
+
+near_few : (limit : ℕ) (content left held : Option (List ℕ)) → IfSome content (λ bytes. (n : ℕ) × IsTaken bytes left n × (n ≤ 1038)) → IsNear limit content left held held
+near_few limit None left held few = tt
+near_few limit (Some bytes) left held few = (few.0, few.1, inl (omega (arith, few.2)))
+
+pub paced_unread : (limit : ℕ) (content left held : Option (List ℕ)) (fault : KeepFault) → Unread limit content left fault → KeepsPace limit content left held held (Err fault)
+paced_unread limit content left held NotFlow why = tt
+paced_unread limit content left held NotDisk why = tt
+paced_unread limit content left held (Damaged n) why = tt
+paced_unread limit content left held (Rejected n) why = tt
+paced_unread limit content left held Read why = read_few limit content left held why
+paced_unread limit content left held Memory why = subst (λ (o : Option (List ℕ)). IsNear limit content o held held) (sym why) (near_none limit content held)
+paced_unread limit content left held Disk why = near_few limit content left held why
+paced_unread limit content left held Write why = absurd why
+paced_unread limit content left held (Torn n) why = absurd why
+paced_unread limit content left held TooLong why = absurd why
+
+pub unread_out : (limit : ℕ) (held : List ℕ) (content left : Option (List ℕ)) (end : DiskState) (before : Option (List ℕ)) (fault : KeepFault) → Unread limit content left fault → fault ≡ Memory → RunsOut limit held content left end before before
+unread_out limit held content left end before fault why is = inl (subst (Unread limit content left) is why, refl)
+
+-- ---- records were served
+
+all_left : (content left : Option (List ℕ)) (bytes : List ℕ) → Takes content left bytes → IfSome left (λ l. l ≡ []) → IfSome content (λ b. left ≡ Some [])
+all_left None left bytes takes none = tt
+all_left (Some b) None bytes takes none = absurd takes
+all_left (Some b) (Some l) bytes takes none = ap (λ (x : List ℕ). Some x) none
+
+-- what stands behind the magic
+behind_it : (version : Version) (bytes first held taken m l : List ℕ) → bytes ≡ first ++ m → first ≡ (command_magic_of version) ++ held → m ≡ taken ++ l → bytes ≡ (command_magic_of version) ++ (held ++ (taken ++ l))
+behind_it version bytes first held taken m l opens magic takes =
+    opens ∙ ap (λ (xs : List ℕ). xs ++ m) magic ∙ append_assoc (command_magic_of version) held m ∙ ap (λ (xs : List ℕ). (command_magic_of version) ++ (held ++ xs)) takes
+
+module _ (limit : ℕ) (content mid left : Option (List ℕ)) (w : WindowState) (version : Version) (behind : IsBehindMagic limit version w content mid) (market : Market) (place : ℕ) (begun end : DiskState) (before after : Option (List ℕ)) where
+  of_magic : length (command_magic_of version) ≡ 8
+  of_magic = eight version
+
+  first_long : length behind.first ≡ 8 + length w.held
+  first_long = ap length behind.magic.1 ∙ length-append (command_magic_of version) w.held ∙ ap (λ (n : ℕ). n + length w.held) of_magic
+
+  far : w.limit - w.place ≡ limit - 8
+  far = omega (arith, behind.limited, behind.place)
+
+  abbrev Served : Result (Unit {0}) KeepFault → Type 0
+  Served result = ServesOn w mid left result market place begun end before after
+
+  all_taken : (taken : List ℕ) → Takes mid left taken → Takes content left (behind.first ++ taken)
+  all_taken taken takes = Takes-more content mid left behind.first taken behind.takes takes
+
+  pub taken_at_most : (result : Result (Unit {0}) KeepFault) → Served result → TakesAtMost content left (limit + 1)
+  taken_at_most result on =
+      at_most content left (behind.first ++ on.goes.taken) (limit + 1) (all_taken on.goes.taken on.goes.takes)
+      (omega (arith, length-append behind.first on.goes.taken, first_long, behind.few, on.goes.few, behind.limited, behind.place))
+
+  -- near the records whose pairs were written
+  near_told : (o : Option (List ℕ)) (m l : Option (List ℕ)) (taken : List ℕ) (new : Pairs) (text : List ℕ) → Takes o m behind.first → Takes m l taken
+      → BeginsWithAll (take (limit - 8) (w.held ++ known taken l)) (asked_of new) → Grows before after (flat_map pair_spelling new ++ text)
+      → length (w.held ++ taken) ≤ length (spell_all commands.units (asked_of new)) + (w.room + 1) → IsNear limit o l before after
+  near_told None m l taken new text opens takes all stands few = tt
+  near_told (Some bytes) None l taken new text opens takes all stands few = absurd opens
+  near_told (Some bytes) (Some m) None taken new text opens takes all stands few = absurd takes
+  near_told (Some bytes) (Some m) (Some l) taken new text opens takes all stands few = (
+    length (behind.first ++ taken),
+    sym (ap length (opens ∙ ap (λ (xs : List ℕ). behind.first ++ xs) takes ∙ sym (append_assoc behind.first taken l)) ∙ length-append (behind.first ++ taken) l),
+    inr (record {
+      version = version;
+      pairs = new;
+      more = text;
+      starts = starts_with version limit bytes behind.first w.held taken (Some m) (Some l) (asked_of new) opens behind.magic behind.few takes all;
+      stands = stands;
+      near = omega (arith, few, length-append behind.first taken, length-append w.held taken, first_long, behind.room);
+    }),
+  )
+
+  broken_near : (fault : KeepFault) (result : Result (Unit {0}) KeepFault) (on : Served result) (goes : GoesToBreak commands Adds (Names on.market on.new on.more) (take (w.limit - w.place) (w.held ++ known on.goes.taken left)) fault [] tt tt) → length (w.held ++ on.goes.taken) ≤ length (spell_all commands.units goes.units) + (w.room + 1) → IsNear limit content left before after
+  broken_near fault result on goes few =
+      let first = all_before_break on.market (take (w.limit - w.place) (w.held ++ known on.goes.taken left)) fault on.new on.more goes in
+      near_told content mid left on.goes.taken on.new on.whole.0 behind.takes on.goes.takes
+      (subst (λ (n : ℕ). BeginsWithAll (take n (w.held ++ known on.goes.taken left)) (asked_of on.new)) far first.0) on.whole.1
+      (subst (λ (l : List Record). length (w.held ++ on.goes.taken) ≤ length (spell_all commands.units l) + (w.room + 1)) (sym first.1) few)
+
+  -- all that were taken
+  read_all : (o m l : Option (List ℕ)) (taken : List ℕ) (new : Pairs) (units : List Record) (rest : List ℕ) → Takes o m behind.first → Takes m l taken → asked_of new ≡ units
+      → take (length (w.held ++ taken)) (take (limit - 8) (w.held ++ known taken l)) ≡ spell_all commands.units units ++ rest → BeginsWithNone commands.units rest → Grows before after (flat_map pair_spelling new)
+      → IfSome o (λ bytes. (n : ℕ) × IsTaken bytes l n × AnswersAll (take n (take limit bytes)) before after)
+  read_all None m l taken new units rest opens takes is whole none written = tt
+  read_all (Some bytes) None l taken new units rest opens takes is whole none written = absurd opens
+  read_all (Some bytes) (Some m) None taken new units rest opens takes is whole none written = absurd takes
+  read_all (Some bytes) (Some m) (Some l) taken new units rest opens takes is whole none written =
+      let later = w.held ++ (taken ++ l) in
+      let seen = w.held ++ taken in
+      let all : bytes ≡ (command_magic_of version) ++ later = behind_it version bytes behind.first w.held taken m l opens behind.magic.1 takes in
+      let parts : limit ≡ length (command_magic_of version) + (limit - 8) = omega (arith, behind.few, first_long, of_magic) in
+      let counts : length (behind.first ++ taken) ≡ length (command_magic_of version) + length seen = omega (arith, length-append behind.first taken, length-append w.held taken, first_long, of_magic) in
+      let within : take limit bytes ≡ (command_magic_of version) ++ take (limit - 8) later =
+      ap (take limit) all ∙ ap (λ (n : ℕ). take n ((command_magic_of version) ++ later)) parts ∙ take-append-add (command_magic_of version) later (limit - 8) in (
+        length (behind.first ++ taken),
+        sym (ap length (opens ∙ ap (λ (xs : List ℕ). behind.first ++ xs) takes ∙ sym (append_assoc behind.first taken l)) ∙ length-append (behind.first ++ taken) l),
+        record {
+          version = version;
+          pairs = new;
+          body = take (length seen) (take (limit - 8) later);
+          rest = rest;
+          magic = (tt, ap (take (length (behind.first ++ taken))) within ∙ ap (λ (n : ℕ). take n ((command_magic_of version) ++ take (limit - 8) later)) counts ∙ take-append-add (command_magic_of version) (take (limit - 8) later) (length seen));
+          whole = whole ∙ ap (λ (l : List Record). spell_all commands.units l ++ rest) (sym is);
+          none = none;
+          written = written;
+        },
+      )
+
+  either : (o l : Option (List ℕ)) → IfSome o (λ bytes. (n : ℕ) × IsTaken bytes l n × AnswersAll (take n (take limit bytes)) before after) → KeepsPace limit o l before after (Err Read)
+  either None l all = tt
+  either (Some bytes) l all = (all.0, all.1, inr all.2)
+
+  read_uncut : ¬ (◌≡◌ {A = Result (Unit {0}) KeepFault} (Err Read) (Err Write))
+  read_uncut e = absurd cc
+
+  memory_uncut : ¬ (◌≡◌ {A = Result (Unit {0}) KeepFault} (Err Memory) (Err Write))
+  memory_uncut e = absurd cc
+
+  pub paced_served : (result : Result (Unit {0}) KeepFault) → Served result → KeepsPace limit content left before after result
+  paced_served (Ok done) on = all_left content left (behind.first ++ on.goes.taken) (all_taken on.goes.taken on.goes.takes) (on.goes.goes.1 refl)
+  paced_served (Err Read) on =
+      let goes = on.goes.goes in
+      either content left (read_all content mid left on.goes.taken on.new goes.units goes.reads.rest behind.takes on.goes.takes (asked_are_units [] goes.units on.new tt tt goes.leads)
+      (subst (λ (n : ℕ). take (length (w.held ++ on.goes.taken)) (take n (w.held ++ known on.goes.taken left)) ≡ spell_all commands.units goes.units ++ goes.reads.rest) far goes.reads.whole) goes.reads.none
+      (all_written (◌≡◌ {A = Result (Unit {0}) KeepFault} (Err Read) (Err Write)) before after on.new on.more on.acknowledged read_uncut on.ended.0 on.ended.1 on.written))
+  paced_served (Err Write) on = broken_near Write (Err Write) on on.goes.goes.0 on.goes.goes.1
+  paced_served (Err Disk) on = broken_near Disk (Err Disk) on on.goes.goes.0 on.goes.goes.1
+  paced_served (Err Memory) on = broken_near Memory (Err Memory) on on.goes.goes.0 on.goes.goes.1
+  paced_served (Err NotDisk) on = tt
+  paced_served (Err (Damaged n)) on = tt
+  paced_served (Err (Rejected n)) on = tt
+  paced_served (Err NotFlow) on = tt
+  paced_served (Err (Torn n)) on = tt
+  paced_served (Err TooLong) on = tt
+
+  -- and where memory may be wanted
+  starts_where : (o : Option (List ℕ)) (taken : List ℕ) (records : List Record) → Takes o mid behind.first → Takes mid left taken → BeginsWithAll (take (limit - 8) (w.held ++ known taken left)) records
+      → IfSome o (λ bytes. StartsWith commands limit bytes version records)
+  starts_where None taken records opens takes all = tt
+  starts_where (Some bytes) taken records opens takes all = starts_with version limit bytes behind.first w.held taken mid left records opens behind.magic behind.few takes all
+
+  pub wants_next : (held : List ℕ) → IsBegun held version market place begun → (result : Result (Unit {0}) KeepFault) → Served result → ◌≡◌ {A = Result (Unit {0}) KeepFault} result (Err Memory) → RunsOut limit held content left end before after
+  wants_next held is result on0 lacks =
+      let on = subst Served lacks on0 in
+      let wanting = all_to_wanting on.market (take (w.limit - w.place) (w.held ++ known on.goes.taken left)) on.new on.more on.goes.goes.0 in
+      let kept = on.ended.2 version is.0 (opens_journal held version is.0 market is.1) is.2 in
+      inr (record {
+        version = version;
+        old = is.0;
+        market = market;
+        opens = is.1;
+        new = on.new;
+        now = on.market;
+        goes_on = on.so_far version is.0 (opens_journal held version is.0 market is.1) is.2;
+        next = wanting.0;
+        starts = starts_where content on.goes.taken (asked_of on.new ++ wanting.0 ∷ []) behind.takes on.goes.takes
+            (subst (λ (n : ℕ). BeginsWithAll (take n (w.held ++ known on.goes.taken left)) (asked_of on.new ++ wanting.0 ∷ [])) far wanting.1);
+        wants = wanting.2;
+        place = kept.0;
+        keeps = kept.1;
+        written = all_written (◌≡◌ {A = Result (Unit {0}) KeepFault} (Err Memory) (Err Write)) before after on.new on.more on.acknowledged memory_uncut on.ended.0 on.ended.1 on.written;
+      })

@@ -1,0 +1,93 @@
+-- How far a source is read while its records are served onto a disk, and where memory may be wanted.
+use Rattle.std.specs.Prelude.{◌≡◌, ◌⊎◌, ◌+◌, ◌<◌, ◌≤◌, ℕ, List, [], ◌∷◌, ◌++◌, length, map, take, All, Option, Some, IfSome, Result, Ok, Err, ⊤}
+use Rattle.std.specs.List.{flat_map}
+use Rattle.flow_io.specs.Streams.{Grows}
+use Rattle.wire_records.specs.Records.{Record}
+use Rattle.wire_records.specs.Commands.{Pair}
+use Rattle.wire_records.specs.Grammars.{BeginsWith, BeginsWithNone, spell_all}
+use Rattle.wire_records.specs.Reading.{StartsWith}
+use Rattle.wire_records.specs.Formats.{commands}
+use Rattle.wire_records.specs.declared.version.Version.{Version}
+use Rattle.word_driver.specs.Does.{IsTaken}
+use Rattle.flow_orders.specs.Outcomes.{Outcome}
+use Rattle.journal_records.specs.Pairs.{pair_spelling}
+use Rattle.journal_records.specs.Formats.{records_of}
+use Rattle.market_rules.specs.Market.{Market}
+use Rattle.market_rules.specs.Wanting.{RecordMayWant}
+use Rattle.disk_edge.specs.Disks.{DiskState}
+use Rattle.journal_disk.specs.Entries.{Keeps}
+use Rattle.journal_keeping.specs.Keeping.{GoesOn}
+use Rattle.journal_keeping.specs.Openings.{OpensAs}
+use Rattle.journal_keeping.specs.declared.fault.KeepFault.{KeepFault}
+use Rattle.journal_keeping.specs.declared.fault.KeepFault.TheVariants.{Read, Write, Disk, Memory, NotDisk, Damaged, Rejected, NotFlow, Torn, TooLong}
+
+-- the records of pairs
+abbrev pub asked_of : List (Pair Record Outcome) → List Record
+asked_of pairs = map (λ (pair : Pair Record Outcome). pair.asked) pairs
+
+-- The bytes are a magic and the records of these pairs, and no whole record stands behind them. Out gained just these pairs.
+pub record AnswersAll (bytes : List ℕ) (before after : Option (List ℕ)) : Type 0 where
+  pub version : Version
+  pub pairs : List (Pair Record Outcome)
+  pub body : List ℕ
+  pub rest : List ℕ
+  pub magic : BeginsWith commands.magics bytes version body
+  pub whole : body ≡ spell_all commands.units (asked_of pairs) ++ rest
+  pub none : BeginsWithNone commands.units rest
+  pub written : Grows before after (flat_map pair_spelling pairs)
+
+-- These pairs stand whole in what out gained and answer the first records of the bytes, and at most 1,030 bytes were taken past those.
+pub record IsNearPairs (limit : ℕ) (bytes : List ℕ) (taken : ℕ) (before after : Option (List ℕ)) : Type 0 where
+  pub version : Version
+  pub pairs : List (Pair Record Outcome)
+  pub more : List ℕ
+  pub starts : StartsWith commands limit bytes version (asked_of pairs)
+  pub stands : Grows before after (flat_map pair_spelling pairs ++ more)
+  pub near : taken ≤ 8 + length (spell_all commands.units (asked_of pairs)) + 1030
+
+-- the source was read no further than 1,030 bytes past the last record whose pair was written, or past the first eight bytes
+abbrev pub IsNear : ℕ → Option (List ℕ) → Option (List ℕ) → Option (List ℕ) → Option (List ℕ) → Type 0
+IsNear limit content left before after =
+    IfSome content (λ bytes. (taken : ℕ) × IsTaken bytes left taken × ((taken ≤ 8 + 1030) ⊎ IsNearPairs limit bytes taken before after))
+
+-- all whole records that were taken of the source were answered, and no others
+abbrev pub ReadsAll : ℕ → Option (List ℕ) → Option (List ℕ) → Option (List ℕ) → Option (List ℕ) → Type 0
+ReadsAll limit content left before after =
+    IfSome content (λ bytes. (n : ℕ) × IsTaken bytes left n × (((n < 8) × Grows before after []) ⊎ AnswersAll (take n (take limit bytes)) before after))
+
+-- What was read and written, by the end: after a fault of the source all whole records that were taken were answered, and no others;
+-- where disk or out failed or memory ran out the source was read no further than near the last one that was answered; and where all
+-- was done nothing is left of it.
+abbrev pub KeepsPace : ℕ → Option (List ℕ) → Option (List ℕ) → Option (List ℕ) → Option (List ℕ) → Result (Unit {0}) KeepFault → Type 0
+KeepsPace limit content left before after (Ok done) = IfSome content (λ bytes. left ≡ Some [])
+KeepsPace limit content left before after (Err Read) = ReadsAll limit content left before after
+KeepsPace limit content left before after (Err Write) = IsNear limit content left before after
+KeepsPace limit content left before after (Err Disk) = IsNear limit content left before after
+KeepsPace limit content left before after (Err Memory) = IsNear limit content left before after
+KeepsPace limit content left before after (Err NotDisk) = ⊤
+KeepsPace limit content left before after (Err (Damaged place)) = ⊤
+KeepsPace limit content left before after (Err (Rejected number)) = ⊤
+KeepsPace limit content left before after (Err NotFlow) = ⊤
+KeepsPace limit content left before after (Err (Torn place)) = ⊤
+KeepsPace limit content left before after (Err TooLong) = ⊤
+
+-- The disk held the bytes of a legal journal, and the first records of the source were served, from the market of the old pairs on.
+-- Their pairs are kept, and out gained them. Behind them stands a record that may want memory.
+pub record WantsNext (limit : ℕ) (held : List ℕ) (content : Option (List ℕ)) (end : DiskState) (before after : Option (List ℕ)) : Type 0 where
+  pub version : Version
+  pub old : List (Pair Record Outcome)
+  pub market : Market
+  pub opens : OpensAs held version old market
+  pub new : List (Pair Record Outcome)
+  pub now : Market
+  pub goes_on : GoesOn version old market (asked_of new) new now
+  pub next : Record
+  pub starts : IfSome content (λ bytes. StartsWith commands limit bytes version (asked_of new ++ next ∷ []))
+  pub wants : RecordMayWant now next
+  pub place : ℕ
+  pub keeps : Keeps version (map records_of (old ++ new)) place end
+  pub written : Grows before after (flat_map pair_spelling new)
+
+-- where memory ran out: nothing was read or written, or it may be wanted at the next record
+abbrev pub RunsOut : ℕ → List ℕ → Option (List ℕ) → Option (List ℕ) → DiskState → Option (List ℕ) → Option (List ℕ) → Type 0
+RunsOut limit held content left end before after = ((left ≡ content) × (after ≡ before)) ⊎ WantsNext limit held content end before after
