@@ -1,11 +1,11 @@
--- What the fields of an `Accounts` stand for. Each account and the totals have 64 places for units,
+-- What the fields of an `Accounts` stand for. Each account and the totals have a place for units for each asset that there may be,
 -- of which as many as there are assets are in use.
 use Rattle.std.specs.Prelude.{◌≡◌, ℕ, ◌≤◌, ℤ, pos, List, length, map, take, slice_index_or}
 use Rattle.std.specs.List.{All}
 use Rattle.flow_accounts.specs.declared.Holding.{Holding}
 use Rattle.flow_accounts.specs.declared.Accounts.TheInside.{Inside}
 use Rattle.flow_accounts.specs.Balances.{Account, Credit, Balances}
-use Rattle.flow_accounts.specs.Lawful.{AreLawful}
+use Rattle.flow_accounts.specs.Lawful.{most_assets, AreLawful}
 
 -- an account, of whose places for units the first are in use
 abbrev pub account_in : ℕ → Holding → Account
@@ -24,20 +24,20 @@ balances_in a = record {
   total_units = take a.assets a.total_units;
 }
 
--- there are 64 places, and those that aren't in use are 0
+-- there is a place for each asset that there may be, and those that aren't in use are 0
 pub record HasSpare (assets : ℕ) (places : List ℤ) : Type 0 where
-  pub places_made : length places ≡ 64
+  pub places_made : length places ≡ most_assets
   pub zero_beyond : (k : ℕ) → assets ≤ k → slice_index_or places k (pos 0) ≡ pos 0
 
 -- the same of places for credits
 pub record HasSpareCredit (assets : ℕ) (places : List ℕ) : Type 0 where
-  pub places_made : length places ≡ 64
+  pub places_made : length places ≡ most_assets
   pub zero_beyond : (k : ℕ) → assets ≤ k → slice_index_or places k 0 ≡ 0
 
 -- what the fields keep
 pub record AreKept (a : Inside) : Type 0 where
   pub lawful : AreLawful (balances_in a)
-  pub few_assets : a.assets ≤ 64
+  pub few_assets : a.assets ≤ most_assets
   pub totals : HasSpare a.assets a.total_units
   pub accounts : All (λ h. HasSpare a.assets h.units) a.accounts.items
   pub credits : All (λ h. HasSpareCredit a.assets h.unit_credits) a.accounts.items

@@ -56,17 +56,17 @@ pub const MOST_ACCOUNTS: u32 = 65_536;
 /// How many assets there may be.
 pub const MOST_ASSETS: u16 = 64;
 
-// The places for units, one for each asset that there may be.
-const PLACES: usize = 64;
+/// The places of a list by assets: one for each asset that there may be.
+pub const PLACES: usize = MOST_ASSETS as usize;
 
-// No credit is above this, in ticks or units.
-const MOST_CREDIT: u64 = 1 << 40;
+/// No credit is above this, in ticks or units.
+pub const MOST_CREDIT: u64 = 1 << 40;
 
-// No deposit takes the total of money above this, in grains.
-const MONEY_LIMIT: i128 = 1 << 100;
+/// No deposit takes the total of money above this, in grains.
+pub const MONEY_LIMIT: i128 = 1 << 100;
 
-// No deposit takes the total of an asset above this, in units.
-const UNIT_LIMIT: i128 = 1 << 60;
+/// No deposit takes the total of an asset above this, in units.
+pub const UNIT_LIMIT: i128 = 1 << 60;
 
 // What an account holds, and its credits: in whole ticks and in units. Of the places for units and for their credits as
 // many are in use as there are assets; the others are 0.

@@ -11,15 +11,13 @@ ghost use Rattle.market_rules.specs.Settling.{MaySettle, MaySettleAt};
 use crate::Market;
 use batch_outcome::{Cleared, Outcome, PriceList};
 use fill_caps::settle;
+use market_rules::MOST_BATCHES;
 use residual_account::ResidualAccount;
 use std::alloc::Global;
 use wire_records::{Memory, Refusal};
 
 // The highest budget of a batch, in moves.
 const MOST_BUDGET: u32 = 65_536;
-
-// No more batches are held.
-const MOST_BATCHES: u32 = 1 << 24;
 
 // A batch starts with prices within so many grains of 0.
 const FARTHEST_START: i64 = 1 << 60;

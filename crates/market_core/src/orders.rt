@@ -19,7 +19,7 @@ use weight_rows::{Entry, WeightRow};
 use wire_records::{Memory, PlaceView, Refusal, Reply, RowView};
 
 // No more orders are live.
-const MOST_ORDERS: usize = 16_384;
+const MOST_ORDERS: usize = market_rules::MOST_ORDERS as usize;
 
 // The reply to a cancel, by whether the order is there.
 pub(crate) fn cancel_reply(there: bool) -> Reply

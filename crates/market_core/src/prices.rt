@@ -5,11 +5,9 @@ ghost use Rattle.flow_accounts.specs.Parts.{ArePlacesOf};
 ghost use Rattle.flow_accounts.specs.Places.{HasSpare};
 ghost use Rattle.sound_parts.specs.Tests.{IsInShape};
 
+use flow_accounts::PLACES;
 use market_parts::MarketParts;
 use std::marker::Model;
-
-// The places for prices, one for each asset that there may be.
-const PLACES: usize = 64;
 
 // The last cleared price of each asset, in grains, and 0 for one that was never priced. There are 64 places, so that
 // nothing grows. Contracts see the list of prices, by the assets' numbers.

@@ -14,12 +14,10 @@ use crate::readers::{
 use byte_places::{i128_at, u8_at, u32_at, u64_at};
 use flow_accounts::AccountParts;
 use market_parts::{MarketParts, OrderParts};
+use market_rules::MOST_ORDERS;
 use std::alloc::Global;
 use std::marker::Model;
 use weight_rows::Entry;
-
-// No market has more live orders.
-const MOST_ORDERS: u32 = 16_384;
 
 // The parts of a market in borrowed bytes that begin with a checkpoint's, sound or not. Contracts see them as these parts.
 // Each is read where it stands, in constant time; of the orders, whose sizes differ, the places are kept.

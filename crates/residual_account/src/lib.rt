@@ -21,11 +21,9 @@ ghost use Rattle.std.specs.Prelude.{◌≡◌, ◌<◌, ◌≤◌, ◌+ℤ◌, l
 ghost use Rattle.std.specs.Int.{w64, w128};
 ghost use Rattle.flow_accounts.specs.Places.{HasSpare};
 
+use flow_accounts::PLACES;
 use std::marker::Model;
 use std::mem::size_of;
-
-// The places for units, one for each asset that there may be.
-const PLACES: usize = 64;
 
 /// What the exchange holds: its money in grains, and its units of each asset. Both may be negative.
 ///

@@ -5,23 +5,16 @@ ghost use Rattle.flow_accounts.specs.Balances.{IsAccount, IsAsset, total_units_o
 ghost use Rattle.flow_accounts.specs.Lawful.{most_credit, IsMoneyTotal, IsUnitTotal};
 ghost use Rattle.sound_parts.specs.Tests.{most_credit_in, IsSoundMoney, AreSoundUnits, HasSoundUnits, IsSoundAccount, AreSoundBalances};
 
-use flow_accounts::{AccountParts, MOST_ACCOUNTS, MOST_ASSETS, grains_of};
+use flow_accounts::{
+    AccountParts, MONEY_LIMIT, MOST_ACCOUNTS, MOST_ASSETS, MOST_CREDIT, UNIT_LIMIT, grains_of,
+};
 use wire_records::Version;
-
-// No credit is above this, in ticks or units.
-const MOST_CREDIT: u64 = 1 << 40;
 
 // A balance is below this, in grains.
 const MONEY_WIDTH: i128 = 1 << 124;
 
 // A balance of an asset is below this, in units.
 const UNIT_WIDTH: i64 = 1 << 62;
-
-// No total of money is above this, in grains.
-const MONEY_LIMIT: i128 = 1 << 100;
-
-// No total of an asset is above this, in units.
-const UNIT_LIMIT: i64 = 1 << 60;
 
 // The highest credit in a market of a version, in ticks or units.
 pub(crate) fn most_credit_of(version: Version) -> u64
@@ -60,7 +53,7 @@ fn is_money_total(total: i128) -> bool
 fn is_unit_total(total: i64) -> bool
     ensures { IsTrue result ↔ IsUnitTotal total }
 {
-    -UNIT_WIDTH < total && total <= UNIT_LIMIT
+    -UNIT_WIDTH < total && i128::from(total) <= UNIT_LIMIT
 }
 
 fn are_unit_totals<P: AccountParts>(parts: &P) -> bool

@@ -8,15 +8,10 @@ use crate::accounts::are_sound_balances;
 use crate::assets::are_sound_assets;
 use crate::sums::is_money_held;
 use market_parts::MarketParts;
+use market_rules::{MOST_BATCHES, MOST_ORDERS};
 
 // The number that the next order gets is below this.
 const NEXT_WIDTH: u64 = 1 << 63;
-
-// No more orders are live.
-const MOST_ORDERS: u32 = 16_384;
-
-// No more batches are held.
-const MOST_BATCHES: u32 = 1 << 24;
 
 // Whether all numbers are within their limits, and the totals are held.
 pub(crate) fn are_sound_numbers<P: MarketParts>(parts: &P, most: u64) -> bool
