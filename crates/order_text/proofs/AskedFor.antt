@@ -15,7 +15,7 @@ use Rattle.order_text.specs.declared.line.LineFault.{LineFault}
 use Rattle.order_text.specs.declared.line.LineFault.TheVariants.{NoCommand, Memory}
 use Rattle.std.proofs.lemmas.List.Elements.{All-from_recursion, recursion_from_All}
 use Rattle.order_text.specs.Lines.{HasKeys, Value, Text, Ticker, Small, Number, Weights, HasAt, order_members, members_of, Asks}
-use Rattle.order_text.specs.Private.{text_at, word_of, Has, HasOrder, Fits, IsFound, IsPlain, IsOrder, IsUntil, IsPlaced, IsAnswered, HasMoney, HasUnits, HasLimits}
+use Rattle.order_text.specs.Private.{text_at, word_of, Has, HasOrder, Fits, IsOrder, IsUntil, IsPlaced, HasMoney, HasUnits, HasLimits}
 
 -- a command of the first version is one of each
 pub of_each : (version : Version) (command : Command) → IsOfVersion One command → IsOfVersion version command
@@ -24,21 +24,6 @@ of_each version command of = (of.0, omega (arith, of.1, first_tags version))
 -- a command of the second version is one of each that has more than the first
 pub of_later : (version : Version) (command : Command) → 10 ≤ most_tag version → IsOfVersion Two command → IsOfVersion version command
 of_later version command more of = (of.0, omega (arith, of.1, all_tags version more))
-
--- a command that is neither an order nor gives credit is of the first version
-early : (command : Command) → word_of command ≢ codes "place" → word_of command ≢ codes "credit" → IsOfVersion One command
-early (AddAsset ticker) no_place no_credit = (omega arith, omega arith)
-early OpenAccount no_place no_credit = (omega arith, omega arith)
-early (DepositMoney account ticks) no_place no_credit = (omega arith, omega arith)
-early (DepositAsset account asset units) no_place no_credit = (omega arith, omega arith)
-early (WithdrawMoney account ticks) no_place no_credit = (omega arith, omega arith)
-early (WithdrawAsset account asset units) no_place no_credit = (omega arith, omega arith)
-early (PlaceOrder request) no_place no_credit = absurd (no_place refl)
-early (CancelOrder account order) no_place no_credit = (omega arith, omega arith)
-early (RunBatch budget) no_place no_credit = (omega arith, omega arith)
-early (PlaceUntil last request) no_place no_credit = absurd (no_place refl)
-early (SetMoneyCredit account ticks) no_place no_credit = absurd (no_credit refl)
-early (SetUnitCredit account asset units) no_place no_credit = absurd (no_credit refl)
 
 -- the commands of each word
 asset_is : (command : Command) → word_of command ≡ codes "asset" → (ticker : List ℕ) × (command ≡ AddAsset ticker)
@@ -54,7 +39,7 @@ credit_is : (command : Command) → word_of command ≡ codes "credit" → ((acc
 credit_is = search (rules, refl, inl, inr)
 
 -- a command with the word of credit is one of a version that has credit
-gives_credit : (version : Version) (command : Command) → word_of command ≡ codes "credit" → IsOfVersion version command → HasCredit version
+pub gives_credit : (version : Version) (command : Command) → word_of command ≡ codes "credit" → IsOfVersion version command → HasCredit version
 gives_credit version command word of =
     ⊎_elim
     (λ money. (subst (IsOfVersion version) money.2 of).1)
@@ -127,34 +112,6 @@ module _ (tickers : List (List ℕ)) (d : Data) where
   pub one_word : {version : Version} → (word : List ℕ) (command : Command) → text_at (codes "do") d ≡ Some word → Asks version tickers d command → word_of command ≡ word
   one_word {version} word command asked asks = ap (λ o. unwrap_or o []) (sym (word_asked version tickers d command asks) ∙ asked)
 
-  -- what is found by a word is what is asked for
-  pub plain_of : (version : Version) (word : List ℕ) (found : Option owned.Command) → text_at (codes "do") d ≡ Some word → IsFound word version tickers d found → IsPlain version tickers d found
-  plain_of version word (Some command) asked found = (asks_of version tickers d (command_in command) (asked ∙ ap Some (sym found.0)) found.1 found.2, found.3)
-  plain_of version word None asked found = λ command other asks. found command (one_word word command asked asks) (fits_asked version tickers d command asks)
-
-  -- what is asked for in the first version, and no credit, is what is asked for in each
-  pub plain_other : (version : Version) → (text_at (codes "do") d ≢ Some (codes "credit")) → (found : Option owned.Command) → IsPlain One tickers d found → IsPlain version tickers d found
-  plain_other version no_credit (Some command) (asks, short) = (record { members = asks.members; keys = asks.keys; of_version = of_each version (command_in command) asks.of_version }, short)
-  plain_other version no_credit None none = λ command other asks. none command other (record {
-    members = asks.members;
-    keys = asks.keys;
-    of_version = early command other (λ credit. no_credit (word_asked version tickers d command asks ∙ ap Some credit));
-  })
-
-  -- the same in a version without credit, whatever is asked for
-  pub plain_without : (version : Version) → (¬ HasCredit version) → (found : Option owned.Command) → IsPlain One tickers d found → IsPlain version tickers d found
-  plain_without version no_credit (Some command) (asks, short) = (record { members = asks.members; keys = asks.keys; of_version = of_each version (command_in command) asks.of_version }, short)
-  plain_without version no_credit None none = λ command other asks. none command other (record {
-    members = asks.members;
-    keys = asks.keys;
-    of_version = early command other (λ credit. no_credit (gives_credit version command credit asks.of_version));
-  })
-
-  -- what is found by the word of credit is what is asked for in a version that has it
-  pub credit_of : (version : Version) → HasCredit version → (found : Option owned.Command) → text_at (codes "do") d ≡ Some (codes "credit") → IsFound (codes "credit") Two tickers d found → IsPlain version tickers d found
-  credit_of version has (Some command) asked found = plain_of version (codes "credit") (Some command) asked (found.0, found.1, of_later version (command_in command) (omega (arith, has)) found.2, found.3)
-  credit_of version has None asked found = plain_of version (codes "credit") None asked found
-
   -- an object that lacks a field of a command with a word of its own doesn't ask for it
   pub no_asset : ((ticker : List ℕ) → HasAt [] d (codes "ticker") (Ticker ticker) → ⊥) → (command : Command) → word_of command ≡ codes "asset" → Fits tickers d command → ⊥
   no_asset none command word fits = let is = asset_is command word in none is.0 (subst (Fits tickers d) is.1 fits).0.0
@@ -167,25 +124,6 @@ module _ (tickers : List (List ℕ)) (d : Data) where
 
   pub no_batch : ((budget : ℕ) → HasAt [] d (codes "budget") (Small budget) → ⊥) → (command : Command) → word_of command ≡ codes "batch" → Fits tickers d command → ⊥
   no_batch none command word fits = let is = batch_is command word in none is.0 (subst (Fits tickers d) is.1 fits).0.0
-
-  -- an object with another word than those of the first version asks for no command of it but an order
-  pub no_plain : (¬ Word (codes "asset")) → (¬ Word (codes "account")) → (¬ Word (codes "deposit")) → (¬ Word (codes "withdraw")) → (¬ Word (codes "cancel")) → (¬ Word (codes "batch"))
-      → (command : Command) → word_of command ≢ codes "place" → Asks One tickers d command → ⊥
-  no_plain asset account deposit withdraw cancel batch command other asks = by command other (word_asked One tickers d command asks) asks.of_version
-    where
-      by : (command : Command) → word_of command ≢ codes "place" → Word (word_of command) → IsOfVersion One command → ⊥
-      by (AddAsset ticker) other word of = asset word
-      by OpenAccount other word of = account word
-      by (DepositMoney account ticks) other word of = deposit word
-      by (DepositAsset account asset units) other word of = deposit word
-      by (WithdrawMoney account ticks) other word of = withdraw word
-      by (WithdrawAsset account asset units) other word of = withdraw word
-      by (PlaceOrder request) other word of = other refl
-      by (CancelOrder account order) other word of = cancel word
-      by (RunBatch budget) other word of = batch word
-      by (PlaceUntil last request) other word of = other refl
-      by (SetMoneyCredit account ticks) other word of = let late : 11 ≤ 9 = of.1 in absurd (omega (arith, late))
-      by (SetUnitCredit account asset units) other word of = let late : 12 ≤ 9 = of.1 in absurd (omega (arith, late))
 
   -- an object with neither form of a deposit asks for none
   pub no_deposit : ((account ticks : ℕ) → HasMoney d account ticks → ⊥) → ((account asset units : ℕ) → HasUnits tickers d account asset units → ⊥)
@@ -255,12 +193,6 @@ module _ (tickers : List (List ℕ)) (d : Data) where
   pub until_failed : (fault : LineFault) → (fault ≡ NoCommand → (row : List Entry) → HasAt tickers d (codes "weights") (Weights row) → ⊥) → IsUntil tickers d (Err fault)
   until_failed NoCommand none = λ last request at fields keys. none refl request.row (weights_of request fields)
   until_failed Memory none = tt
-
-  -- an order that is asked for is a command that is
-  pub placed_answered : (version : Version) → Word (codes "place") → (result : Result owned.Command LineFault) → IsPlaced version tickers d result → IsAnswered version tickers d result
-  placed_answered version asked (Ok command) is = (asks_of version tickers d (command_in command) (asked ∙ ap Some (sym is.0)) is.1 is.2, is.3)
-  placed_answered version asked (Err NoCommand) none = λ command asks. none command (one_word {version = version} (codes "place") command asked asks) asks.of_version (fits_asked version tickers d command asks)
-  placed_answered version asked (Err Memory) is = tt
 
   -- one without the numbers of an order has no order
   pub no_request : ((account : ℕ) (low high : ℤ) (rate cap : ℕ) → HasLimits d account low high rate cap → ⊥) → (request : Request) → HasOrder tickers d request → ⊥

@@ -27,7 +27,7 @@ use Rattle.order_text.specs.Answers.{IsRead, IsShort}
 use Rattle.order_text.specs.declared.line.LineFault.{LineFault}
 use Rattle.order_text.specs.declared.line.LineFault.TheVariants.{NoCommand, Memory}
 use Rattle.order_text.specs.Lines.{IsBlank, Leave, whole_of, signed_of, IsPoint, ArePoints, Small, Weights, Points, HasAt, ladder_members, Asks, AsksLadder, Asked, Alone, OfLadder, AsksFor}
-use Rattle.order_text.specs.Private.{text_at, number_at, items_at, in_32_bits, rate_of, point_in, point_of, put_points, word_of, HasLadder, IsLaddered, IsAnswered, IsAsked, AreAfter}
+use Rattle.order_text.specs.Private.{text_at, number_at, items_at, in_32_bits, rate_of, point_in, point_of, put_points, word_of, HasLadder, IsLaddered, IsAsked, AreAfter}
 use Rattle.order_text.proofs.AskedFor.{word_asked, text_of, text_where}
 
 -- ---- one point
@@ -214,7 +214,7 @@ module _ (tickers : List (List ℕ)) (d : Data) where
   }
 
   -- no command has the word of a ladder
-  no_command_word : (command : Command) → word_of command ≡ codes "ladder" → ⊥
+  pub no_command_word : (command : Command) → word_of command ≡ codes "ladder" → ⊥
   no_command_word = search rules
 
   pub not_alone : (version : Version) (command : Command) → text_at (codes "do") d ≡ Some (codes "ladder") → Asks version tickers d command → ⊥
@@ -236,23 +236,15 @@ module _ (tickers : List (List ℕ)) (d : Data) where
       points_are : (a b : List Point) → Some a ≡ Some b → a ≡ b
       points_are a b is = ap (λ o. unwrap_or o []) is
 
-  -- an object with the word of a ladder that asks for none asks for nothing, and so does one with another word that asks for no command
+  -- an object with the word of a ladder that asks for none asks for nothing
   pub no_ladder : (version : Version) → text_at (codes "do") d ≡ Some (codes "ladder") → IsLaddered tickers d (Err NoCommand) → (asked : Asked) → AsksFor version tickers d asked → ⊥
   no_ladder version word none (Alone command) asks = not_alone version command word asks
   no_ladder version word none (OfLadder commands) asks = none asks.ladder asks.account asks.row (has_ladder commands asks) asks.keys asks.lawful
-
-  pub no_other : (version : Version) → (text_at (codes "do") d ≡ Some (codes "ladder") → ⊥) → ((command : Command) → Asks version tickers d command → ⊥) → (asked : Asked) → AsksFor version tickers d asked → ⊥
-  no_other version other none (Alone command) asks = none command asks
-  no_other version other none (OfLadder commands) asks = other (ladder_asked commands asks)
 
   -- by the fault
   pub ladder_refused : (version : Version) → text_at (codes "do") d ≡ Some (codes "ladder") → (fault : LineFault) → IsLaddered tickers d (Err fault) → IsAsked version tickers d (Err fault)
   ladder_refused version word NoCommand none = no_ladder version word none
   ladder_refused version word Memory none = tt
-
-  pub command_refused : (version : Version) → (text_at (codes "do") d ≡ Some (codes "ladder") → ⊥) → (fault : LineFault) → IsAnswered version tickers d (Err fault) → IsAsked version tickers d (Err fault)
-  command_refused version other NoCommand none = no_other version other none
-  command_refused version other Memory none = tt
 
 -- what is asked for leaves the tickers that are told
 leaves_none : (tickers : List (List ℕ)) (l : Ladder) (account : ℕ) (row : List Entry) (segments : List Segment) → Leave tickers (map PlaceOrder (map (request_of account row) segments)) tickers

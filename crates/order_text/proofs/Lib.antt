@@ -6,4 +6,5 @@ pub mod Ladders
 pub mod ShortRows
 pub mod ReadNumbers
 pub mod Fitting
+mod ByWord
 pub mod OneAnswers

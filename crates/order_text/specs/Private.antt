@@ -18,6 +18,8 @@ use Rattle.curve_ladder.specs.Segments.{requests_of}
 use Rattle.order_text.specs.declared.line.LineRead.{LineRead}
 use Rattle.order_text.specs.declared.line.LineRead.TheVariants as line_is
 use Rattle.order_text.specs.declared.line.LineFault.{LineFault}
+use Rattle.order_text.specs.declared.word.Word.{Word}
+use Rattle.order_text.specs.declared.word.Word.TheVariants as words
 use Rattle.order_text.specs.declared.line.LineFault.TheVariants.{NoCommand, Memory}
 use Rattle.order_text.specs.Lines.{HasKeys, whole_of, signed_of, asset_named, Value, Asset, Small, Number, Signed, HasAt, order_members, members_of, ladder_members, Asks, AsksLadder, Asked, AsksFor, Leaves}
 
@@ -61,6 +63,27 @@ word_of (PlaceUntil last request) = codes "place"
 word_of (SetMoneyCredit account ticks) = codes "credit"
 word_of (SetUnitCredit account asset units) = codes "credit"
 
+-- how a word is spelled
+abbrev pub spelled : Word → List ℕ
+spelled words.Asset = codes "asset"
+spelled words.Account = codes "account"
+spelled words.Deposit = codes "deposit"
+spelled words.Withdraw = codes "withdraw"
+spelled words.Place = codes "place"
+spelled words.Cancel = codes "cancel"
+spelled words.Batch = codes "batch"
+spelled words.Credit = codes "credit"
+spelled words.Ladder = codes "ladder"
+
+-- an object has this word at `do`
+abbrev pub IsWord : Word → Data → Type 0
+IsWord word d = text_at (codes "do") d ≡ Some (spelled word)
+
+-- what is answered where a command was found, or none was
+abbrev pub alone : Option owned.Command → Result LineRead LineFault
+alone (Some command) = Ok (line_is.Asks command)
+alone None = Err NoCommand
+
 -- an object has these members
 abbrev pub Has : List (List ℕ) → Data → List (List ℕ × Value) → Type 0
 Has tickers d members = AllByRecursion (λ m. HasAt tickers d m.0 m.1) members
@@ -78,11 +101,6 @@ abbrev pub IsFound : List ℕ → Version → List (List ℕ) → Data → Optio
 IsFound word version tickers d (Some command) =
     (word_of (command_in command) ≡ word) × Fits tickers d (command_in command) × IsOfVersion version (command_in command) × HasShortRow (command_in command)
 IsFound word version tickers d None = (command : Command) → word_of command ≡ word → ¬ Fits tickers d command
-
--- the same for all words but that of orders
-abbrev pub IsPlain : Version → List (List ℕ) → Data → Option owned.Command → Type 0
-IsPlain version tickers d (Some command) = Asks version tickers d (command_in command) × HasShortRow (command_in command)
-IsPlain version tickers d None = (command : Command) → word_of command ≢ codes "place" → ¬ Asks version tickers d command
 
 -- the order with no last batch that an object asks for
 abbrev pub IsOrder : List (List ℕ) → Data → Result owned.Command LineFault → Type 0
@@ -104,12 +122,6 @@ IsPlaced version tickers d (Ok command) =
     (word_of (command_in command) ≡ codes "place") × Fits tickers d (command_in command) × IsOfVersion version (command_in command) × HasShortRow (command_in command)
 IsPlaced version tickers d (Err NoCommand) = (command : Command) → word_of command ≡ codes "place" → IsOfVersion version command → ¬ Fits tickers d command
 IsPlaced version tickers d (Err Memory) = Unit {0}
-
--- the command that an object asks for
-abbrev pub IsAnswered : Version → List (List ℕ) → Data → Result owned.Command LineFault → Type 0
-IsAnswered version tickers d (Ok command) = Asks version tickers d (command_in command) × HasShortRow (command_in command)
-IsAnswered version tickers d (Err NoCommand) = (command : Command) → ¬ Asks version tickers d command
-IsAnswered version tickers d (Err Memory) = Unit {0}
 
 -- an object has the members of a ladder, besides `do`
 abbrev pub HasLadder : List (List ℕ) → Data → Ladder → ℕ → List Entry → Type 0

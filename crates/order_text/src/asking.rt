@@ -4,12 +4,15 @@ ghost use Rattle.serde_json.specs.View.{view};
 ghost use Rattle.ticker_table.specs.Tickers.{ticker_limit};
 ghost use Rattle.weight_rows.specs.declared.entries.Entry.{Entry};
 ghost use Rattle.order_text.specs.Lines.{Weights, HasAt};
-ghost use Rattle.order_text.specs.Private.{IsFound, IsPlain, IsOrder, IsUntil, IsPlaced, IsAnswered, IsAsked, HasMoney, HasUnits, HasLimits};
+ghost use Rattle.wire_records.specs.declared.version.Version.{Version as AnyVersion};
+ghost use Rattle.order_text.specs.declared.word.Word.TheVariants as words;
+ghost use Rattle.order_text.specs.Private.{IsFound, IsOrder, IsUntil, IsPlaced, IsWord, IsAsked, alone, HasMoney, HasUnits, HasLimits};
 
-use crate::fields::{asset_at, has_keys, is_asked, number_at, signed_at, small_at, ticker_at};
+use crate::fields::{asset_at, has_keys, number_at, signed_at, small_at, ticker_at};
 use crate::ladder::ladder;
 use crate::line::{LineFault, LineRead};
 use crate::row::row_of;
+use crate::word::{Word, word_at};
 use serde_json::Value;
 use std::alloc::Global;
 use ticker_table::TickerTable;
@@ -233,59 +236,67 @@ fn credit(tickers: &TickerTable, value: &Value) -> Option<Command>
     })
 }
 
-// The command of an object that asks for no order, of version One.
-fn plain(tickers: &TickerTable, value: &Value) -> Option<Command>
-    ensures { IsPlain Version.One tickers.now (view value.now) result }
+// What was found, if it was.
+fn found(command: Option<Command>) -> Result<LineRead, LineFault>
+    ensures { result ≡ alone command }
 {
-    if is_asked(value, "asset") {
-        return add_asset(value);
+    match command {
+        Some(command) => Ok(LineRead::Asks(command)),
+        None => Err(LineFault::NoCommand),
     }
-    if is_asked(value, "account") {
-        return open_account(value);
-    }
-    if is_asked(value, "deposit") {
-        return deposit(tickers, value);
-    }
-    if is_asked(value, "withdraw") {
-        return withdraw(tickers, value);
-    }
-    if is_asked(value, "cancel") {
-        return cancel(value);
-    }
-    if is_asked(value, "batch") {
-        return run_batch(value);
-    }
-    None
 }
 
-// The same of each version.
-fn plain_in(version: Version, tickers: &TickerTable, value: &Value) -> Option<Command>
-    ensures { IsPlain version tickers.now (view value.now) result }
+fn credit_in(version: Version, tickers: &TickerTable, value: &Value) -> Result<LineRead, LineFault>
+    requires { IsWord words.Credit (view value.now) }
+    ensures { IsAsked version tickers.now (view value.now) result }
 {
     if !version.has_credit() {
-        return plain(tickers, value);
+        return Err(LineFault::NoCommand);
     }
-    if is_asked(value, "credit") {
-        return credit(tickers, value);
-    }
-    plain(tickers, value)
+    found(credit(tickers, value))
 }
 
-// The command of a version that a value asks for.
-fn command_of(
+fn order_in(
     alloc: Global,
     version: Version,
     tickers: &TickerTable,
     value: &Value,
-) -> Result<Command, LineFault>
-    ensures { IsAnswered version tickers.now (view value.now) result }
+) -> Result<LineRead, LineFault>
+    requires { IsWord words.Place (view value.now) }
+    ensures { IsAsked version tickers.now (view value.now) result }
 {
-    if is_asked(value, "place") {
-        return place(alloc, version, tickers, value);
-    }
-    match plain_in(version, tickers, value) {
-        Some(command) => Ok(command),
-        None => Err(LineFault::NoCommand),
+    Ok(LineRead::Asks(place(alloc, version, tickers, value)?))
+}
+
+// The orders of a ladder, which each version has.
+fn ladder_in(alloc: Global, tickers: &TickerTable, value: &Value) -> Result<LineRead, LineFault>
+    requires { IsWord words.Ladder (view value.now) }
+    ensures { (version : AnyVersion) → IsAsked version tickers.now (view value.now) result }
+{
+    Ok(LineRead::Many(ladder(alloc, tickers, value)?))
+}
+
+// What an object with this word asks for.
+fn asked_with(
+    alloc: Global,
+    version: Version,
+    word: Word,
+    tickers: &TickerTable,
+    value: &Value,
+) -> Result<LineRead, LineFault>
+    requires { IsWord word (view value.now) }
+    ensures { IsAsked version tickers.now (view value.now) result }
+{
+    match word {
+        Word::Asset => found(add_asset(value)),
+        Word::Account => found(open_account(value)),
+        Word::Deposit => found(deposit(tickers, value)),
+        Word::Withdraw => found(withdraw(tickers, value)),
+        Word::Cancel => found(cancel(value)),
+        Word::Batch => found(run_batch(value)),
+        Word::Credit => credit_in(version, tickers, value),
+        Word::Place => order_in(alloc, version, tickers, value),
+        Word::Ladder => ladder_in(alloc, tickers, value),
     }
 }
 
@@ -298,8 +309,8 @@ pub(crate) fn asked_by(
 ) -> Result<LineRead, LineFault>
     ensures { IsAsked version tickers.now (view value.now) result }
 {
-    if is_asked(value, "ladder") {
-        return Ok(LineRead::Many(ladder(alloc, tickers, value)?));
+    match word_at(value) {
+        Some(word) => asked_with(alloc, version, word, tickers, value),
+        None => Err(LineFault::NoCommand),
     }
-    Ok(LineRead::Asks(command_of(alloc, version, tickers, value)?))
 }

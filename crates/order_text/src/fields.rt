@@ -16,16 +16,6 @@ pub(crate) fn text_at<'a>(value: &'a Value, key: &str) -> Option<&'a str>
     value.get(key)?.as_str()
 }
 
-// Whether this is the text at `do`.
-pub(crate) fn is_asked(value: &Value, word: &str) -> bool
-    ensures { IsTrue result ↔ (text_at (codes "do") (view value.now) ≡ Some word.now) }
-{
-    match text_at(value, "do") {
-        Some(text) => text == word,
-        None => false,
-    }
-}
-
 pub(crate) fn has_keys(value: &Value, count: usize) -> bool
     ensures { IsTrue result ↔ HasKeys count (view value.now) }
 {

@@ -10,5 +10,6 @@ mod ladder;
 pub mod laws;
 mod line;
 mod row;
+mod word;
 
 pub use line::{LineFault, LineRead, read_line};
