@@ -1,10 +1,10 @@
 -- A call does what the form of its words does, or nothing.
-use Rattle.std.proofs.Common.{◌≡◌, ◌≢◌, ℕ, List, Option, Some, None, IfSome, refl}
+use Rattle.std.proofs.Common.{◌≡◌, ◌≢◌, ℕ, List, Option, Some, None, refl}
 use Rattle.flow_io.specs.Faults.{Rose}
 use Rattle.flow_io.specs.Streams.{Grows, GrowsByFront}
 use Rattle.flow_io.specs.Changes.{Change}
 use Rattle.flow_exchange.specs.declared.form.Form.{Form}
-use Rattle.flow_exchange.specs.declared.form.Form.TheVariants.{Run}
+use Rattle.flow_exchange.specs.declared.form.Form.TheVariants.{Run, Audit, Explain, Report, Encode, Sample, Statement, Checkpoint, Resume}
 use Rattle.flow_exchange.specs.declared.status.Status.{Status}
 use Rattle.flow_exchange.specs.declared.status.Status.TheVariants as answer
 use Rattle.flow_exchange.specs.Forms.{Asks, AsksNothing}
@@ -12,7 +12,7 @@ use Rattle.flow_exchange.specs.Statuses.{line_of}
 use Rattle.flow_exchange.specs.Program.{ServesCall}
 use Rattle.flow_exchange.specs.Wanting.{WantsMemory}
 use Rattle.flow_exchange.specs.Running.{KeepsPace}
-use Rattle.flow_exchange.specs.JournalFiles.{Journal, IsJournal, IsKept}
+use Rattle.flow_exchange.specs.Promising.{KeepsAll, Promises}
 use Rattle.flow_exchange.specs.Private.{Serves}
 use Rattle.flow_exchange.proofs.Outcomes.{one_form}
 use Rattle.flow_exchange.proofs.FileOf.{is_kept}
@@ -42,7 +42,18 @@ serves_none limit words source out notes none noted cut = record {
   cut = cut;
 }
 
--- the promises hold of each journal, whichever call reads it
-pub promised : (limit : ℕ) (told : Option (List ℕ)) → IfSome told (λ bytes. (journal : Journal) → IsJournal limit bytes journal → IsKept journal)
-promised limit None = tt
-promised limit (Some bytes) = λ journal is. is_kept limit bytes journal is
+-- the promises hold of each journal, whichever form reads it
+keeps_all : (limit : ℕ) (told : Option (List ℕ)) → KeepsAll limit told
+keeps_all limit None = tt
+keeps_all limit (Some bytes) = λ journal is. is_kept limit bytes journal is
+
+pub promised : (form : Form) (limit : ℕ) (told : Option (List ℕ)) → Promises form limit told
+promised Run limit told = tt
+promised Audit limit told = keeps_all limit told
+promised Explain limit told = keeps_all limit told
+promised Report limit told = keeps_all limit told
+promised (Encode version) limit told = tt
+promised (Sample number orders) limit told = tt
+promised (Statement number) limit told = keeps_all limit told
+promised Checkpoint limit told = keeps_all limit told
+promised Resume limit told = tt

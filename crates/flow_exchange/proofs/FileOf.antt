@@ -16,7 +16,8 @@ use Rattle.market_rules.proofs.Promised.{legal_journal_keeps_promises}
 use Rattle.journal_replay.specs.Audits.{Audits}
 use Rattle.journal_replay.proofs.LawProofs.{one_audit}
 use Rattle.flow_exchange.specs.declared.status.Status.{Status}
-use Rattle.flow_exchange.specs.JournalFiles.{Journal, IsJournal, JournalTo, IsKept}
+use Rattle.flow_exchange.specs.JournalFiles.{Journal, IsJournal, JournalTo}
+use Rattle.flow_exchange.specs.Promising.{IsKept}
 
 -- of these parts
 abbrev pub journal_of : Version → List (Pair Record Outcome) → Market → List (Record × Record) → Ending → Journal

@@ -2,15 +2,12 @@
 use Rattle.std.specs.Prelude.{◌≡◌, ◌⊎◌, ◌+◌, ℕ, List, [], ◌∷◌, ◌++◌, length, map}
 use Rattle.wire_records.specs.Records.{Record}
 use Rattle.wire_records.specs.Commands.{Pair}
-use Rattle.wire_records.specs.Versions.{IsReadAs}
 use Rattle.wire_records.specs.Reading.{Ending, End, Torn, TooLong, Reads, StartsWith}
 use Rattle.wire_records.specs.Reading as reading
 use Rattle.wire_records.specs.declared.version.Version.{Version}
 use Rattle.flow_orders.specs.Outcomes.{Outcome}
 use Rattle.journal_records.specs.Formats.{journals, records_of}
-use Rattle.market_rules.specs.Market.{Market, empty_market}
-use Rattle.market_rules.specs.Journal.{HoldsDeposits}
-use Rattle.market_rules.specs.Promises.{KeepsPromises}
+use Rattle.market_rules.specs.Market.{Market}
 use Rattle.batch_audit.specs.Legal.{IsLegalJournal}
 use Rattle.journal_replay.specs.Audits.{Audits}
 use Rattle.flow_exchange.specs.declared.status.Status.{Status}
@@ -58,12 +55,6 @@ pub record MakesOf (limit : ℕ) (bytes : List ℕ) (judge : Journal → Status)
 abbrev pub JournalTo : (Journal → Status) → (Journal → List ℕ → Type 0) → ℕ → List ℕ → Status → List ℕ → Type 0
 JournalTo judge Writes limit bytes status text =
     (Reads journals limit bytes reading.NotFlow × (status ≡ NotFlow) × (text ≡ [])) ⊎ MakesOf limit bytes judge Writes status text
-
--- The legal pairs of a journal keep the promises of the exchange, and the market holds the accepted deposits less the accepted
--- withdrawals.
-pub record IsKept (journal : Journal) : Type 0 where
-  pub deposits : HoldsDeposits IsReadAs (empty_market journal.version) journal.legal journal.market
-  pub keeps : KeepsPromises IsReadAs (empty_market journal.version) journal.legal
 
 -- The pairs of the journal are first these legal ones, which lead to this market, and then another one.
 pub record IsAtPair (limit : ℕ) (bytes : List ℕ) (legal : List (Pair Record Outcome)) (market : Market) (next : Record × Record) : Type 0 where

@@ -11,5 +11,6 @@ pub mod Sampling
 pub mod Stating
 pub mod Program
 pub mod Wanting
+pub mod Promising
 pub mod Laws
 pub mod Private

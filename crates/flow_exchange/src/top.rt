@@ -1,10 +1,10 @@
 //! The call that the program makes.
-ghost use Rattle.std.specs.Prelude.{◌≡◌, ◌≢◌, ◌^◌, ℕ, List, IfSome, map, string_bytes};
+ghost use Rattle.std.specs.Prelude.{◌≡◌, ◌≢◌, ◌^◌, ℕ, List, map, string_bytes};
 ghost use Rattle.flow_io.specs.Changes.{change};
 ghost use Rattle.flow_exchange.specs.Forms.{Asks};
-ghost use Rattle.flow_exchange.specs.JournalFiles.{Journal, IsJournal, IsKept};
 ghost use Rattle.flow_exchange.specs.Private.{Serves};
 ghost use Rattle.flow_exchange.specs.Program.{ServesCall};
+ghost use Rattle.flow_exchange.specs.Promising.{Promises};
 ghost use Rattle.flow_exchange.specs.Running.{KeepsPace};
 ghost use Rattle.flow_exchange.specs.Wanting.{WantsMemory};
 
@@ -67,9 +67,8 @@ pub fn flow_limited<S: Source, K: Sink, N: Sink>(
     // Where memory may be wanted.
     ensures wants { (form : Form) → Asks (map string_bytes words.now) form → WantsMemory form limit result
         (change S.rest S.faults source.old source.new) (change K.held K.faults out.old out.new) }
-    // What is promised of a journal that stands in the source, whichever form reads it.
-    ensures promises { IfSome (S.rest source.old)
-        (λ bytes. (journal : Journal) → IsJournal limit bytes journal → IsKept journal) }
+    // What is promised of a journal that stands in the source.
+    ensures promises { (form : Form) → Asks (map string_bytes words.now) form → Promises form limit (S.rest source.old) }
     // How far a run has read that was cut short.
     ensures paced { Asks (map string_bytes words.now) Form.Run → KeepsPace limit result
         (change S.rest S.faults source.old source.new) (change K.held K.faults out.old out.new) }
@@ -120,8 +119,7 @@ pub fn flow<S: Source, K: Sink, N: Sink>(
         (change K.held K.faults out.old out.new) (change N.held N.faults notes.old notes.new) }
     ensures wants { (form : Form) → Asks (map string_bytes words.now) form → WantsMemory form (2 ^ 32) result
         (change S.rest S.faults source.old source.new) (change K.held K.faults out.old out.new) }
-    ensures promises { IfSome (S.rest source.old)
-        (λ bytes. (journal : Journal) → IsJournal (2 ^ 32) bytes journal → IsKept journal) }
+    ensures promises { (form : Form) → Asks (map string_bytes words.now) form → Promises form (2 ^ 32) (S.rest source.old) }
     ensures paced { Asks (map string_bytes words.now) Form.Run → KeepsPace (2 ^ 32) result
         (change S.rest S.faults source.old source.new) (change K.held K.faults out.old out.new) }
     ensures idle { result ≡ Status.Usage → (source.new ≡ source.old) × (out.new ≡ out.old) }

@@ -48,7 +48,7 @@ returns-clause-wants g c = elim c.match-form_of.branch [
 ]
 
 pub returns-clause-promises : goal.returns-clause-promises
-returns-clause-promises g c = promised c.args.limit (g.S.Source.rest c.args.source.now)
+returns-clause-promises g c = λ form asks. promised form c.args.limit (g.S.Source.rest c.args.source.now)
 
 pub returns-clause-paced : goal.returns-clause-paced
 returns-clause-paced g c = elim c.match-form_of.branch [
