@@ -1,41 +1,59 @@
 -- A call does what the form of its words does, or nothing.
-use Rattle.std.proofs.Common.{◌≡◌, ◌≢◌, ℕ, List, Option, IfSome, refl}
-use Rattle.flow_io.specs.Faults.{Rose, Blames}
+use Rattle.std.proofs.Common.{◌≡◌, ◌≢◌, ℕ, List, Option, Some, None, refl}
+use Rattle.flow_io.specs.Faults.{Rose}
 use Rattle.flow_io.specs.Streams.{Grows, GrowsByFront}
 use Rattle.flow_io.specs.Changes.{Change}
 use Rattle.flow_exchange.specs.declared.form.Form.{Form}
-use Rattle.flow_exchange.specs.declared.form.Form.TheVariants.{Run}
+use Rattle.flow_exchange.specs.declared.form.Form.TheVariants.{Run, Audit, Explain, Report, Encode, Sample, Statement, Checkpoint, Resume}
 use Rattle.flow_exchange.specs.declared.status.Status.{Status}
 use Rattle.flow_exchange.specs.declared.status.Status.TheVariants as answer
 use Rattle.flow_exchange.specs.Forms.{Asks, AsksNothing}
 use Rattle.flow_exchange.specs.Statuses.{line_of}
-use Rattle.flow_exchange.specs.Program.{Determines, Meets, Does, ServesCall}
+use Rattle.flow_exchange.specs.Program.{ServesCall}
+use Rattle.flow_exchange.specs.Wanting.{WantsMemory}
 use Rattle.flow_exchange.specs.Running.{KeepsPace}
-use Rattle.flow_exchange.proofs.Outcomes.{one_form, completes}
-
--- where no count rose and memory was there, a form came to what the bytes determine
-pub completes_form : (form : Form) (told left : Option (List ℕ)) (limit : ℕ) (status : Status) (before after : Option (List ℕ)) (reads reads_now writes writes_now : ℕ)
-    → IfSome told (λ bytes. Meets form limit bytes left status before after) → Blames (status ≡ answer.ReadFault) reads reads_now → Blames (status ≡ answer.WriteFault) writes writes_now
-    → (¬ Rose reads reads_now) → (¬ Rose writes writes_now) → status ≢ answer.NoMemory → IfSome told (λ bytes. Determines form limit bytes status before after)
-completes_form form told left limit status before after reads reads_now writes writes_now meets read written no_read no_write memory =
-    completes told left form limit status before after meets (λ e. no_read (read.rose e)) (λ e. no_write (written.rose e)) memory
+use Rattle.flow_exchange.specs.Promising.{KeepsAll, Promises}
+use Rattle.flow_exchange.specs.Private.{Serves}
+use Rattle.flow_exchange.proofs.Outcomes.{one_form}
+use Rattle.flow_exchange.proofs.FileOf.{is_kept}
 
 -- the words are a form, which was done
-pub serves_form : (limit : ℕ) (words : List (List ℕ)) (form : Form) (status : Status) (source out notes : Change) → Asks words form → status ≢ answer.Usage → Does form limit status source out → (form ≡ Run → KeepsPace limit status source out) → ((¬ Rose notes.faults notes.faults_after) → Grows notes.before notes.after (line_of status)) → GrowsByFront notes.before notes.after (line_of status) → ServesCall limit words status source out notes
-serves_form limit words form status source out notes asks asked does paced noted cut = record {
-  usage = (λ e. absurd (asked e), λ none. absurd (none form asks));
-  does = λ other also. rw (one_form words other form also asks) does;
-  paced = λ also. paced (one_form words form Run asks also);
-  noted = noted;
-  cut = cut;
-}
+module _ (limit : ℕ) (words : List (List ℕ)) (form : Form) (status : Status) (source out : Change) (asks : Asks words form) where
+  pub serves_form : (notes : Change) → status ≢ answer.Usage → Serves form limit status source out → ((¬ Rose notes.faults notes.faults_after) → Grows notes.before notes.after (line_of status)) → GrowsByFront notes.before notes.after (line_of status) → ServesCall limit words status source out notes
+  serves_form notes asked serves noted cut = record {
+    usage = (λ e. absurd (asked e), λ none. absurd (none form asks));
+    does = λ other also. rw (one_form words other form also asks) serves.does;
+    noted = noted;
+    cut = cut;
+  }
+
+  pub wants_form : Serves form limit status source out → (other : Form) → Asks words other → WantsMemory other limit status source out
+  wants_form serves other also = rw (one_form words other form also asks) serves.wants
+
+  pub paced_form : (form ≡ Run → KeepsPace limit status source out) → Asks words Run → KeepsPace limit status source out
+  paced_form paced also = paced (one_form words form Run asks also)
 
 -- the words are none
 pub serves_none : (limit : ℕ) (words : List (List ℕ)) (source out notes : Change) → AsksNothing words → ((¬ Rose notes.faults notes.faults_after) → Grows notes.before notes.after (line_of answer.Usage)) → GrowsByFront notes.before notes.after (line_of answer.Usage) → ServesCall limit words answer.Usage source out notes
 serves_none limit words source out notes none noted cut = record {
   usage = (λ e. none, λ not. refl);
   does = λ form asks. absurd (none form asks);
-  paced = λ asks. absurd (none Run asks);
   noted = noted;
   cut = cut;
 }
+
+-- the promises hold of each journal, whichever form reads it
+keeps_all : (limit : ℕ) (told : Option (List ℕ)) → KeepsAll limit told
+keeps_all limit None = tt
+keeps_all limit (Some bytes) = λ journal is. is_kept limit bytes journal is
+
+pub promised : (form : Form) (limit : ℕ) (told : Option (List ℕ)) → Promises form limit told
+promised Run limit told = tt
+promised Audit limit told = keeps_all limit told
+promised Explain limit told = keeps_all limit told
+promised Report limit told = keeps_all limit told
+promised (Encode version) limit told = tt
+promised (Sample number orders) limit told = tt
+promised (Statement number) limit told = keeps_all limit told
+promised Checkpoint limit told = keeps_all limit told
+promised Resume limit told = tt

@@ -1,7 +1,6 @@
 -- Explaining does what the clauses of the program say: it comes to the status of an audit, and to its line, or to that of the first pair
 -- that isn't legal.
-use Rattle.std.proofs.Common.{◌≡◌, ◌⊎◌, ◌<◌, ◌+◌, ℕ, List, [], ◌∷◌, ◌++◌, All, Ok, Err, Some, length, take, drop, refl, sym, ap, ◌∙◌, subst, inl, inr, append_assoc, arith}
-use Rattle.std.proofs.lemmas.List.{take-append-drop}
+use Rattle.std.proofs.Common.{◌≡◌, ◌<◌, ◌+◌, ℕ, List, [], ◌∷◌, ◌++◌, All, Ok, Err, Some, length, take, refl, sym, ap, ◌∙◌, subst, inl, inr, arith}
 use Rattle.wire_records.specs.Records.{Record}
 use Rattle.wire_records.specs.Commands.{Pair}
 use Rattle.wire_records.specs.Grammars.{BeginsWith, spell_all}
@@ -20,15 +19,17 @@ use Rattle.word_driver.specs.Does.{task}
 use Rattle.journal_words.specs.Watching.{Watched, SeesOne, StopsOne}
 use Rattle.journal_words.specs.Findings.{IsExplained}
 use Rattle.journal_words.specs.Words.{Counts, counting, explaining, audit, explain}
+use Rattle.journal_words.proofs.JournalLaws.{explain_is_exact}
 use Rattle.flow_exchange.specs.declared.form.Form.TheVariants.{Explain}
 use Rattle.flow_exchange.specs.declared.status.Status.{Status}
 use Rattle.flow_exchange.specs.declared.status.Status.TheVariants as answer
 use Rattle.flow_exchange.specs.Statuses.{ended_status}
 use Rattle.flow_exchange.specs.Private.{rejected}
-use Rattle.flow_exchange.specs.Auditing.{audit_status, audit_text, AuditsShort}
-use Rattle.flow_exchange.specs.Explaining.{ExplainsTo, ExplainsInto}
-use Rattle.flow_exchange.proofs.FileOf.{file_of}
-use Rattle.flow_exchange.proofs.Words.{IsForm}
+use Rattle.flow_exchange.specs.JournalFiles.{Journal, if_whole, audit_status, status_of}
+use Rattle.flow_exchange.specs.Auditing.{legal_line, audit_text, AuditsShort}
+use Rattle.flow_exchange.specs.Explaining.{Explains, ExplainsTo}
+use Rattle.flow_exchange.proofs.FileOf.{makes}
+use Rattle.flow_exchange.proofs.Words.{IsForm, word_form}
 use Rattle.flow_exchange.proofs.JournalForms.{AreCounted, are_counted, judged_all, judged_some, at_pair, audit_start, behind_only, line_is}
 
 -- ---- what was seen is what an audit sees
@@ -45,23 +46,19 @@ counted_by version new units text each goes = are_counted (audit_start version) 
 
 -- ---- what bytes come to
 
+abbrev explained : Journal → List ℕ → Type 0
+explained journal text = Explains journal.market journal.legal journal.behind (audit_text journal) text
+
 -- all pairs are legal
 explained_all : (limit : ℕ) (bytes : List ℕ) (status : Status) (text : List ℕ) (legal : List (Pair Record Outcome)) (ending : Ending) (market : Market) → Audits limit bytes legal [] ending market
-    → status ≡ audit_status limit ending legal [] → text ≡ audit_text status legal → ExplainsTo limit bytes status text
-unfolding file_of
-explained_all limit bytes status text legal ending market audits ends writes =
-    inr (record { line = audit_text status legal; audit = file_of limit bytes status legal [] ending market audits ends; writes = writes })
+    → status ≡ audit_status limit ending legal [] → text ≡ if_whole [] ending (legal_line legal) [] → ExplainsTo limit bytes status text
+explained_all limit bytes status text legal ending market audits ends writes = makes (status_of limit) explained limit bytes status text legal [] ending market audits ends writes
 
 -- one isn't, and this is its line
 explained_some : (limit : ℕ) (bytes : List ℕ) (number : ℕ) (text : List ℕ) (legal : List (Pair Record Outcome)) (bad : Record × Record) (more : List (Record × Record)) (ending : Ending) (market : Market) → Audits limit bytes legal (bad ∷ more) ending market
     → number ≡ length legal + 1 → IsExplained market (length legal + 1) bad text → ExplainsTo limit bytes (answer.Rejected number) text
-unfolding file_of
-explained_some limit bytes number text legal bad more ending market audits counted explained =
-    inr (record {
-      line = audit_text (answer.Rejected number) legal;
-      audit = file_of limit bytes (answer.Rejected number) legal (bad ∷ more) ending market audits (ap (λ (k : ℕ). answer.Rejected k) counted);
-      writes = explained;
-    })
+explained_some limit bytes number text legal bad more ending market audits counted told =
+    makes (status_of limit) explained limit bytes (answer.Rejected number) text legal (bad ∷ more) ending market audits (ap (λ (k : ℕ). answer.Rejected k) counted) told
 
 -- so it is behind pairs that were passed
 module _ (limit : ℕ) (bytes body : List ℕ) (version : Version) (magic : BeginsWith journals.magics (take limit bytes) version body) (units : List (Record × Record)) (rest : List ℕ) (whole : body ≡ spell_all journals.units units ++ rest) (lawful : All journals.units.IsLawful units)
@@ -107,38 +104,8 @@ explain_to limit bytes (Err word.Read) text (inr (version, body, behind, magic, 
 explain_to limit bytes (Err word.Write) text (inr (version, body, behind, magic, is, on)) = absurd on.0.halts
 explain_to limit bytes (Err word.Memory) text (inr (version, body, behind, magic, is, on)) = absurd on.0.halts
 
--- ---- what may stand in out before the end
+-- ---- where memory may be wanted
 
--- what some first bytes come to if more follow: nothing, or the line of a pair
-begun : (limit : ℕ) (bytes : List ℕ) (version : Version) (body later text behind : List ℕ) → take limit bytes ≡ journals.magics.spell version ++ (body ++ later) → text ≡ [] ++ behind → (ended : Ended ℕ)
-    → (way : ComesOn explain (Unit {0}) (length (journals.magics.spell version)) body (audit_start version) ended behind)
-    → Halts explain (Unit {0}) (length (journals.magics.spell version) + length (spell_all journals.units way.units)) way.rest way.state ended way.last → (text ≡ []) ⊎ ExplainsInto limit bytes text
-begun limit bytes version body later text behind all is (Ok done) way halts = absurd (halts.0.1.1 tt)
-begun limit bytes version body later text behind all is (Err (word.Torn n)) way halts =
-    inl (behind_only text behind way.so_far way.last is way.writes (counted_by version way.state way.units way.so_far way.passes.each way.passes.goes).nothing ∙ halts.1)
-begun limit bytes version body later text behind all is (Err word.TooLong) way halts =
-    inl (behind_only text behind way.so_far way.last is way.writes (counted_by version way.state way.units way.so_far way.passes.each way.passes.goes).nothing ∙ halts.1)
-begun limit bytes version body later text behind all is (Err (word.Stopped number)) way (inl (bad, more, front, stops)) =
-    let whole = ap (λ xs. xs ++ later) way.passes.whole ∙ append_assoc (spell_all journals.units way.units) way.rest later in
-    let next = ap (λ xs. xs ++ later) front.1 ∙ append_assoc (journals.units.spell bad) more later in
-    inr (
-      number,
-      stopped_at limit bytes (body ++ later) version (tt, all) way.units (way.rest ++ later) whole way.passes.each way.state way.so_far way.passes.goes bad (more ++ later) number text behind way.last (front.0, next) stops is way.writes,
-    )
-begun limit bytes version body later text behind all is (Err (word.Stopped number)) way (inr at) = absurd at.1
-begun limit bytes version body later text behind all is (Err word.NotFlow) way halts = absurd halts
-begun limit bytes version body later text behind all is (Err word.Read) way halts = absurd halts
-begun limit bytes version body later text behind all is (Err word.Write) way halts = absurd halts
-begun limit bytes version body later text behind all is (Err word.Memory) way halts = absurd halts
-
-explain_into : (limit : ℕ) (bytes : List ℕ) (n : ℕ) (text : List ℕ) → (task explain audit_start).Begins limit bytes n text → (text ≡ []) ⊎ ExplainsInto limit bytes text
-explain_into limit bytes n text (ended, inl none) = inl none.2
-explain_into limit bytes n text (ended, inr (version, body, behind, magic, is, on)) =
-    let later = drop n (take limit bytes) in
-    let all = sym (take-append-drop n (take limit bytes)) ∙ ap (λ xs. xs ++ later) magic.1 ∙ append_assoc (journals.magics.spell version) body later in
-    begun limit bytes version body later text behind all is ended on.0 on.0.halts
-
--- memory may be wanted where an audit may want it
 explain_out : (limit : ℕ) (bytes : List ℕ) (text : List ℕ) → (task explain audit_start).Lacks limit bytes text → AuditsShort limit bytes text
 explain_out limit bytes text (version, body, behind, magic, is, (way, keeps)) =
     let are = counted_by version way.state way.units behind way.passes.each way.passes.goes in
@@ -153,17 +120,5 @@ explain_out limit bytes text (version, body, behind, magic, is, (way, keeps)) =
       | inr end ↦ absurd end.1
     ]
 
-pub explain_form : (limit : ℕ) → IsForm (task explain audit_start) Explain limit rejected
-explain_form limit = record {
-  to = explain_to limit;
-  into = explain_into limit;
-  out = explain_out limit;
-  met = λ bytes left why before after determines. determines;
-  not_done = λ why e. absurd cc;
-  not_read = λ why e. absurd cc;
-  not_write = λ why e. absurd cc;
-  not_memory = λ why e. absurd cc;
-  not_usage = λ why e. absurd cc;
-  most = refl;
-  left = λ bytes. refl;
-}
+pub explain_form : IsForm (task explain audit_start) Explain rejected
+explain_form = word_form explain audit_start explain_is_exact Explain rejected explain_to (λ limit bytes n text more. more) explain_out (λ why. tt) (λ limit. refl) (λ bytes. refl)

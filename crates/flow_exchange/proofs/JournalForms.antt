@@ -1,7 +1,7 @@
 -- An audit and a report do what the clauses of the program say: what their words come to are audits and texts of legal pairs.
-use Rattle.std.proofs.Common.{◌≡◌, ◌⊎◌, ◌<◌, ◌+◌, ℕ, List, [], ◌∷◌, ◌++◌, All, map, Ok, Err, length, take, drop, refl, sym, ap, ◌∙◌, subst, inl, inr, append-nil, append_assoc, arith}
+use Rattle.std.proofs.Common.{◌≡◌, ◌⊎◌, ◌<◌, ◌+◌, ℕ, List, [], ◌∷◌, ◌++◌, All, map, Ok, Err, length, take, refl, sym, ap, ◌∙◌, subst, inl, inr, append-nil, append_assoc, arith}
 use Rattle.std.proofs.lemmas.Bool.{cases_lt}
-use Rattle.std.proofs.lemmas.List.{take-append-drop, flat_map_more}
+use Rattle.std.proofs.lemmas.List.{flat_map_more}
 use Rattle.std.proofs.lemmas.List.Sums.{sum_by-cons}
 use Rattle.std.proofs.lemmas.List.Elements.{All-nil, All-cons, All-head, All-tail, All-push}
 use Rattle.wire_records.specs.Records.{Record}
@@ -23,19 +23,21 @@ use Rattle.journal_replay.specs.Audits.{Audits, cleared_by, skipped_by, cleared_
 use Rattle.journal_replay.proofs.Judged.{read_more}
 use Rattle.word_driver.specs.declared.fault.Fault.TheVariants as word
 use Rattle.word_driver.specs.Ended.{Ended}
-use Rattle.word_driver.specs.Word.{Goes, Passes, Halts, ComesOn}
+use Rattle.word_driver.specs.Word.{Goes, Halts, ComesOn}
 use Rattle.word_driver.specs.Does.{task}
 use Rattle.journal_words.specs.Watching.{Watched}
 use Rattle.journal_words.specs.Line.{counted_line}
 use Rattle.journal_words.specs.Words.{Counts, audit, report}
+use Rattle.journal_words.proofs.JournalLaws.{audit_is_exact, report_is_exact}
 use Rattle.flow_exchange.specs.declared.form.Form.TheVariants.{Audit, Report}
 use Rattle.flow_exchange.specs.declared.status.Status.TheVariants as answer
 use Rattle.flow_exchange.specs.Statuses.{ended_status}
 use Rattle.flow_exchange.specs.Private.{rejected}
-use Rattle.flow_exchange.specs.Auditing.{legal_line, audit_status, AuditsFile, AuditsTo, IsAtPair, AuditsShort}
-use Rattle.flow_exchange.specs.Reporting.{AreReported, ReportsTo, ReportsInto, ReportsShort}
-use Rattle.flow_exchange.proofs.FileOf.{file_of}
-use Rattle.flow_exchange.proofs.Words.{IsForm}
+use Rattle.flow_exchange.specs.JournalFiles.{audit_status, status_of, IsAtPair}
+use Rattle.flow_exchange.specs.Auditing.{legal_line, audit_text, AuditsTo, AuditsShort}
+use Rattle.flow_exchange.specs.Reporting.{AreReported, ReportsTo, ReportsShort}
+use Rattle.flow_exchange.proofs.FileOf.{makes}
+use Rattle.flow_exchange.proofs.Words.{IsForm, word_form}
 
 cleared_more : (pair : Pair Record Outcome) (pairs : List (Pair Record Outcome)) → cleared_in (pair ∷ pairs) ≡ cleared_by pair.answer + cleared_in pairs
 cleared_more pair pairs = sum_by-cons (λ (p : Pair Record Outcome). cleared_by p.answer) pair pairs
@@ -179,7 +181,7 @@ audit_stopped limit bytes number text version body behind magic is way (inl (bad
     let on = judged_some limit bytes body version magic way.units way.rest way.passes.whole way.passes.each are.legal are.parts are.each way.state.market are.steps bad more front stops.0 in
     let none : text ≡ [] = behind_only text behind way.so_far way.last is way.writes are.nothing ∙ stops.1.1 in
     let named : answer.Rejected number ≡ audit_status limit on.1 are.legal (bad ∷ on.0) = ap (λ (k : ℕ). answer.Rejected k) (omega (arith, stops.1.0, are.pairs)) in
-    inr (subst (λ (x : List ℕ). AuditsFile limit bytes (answer.Rejected number) x) (sym none) (file_of limit bytes (answer.Rejected number) are.legal (bad ∷ on.0) on.1 way.state.market on.2 named))
+    makes (status_of limit) (λ journal text. text ≡ audit_text journal) limit bytes (answer.Rejected number) text are.legal (bad ∷ on.0) on.1 way.state.market on.2 named none
 audit_stopped limit bytes number text version body behind magic is way (inr at) = absurd at.1
 
 audit_to : (limit : ℕ) (bytes : List ℕ) (ended : Ended ℕ) (text : List ℕ) → (task audit audit_start).Comes limit bytes ended text → AuditsTo limit bytes (ended_status limit rejected ended) text
@@ -189,43 +191,24 @@ audit_to limit bytes (Ok done) text (inr (version, body, behind, magic, is, on))
     let are = are_counted (audit_start version) way.state way.units way.so_far way.passes.each way.passes.goes in
     let audits = judged_all limit bytes body version magic way.units way.rest way.passes.whole way.passes.each are.legal are.parts are.each way.state.market are.steps End way.halts.0.0 way.halts.0.1 in
     let line : text ≡ legal_line are.legal = behind_only text behind way.so_far way.last is way.writes are.nothing ∙ way.halts.1 ∙ line_is way.state.pairs way.state.seen.cleared way.state.seen.skipped are.legal (omega (arith, are.pairs)) (omega (arith, are.cleared)) (omega (arith, are.skipped)) in
-    inr (subst (λ (x : List ℕ). AuditsFile limit bytes answer.Done x) (sym line) (file_of limit bytes answer.Done are.legal [] End way.state.market audits refl))
+    makes (status_of limit) (λ journal text. text ≡ audit_text journal) limit bytes answer.Done text are.legal [] End way.state.market audits refl line
 audit_to limit bytes (Err (word.Torn n)) text (inr (version, body, behind, magic, is, on)) =
     let way = on.0 in
     let are = are_counted (audit_start version) way.state way.units way.so_far way.passes.each way.passes.goes in
     let audits = judged_all limit bytes body version magic way.units way.rest way.passes.whole way.passes.each are.legal are.parts are.each way.state.market are.steps (reading.Torn n) way.halts.0.0 way.halts.0.1 in
     let none : text ≡ [] = behind_only text behind way.so_far way.last is way.writes are.nothing ∙ way.halts.1 in
-    inr (subst (λ (x : List ℕ). AuditsFile limit bytes (answer.Torn n) x) (sym none) (file_of limit bytes (answer.Torn n) are.legal [] (reading.Torn n) way.state.market audits refl))
+    makes (status_of limit) (λ journal text. text ≡ audit_text journal) limit bytes (answer.Torn n) text are.legal [] (reading.Torn n) way.state.market audits refl none
 audit_to limit bytes (Err word.TooLong) text (inr (version, body, behind, magic, is, on)) =
     let way = on.0 in
     let are = are_counted (audit_start version) way.state way.units way.so_far way.passes.each way.passes.goes in
     let audits = judged_all limit bytes body version magic way.units way.rest way.passes.whole way.passes.each are.legal are.parts are.each way.state.market are.steps reading.TooLong way.halts.0.0 way.halts.0.1 in
     let none : text ≡ [] = behind_only text behind way.so_far way.last is way.writes are.nothing ∙ way.halts.1 in
-    inr (subst (λ (x : List ℕ). AuditsFile limit bytes (answer.TooLong limit) x) (sym none) (file_of limit bytes (answer.TooLong limit) are.legal [] reading.TooLong way.state.market audits refl))
+    makes (status_of limit) (λ journal text. text ≡ audit_text journal) limit bytes (answer.TooLong limit) text are.legal [] reading.TooLong way.state.market audits refl none
 audit_to limit bytes (Err (word.Stopped number)) text (inr (version, body, behind, magic, is, on)) = audit_stopped limit bytes number text version body behind magic is on.0 on.0.halts
 audit_to limit bytes (Err word.NotFlow) text (inr (version, body, behind, magic, is, on)) = absurd on.0.halts
 audit_to limit bytes (Err word.Read) text (inr (version, body, behind, magic, is, on)) = absurd on.0.halts
 audit_to limit bytes (Err word.Write) text (inr (version, body, behind, magic, is, on)) = absurd on.0.halts
 audit_to limit bytes (Err word.Memory) text (inr (version, body, behind, magic, is, on)) = absurd on.0.halts
-
--- nothing is written before the end
-audit_last : (place : ℕ) (rest : List ℕ) (s : Watched Counts) (ended : Ended ℕ) (last : List ℕ) → Halts audit (Unit {0}) place rest s ended last → last ≡ []
-audit_last place rest s (Ok done) last halts = absurd (halts.0.1.1 tt)
-audit_last place rest s (Err (word.Torn n)) last halts = halts.1
-audit_last place rest s (Err word.TooLong) last halts = halts.1
-audit_last place rest s (Err (word.Stopped number)) last (inl (bad, more, front, stops)) = stops.1.1
-audit_last place rest s (Err (word.Stopped number)) last (inr at) = absurd at.1
-audit_last place rest s (Err word.NotFlow) last halts = absurd halts
-audit_last place rest s (Err word.Read) last halts = absurd halts
-audit_last place rest s (Err word.Write) last halts = absurd halts
-audit_last place rest s (Err word.Memory) last halts = absurd halts
-
-audit_into : (limit : ℕ) (bytes : List ℕ) (n : ℕ) (text : List ℕ) → (task audit audit_start).Begins limit bytes n text → (text ≡ []) ⊎ ⊥
-audit_into limit bytes n text (ended, inl none) = inl none.2
-audit_into limit bytes n text (ended, inr (version, body, behind, magic, is, on)) =
-    let way = on.0 in
-    let are = are_counted (audit_start version) way.state way.units way.so_far way.passes.each way.passes.goes in
-    inl (behind_only text behind way.so_far way.last is way.writes are.nothing ∙ audit_last _ way.rest way.state ended way.last way.halts)
 
 -- the units that were passed are legal pairs, and then comes another one
 unfoldable pub at_pair : (limit : ℕ) (bytes body : List ℕ) (version : Version) (magic : BeginsWith journals.magics (take limit bytes) version body) (units : List (Record × Record)) (rest more : List ℕ) (next : Record × Record) (legal : List (Pair Record Outcome)) (market : Market)
@@ -257,20 +240,8 @@ audit_out limit bytes text (version, body, behind, magic, is, (way, keeps)) =
       | inr end ↦ absurd end.1
     ]
 
-pub audit_form : (limit : ℕ) → IsForm (task audit audit_start) Audit limit rejected
-audit_form limit = record {
-  to = audit_to limit;
-  into = audit_into limit;
-  out = audit_out limit;
-  met = λ bytes left why before after determines. determines;
-  not_done = λ why e. absurd cc;
-  not_read = λ why e. absurd cc;
-  not_write = λ why e. absurd cc;
-  not_memory = λ why e. absurd cc;
-  not_usage = λ why e. absurd cc;
-  most = refl;
-  left = λ bytes. refl;
-}
+pub audit_form : IsForm (task audit audit_start) Audit rejected
+audit_form = word_form audit audit_start audit_is_exact Audit rejected audit_to (λ limit bytes n text more. more) audit_out (λ why. tt) (λ limit. refl) (λ bytes. refl)
 
 -- ---- report
 
@@ -289,15 +260,9 @@ unfolding judged_some
 report_stopped limit bytes number text version body behind magic is way (inl (bad, more, front, stops)) =
     let are = are_told (report_start version) way.state way.units way.so_far way.passes.each way.passes.goes in
     let on = judged_some limit bytes body version magic way.units way.rest way.passes.whole way.passes.each are.legal are.parts are.each way.state.market are.steps bad more front stops.0 in
-    inr (record {
-      legal = are.legal;
-      behind = bad ∷ on.0;
-      ending = on.1;
-      market = way.state.market;
-      audits = on.2;
-      ends = ap (λ (k : ℕ). answer.Rejected k) (omega (arith, stops.1.0, are.pairs));
-      writes = told_as version are.legal way.state.market text behind way.so_far way.last is way.writes stops.1.1 are.told;
-    })
+    makes (status_of limit) (λ journal text. AreReported (empty_market journal.version) 1 journal.legal journal.market text) limit bytes (answer.Rejected number) text are.legal (bad ∷ on.0) on.1 way.state.market
+    on.2
+    (ap (λ (k : ℕ). answer.Rejected k) (omega (arith, stops.1.0, are.pairs))) (told_as version are.legal way.state.market text behind way.so_far way.last is way.writes stops.1.1 are.told)
 report_stopped limit bytes number text version body behind magic is way (inr at) = absurd at.1
 
 report_to : (limit : ℕ) (bytes : List ℕ) (ended : Ended ℕ) (text : List ℕ) → (task report report_start).Comes limit bytes ended text → ReportsTo limit bytes (ended_status limit rejected ended) text
@@ -306,83 +271,26 @@ report_to limit bytes ended text (inl none) = rw none.0 (inl (none.1, refl, none
 report_to limit bytes (Ok done) text (inr (version, body, behind, magic, is, on)) =
     let way = on.0 in
     let are = are_told (report_start version) way.state way.units way.so_far way.passes.each way.passes.goes in
-    inr (record {
-      legal = are.legal;
-      behind = [];
-      ending = End;
-      market = way.state.market;
-      audits = judged_all limit bytes body version magic way.units way.rest way.passes.whole way.passes.each are.legal are.parts are.each way.state.market are.steps End way.halts.0.0 way.halts.0.1;
-      ends = refl;
-      writes = told_as version are.legal way.state.market text behind way.so_far way.last is way.writes way.halts.1 are.told;
-    })
+    makes (status_of limit) (λ journal text. AreReported (empty_market journal.version) 1 journal.legal journal.market text) limit bytes answer.Done text are.legal [] End way.state.market
+    (judged_all limit bytes body version magic way.units way.rest way.passes.whole way.passes.each are.legal are.parts are.each way.state.market are.steps End way.halts.0.0 way.halts.0.1)
+    refl (told_as version are.legal way.state.market text behind way.so_far way.last is way.writes way.halts.1 are.told)
 report_to limit bytes (Err (word.Torn n)) text (inr (version, body, behind, magic, is, on)) =
     let way = on.0 in
     let are = are_told (report_start version) way.state way.units way.so_far way.passes.each way.passes.goes in
-    inr (record {
-      legal = are.legal;
-      behind = [];
-      ending = reading.Torn n;
-      market = way.state.market;
-      audits = judged_all limit bytes body version magic way.units way.rest way.passes.whole way.passes.each are.legal are.parts are.each way.state.market are.steps (reading.Torn n) way.halts.0.0 way.halts.0.1;
-      ends = refl;
-      writes = told_as version are.legal way.state.market text behind way.so_far way.last is way.writes way.halts.1 are.told;
-    })
+    makes (status_of limit) (λ journal text. AreReported (empty_market journal.version) 1 journal.legal journal.market text) limit bytes (answer.Torn n) text are.legal [] (reading.Torn n) way.state.market
+    (judged_all limit bytes body version magic way.units way.rest way.passes.whole way.passes.each are.legal are.parts are.each way.state.market are.steps (reading.Torn n) way.halts.0.0 way.halts.0.1)
+    refl (told_as version are.legal way.state.market text behind way.so_far way.last is way.writes way.halts.1 are.told)
 report_to limit bytes (Err word.TooLong) text (inr (version, body, behind, magic, is, on)) =
     let way = on.0 in
     let are = are_told (report_start version) way.state way.units way.so_far way.passes.each way.passes.goes in
-    inr (record {
-      legal = are.legal;
-      behind = [];
-      ending = reading.TooLong;
-      market = way.state.market;
-      audits = judged_all limit bytes body version magic way.units way.rest way.passes.whole way.passes.each are.legal are.parts are.each way.state.market are.steps reading.TooLong way.halts.0.0 way.halts.0.1;
-      ends = refl;
-      writes = told_as version are.legal way.state.market text behind way.so_far way.last is way.writes way.halts.1 are.told;
-    })
+    makes (status_of limit) (λ journal text. AreReported (empty_market journal.version) 1 journal.legal journal.market text) limit bytes (answer.TooLong limit) text are.legal [] reading.TooLong way.state.market
+    (judged_all limit bytes body version magic way.units way.rest way.passes.whole way.passes.each are.legal are.parts are.each way.state.market are.steps reading.TooLong way.halts.0.0 way.halts.0.1)
+    refl (told_as version are.legal way.state.market text behind way.so_far way.last is way.writes way.halts.1 are.told)
 report_to limit bytes (Err (word.Stopped number)) text (inr (version, body, behind, magic, is, on)) = report_stopped limit bytes number text version body behind magic is on.0 on.0.halts
 report_to limit bytes (Err word.NotFlow) text (inr (version, body, behind, magic, is, on)) = absurd on.0.halts
 report_to limit bytes (Err word.Read) text (inr (version, body, behind, magic, is, on)) = absurd on.0.halts
 report_to limit bytes (Err word.Write) text (inr (version, body, behind, magic, is, on)) = absurd on.0.halts
 report_to limit bytes (Err word.Memory) text (inr (version, body, behind, magic, is, on)) = absurd on.0.halts
-
-report_last : (place : ℕ) (rest : List ℕ) (s : Watched (Unit {0})) (ended : Ended ℕ) (last : List ℕ) → Halts report (Unit {0}) place rest s ended last → last ≡ []
-report_last place rest s (Ok done) last halts = halts.1
-report_last place rest s (Err (word.Torn n)) last halts = halts.1
-report_last place rest s (Err word.TooLong) last halts = halts.1
-report_last place rest s (Err (word.Stopped number)) last (inl (bad, more, front, stops)) = stops.1.1
-report_last place rest s (Err (word.Stopped number)) last (inr at) = absurd at.1
-report_last place rest s (Err word.NotFlow) last halts = absurd halts
-report_last place rest s (Err word.Read) last halts = absurd halts
-report_last place rest s (Err word.Write) last halts = absurd halts
-report_last place rest s (Err word.Memory) last halts = absurd halts
-
--- the first pairs of a file
-first_pairs : (limit : ℕ) (bytes body more behind : List ℕ) (version : Version) (units : List (Record × Record)) (rest : List ℕ) (s : Watched (Unit {0})) (text so_far last : List ℕ) → take limit bytes ≡ journals.magics.spell version ++ (body ++ more)
-    → Passes report body (report_start version) units rest s so_far → text ≡ [] ++ behind → behind ≡ so_far ++ last → last ≡ [] → ReportsInto limit bytes text
-first_pairs limit bytes body more behind version units rest s text so_far last magic passes is parts none =
-    let are = are_told (report_start version) s units so_far passes.each passes.goes in
-    record {
-      version = version;
-      legal = are.legal;
-      market = s.market;
-      starts = record {
-        body = body ++ more;
-        rest = rest ++ more;
-        magic = (tt, magic);
-        whole = rw (← are.parts) (ap (λ xs. xs ++ more) passes.whole ∙ append_assoc (spell_all journals.units units) rest more);
-        each = rw (← are.parts) passes.each;
-      };
-      fits = are.each;
-      writes = told_as version are.legal s.market text behind so_far last is parts none are.told;
-    }
-
-report_into : (limit : ℕ) (bytes : List ℕ) (n : ℕ) (text : List ℕ) → (task report report_start).Begins limit bytes n text → (text ≡ []) ⊎ ReportsInto limit bytes text
-report_into limit bytes n text (ended, inl none) = inl none.2
-report_into limit bytes n text (ended, inr (version, body, behind, magic, is, on)) =
-    let way = on.0 in
-    let more = drop n (take limit bytes) in
-    inr (first_pairs limit bytes body more behind version way.units way.rest way.state text way.so_far way.last
-    (sym (take-append-drop n (take limit bytes)) ∙ ap (λ xs. xs ++ more) magic.1 ∙ append_assoc (journals.magics.spell version) body more) way.passes is way.writes (report_last _ way.rest way.state ended way.last way.halts))
 
 report_out : (limit : ℕ) (bytes : List ℕ) (text : List ℕ) → (task report report_start).Lacks limit bytes text → ReportsShort limit bytes text
 unfolding at_pair
@@ -400,17 +308,5 @@ report_out limit bytes text (version, body, behind, magic, is, (way, keeps)) =
       | inr end ↦ absurd end.1
     ]
 
-pub report_form : (limit : ℕ) → IsForm (task report report_start) Report limit rejected
-report_form limit = record {
-  to = report_to limit;
-  into = report_into limit;
-  out = report_out limit;
-  met = λ bytes left why before after determines. determines;
-  not_done = λ why e. absurd cc;
-  not_read = λ why e. absurd cc;
-  not_write = λ why e. absurd cc;
-  not_memory = λ why e. absurd cc;
-  not_usage = λ why e. absurd cc;
-  most = refl;
-  left = λ bytes. refl;
-}
+pub report_form : IsForm (task report report_start) Report rejected
+report_form = word_form report report_start report_is_exact Report rejected report_to (λ limit bytes n text more. more) report_out (λ why. tt) (λ limit. refl) (λ bytes. refl)

@@ -1,11 +1,13 @@
 pub mod Outcomes
 pub mod RunWord
 pub mod FileOf
+pub mod IfMore
 pub mod Words
 pub mod Pace
 pub mod JournalForms
 pub mod ExplainForm
 pub mod EncodeForm
+pub mod CommandFiles
 pub mod CheckpointForm
 pub mod ResumeForm
 mod SampleForm

@@ -1,50 +1,131 @@
 -- A resumption does what the clauses of the program say.
-use Rattle.std.proofs.Common.{◌≢◌, ℕ, List, Option, refl}
+use Rattle.std.proofs.Common.{◌≡◌, ◌<◌, ◌⊎◌, ℕ, List, [], ◌∷◌, ◌++◌, Option, Err, length, take, inl, inr, append-nil, append_assoc, length-append, refl, sym, ap, ◌∙◌, subst, arith}
+use Rattle.std.proofs.lemmas.List.{take_at}
+use Rattle.flow_io.specs.Streams.{GrowsByFront}
+use Rattle.wire_records.specs.Records.{Record}
+use Rattle.wire_records.specs.Grammars.{spell_all}
+use Rattle.wire_records.specs.Reading as reading
+use Rattle.wire_records.specs.Formats.{commands, command_magic_of}
+use Rattle.wire_records.proofs.RecordCode.{commands_readable}
+use Rattle.wire_records.proofs.ReadingLaws.{none_in_none}
+use Rattle.market_rules.specs.Market.{Market}
+use Rattle.market_snapshot.specs.Checkpoints.{checkpoint_magic}
+use Rattle.journal_records.specs.Formats.{journals, journal_in}
+use Rattle.journal_records.proofs.Files.{eight}
+use Rattle.word_driver.specs.declared.fault.Fault.TheVariants.{NotFlow, TooLong}
+use Rattle.exchange_session.proofs.RunLaws.{run_is_exact}
 use Rattle.session_resume.specs.declared.first.Unfit.{Unfit}
 use Rattle.session_resume.specs.declared.first.Unfit.TheVariants.{Illegal, NoCheckpoint}
+use Rattle.session_resume.specs.declared.first.Origin.{Origin}
+use Rattle.session_resume.specs.declared.first.Origin.TheVariants.{Journal, Checkpoint}
+use Rattle.session_resume.specs.Firsts.{Neither, Whole, IsFirst}
+use Rattle.session_resume.specs.Rests.{Commands}
+use Rattle.session_resume.specs.Resuming.{Resumes, ResumesFirst, ResumesInto, ResumesShort}
 use Rattle.session_resume.specs.Tasks.{resuming}
 use Rattle.flow_exchange.specs.declared.form.Form.TheVariants.{Resume}
 use Rattle.flow_exchange.specs.declared.status.Status.TheVariants as answer
 use Rattle.flow_exchange.specs.Statuses.{unfit_status}
-use Rattle.flow_exchange.specs.Program.{Determines, Meets}
-use Rattle.flow_exchange.proofs.Words.{IsForm}
+use Rattle.flow_exchange.specs.Program.{ComesToIfMore, GetsTo}
+use Rattle.flow_exchange.proofs.Words.{IsOwn, IsForm, nothing_is_front}
+use Rattle.flow_exchange.proofs.CommandFiles.{command_files_begin_no_pair}
 
-met : (limit : ℕ) (bytes : List ℕ) (left : Option (List ℕ)) (why : Unfit) (before after : Option (List ℕ)) → Determines Resume limit bytes (unfit_status why) before after → Meets Resume limit bytes left (unfit_status why) before after
-met limit bytes left (Illegal number) before after determines = determines
-met limit bytes left NoCheckpoint before after determines = determines
+-- What stands first, whatever command file stands behind it.
+pub record HasFront (bytes : List ℕ) (origin : Origin) (market : Market) (place : ℕ) (rest : List ℕ) : Type 0 where
+  pub front : List ℕ
+  pub whole : bytes ≡ front ++ rest
+  pub stands : (body : List ℕ) → IsFirst (front ++ (command_magic_of market.version ++ body)) (Whole origin market place (command_magic_of market.version ++ body))
 
--- none of the reasons is another status
-not_done : (why : Unfit) → unfit_status why ≢ answer.Done
-not_done (Illegal number) e = absurd cc
-not_done NoCheckpoint e = absurd cc
+pub front_of : (bytes : List ℕ) (origin : Origin) (market : Market) (place : ℕ) (rest : List ℕ) → IsFirst bytes (Whole origin market place rest) → HasFront bytes origin market place rest
+front_of bytes Journal market place rest is = record {
+  front = journal_in is.version is.pairs;
+  whole = is.whole;
+  stands = λ body. record { version = is.version; pairs = is.pairs; legal = is.legal; whole = refl; last = command_files_begin_no_pair market.version body; ends = is.ends };
+}
+front_of bytes Checkpoint market place rest is = record {
+  front = is.checkpoint;
+  whole = is.whole;
+  stands = λ body. record { checkpoint = is.checkpoint; is_one = is.is_one; whole = refl; ends = is.ends };
+}
 
-not_read : (why : Unfit) → unfit_status why ≢ answer.ReadFault
-not_read (Illegal number) e = absurd cc
-not_read NoCheckpoint e = absurd cc
+-- what first bytes come to if more follow
+if_more : (first text : List ℕ) → ((More : Type 0) → More → Resumes More first (Err TooLong) text) → ComesToIfMore Resume first text
+if_more first text resumes = λ next more.
+    let all = first ++ next ∷ more in
+    let longer : length first < length all = omega (arith, length-append first (next ∷ more)) in
+    let taken = sym (take_at first (next ∷ more) (length first) refl) in
+    (answer.TooLong (length first), (Err TooLong, subst (λ (xs : List ℕ). Resumes (length first < length all) xs (Err TooLong) text) taken (resumes (length first < length all) longer), refl))
 
-not_write : (why : Unfit) → unfit_status why ≢ answer.WriteFault
-not_write (Illegal number) e = absurd cc
-not_write NoCheckpoint e = absurd cc
+-- the pairs of the first records are what the bytes up to behind them come to
+gets : (limit : ℕ) (bytes : List ℕ) (records : List Record) (left : List ℕ) (new : Market) (text : List ℕ) → ResumesFirst (take limit bytes) records left new text → GetsTo Resume limit bytes text
+gets limit bytes records left new text at =
+    let magic = command_magic_of at.market.version in
+    let spelled = spell_all commands.units records in
+    let has = front_of (take limit bytes) at.origin at.market at.place at.rest at.stands in
+    let first = has.front ++ (magic ++ spelled) in
+    let whole : take limit bytes ≡ first ++ left =
+    has.whole ∙ ap (λ xs. has.front ++ xs) (at.magic ∙ ap (λ xs. magic ++ xs) at.whole ∙ sym (append_assoc magic spelled left)) ∙ sym (append_assoc has.front (magic ++ spelled) left)
+    in
+    let taken : take (length first) (take limit bytes) ≡ first = ap (take (length first)) whole ∙ take_at first left (length first) refl in
+    let comes : (More : Type 0) → More → Resumes More first (Err TooLong) text = λ More more. record {
+      first = Whole at.origin at.market at.place (magic ++ spelled);
+      stands = has.stands spelled;
+      comes = (
+        Commands spelled,
+        refl,
+        record {
+          records = records;
+          ending = reading.TooLong;
+          new = new;
+          reads = record { rest = []; whole = sym (append-nil spelled); each = at.each; none = none_in_none commands.units commands_readable.units; ends = (run_is_exact.short, more) };
+          ends = refl;
+          writes = at.writes;
+        },
+      );
+    } in
+    inl (length first, subst (λ (xs : List ℕ). ComesToIfMore Resume xs text) (sym taken) (if_more first text comes))
 
-not_memory : (why : Unfit) → unfit_status why ≢ answer.NoMemory
-not_memory (Illegal number) e = absurd cc
-not_memory NoCheckpoint e = absurd cc
+lacks : (limit : ℕ) (bytes : List ℕ) (text : List ℕ) → (text ≡ []) ⊎ ResumesShort (take limit bytes) text → (text ≡ []) ⊎ GetsTo Resume limit bytes text
+lacks limit bytes text (inl none) = inl none
+lacks limit bytes text (inr short) = inr (gets limit bytes short.records short.left short.new text short.first)
 
-not_usage : (why : Unfit) → unfit_status why ≢ answer.Usage
-not_usage (Illegal number) e = absurd cc
-not_usage NoCheckpoint e = absurd cc
+-- before the end, and after a fault of out: without bytes there is nothing to go on from
+so_far : (limit : ℕ) (bytes : List ℕ) (text : List ℕ) → (text ≡ []) ⊎ ResumesInto (take limit bytes) text → (text ≡ []) ⊎ GetsTo Resume limit bytes text
+so_far limit bytes text (inl none) = inl none
+so_far limit bytes text (inr into) = inr (gets limit bytes into.records into.left into.new text into.first)
 
-pub resume_form : (limit : ℕ) → IsForm resuming Resume limit unfit_status
-resume_form limit = record {
-  to = λ bytes ended text comes. (ended, comes, refl);
-  into = λ bytes n text begins. begins;
-  out = λ bytes text lacks. lacks;
-  met = met limit;
-  not_done = not_done;
-  not_read = not_read;
-  not_write = not_write;
-  not_memory = not_memory;
-  not_usage = not_usage;
-  most = refl;
+no_bytes : ComesToIfMore Resume [] []
+no_bytes = λ next more. (
+  answer.NotFlow,
+  (
+    Err NotFlow,
+    record {
+      first = Neither;
+      stands = (λ version rest lawful e. omega (arith, ap length e, length-append (journals.magics.spell version) rest, eight version), λ (rest, e). omega (arith, ap length e, length-append checkpoint_magic rest, eight_bytes));
+      comes = (refl, refl);
+    },
+    refl,
+  ),
+)
+  where
+    eight_bytes : length checkpoint_magic ≡ 8
+    eight_bytes = refl
+
+cut_short : (limit : ℕ) (bytes : List ℕ) (text : List ℕ) (before after : Option (List ℕ)) → (text ≡ []) ⊎ ResumesInto (take limit bytes) text → GrowsByFront before after text → (other : List ℕ) × GetsTo Resume limit bytes other × GrowsByFront before after other
+cut_short limit bytes text before after (inl none) written = ([], inl (0, no_bytes), nothing_is_front before after text [] none written)
+cut_short limit bytes text before after (inr into) written = (text, gets limit bytes into.records into.left into.new text into.first, written)
+
+owns : (why : Unfit) → IsOwn (unfit_status why)
+owns (Illegal number) = tt
+owns NoCheckpoint = tt
+
+pub resume_form : IsForm resuming Resume unfit_status
+resume_form = record {
+  to = λ limit bytes ended text comes. (ended, comes, refl);
+  so_far = λ limit bytes n text begun. so_far limit bytes text begun;
+  gets = λ limit bytes n text before after begun written. cut_short limit bytes text before after begun written;
+  lacks = lacks;
+  out = λ limit bytes text short. short;
+  owns = owns;
+  most = λ limit. refl;
   left = λ bytes. refl;
 }

@@ -1,28 +1,26 @@
 -- A run does what the clauses of the program say: what its word comes to is a journal.
-use Rattle.std.proofs.Common.{◌≡◌, ◌⊎◌, ℕ, List, [], ◌++◌, Ok, Err, length, take, drop, refl, sym, ap, ◌∙◌, subst, inl, inr, append-nil, append_assoc}
+use Rattle.std.proofs.Common.{◌≡◌, ℕ, List, [], ◌++◌, Ok, Err, refl, sym, ap, ◌∙◌, subst, inl, inr, append-nil, append_assoc}
 use Rattle.std.specs.List.{flat_map}
-use Rattle.std.proofs.lemmas.List.{take-append-drop, flat_map_more}
+use Rattle.std.proofs.lemmas.List.{flat_map_more}
 use Rattle.std.proofs.lemmas.List.Elements.{All-push}
 use Rattle.wire_records.specs.Records.{Record, IsRecord, spelling}
 use Rattle.wire_records.specs.Reading.{End, NotFlow, File}
 use Rattle.wire_records.specs.Reading as reading
 use Rattle.wire_records.specs.declared.version.Version.{Version}
-use Rattle.wire_records.specs.Formats.{commands}
 use Rattle.journal_records.specs.Formats.{journal_magic_of}
 use Rattle.market_rules.specs.Market.{Market, empty_market}
 use Rattle.word_driver.specs.declared.fault.Fault.TheVariants as word
 use Rattle.word_driver.specs.declared.fault.Never.{Never}
 use Rattle.word_driver.specs.Ended.{Ended}
-use Rattle.word_driver.specs.Word.{ComesOn}
 use Rattle.word_driver.specs.Does.{task}
 use Rattle.exchange_session.specs.Running.{run}
-use Rattle.exchange_session.proofs.RunLaws.{run_version}
+use Rattle.exchange_session.proofs.RunLaws.{run_is_exact, run_version}
 use Rattle.exchange_session.specs.Journals.{Journals}
 use Rattle.flow_exchange.specs.declared.form.Form.TheVariants.{Run}
 use Rattle.flow_exchange.specs.Statuses.{ended_status}
 use Rattle.flow_exchange.specs.Private.{no_reason}
-use Rattle.flow_exchange.specs.Running.{RunsTo, RunsInto, RunsShort}
-use Rattle.flow_exchange.proofs.Words.{IsForm}
+use Rattle.flow_exchange.specs.Running.{RunsTo, RunsShort}
+use Rattle.flow_exchange.proofs.Words.{IsForm, word_form}
 
 abbrev pub start : Version → Market
 start version = empty_market version
@@ -69,36 +67,6 @@ runs_to limit bytes (Err word.Read) text (inr (version, body, behind, magic, is,
 runs_to limit bytes (Err word.Write) text (inr (version, body, behind, magic, is, on)) = absurd on.0.halts
 runs_to limit bytes (Err word.Memory) text (inr (version, body, behind, magic, is, on)) = absurd on.0.halts
 
--- no run stops at a record, and where it ends if more follow nothing is written
-last_is_none : (More : Type 0) (place : ℕ) (body : List ℕ) (s : Market) (ended : Ended Never) (behind : List ℕ) (on : ComesOn run More place body s ended behind) → on.last ≡ []
-last_is_none More place body s (Ok done) behind on = on.halts.1
-last_is_none More place body s (Err (word.Torn n)) behind on = on.halts.1
-last_is_none More place body s (Err word.TooLong) behind on = on.halts.1
-last_is_none More place body s (Err (word.Stopped never)) behind on = elim never [ ]
-last_is_none More place body s (Err word.NotFlow) behind on = absurd on.halts
-last_is_none More place body s (Err word.Read) behind on = absurd on.halts
-last_is_none More place body s (Err word.Write) behind on = absurd on.halts
-last_is_none More place body s (Err word.Memory) behind on = absurd on.halts
-
-pub runs_into : (limit : ℕ) (bytes : List ℕ) (n : ℕ) (text : List ℕ) → (task run start).Begins limit bytes n text → (text ≡ []) ⊎ RunsInto limit bytes text
-runs_into limit bytes n text (ended, inl none) = inl none.2
-runs_into limit bytes n text (ended, inr (version, body, behind, magic, is, on)) =
-    let way = on.0 in
-    let more = drop n (take limit bytes) in
-    inr (record {
-      version = version;
-      records = way.units;
-      market = way.state;
-      starts = record {
-        body = body ++ more;
-        rest = way.rest ++ more;
-        magic = (magic.0, sym (take-append-drop n (take limit bytes)) ∙ ap (λ xs. xs ++ more) magic.1 ∙ append_assoc (commands.magics.spell version) body more);
-        whole = ap (λ xs. xs ++ more) way.passes.whole ∙ append_assoc (flat_map spelling way.units) way.rest more;
-        each = way.passes.each;
-      };
-      writes = journals way.units way.state way.so_far text version (run_version (start version) way.state way.units way.so_far way.passes.goes) on.1 (ends_there version text behind way.so_far way.last is way.writes (last_is_none (Unit {0}) (length (commands.magics.spell version)) body (start version) ended behind way));
-    })
-
 pub runs_out : (limit : ℕ) (bytes : List ℕ) (text : List ℕ) → (task run start).Lacks limit bytes text → RunsShort limit bytes text
 runs_out limit bytes text (version, body, behind, magic, is, on) =
     let way = on.0 in
@@ -123,17 +91,5 @@ runs_out limit bytes text (version, body, behind, magic, is, on) =
     ]
 
 -- so its task is the form of the program
-pub run_form : (limit : ℕ) → IsForm (task run start) Run limit no_reason
-run_form limit = record {
-  to = runs_to limit;
-  into = runs_into limit;
-  out = runs_out limit;
-  met = λ bytes left never. elim never [ ];
-  not_done = λ never. elim never [ ];
-  not_read = λ never. elim never [ ];
-  not_write = λ never. elim never [ ];
-  not_memory = λ never. elim never [ ];
-  not_usage = λ never. elim never [ ];
-  most = refl;
-  left = λ bytes. refl;
-}
+pub run_form : IsForm (task run start) Run no_reason
+run_form = word_form run start run_is_exact Run no_reason runs_to (λ limit bytes n text more. more) runs_out (λ never. elim never [ ]) (λ limit. refl) (λ bytes. refl)

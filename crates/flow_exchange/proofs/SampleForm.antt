@@ -8,9 +8,10 @@ use Rattle.sample_summary.specs.Summary.{Summarizes}
 use Rattle.flow_exchange.specs.declared.form.Form.TheVariants.{Sample}
 use Rattle.flow_exchange.specs.declared.status.Status.{Status}
 use Rattle.flow_exchange.specs.declared.status.Status.TheVariants as answer
-use Rattle.flow_exchange.specs.Program.{Meets, Does}
+use Rattle.flow_exchange.specs.Program.{Meets}
+use Rattle.flow_exchange.specs.Wanting.{RunsOut}
+use Rattle.flow_exchange.specs.Private.{Serves}
 use Rattle.flow_exchange.proofs.Outcomes.{one_end}
-use Rattle.flow_exchange.proofs.Dispatch.{completes_form}
 
 module _ (number orders limit : ℕ) where
   -- over what a source tells
@@ -26,38 +27,52 @@ module _ (number orders limit : ℕ) where
   all_left None = tt
   all_left (Some bytes) = refl
 
+  told_wants : (rest before after : Option (List ℕ)) → ((bytes : List ℕ) → RunsOut (Sample number orders) limit bytes (Some bytes) before after) → IfSome rest (λ bytes. RunsOut (Sample number orders) limit bytes rest before after)
+  told_wants None before after wants = tt
+  told_wants (Some bytes) before after wants = wants bytes
+
+  -- its source, of which nothing is taken
+  abbrev pub still : Option (List ℕ) → ℕ → Change
+  still rest faults = record { before = rest; after = rest; faults = faults; faults_after = faults }
+
   does : (status : Status) (rest : Option (List ℕ)) (faults : ℕ) (out : Change) → status ≢ answer.ReadFault → ((bytes : List ℕ) → Meets (Sample number orders) limit bytes (Some bytes) status out.before out.after)
-      → Blames (status ≡ answer.WriteFault) out.faults out.faults_after → Does (Sample number orders) limit status (record { before = rest; after = rest; faults = faults; faults_after = faults }) out
-  does status rest faults out not_read meets writes =
-      let met = told_meets status rest out.before out.after meets in
-      let reads : Blames (status ≡ answer.ReadFault) faults faults = record { later = omega arith; rose = λ e. absurd (not_read e); quiet = λ _. refl } in
-      record {
-        meets = met;
-        complete = completes_form (Sample number orders) rest rest limit status out.before out.after faults faults out.faults out.faults_after met reads writes;
-        taken = nothing_taken rest;
-        left = λ done. all_left rest;
-        reads = reads;
-        writes = writes;
-      }
+      → (status ≡ answer.NoMemory → (bytes : List ℕ) → RunsOut (Sample number orders) limit bytes (Some bytes) out.before out.after)
+      → Blames (status ≡ answer.WriteFault) out.faults out.faults_after → Serves (Sample number orders) limit status (still rest faults) out
+  does status rest faults out not_read meets wants writes = record {
+    does = record {
+      meets = told_meets status rest out.before out.after meets;
+      taken = nothing_taken rest;
+      left = λ done. all_left rest;
+      reads = record { later = omega arith; rose = λ e. absurd (not_read e); quiet = λ _. refl };
+      writes = writes;
+    };
+    wants = λ e. told_wants rest out.before out.after (wants e);
+  }
 
   -- the line was written
   pub does_write : (line : List ℕ) (rest : Option (List ℕ)) (faults : ℕ) (out : Change) → Summarizes number orders line → Grows out.before out.after line → out.faults_after ≡ out.faults
-      → Does (Sample number orders) limit answer.Done (record { before = rest; after = rest; faults = faults; faults_after = faults }) out
+      → Serves (Sample number orders) limit answer.Done (still rest faults) out
   does_write line rest faults out summary written quiet =
       does answer.Done rest faults out (λ e. absurd cc)
-      (λ bytes. (line, (refl, summary), written, λ other words comes. one_end (Sample number orders) limit bytes other answer.Done words line comes (refl, summary)))
-      (record { later = omega (arith, quiet); rose = λ e. absurd cc; quiet = λ _. quiet })
+      (λ bytes. record {
+        read = λ e. absurd cc;
+        write = λ e. absurd cc;
+        memory = λ e. absurd cc;
+        determined = λ r w m. (line, (refl, summary), written, λ other words comes. one_end (Sample number orders) limit bytes other answer.Done words line comes (refl, summary));
+      })
+      (λ e. absurd cc) (record { later = omega (arith, quiet); rose = λ e. absurd cc; quiet = λ _. quiet })
 
   -- a front of it was
   pub does_not_write : (line : List ℕ) (rest : Option (List ℕ)) (faults : ℕ) (out : Change) → Summarizes number orders line → GrowsByFront out.before out.after line → Blames (Unit {0}) out.faults out.faults_after
-      → Does (Sample number orders) limit answer.WriteFault (record { before = rest; after = rest; faults = faults; faults_after = faults }) out
+      → Serves (Sample number orders) limit answer.WriteFault (still rest faults) out
   does_not_write line rest faults out summary written cause =
-      does answer.WriteFault rest faults out (λ e. absurd cc) (λ bytes. inr (line, inr (answer.Done, (refl, summary)), written))
-      (record { later = cause.later; rose = λ _. cause.rose tt; quiet = λ not. absurd (not refl) })
+      does answer.WriteFault rest faults out (λ e. absurd cc)
+      (λ bytes. record { read = λ e. absurd cc; write = λ e. (line, inr (answer.Done, (refl, summary)), written); memory = λ e. absurd cc; determined = λ r w m. absurd (w refl) })
+      (λ e. absurd cc) (record { later = cause.later; rose = λ _. cause.rose tt; quiet = λ not. absurd (not refl) })
 
   -- there was no memory
-  pub does_not_fit : (rest held : Option (List ℕ)) (faults out_faults : ℕ)
-      → Does (Sample number orders) limit answer.NoMemory (record { before = rest; after = rest; faults = faults; faults_after = faults }) (record { before = held; after = held; faults = out_faults; faults_after = out_faults })
+  pub does_not_fit : (rest held : Option (List ℕ)) (faults out_faults : ℕ) → Serves (Sample number orders) limit answer.NoMemory (still rest faults) (still held out_faults)
   does_not_fit rest held faults out_faults =
-      does answer.NoMemory rest faults (record { before = held; after = held; faults = out_faults; faults_after = out_faults }) (λ e. absurd cc) (λ bytes. ([], inl (refl, refl), Grows-nothing held))
-      (record { later = omega arith; rose = λ e. absurd cc; quiet = λ _. refl })
+      does answer.NoMemory rest faults (still held out_faults) (λ e. absurd cc)
+      (λ bytes. record { read = λ e. absurd cc; write = λ e. absurd cc; memory = λ e. ([], inl refl, Grows-nothing held); determined = λ r w m. absurd (m refl) })
+      (λ e bytes. ([], inl (omega arith, refl), Grows-nothing held)) (record { later = omega arith; rose = λ e. absurd cc; quiet = λ _. refl })

@@ -1,7 +1,6 @@
 -- A statement does what the clauses of the program say: what its word comes to is the text of a view, and the last lines.
-use Rattle.std.proofs.Common.{◌≡◌, ◌⊎◌, ◌<◌, ◌+◌, ℕ, Bool, List, [], ◌∷◌, ◌++◌, All, map, Option, Result, Ok, Err, if◌then◌else◌, length, take, drop, refl, sym, ap, ◌∙◌, subst, inl, inr, append-nil, append_assoc, arith}
+use Rattle.std.proofs.Common.{◌≡◌, ◌<◌, ◌+◌, ℕ, Bool, false, List, [], ◌∷◌, ◌++◌, All, map, Result, Ok, Err, if◌then◌else◌, length, take, refl, sym, ap, ◌∙◌, subst, inl, inr, append-nil, arith}
 use Rattle.std.proofs.lemmas.Bool.{false_from_ne_true}
-use Rattle.std.proofs.lemmas.List.{take-append-drop}
 use Rattle.std.proofs.lemmas.List.Elements.{All-nil, All-cons, All-head, All-tail}
 use Rattle.wire_records.specs.Records.{Record}
 use Rattle.wire_records.specs.Commands.{Command, Answer, Pair}
@@ -31,20 +30,21 @@ use Rattle.statement_rules.proofs.ViewLaws.{empty_held, told_all}
 use Rattle.statement_rules.proofs.Texts.{lines_both, absent_accounts_have_no_text}
 use Rattle.word_driver.specs.declared.fault.Fault.TheVariants as word
 use Rattle.word_driver.specs.Ended.{Ended}
-use Rattle.word_driver.specs.Word.{Goes, Passes, Halts, ComesOn}
+use Rattle.word_driver.specs.Word.{Goes, Halts, ComesOn}
 use Rattle.word_driver.specs.Does.{task}
 use Rattle.journal_words.specs.Watching.{Watched}
 use Rattle.statement_word.specs.declared.no_statement.NoStatement.{NoStatement}
 use Rattle.statement_word.specs.declared.no_statement.NoStatement.TheVariants as why
 use Rattle.statement_word.specs.Stating.{Stated, TellsOwn, held_in, statement, statement_start}
 use Rattle.statement_word.proofs.Held.{lines_are, ends_are}
+use Rattle.statement_word.proofs.StatementLaws.{statement_is_exact}
 use Rattle.flow_exchange.specs.declared.form.Form.TheVariants.{Statement}
 use Rattle.flow_exchange.specs.declared.status.Status.TheVariants as answer
 use Rattle.flow_exchange.specs.Statuses.{ended_status}
 use Rattle.flow_exchange.specs.Private.{no_statement}
-use Rattle.flow_exchange.specs.Stating.{statement_status, AreSeen, StatesTo, StatesInto, StatesShort}
-use Rattle.flow_exchange.specs.Program.{Determines, Meets}
-use Rattle.flow_exchange.proofs.Words.{IsForm}
+use Rattle.flow_exchange.specs.Stating.{statement_status, States, AreSeen, StatesTo, StatesShort}
+use Rattle.flow_exchange.proofs.FileOf.{makes}
+use Rattle.flow_exchange.proofs.Words.{IsOwn, IsForm, word_form}
 use Rattle.flow_exchange.proofs.JournalForms.{judged_all, judged_some, at_pair}
 
 module _ (account : ℕ) where
@@ -128,11 +128,20 @@ module _ (account : ℕ) where
 
   -- ---- how it ends
 
-  status_there : (m : Market) → IsAccount m.balances account → answer.Done ≡ statement_status account m answer.Done
+  status_there : (m : Market) → IsAccount m.balances account → answer.Done ≡ (if is_there m account then answer.Done else answer.NoAccount account)
   status_there m there = ap (λ (b : Bool). if b then answer.Done else answer.NoAccount account) (sym (there_is m account there))
 
-  status_absent : (m : Market) → (IsAccount m.balances account → ⊥) → answer.NoAccount account ≡ statement_status account m answer.Done
-  status_absent m absent = ap (λ (b : Bool). if b then answer.Done else answer.NoAccount account) (sym (false_from_ne_true (is_there m account) (λ there. absent (is_account m account there))))
+  not_there : (m : Market) → (IsAccount m.balances account → ⊥) → false ≡ is_there m account
+  not_there m absent = sym (false_from_ne_true (is_there m account) (λ there. absent (is_account m account there)))
+
+  status_absent : (m : Market) → (IsAccount m.balances account → ⊥) → answer.NoAccount account ≡ (if is_there m account then answer.Done else answer.NoAccount account)
+  status_absent m absent = ap (λ (b : Bool). if b then answer.Done else answer.NoAccount account) (not_there m absent)
+
+  text_there : (m : Market) (view : List Event) → IsAccount m.balances account → statement_of view ≡ (if is_there m account then statement_of view else [])
+  text_there m view there = ap (λ (b : Bool). if b then statement_of view else []) (sym (there_is m account there))
+
+  text_absent : (m : Market) (view : List Event) → (IsAccount m.balances account → ⊥) → [] ≡ (if is_there m account then statement_of view else [])
+  text_absent m view absent = ap (λ (b : Bool). if b then statement_of view else []) (not_there m absent)
 
   -- the last lines are those of what the view tells
   ends_as_told : (version : Version) (new : Watched Stated) (units : List (Record × Record)) (text last : List ℕ) (are : AreTold (statement_start account version) new units text)
@@ -168,15 +177,12 @@ module _ (account : ℕ) where
   stopped limit bytes number text version body behind magic is way (inl (bad, more, front, stops)) =
       let are = from_first version way.state way.units way.so_far way.passes.each way.passes.goes in
       let on = judged_some limit bytes body version magic way.units way.rest way.passes.whole way.passes.each are.legal are.parts are.each way.state.market are.steps bad more front stops.0 in
-      inr (record {
-        legal = are.legal;
-        behind = bad ∷ on.0;
-        ending = on.1;
-        market = way.state.market;
-        audits = on.2;
+      makes (statement_status account limit) (States account) limit bytes (answer.Rejected number) text are.legal (bad ∷ on.0) on.1 way.state.market
+      on.2
+      (ap (λ (k : ℕ). answer.Rejected k) (rejected_as number (way.state.pairs + 1) stops.1.0 ∙ omega (arith, are.pairs)))
+      (record {
         view = are.view;
         sees = are.sees;
-        ends = ap (λ (k : ℕ). answer.Rejected k) (rejected_as number (way.state.pairs + 1) stops.1.0 ∙ omega (arith, are.pairs));
         writes = all_is text behind way.so_far way.last are.view is way.writes stops.1.1 (view_is version way.state way.units way.so_far are);
       })
   stopped limit bytes number text version body behind magic is way (inr at) = absurd (not_rejected number way.state.seen.account at.1.1)
@@ -193,17 +199,15 @@ module _ (account : ℕ) where
       let named : way.state.seen.account ≡ account = ap (λ (s : Stated). s.account) are.last in
       let none : IsAccount way.state.market.balances account → ⊥ = λ there. at.1.0 (subst (λ (k : ℕ). IsAccount way.state.market.balances k) (sym named) there) in
       let number_is : number ≡ account = named_as number way.state.seen.account at.1.1 ∙ named in
-      inr (record {
-        legal = are.legal;
-        behind = [];
-        ending = End;
-        market = way.state.market;
-        audits = judged_all limit bytes body version magic way.units way.rest way.passes.whole way.passes.each are.legal are.parts are.each way.state.market are.steps End at.0.0 at.0.1;
+      makes (statement_status account limit) (States account) limit bytes (answer.NoAccount number) text are.legal [] End way.state.market
+      (judged_all limit bytes body version magic way.units way.rest way.passes.whole way.passes.each are.legal are.parts are.each way.state.market are.steps End at.0.0 at.0.1)
+      (ap (λ (k : ℕ). answer.NoAccount k) number_is ∙ status_absent way.state.market none)
+      (record {
         view = are.view;
         sees = are.sees;
-        ends = ap (λ (k : ℕ). answer.NoAccount k) number_is ∙ status_absent way.state.market none;
         writes = all_is text behind way.so_far way.last are.view is way.writes at.1.2 (view_is version way.state way.units way.so_far are)
-            ∙ absent_accounts_have_no_text account version are.legal are.view way.state.market are.sees none;
+            ∙ absent_accounts_have_no_text account version are.legal are.view way.state.market are.sees none
+            ∙ text_absent way.state.market are.view none;
       })
 
   to : (limit : ℕ) (bytes : List ℕ) (ended : Ended NoStatement) (text : List ℕ) → (task statement (statement_start account)).Comes limit bytes ended text → StatesTo account limit bytes (ended_status limit no_statement ended) text
@@ -213,43 +217,34 @@ module _ (account : ℕ) where
       let way = on.0 in
       let are = from_first version way.state way.units way.so_far way.passes.each way.passes.goes in
       let ends = ends_as_told version way.state way.units way.so_far way.last are way.halts.1.0 way.halts.1.1 in
-      inr (record {
-        legal = are.legal;
-        behind = [];
-        ending = End;
-        market = way.state.market;
-        audits = judged_all limit bytes body version magic way.units way.rest way.passes.whole way.passes.each are.legal are.parts are.each way.state.market are.steps End way.halts.0.0 way.halts.0.1;
+      makes (statement_status account limit) (States account) limit bytes answer.Done text are.legal [] End way.state.market
+      (judged_all limit bytes body version magic way.units way.rest way.passes.whole way.passes.each are.legal are.parts are.each way.state.market are.steps End way.halts.0.0 way.halts.0.1)
+      (status_there way.state.market ends.0)
+      (record {
         view = are.view;
         sees = are.sees;
-        ends = status_there way.state.market ends.0;
-        writes = whole_is text behind way.so_far way.last are.view is way.writes ends.1 (view_is version way.state way.units way.so_far are);
+        writes = whole_is text behind way.so_far way.last are.view is way.writes ends.1 (view_is version way.state way.units way.so_far are) ∙ text_there way.state.market are.view ends.0;
       })
   to limit bytes (Err (word.Torn n)) text (inr (version, body, behind, magic, is, on)) =
       let way = on.0 in
       let are = from_first version way.state way.units way.so_far way.passes.each way.passes.goes in
-      inr (record {
-        legal = are.legal;
-        behind = [];
-        ending = reading.Torn n;
-        market = way.state.market;
-        audits = judged_all limit bytes body version magic way.units way.rest way.passes.whole way.passes.each are.legal are.parts are.each way.state.market are.steps (reading.Torn n) way.halts.0.0 way.halts.0.1;
+      makes (statement_status account limit) (States account) limit bytes (answer.Torn n) text are.legal [] (reading.Torn n) way.state.market
+      (judged_all limit bytes body version magic way.units way.rest way.passes.whole way.passes.each are.legal are.parts are.each way.state.market are.steps (reading.Torn n) way.halts.0.0 way.halts.0.1)
+      refl
+      (record {
         view = are.view;
         sees = are.sees;
-        ends = refl;
         writes = all_is text behind way.so_far way.last are.view is way.writes way.halts.1 (view_is version way.state way.units way.so_far are);
       })
   to limit bytes (Err word.TooLong) text (inr (version, body, behind, magic, is, on)) =
       let way = on.0 in
       let are = from_first version way.state way.units way.so_far way.passes.each way.passes.goes in
-      inr (record {
-        legal = are.legal;
-        behind = [];
-        ending = reading.TooLong;
-        market = way.state.market;
-        audits = judged_all limit bytes body version magic way.units way.rest way.passes.whole way.passes.each are.legal are.parts are.each way.state.market are.steps reading.TooLong way.halts.0.0 way.halts.0.1;
+      makes (statement_status account limit) (States account) limit bytes (answer.TooLong limit) text are.legal [] reading.TooLong way.state.market
+      (judged_all limit bytes body version magic way.units way.rest way.passes.whole way.passes.each are.legal are.parts are.each way.state.market are.steps reading.TooLong way.halts.0.0 way.halts.0.1)
+      refl
+      (record {
         view = are.view;
         sees = are.sees;
-        ends = refl;
         writes = all_is text behind way.so_far way.last are.view is way.writes way.halts.1 (view_is version way.state way.units way.so_far are);
       })
   to limit bytes (Err (word.Stopped (why.Rejected number))) text (inr (version, body, behind, magic, is, on)) = stopped limit bytes number text version body behind magic is on.0 on.0.halts
@@ -259,51 +254,11 @@ module _ (account : ℕ) where
   to limit bytes (Err word.Write) text (inr (version, body, behind, magic, is, on)) = absurd on.0.halts
   to limit bytes (Err word.Memory) text (inr (version, body, behind, magic, is, on)) = absurd on.0.halts
 
-  -- ---- what may stand in out before the end
-
-  -- where more follow, no last lines are written
-  no_last : (place : ℕ) (rest : List ℕ) (s : Watched Stated) (ended : Ended NoStatement) (last : List ℕ) → Halts statement (Unit {0}) place rest s ended last → last ≡ []
-  no_last place rest s (Ok done) last halts = absurd (halts.0.1.1 tt)
-  no_last place rest s (Err (word.Torn n)) last halts = halts.1
-  no_last place rest s (Err word.TooLong) last halts = halts.1
-  no_last place rest s (Err (word.Stopped reason)) last (inl (bad, more, front, stops)) = stops.1.1
-  no_last place rest s (Err (word.Stopped reason)) last (inr at) = absurd (at.0.1.1 tt)
-  no_last place rest s (Err word.NotFlow) last halts = absurd halts
-  no_last place rest s (Err word.Read) last halts = absurd halts
-  no_last place rest s (Err word.Write) last halts = absurd halts
-  no_last place rest s (Err word.Memory) last halts = absurd halts
+  -- ---- where memory may be wanted
 
   -- the text of the units as that of what the account sees
   are_seen : (version : Version) (new : Watched Stated) (units : List (Record × Record)) (so_far text : List ℕ) (are : AreTold (statement_start account version) new units so_far) → text ≡ view_text are.view → AreSeen account version are.legal new.market text
   are_seen version new units so_far text are is = record { view = are.view; sees = are.sees; writes = is }
-
-  -- the first pairs of a file
-  first_pairs : (limit : ℕ) (bytes body more behind : List ℕ) (version : Version) (units : List (Record × Record)) (rest : List ℕ) (s : Watched Stated) (text so_far last : List ℕ) → take limit bytes ≡ journals.magics.spell version ++ (body ++ more)
-      → Passes statement body (statement_start account version) units rest s so_far → text ≡ [] ++ behind → behind ≡ so_far ++ last → last ≡ [] → StatesInto account limit bytes text
-  first_pairs limit bytes body more behind version units rest s text so_far last magic passes is parts none =
-      let are = from_first version s units so_far passes.each passes.goes in
-      record {
-        version = version;
-        legal = are.legal;
-        market = s.market;
-        starts = record {
-          body = body ++ more;
-          rest = rest ++ more;
-          magic = (tt, magic);
-          whole = rw (← are.parts) (ap (λ xs. xs ++ more) passes.whole ∙ append_assoc (spell_all journals.units units) rest more);
-          each = rw (← are.parts) passes.each;
-        };
-        fits = are.each;
-        seen = are_seen version s units so_far text are (all_is text behind so_far last are.view is parts none (view_is version s units so_far are));
-      }
-
-  into : (limit : ℕ) (bytes : List ℕ) (n : ℕ) (text : List ℕ) → (task statement (statement_start account)).Begins limit bytes n text → (text ≡ []) ⊎ StatesInto account limit bytes text
-  into limit bytes n text (ended, inl none) = inl none.2
-  into limit bytes n text (ended, inr (version, body, behind, magic, is, on)) =
-      let way = on.0 in
-      let more = drop n (take limit bytes) in
-      inr (first_pairs limit bytes body more behind version way.units way.rest way.state text way.so_far way.last
-      (sym (take-append-drop n (take limit bytes)) ∙ ap (λ xs. xs ++ more) magic.1 ∙ append_assoc (journals.magics.spell version) body more) way.passes is way.writes (no_last _ way.rest way.state ended way.last way.halts))
 
   out : (limit : ℕ) (bytes : List ℕ) (text : List ℕ) → (task statement (statement_start account)).Lacks limit bytes text → StatesShort account limit bytes text
   unfolding at_pair judged_all
@@ -324,41 +279,9 @@ module _ (account : ℕ) where
             inr (are.legal, way.state.market, record { audits = audits; there = there }, so)
       ]
 
-  met_why : (limit : ℕ) (bytes : List ℕ) (left : Option (List ℕ)) (reason : NoStatement) (before after : Option (List ℕ)) → Determines (Statement account) limit bytes (no_statement reason) before after → Meets (Statement account) limit bytes left (no_statement reason) before after
-  met_why limit bytes left (why.Rejected n) before after determines = determines
-  met_why limit bytes left (why.NoAccount n) before after determines = determines
+  owns : (reason : NoStatement) → IsOwn (no_statement reason)
+  owns (why.Rejected n) = tt
+  owns (why.NoAccount n) = tt
 
-  not_done : (reason : NoStatement) → no_statement reason ≡ answer.Done → ⊥
-  not_done (why.Rejected n) e = cc
-  not_done (why.NoAccount n) e = cc
-
-  not_read : (reason : NoStatement) → no_statement reason ≡ answer.ReadFault → ⊥
-  not_read (why.Rejected n) e = cc
-  not_read (why.NoAccount n) e = cc
-
-  not_write : (reason : NoStatement) → no_statement reason ≡ answer.WriteFault → ⊥
-  not_write (why.Rejected n) e = cc
-  not_write (why.NoAccount n) e = cc
-
-  not_memory : (reason : NoStatement) → no_statement reason ≡ answer.NoMemory → ⊥
-  not_memory (why.Rejected n) e = cc
-  not_memory (why.NoAccount n) e = cc
-
-  not_usage : (reason : NoStatement) → no_statement reason ≡ answer.Usage → ⊥
-  not_usage (why.Rejected n) e = cc
-  not_usage (why.NoAccount n) e = cc
-
-  pub statement_form : (limit : ℕ) → IsForm (task statement (statement_start account)) (Statement account) limit no_statement
-  statement_form limit = record {
-    to = to limit;
-    into = into limit;
-    out = out limit;
-    met = met_why limit;
-    not_done = not_done;
-    not_read = not_read;
-    not_write = not_write;
-    not_memory = not_memory;
-    not_usage = not_usage;
-    most = refl;
-    left = λ bytes. refl;
-  }
+  pub statement_form : IsForm (task statement (statement_start account)) (Statement account) no_statement
+  statement_form = word_form statement (statement_start account) statement_is_exact (Statement account) no_statement to (λ limit bytes n text more. more) out owns (λ limit. refl) (λ bytes. refl)

@@ -1,71 +1,112 @@
 -- A word over the driver does what the clauses of the program say of its form, once what it comes to is what they say.
-use Rattle.std.proofs.Common.{◌≡◌, ◌≢◌, ◌⊎◌, ℕ, List, [], length, Option, Some, None, IfSome, OnOk, Ok, Err, take, refl, ap, ◌∙◌, subst, inl, inr, arith, rules}
+use Rattle.std.proofs.Common.{◌≡◌, ◌≢◌, ◌⊎◌, ◌+◌, ℕ, List, [], ◌∷◌, ◌++◌, length, Option, Some, None, IfSome, OnOk, Ok, Err, take, refl, ap, ◌∙◌, subst, inl, inr, arith, rules}
 use Rattle.flow_io.specs.Faults.{Blames}
 use Rattle.flow_io.specs.Changes.{Change}
 use Rattle.flow_io.specs.Streams.{Grows, GrowsByFront, TakesAtMost}
+use Rattle.wire_records.specs.declared.version.Version.{Version}
 use Rattle.word_driver.specs.declared.fault.Fault.TheVariants as word
 use Rattle.word_driver.specs.Ended.{Ended}
-use Rattle.word_driver.specs.Does.{Task}
+use Rattle.word_driver.specs.Word.{Word}
+use Rattle.word_driver.specs.Does.{Task, task}
 use Rattle.word_driver.specs.Does as driver
+use Rattle.word_driver.specs.Laws.{IsExact}
 use Rattle.flow_exchange.specs.declared.form.Form.{Form}
 use Rattle.flow_exchange.specs.declared.status.Status.{Status}
 use Rattle.flow_exchange.specs.declared.status.Status.TheVariants as answer
 use Rattle.flow_exchange.specs.Statuses.{ended_status}
-use Rattle.flow_exchange.specs.Program.{ComesTo, GetsTo, LacksAt, most_taken, left_by, Determines, Meets, Does}
+use Rattle.flow_exchange.specs.Program.{ComesTo, ComesToIfMore, WritesSoFar, GetsTo, most_taken, left_by, Determines, Meets}
+use Rattle.flow_exchange.specs.Wanting.{LacksAt, RunsOut}
+use Rattle.flow_exchange.specs.Private.{Serves}
+use Rattle.flow_exchange.proofs.IfMore.{comes_if_more, lacks_begins}
 use Rattle.flow_exchange.proofs.Outcomes.{one_end}
-use Rattle.flow_exchange.proofs.Dispatch.{completes_form}
 
-take_nothing : (n : ℕ) → take {A = ℕ} n [] ≡ []
-take_nothing n = search rules
-
--- a front of nothing is nothing
-nothing : (before after : Option (List ℕ)) (text : List ℕ) → text ≡ [] → GrowsByFront before after text → Grows before after []
-nothing before after text none written = subst (λ (x : List ℕ). Grows before after x) (ap (take written.0) none ∙ take_nothing written.0) written.2
-
--- where no byte was taken, as many are left
-untouched : (bytes : List ℕ) (left : Option (List ℕ)) → driver.IsTaken bytes left 0 → IfSome left (λ rest. length rest ≡ length bytes)
-untouched bytes None taken = tt
-untouched bytes (Some rest) taken = omega (arith, taken)
+-- a reason of its own is none of the other statuses
+abbrev pub IsOwn : Status → Type 0
+IsOwn answer.Done = ⊥
+IsOwn answer.Usage = ⊥
+IsOwn answer.NotFlow = ⊥
+IsOwn (answer.Torn place) = ⊥
+IsOwn answer.ReadFault = ⊥
+IsOwn answer.WriteFault = ⊥
+IsOwn answer.NoMemory = ⊥
+IsOwn (answer.Rejected number) = Unit {0}
+IsOwn (answer.TooLong most) = ⊥
+IsOwn (answer.BadText number) = Unit {0}
+IsOwn answer.BadCheckpoint = Unit {0}
+IsOwn (answer.NoAccount number) = Unit {0}
+IsOwn answer.DiskFault = ⊥
+IsOwn answer.NotDisk = ⊥
+IsOwn (answer.Damaged place) = ⊥
 
 -- How a word's task is a form of the program, with a status for each of its own reasons to stop.
-pub record IsForm {B : Type 0} (t : Task B) (form : Form) (limit : ℕ) (own : B → Status) : Type 0 where
-  pub to : (bytes : List ℕ) (ended : Ended B) (text : List ℕ) → t.Comes limit bytes ended text → ComesTo form limit bytes (ended_status limit own ended) text
-  pub into : (bytes : List ℕ) (n : ℕ) (text : List ℕ) → t.Begins limit bytes n text → (text ≡ []) ⊎ GetsTo form limit bytes text
-  pub out : (bytes : List ℕ) (text : List ℕ) → t.Lacks limit bytes text → LacksAt form limit bytes text
-  pub met : (bytes : List ℕ) (left : Option (List ℕ)) (why : B) (before after : Option (List ℕ)) → Determines form limit bytes (own why) before after → Meets form limit bytes left (own why) before after
-  pub not_done : (why : B) → own why ≢ answer.Done
-  pub not_read : (why : B) → own why ≢ answer.ReadFault
-  pub not_write : (why : B) → own why ≢ answer.WriteFault
-  pub not_memory : (why : B) → own why ≢ answer.NoMemory
-  pub not_usage : (why : B) → own why ≢ answer.Usage
-  pub most : t.most_taken limit ≡ most_taken form limit
+pub record IsForm {B : Type 0} (t : Task B) (form : Form) (own : B → Status) : Type 0 where
+  pub to : (limit : ℕ) (bytes : List ℕ) (ended : Ended B) (text : List ℕ) → t.Comes limit bytes ended text → ComesTo form limit bytes (ended_status limit own ended) text
+  pub so_far : (limit : ℕ) (bytes : List ℕ) (n : ℕ) (text : List ℕ) → t.Begins limit bytes n text → WritesSoFar form limit bytes n text
+  pub gets : (limit : ℕ) (bytes : List ℕ) (n : ℕ) (text : List ℕ) (before after : Option (List ℕ)) → t.Begins limit bytes n text → GrowsByFront before after text → (other : List ℕ) × GetsTo form limit bytes other × GrowsByFront before after other
+  pub lacks : (limit : ℕ) (bytes : List ℕ) (text : List ℕ) → t.Lacks limit bytes text → (text ≡ []) ⊎ GetsTo form limit bytes text
+  pub out : (limit : ℕ) (bytes : List ℕ) (text : List ℕ) → t.Lacks limit bytes text → LacksAt form limit bytes text
+  pub owns : (why : B) → IsOwn (own why)
+  pub most : (limit : ℕ) → t.most_taken limit ≡ most_taken form limit
   pub left : (bytes : List ℕ) → t.left bytes ≡ left_by form bytes
 
-module _ {B : Type 0} (t : Task B) (form : Form) (limit : ℕ) (own : B → Status) (is : IsForm t form limit own) where
+-- nothing written is a front of anything
+pub nothing_is_front : (before after : Option (List ℕ)) (text other : List ℕ) → text ≡ [] → GrowsByFront before after text → GrowsByFront before after other
+nothing_is_front before after text other none written =
+    (0, omega arith, subst (λ (x : List ℕ). Grows before after x) (ap (take written.0) none ∙ take_nothing written.0) written.2)
+  where
+    take_nothing : (n : ℕ) → take {A = ℕ} n [] ≡ []
+    take_nothing n = search rules
+
+-- a word of the driver writes what has come before it reads more
+module _ {U S B : Type 0} (w : Word U S B) (start : Version → S) (exact : IsExact w) (form : Form) (own : B → Status)
+    (to : (limit : ℕ) (bytes : List ℕ) (ended : Ended B) (text : List ℕ) → (task w start).Comes limit bytes ended text → ComesTo form limit bytes (ended_status limit own ended) text) where
+  pub if_more : (limit : ℕ) (bytes : List ℕ) (n : ℕ) (text : List ℕ) → (task w start).Begins limit bytes n text → ComesToIfMore form (take n (take limit bytes)) text
+  if_more limit bytes n text (ended, comes) =
+      let first = take n (take limit bytes) in
+      λ next more. (ended_status (length first) own ended, to (length first) (first ++ next ∷ more) ended text (comes_if_more w start first next more ended text comes))
+
+  pub word_form : ((limit : ℕ) (bytes : List ℕ) (n : ℕ) (text : List ℕ) → ComesToIfMore form (take n (take limit bytes)) text → WritesSoFar form limit bytes n text)
+      → ((limit : ℕ) (bytes : List ℕ) (text : List ℕ) → (task w start).Lacks limit bytes text → LacksAt form limit bytes text) → ((why : B) → IsOwn (own why))
+      → ((limit : ℕ) → limit + 1 ≡ most_taken form limit) → ((bytes : List ℕ) → [] ≡ left_by form bytes) → IsForm (task w start) form own
+  word_form so_far out owns most left = record {
+    to = to;
+    so_far = λ limit bytes n text waits. so_far limit bytes n text (if_more limit bytes n text waits);
+    gets = λ limit bytes n text before after begins written. (text, inl (n, if_more limit bytes n text begins), written);
+    lacks = λ limit bytes text lacks.
+        let begins = lacks_begins w start exact limit bytes text lacks in
+        inr (inl (begins.0, if_more limit bytes begins.0 text begins.1));
+    out = out;
+    owns = owns;
+    most = most;
+    left = left;
+  }
+
+module _ {B : Type 0} (t : Task B) (form : Form) (limit : ℕ) (own : B → Status) (is : IsForm t form own) where
   determines : (bytes : List ℕ) (ended : Ended B) (before after : Option (List ℕ)) → driver.Determines t limit bytes ended before after → Determines form limit bytes (ended_status limit own ended) before after
   determines bytes ended before after (text, comes, written, one) =
-      let here = is.to bytes ended text comes in
+      let here = is.to limit bytes ended text comes in
       (text, here, written, λ other words also. one_end form limit bytes other (ended_status limit own ended) words text also here)
 
+  -- no fault came, and there was memory
+  met : (bytes : List ℕ) (left : Option (List ℕ)) (status : Status) (before after : Option (List ℕ)) → status ≢ answer.ReadFault → status ≢ answer.WriteFault → status ≢ answer.NoMemory → Determines form limit bytes status before after → Meets form limit bytes left status before after
+  met bytes left status before after r w m determined = record { read = λ e. absurd (r e); write = λ e. absurd (w e); memory = λ e. absurd (m e); determined = λ _ _ _. determined }
+
   meets : (bytes : List ℕ) (left : Option (List ℕ)) (ended : Ended B) (before after : Option (List ℕ)) → driver.Meets t limit bytes left ended before after → Meets form limit bytes left (ended_status limit own ended) before after
-  meets bytes left (Ok done) before after met = determines bytes (Ok done) before after met
-  meets bytes left (Err word.NotFlow) before after met = determines bytes (Err word.NotFlow) before after met
-  meets bytes left (Err (word.Torn n)) before after met = determines bytes (Err (word.Torn n)) before after met
-  meets bytes left (Err word.TooLong) before after met = determines bytes (Err word.TooLong) before after met
-  meets bytes left (Err (word.Stopped why)) before after met = is.met bytes left why before after (determines bytes (Err (word.Stopped why)) before after met)
-  meets bytes left (Err word.Read) before after (n, taken, text, begins, written) =
-      elim (is.into bytes n text begins) [
-        | inl none ↦ inl (subst (λ (x : List ℕ). Grows before after x) none written)
-        | inr into ↦ inr (text, into, written)
-      ]
+  meets bytes left (Ok done) before after so = met bytes left answer.Done before after (λ e. cc) (λ e. cc) (λ e. cc) (determines bytes (Ok done) before after so)
+  meets bytes left (Err word.NotFlow) before after so = met bytes left answer.NotFlow before after (λ e. cc) (λ e. cc) (λ e. cc) (determines bytes (Err word.NotFlow) before after so)
+  meets bytes left (Err (word.Torn n)) before after so = met bytes left (answer.Torn n) before after (λ e. cc) (λ e. cc) (λ e. cc) (determines bytes (Err (word.Torn n)) before after so)
+  meets bytes left (Err word.TooLong) before after so = met bytes left (answer.TooLong limit) before after (λ e. cc) (λ e. cc) (λ e. cc) (determines bytes (Err word.TooLong) before after so)
+  meets bytes left (Err (word.Stopped why)) before after so =
+      met bytes left (own why) before after (λ e. subst IsOwn e (is.owns why)) (λ e. subst IsOwn e (is.owns why)) (λ e. subst IsOwn e (is.owns why)) (determines bytes (Err (word.Stopped why)) before after so)
+  meets bytes left (Err word.Read) before after (n, taken, text, waits, written) =
+      record { read = λ e. (n, taken, text, is.so_far limit bytes n text waits, written); write = λ e. absurd cc; memory = λ e. absurd cc; determined = λ r w m. absurd (r refl) }
   meets bytes left (Err word.Write) before after (text, inl (n, begins), written) =
-      elim (is.into bytes n text begins) [
-        | inl none ↦ inl (nothing before after text none written)
-        | inr into ↦ inr (text, inl into, written)
-      ]
-  meets bytes left (Err word.Write) before after (text, inr (ended, comes), written) = inr (text, inr (ended_status limit own ended, is.to bytes ended text comes), written)
-  meets bytes left (Err word.Memory) before after (text, inl (taken, none), written) = (text, inl (untouched bytes left taken, none), written)
-  meets bytes left (Err word.Memory) before after (text, inr lacks, written) = (text, inr (is.out bytes text lacks), written)
+      record { read = λ e. absurd cc; write = λ e. is.gets limit bytes n text before after begins written; memory = λ e. absurd cc; determined = λ r w m. absurd (w refl) }
+  meets bytes left (Err word.Write) before after (text, inr (ended, comes), written) =
+      record { read = λ e. absurd cc; write = λ e. (text, inr (ended_status limit own ended, is.to limit bytes ended text comes), written); memory = λ e. absurd cc; determined = λ r w m. absurd (w refl) }
+  meets bytes left (Err word.Memory) before after (text, lacks, written) =
+      let to : (text ≡ []) ⊎ GetsTo form limit bytes text = elim lacks [ inl (taken, none) ↦ inl none | inr short ↦ is.lacks limit bytes text short ] in
+      record { read = λ e. absurd cc; write = λ e. absurd cc; memory = λ e. (text, to, written); determined = λ r w m. absurd (m refl) }
 
   meets_told : (told left : Option (List ℕ)) (ended : Ended B) (before after : Option (List ℕ)) → IfSome told (λ bytes. driver.Meets t limit bytes left ended before after) → IfSome told (λ bytes. Meets form limit bytes left (ended_status limit own ended) before after)
   meets_told None left ended before after met = tt
@@ -79,7 +120,7 @@ module _ {B : Type 0} (t : Task B) (form : Form) (limit : ℕ) (own : B → Stat
   read_back (Err word.NotFlow) e = absurd cc
   read_back (Err (word.Torn n)) e = absurd cc
   read_back (Err word.TooLong) e = absurd cc
-  read_back (Err (word.Stopped why)) e = absurd (is.not_read why e)
+  read_back (Err (word.Stopped why)) e = absurd (subst IsOwn e (is.owns why))
 
   pub write_back : (ended : Ended B) → ended_status limit own ended ≡ answer.WriteFault → ended ≡ Err word.Write
   write_back (Err word.Write) e = refl
@@ -89,7 +130,7 @@ module _ {B : Type 0} (t : Task B) (form : Form) (limit : ℕ) (own : B → Stat
   write_back (Err word.NotFlow) e = absurd cc
   write_back (Err (word.Torn n)) e = absurd cc
   write_back (Err word.TooLong) e = absurd cc
-  write_back (Err (word.Stopped why)) e = absurd (is.not_write why e)
+  write_back (Err (word.Stopped why)) e = absurd (subst IsOwn e (is.owns why))
 
   pub memory_back : (ended : Ended B) → ended_status limit own ended ≡ answer.NoMemory → ended ≡ Err word.Memory
   memory_back (Err word.Memory) e = refl
@@ -99,7 +140,7 @@ module _ {B : Type 0} (t : Task B) (form : Form) (limit : ℕ) (own : B → Stat
   memory_back (Err word.NotFlow) e = absurd cc
   memory_back (Err (word.Torn n)) e = absurd cc
   memory_back (Err word.TooLong) e = absurd cc
-  memory_back (Err (word.Stopped why)) e = absurd (is.not_memory why e)
+  memory_back (Err (word.Stopped why)) e = absurd (subst IsOwn e (is.owns why))
 
   pub not_asked : (ended : Ended B) → ended_status limit own ended ≢ answer.Usage
   not_asked (Err word.Write) e = absurd cc
@@ -109,7 +150,7 @@ module _ {B : Type 0} (t : Task B) (form : Form) (limit : ℕ) (own : B → Stat
   not_asked (Err word.NotFlow) e = absurd cc
   not_asked (Err (word.Torn n)) e = absurd cc
   not_asked (Err word.TooLong) e = absurd cc
-  not_asked (Err (word.Stopped why)) e = is.not_usage why e
+  not_asked (Err (word.Stopped why)) e = subst IsOwn e (is.owns why)
 
   left_told : (told rest : Option (List ℕ)) → IfSome told (λ bytes. rest ≡ Some (t.left bytes)) → IfSome told (λ bytes. rest ≡ Some (left_by form bytes))
   left_told None rest left = tt
@@ -123,9 +164,14 @@ module _ {B : Type 0} (t : Task B) (form : Form) (limit : ℕ) (own : B → Stat
   left_back told rest (Err word.NotFlow) left e = absurd cc
   left_back told rest (Err (word.Torn n)) left e = absurd cc
   left_back told rest (Err word.TooLong) left e = absurd cc
-  left_back told rest (Err (word.Stopped why)) left e = absurd (is.not_done why e)
+  left_back told rest (Err (word.Stopped why)) left e = absurd (subst IsOwn e (is.owns why))
 
-  pub does : (ended : Ended B) (source out : Change) → driver.Does t limit ended source out → Does form limit (ended_status limit own ended) source out
+  -- where memory was wanted
+  wants_told : (told left : Option (List ℕ)) (before after : Option (List ℕ)) → IfSome told (λ bytes. driver.Meets t limit bytes left (Err word.Memory) before after) → IfSome told (λ bytes. RunsOut form limit bytes left before after)
+  wants_told None left before after so = tt
+  wants_told (Some bytes) left before after (text, lacks, written) = (text, elim lacks [ inl none ↦ inl none | inr short ↦ inr (is.out limit bytes text short) ], written)
+
+  pub does : (ended : Ended B) (source out : Change) → driver.Does t limit ended source out → Serves form limit (ended_status limit own ended) source out
   does ended source out done =
       let met = meets_told source.before source.after ended out.before out.after done.meets in
       let reads : Blames (ended_status limit own ended ≡ answer.ReadFault) source.faults source.faults_after = record {
@@ -139,10 +185,13 @@ module _ {B : Type 0} (t : Task B) (form : Form) (limit : ℕ) (own : B → Stat
         quiet = λ not. done.writes.quiet (λ e. not (ap (ended_status limit own) e));
       } in
       record {
-        meets = met;
-        complete = completes_form form source.before source.after limit (ended_status limit own ended) out.before out.after source.faults source.faults_after out.faults out.faults_after met reads writes;
-        taken = subst (λ (most : ℕ). TakesAtMost source.before source.after most) is.most done.taken;
-        left = left_back source.before source.after ended done.left;
-        reads = reads;
-        writes = writes;
+        does = record {
+          meets = met;
+          taken = subst (λ (most : ℕ). TakesAtMost source.before source.after most) (is.most limit) done.taken;
+          left = left_back source.before source.after ended done.left;
+          reads = reads;
+          writes = writes;
+        };
+        wants = λ e. wants_told source.before source.after out.before out.after
+            (subst (λ (z : Ended B). IfSome source.before (λ bytes. driver.Meets t limit bytes source.after z out.before out.after)) (memory_back ended e) done.meets);
       }

@@ -1,9 +1,12 @@
 -- What holds of the words and outcomes on which the program's own promise rests. What else holds of them stands in `flow_laws`.
-use Rattle.std.specs.Prelude.{◌≡◌, ℕ, List}
+use Rattle.std.specs.Prelude.{◌≡◌, ◌≢◌, ℕ, List, IfSome}
+use Rattle.flow_io.specs.Faults.{Rose}
+use Rattle.flow_io.specs.Changes.{Change}
 use Rattle.flow_exchange.specs.declared.form.Form.{Form}
 use Rattle.flow_exchange.specs.declared.status.Status.{Status}
+use Rattle.flow_exchange.specs.declared.status.Status.TheVariants.{NoMemory}
 use Rattle.flow_exchange.specs.Forms.{Asks}
-use Rattle.flow_exchange.specs.Program.{ComesTo}
+use Rattle.flow_exchange.specs.Program.{ComesTo, Determines, Does}
 
 -- words ask for one form
 abbrev pub OneForm : Type 0
@@ -13,3 +16,9 @@ OneForm = (words : List (List ℕ)) (f g : Form) → Asks words f → Asks words
 abbrev pub OneEnd : Type 0
 OneEnd =
     (form : Form) (limit : ℕ) (bytes : List ℕ) (s t : Status) (x y : List ℕ) → ComesTo form limit bytes s x → ComesTo form limit bytes t y → (s ≡ t) × (x ≡ y)
+
+-- where neither count of faults rose, memory was wanted, or the bytes determine the status and what was written
+abbrev pub FaultlessIsDetermined : Type 0
+FaultlessIsDetermined = (form : Form) (limit : ℕ) (status : Status) (source out : Change) → Does form limit status source out
+    → (¬ Rose source.faults source.faults_after) → (¬ Rose out.faults out.faults_after) → status ≢ NoMemory
+    → IfSome source.before (λ bytes. Determines form limit bytes status out.before out.after)

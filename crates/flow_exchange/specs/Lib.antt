@@ -1,6 +1,7 @@
 pub mod Statuses
 pub mod Forms
 pub mod Running
+pub mod JournalFiles
 pub mod Auditing
 pub mod Explaining
 pub mod Reporting
@@ -9,5 +10,7 @@ pub mod Resuming
 pub mod Sampling
 pub mod Stating
 pub mod Program
+pub mod Wanting
+pub mod Promising
 pub mod Laws
 pub mod Private

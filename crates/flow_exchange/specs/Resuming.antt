@@ -1,8 +1,8 @@
 -- What `flow resume` makes of the bytes of its source.
-use Rattle.std.specs.Prelude.{◌≡◌, ◌⊎◌, ◌<◌, ℕ, List, [], length, take}
+use Rattle.std.specs.Prelude.{◌≡◌, ◌<◌, ℕ, List, length, take}
 use Rattle.word_driver.specs.Ended.{Ended}
 use Rattle.session_resume.specs.declared.first.Unfit.{Unfit}
-use Rattle.session_resume.specs.Resuming.{Resumes, ResumesShort}
+use Rattle.session_resume.specs.Resuming.{Resumes}
 use Rattle.flow_exchange.specs.declared.status.Status.{Status}
 use Rattle.flow_exchange.specs.Statuses.{ended_status, unfit_status}
 
@@ -10,8 +10,3 @@ use Rattle.flow_exchange.specs.Statuses.{ended_status, unfit_status}
 abbrev pub ResumesTo : ℕ → List ℕ → Status → List ℕ → Type 0
 ResumesTo limit bytes status text =
     (ended : Ended Unfit) × Resumes (limit < length bytes) (take limit bytes) ended text × (status ≡ ended_status limit unfit_status ended)
-
--- what may stand in out where memory ran out: nothing, while it read, audited or restored; or the pairs of the records before one that may
--- want some
-abbrev pub ResumesOut : ℕ → List ℕ → List ℕ → Type 0
-ResumesOut limit bytes text = (text ≡ []) ⊎ ResumesShort (take limit bytes) text

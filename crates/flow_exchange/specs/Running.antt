@@ -1,5 +1,5 @@
 -- What `flow run` makes of the bytes of its source.
-use Rattle.std.specs.Prelude.{◌≡◌, ◌⊎◌, ◌+◌, ◌≤◌, ◌++◌, ◌∷◌, ℕ, List, [], length, take, Option, IfSome}
+use Rattle.std.specs.Prelude.{◌≡◌, ◌⊎◌, ◌+◌, ◌≤◌, ◌++◌, ◌∷◌, ℕ, List, [], length, Option, IfSome}
 use Rattle.std.specs.List.{flat_map}
 use Rattle.flow_io.specs.Changes.{Change}
 use Rattle.flow_io.specs.Streams.{Grows}
@@ -11,7 +11,7 @@ use Rattle.market_rules.specs.Market.{Market}
 use Rattle.market_rules.specs.Wanting.{RecordMayWant}
 use Rattle.exchange_session.specs.Journals.{Journals}
 use Rattle.flow_exchange.specs.declared.status.Status.{Status}
-use Rattle.flow_exchange.specs.declared.status.Status.TheVariants.{ReadFault, WriteFault, NoMemory}
+use Rattle.flow_exchange.specs.declared.status.Status.TheVariants.{WriteFault, NoMemory}
 use Rattle.flow_exchange.specs.Statuses.{reading_status}
 
 -- what is written for a reading: the journal of its records, in the version of the file
@@ -25,14 +25,6 @@ pub record RunsTo (limit : ℕ) (bytes : List ℕ) (status : Status) (text : Lis
   pub reads : Reads commands limit bytes reading
   pub ends : status ≡ reading_status limit reading
   pub writes : WritesOf reading text
-
--- The text is the journal of the first records.
-pub record RunsInto (limit : ℕ) (bytes : List ℕ) (text : List ℕ) : Type 0 where
-  pub version : Version
-  pub records : List Record
-  pub market : Market
-  pub starts : StartsWith commands limit bytes version records
-  pub writes : Journals version records market text
 
 -- The text is the journal of the records before one that may want memory.
 pub record RunsShort (limit : ℕ) (bytes : List ℕ) (text : List ℕ) : Type 0 where
@@ -48,10 +40,6 @@ pub record RunsShort (limit : ℕ) (bytes : List ℕ) (text : List ℕ) : Type 0
 abbrev pub WhereTaken : Option (List ℕ) → Option (List ℕ) → (List ℕ → ℕ → Type 0) → Type 0
 WhereTaken before after Holds = IfSome before (λ bytes. IfSome after (λ left. (n : ℕ) × (n + length left ≡ length bytes) × Holds bytes n))
 
--- what out grew by where a read failed once so many bytes were taken: what a run of them alone writes
-abbrev pub RunsThrough : ℕ → Option (List ℕ) → Option (List ℕ) → List ℕ → ℕ → Type 0
-RunsThrough limit before after bytes n = (status : Status) × (text : List ℕ) × RunsTo n (take limit bytes) status text × Grows before after text
-
 -- The pairs of the first records stand whole in what out gained, and at most 1,030 bytes were taken past them.
 pub record IsNearPairs (limit : ℕ) (before after : Option (List ℕ)) (bytes : List ℕ) (taken : ℕ) : Type 0 where
   pub version : Version
@@ -64,11 +52,8 @@ pub record IsNearPairs (limit : ℕ) (before after : Option (List ℕ)) (bytes :
   pub stands : Grows before after (text ++ more)
   pub near : taken ≤ 8 + length (flat_map spelling records) + 1030
 
--- Where a run was cut short, what it wrote and how far it read.
-pub record KeepsPace (limit : ℕ) (status : Status) (source out : Change) : Type 0 where
-  -- After a fault of the source the pairs of all whole records that were taken were written, and no more.
-  pub reads : status ≡ ReadFault → WhereTaken source.before source.after (RunsThrough limit out.before out.after)
-  -- After a fault of out, and where memory ran out, the source was read no further than 1,030 bytes past the last record whose pair was
-  -- written, or past the first eight bytes.
-  pub ahead : (status ≡ WriteFault) ⊎ (status ≡ NoMemory)
-      → WhereTaken source.before source.after (λ bytes taken. (taken ≤ 8 + 1030) ⊎ IsNearPairs limit out.before out.after bytes taken)
+-- How far a run has read where it was cut short: after a fault of out, and where memory ran out, no further than 1,030 bytes past the last
+-- record whose pair was written, or past the first eight bytes.
+abbrev pub KeepsPace : ℕ → Status → Change → Change → Type 0
+KeepsPace limit status source out = (status ≡ WriteFault) ⊎ (status ≡ NoMemory)
+    → WhereTaken source.before source.after (λ bytes taken. (taken ≤ 8 + 1030) ⊎ IsNearPairs limit out.before out.after bytes taken)

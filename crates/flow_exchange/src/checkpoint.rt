@@ -1,7 +1,7 @@
 //! `flow checkpoint`: a journal in, and the checkpoint of its market out.
 ghost use Rattle.std.specs.Prelude.{◌≢◌};
 ghost use Rattle.flow_io.specs.Changes.{change};
-ghost use Rattle.flow_exchange.specs.Program.{Does};
+ghost use Rattle.flow_exchange.specs.Private.{Serves};
 ghost use Rattle.flow_exchange.specs.declared.form.Form.TheVariants.{Checkpoint};
 
 use crate::Status;
@@ -21,7 +21,7 @@ pub(crate) fn checkpoint<S: Source, K: Sink>(
     out: &mut K,
 ) -> Status
     ensures asked { result ≢ Status.Usage }
-    ensures does { Does Checkpoint limit result (change S.rest S.faults source.old source.new)
+    ensures does { Serves Checkpoint limit result (change S.rest S.faults source.old source.new)
         (change K.held K.faults out.old out.new) }
 {
     let ended = go(

@@ -1,7 +1,7 @@
 //! `flow encode`: lines of JSON in, a command file out.
 ghost use Rattle.std.specs.Prelude.{◌≢◌};
 ghost use Rattle.flow_io.specs.Changes.{change};
-ghost use Rattle.flow_exchange.specs.Program.{Does};
+ghost use Rattle.flow_exchange.specs.Private.{Serves};
 ghost use Rattle.flow_exchange.specs.declared.form.Form.TheVariants.{Encode};
 
 use crate::Status;
@@ -21,7 +21,7 @@ pub(crate) fn encode<S: Source, K: Sink>(
     out: &mut K,
 ) -> Status
     ensures asked { result ≢ Status.Usage }
-    ensures does { Does (Encode version) limit result (change S.rest S.faults source.old source.new)
+    ensures does { Serves (Encode version) limit result (change S.rest S.faults source.old source.new)
         (change K.held K.faults out.old out.new) }
 {
     let ended = encode_source(alloc, version, limit, source, out);

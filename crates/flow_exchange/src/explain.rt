@@ -1,7 +1,7 @@
 //! `flow explain`: a journal in, and a line out, where it is legal or where a pair isn't.
 ghost use Rattle.std.specs.Prelude.{◌≢◌};
 ghost use Rattle.flow_io.specs.Changes.{change};
-ghost use Rattle.flow_exchange.specs.Program.{Does};
+ghost use Rattle.flow_exchange.specs.Private.{Serves};
 ghost use Rattle.flow_exchange.specs.declared.form.Form.TheVariants.{Explain};
 
 use crate::Status;
@@ -19,7 +19,7 @@ pub(crate) fn explain<S: Source, K: Sink>(
     out: &mut K,
 ) -> Status
     ensures asked { result ≢ Status.Usage }
-    ensures does { Does Explain limit result (change S.rest S.faults source.old source.new)
+    ensures does { Serves Explain limit result (change S.rest S.faults source.old source.new)
         (change K.held K.faults out.old out.new) }
 {
     let ended = go(

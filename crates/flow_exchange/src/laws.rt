@@ -1,7 +1,7 @@
 //! What holds of the program's words and outcomes, whatever code there is, where its own promise rests on it. Each law is the
 //! contract of a function that does nothing. What else holds stands in the crate `flow_laws`.
 ghost use Rattle.std.specs.Prelude.{◌≡◌, ◌↔◌, IsTrue};
-ghost use Rattle.flow_exchange.specs.Laws.{OneForm, OneEnd};
+ghost use Rattle.flow_exchange.specs.Laws.{OneForm, OneEnd, FaultlessIsDetermined};
 
 use crate::Status;
 
@@ -13,6 +13,11 @@ pub fn one_form()
 /// For each form the bytes of the source determine one status, and one text for out.
 pub fn one_end()
     ensures { OneEnd }
+{}
+
+/// Where no fault came and memory wasn't wanted, the bytes of the source determine the status and what was written.
+pub fn faultless_is_determined()
+    ensures { FaultlessIsDetermined }
 {}
 
 /// Two statuses are equal in a test exactly where they are the same.

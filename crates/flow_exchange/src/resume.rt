@@ -1,7 +1,7 @@
 //! `flow resume`: a journal or a checkpoint in, and commands behind it, and the pairs of these out.
 ghost use Rattle.std.specs.Prelude.{◌≢◌};
 ghost use Rattle.flow_io.specs.Changes.{change};
-ghost use Rattle.flow_exchange.specs.Program.{Does};
+ghost use Rattle.flow_exchange.specs.Private.{Serves};
 ghost use Rattle.flow_exchange.specs.declared.form.Form.TheVariants.{Resume};
 
 use crate::Status;
@@ -19,7 +19,7 @@ pub(crate) fn resume<S: Source, K: Sink>(
     out: &mut K,
 ) -> Status
     ensures asked { result ≢ Status.Usage }
-    ensures does { Does Resume limit result (change S.rest S.faults source.old source.new)
+    ensures does { Serves Resume limit result (change S.rest S.faults source.old source.new)
         (change K.held K.faults out.old out.new) }
 {
     let ended = resume_source(alloc, limit, source, out);

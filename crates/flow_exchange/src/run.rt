@@ -1,7 +1,7 @@
 //! `flow run`: a command file in, a journal out.
 ghost use Rattle.std.specs.Prelude.{◌≢◌};
 ghost use Rattle.flow_io.specs.Changes.{change};
-ghost use Rattle.flow_exchange.specs.Program.{Does};
+ghost use Rattle.flow_exchange.specs.Private.{Serves};
 ghost use Rattle.flow_exchange.specs.Running.{KeepsPace};
 ghost use Rattle.flow_exchange.specs.declared.form.Form.TheVariants.{Run as run_form};
 
@@ -22,7 +22,7 @@ pub(crate) fn run<S: Source, K: Sink>(
     out: &mut K,
 ) -> Status
     ensures asked { result ≢ Status.Usage }
-    ensures does { Does run_form limit result (change S.rest S.faults source.old source.new)
+    ensures does { Serves run_form limit result (change S.rest S.faults source.old source.new)
         (change K.held K.faults out.old out.new) }
     ensures paced { KeepsPace limit result (change S.rest S.faults source.old source.new)
         (change K.held K.faults out.old out.new) }

@@ -1,7 +1,7 @@
 //! `flow sample NUMBER ORDERS`: a sample of a large market, and a line out.
 ghost use Rattle.std.specs.Prelude.{◌≡◌, ◌≢◌, ◌≤◌, ℕ, List, Option};
 ghost use Rattle.flow_io.specs.Changes.{change};
-ghost use Rattle.flow_exchange.specs.Program.{Does};
+ghost use Rattle.flow_exchange.specs.Private.{Serves};
 ghost use Rattle.flow_exchange.specs.declared.form.Form.TheVariants.{Sample};
 
 use crate::Status;
@@ -16,7 +16,7 @@ pub(crate) fn sample<K: Sink>(alloc: Global, number: u64, orders: u32, out: &mut
     requires few { orders ≤ 16384 }
     ensures asked { result ≢ Status.Usage }
     // Whatever the source has left, and whatever its count of faults is, they stay.
-    ensures does { (limit : ℕ) (rest : Option (List ℕ)) (faults : ℕ) → Does (Sample number orders) limit result
+    ensures does { (limit : ℕ) (rest : Option (List ℕ)) (faults : ℕ) → Serves (Sample number orders) limit result
         (record { before = rest; after = rest; faults = faults; faults_after = faults })
         (change K.held K.faults out.old out.new) }
 {

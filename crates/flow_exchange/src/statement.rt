@@ -1,7 +1,7 @@
 //! `flow statement NUMBER`: a journal in, and the statement of an account out.
 ghost use Rattle.std.specs.Prelude.{◌≢◌};
 ghost use Rattle.flow_io.specs.Changes.{change};
-ghost use Rattle.flow_exchange.specs.Program.{Does};
+ghost use Rattle.flow_exchange.specs.Private.{Serves};
 ghost use Rattle.flow_exchange.specs.declared.form.Form.TheVariants.{Statement};
 
 use crate::Status;
@@ -22,7 +22,7 @@ pub(crate) fn statement<S: Source, K: Sink>(
     out: &mut K,
 ) -> Status
     ensures asked { result ≢ Status.Usage }
-    ensures does { Does (Statement number) limit result (change S.rest S.faults source.old source.new)
+    ensures does { Serves (Statement number) limit result (change S.rest S.faults source.old source.new)
         (change K.held K.faults out.old out.new) }
 {
     let ended = go(alloc, limit, source, out, Stating::new(alloc, number));

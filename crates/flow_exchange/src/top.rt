@@ -1,9 +1,12 @@
 //! The call that the program makes.
-ghost use Rattle.std.specs.Prelude.{◌≡◌, ◌≢◌, ◌^◌, ℕ, List, Some, map, string_bytes};
+ghost use Rattle.std.specs.Prelude.{◌≡◌, ◌≢◌, ◌^◌, ℕ, List, map, string_bytes};
 ghost use Rattle.flow_io.specs.Changes.{change};
 ghost use Rattle.flow_exchange.specs.Forms.{Asks};
-ghost use Rattle.flow_exchange.specs.Program.{Does, ServesCall};
+ghost use Rattle.flow_exchange.specs.Private.{Serves};
+ghost use Rattle.flow_exchange.specs.Program.{ServesCall};
+ghost use Rattle.flow_exchange.specs.Promising.{Promises};
 ghost use Rattle.flow_exchange.specs.Running.{KeepsPace};
+ghost use Rattle.flow_exchange.specs.Wanting.{WantsMemory};
 
 use crate::Status;
 use crate::audit::audit;
@@ -32,7 +35,7 @@ fn do_form<S: Source, K: Sink>(
 ) -> Status
     requires form { (words : List (List ℕ)) × Asks words form }
     ensures asked { result ≢ Status.Usage }
-    ensures does { Does form limit result (change S.rest S.faults source.old source.new)
+    ensures does { Serves form limit result (change S.rest S.faults source.old source.new)
         (change K.held K.faults out.old out.new) }
     ensures paced { form ≡ Form.Run → KeepsPace limit result (change S.rest S.faults source.old source.new)
         (change K.held K.faults out.old out.new) }
@@ -61,6 +64,14 @@ pub fn flow_limited<S: Source, K: Sink, N: Sink>(
 ) -> Status
     ensures serves { ServesCall limit (map string_bytes words.now) result (change S.rest S.faults source.old source.new)
         (change K.held K.faults out.old out.new) (change N.held N.faults notes.old notes.new) }
+    // Where memory may be wanted.
+    ensures wants { (form : Form) → Asks (map string_bytes words.now) form → WantsMemory form limit result
+        (change S.rest S.faults source.old source.new) (change K.held K.faults out.old out.new) }
+    // What is promised of a journal that stands in the source.
+    ensures promises { (form : Form) → Asks (map string_bytes words.now) form → Promises form limit (S.rest source.old) }
+    // How far a run has read that was cut short.
+    ensures paced { Asks (map string_bytes words.now) Form.Run → KeepsPace limit result
+        (change S.rest S.faults source.old source.new) (change K.held K.faults out.old out.new) }
     // The words are no form: nothing is read, and nothing is written to out.
     ensures idle { result ≡ Status.Usage → (source.new ≡ source.old) × (out.new ≡ out.old) }
 {
@@ -95,9 +106,9 @@ pub fn flow_limited<S: Source, K: Sink, N: Sink>(
 /// these bytes, and while it is moved the smaller one is there too. `checkpoint` holds its text whole besides, at the end. `encode` and
 /// `resume` hold their input whole.
 ///
-/// `run` answers a record before it asks for more: after a read fault the pairs of all whole records that came were written, and after a
-/// write fault, or where memory ran out, no more than 1,030 bytes were read past the last record whose pair was written, or past the
-/// magic.
+/// Each form but `encode`, `sample` and `resume` writes what has come before it asks for more: after a read fault there stands what the
+/// bytes that came make if more follow, as after `run` the pairs of all whole records. After a write fault `run` has read no more than
+/// 1,030 bytes past the last pair that was written.
 pub fn flow<S: Source, K: Sink, N: Sink>(
     alloc: Global,
     words: &[String],
@@ -107,6 +118,11 @@ pub fn flow<S: Source, K: Sink, N: Sink>(
 ) -> Status
     ensures serves { ServesCall (2 ^ 32) (map string_bytes words.now) result (change S.rest S.faults source.old source.new)
         (change K.held K.faults out.old out.new) (change N.held N.faults notes.old notes.new) }
+    ensures wants { (form : Form) → Asks (map string_bytes words.now) form → WantsMemory form (2 ^ 32) result
+        (change S.rest S.faults source.old source.new) (change K.held K.faults out.old out.new) }
+    ensures promises { (form : Form) → Asks (map string_bytes words.now) form → Promises form (2 ^ 32) (S.rest source.old) }
+    ensures paced { Asks (map string_bytes words.now) Form.Run → KeepsPace (2 ^ 32) result
+        (change S.rest S.faults source.old source.new) (change K.held K.faults out.old out.new) }
     ensures idle { result ≡ Status.Usage → (source.new ≡ source.old) × (out.new ≡ out.old) }
 {
     flow_limited(alloc, words, INPUT_LIMIT, source, out, notes)

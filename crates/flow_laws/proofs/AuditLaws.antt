@@ -19,10 +19,11 @@ use Rattle.journal_replay.proofs.Judged.{read_more}
 use Rattle.journal_words.specs.Findings.{IsExplained}
 use Rattle.journal_replay.proofs.LawProofs.{audits_to_end}
 use Rattle.flow_exchange.specs.declared.status.Status.TheVariants as answer
-use Rattle.flow_exchange.specs.Auditing.{legal_line, audit_status, AuditsFile}
+use Rattle.flow_exchange.specs.JournalFiles.{Journal, if_whole, audit_status, status_of, MakesOf}
+use Rattle.flow_exchange.specs.Auditing.{legal_line, audit_text}
 use Rattle.flow_exchange.specs.Explaining.{Explains}
 use Rattle.flow_laws.specs.Laws.{DoneIsForLegalJournals, HasFirstIllegal, RejectedIsFirstIllegal}
-use Rattle.flow_exchange.proofs.FileOf.{file_of}
+use Rattle.flow_exchange.proofs.FileOf.{makes}
 
 -- a status that is done leaves no pair, and comes of the end
 pub done_all : (limit : ℕ) (ending : Ending) (legal : List (Pair Record Outcome)) (behind : List (Record × Record)) → answer.Done ≡ audit_status limit ending legal behind → (behind ≡ []) × (ending ≡ End)
@@ -31,22 +32,31 @@ done_all limit (Torn n) legal [] e = absurd cc
 done_all limit TooLong legal [] e = absurd cc
 done_all limit ending legal (bad ∷ more) e = absurd cc
 
-done_file : (limit : ℕ) (bytes text : List ℕ) (file : AuditsFile limit bytes answer.Done text) → (version : Version) × IsLegalJournal version file.legal file.market × (bytes ≡ journal_in version file.legal) × (length bytes ≤ limit) × (text ≡ legal_line file.legal)
+-- then the first of two is made
+pub all_made : {A : Type 0} (behind : List (Record × Record)) (ending : Ending) (whole broken : A) → (behind ≡ []) × (ending ≡ End) → if_whole behind ending whole broken ≡ whole
+all_made behind ending whole broken all = rw (all.0, all.1) refl
+
+abbrev pub audited : Journal → List ℕ → Type 0
+audited journal text = text ≡ audit_text journal
+
+done_file : (limit : ℕ) (bytes text : List ℕ) (file : MakesOf limit bytes (status_of limit) audited answer.Done text)
+    → (version : Version) × IsLegalJournal version file.journal.legal file.journal.market × (bytes ≡ journal_in version file.journal.legal) × (length bytes ≤ limit) × (text ≡ legal_line file.journal.legal)
 done_file limit bytes text file =
-    let all = done_all limit file.ending file.legal file.behind file.ends in
-    let audits : Audits limit bytes file.legal [] End file.market = rw (all.0, all.1) at file.audits in
-    let legal = (audits_to_end limit bytes file.legal file.market).0 audits in
-    (legal.0, legal.1, legal.2, legal.3, file.writes)
+    let journal = file.journal in
+    let all = done_all limit journal.ending journal.legal journal.behind file.ends in
+    let audits : Audits limit bytes journal.legal [] End journal.market = rw (all.0, all.1) at file.is.audits in
+    let legal = (audits_to_end limit bytes journal.legal journal.market).0 audits in
+    (legal.0, legal.1, legal.2, legal.3, file.writes ∙ all_made journal.behind journal.ending (legal_line journal.legal) [] all)
 
 pub done_is_for_legal : DoneIsForLegalJournals
 done_is_for_legal limit bytes text = (
   λ comes.
       elim comes [
         | inl none ↦ absurd (let no = none.1 in cc)
-        | inr file ↦ let all = done_file limit bytes text file in (all.0, file.legal, file.market, all.1, all.2, all.3, all.4)
+        | inr file ↦ let all = done_file limit bytes text file in (all.0, file.journal.legal, file.journal.market, all.1, all.2, all.3, all.4)
       ],
   λ legal.
-      inr (rw legal.6 (file_of limit bytes answer.Done legal.1 [] End legal.2 ((audits_to_end limit bytes legal.1 legal.2).1 (legal.0, legal.3, legal.4, legal.5)) refl)),
+      makes (status_of limit) audited limit bytes answer.Done text legal.1 [] End legal.2 ((audits_to_end limit bytes legal.1 legal.2).1 (legal.0, legal.3, legal.4, legal.5)) refl legal.6,
 )
 
 -- one of a list's elements is lawful where all are
@@ -130,15 +140,26 @@ audits_first limit number bytes first =
       },
     )
 
+-- where a pair is rejected, the second of two is made
+none_made : {A : Type 0} (limit number : ℕ) (ending : Ending) (legal : List (Pair Record Outcome)) (behind : List (Record × Record)) (whole broken : A) → answer.Rejected number ≡ audit_status limit ending legal behind → if_whole behind ending whole broken ≡ broken
+none_made limit number End legal [] whole broken e = absurd cc
+none_made limit number (Torn n) legal [] whole broken e = refl
+none_made limit number TooLong legal [] whole broken e = refl
+none_made limit number ending legal (bad ∷ more) whole broken e = refl
+
 pub rejected_is_first : RejectedIsFirstIllegal
 rejected_is_first limit number bytes text = (
   λ comes.
       elim comes [
         | inl none ↦ absurd (let no = none.1 in cc)
-        | inr file ↦ (rejected_file limit number bytes file.legal file.behind file.ending file.market file.audits file.ends, file.writes)
+        | inr file ↦
+            let journal = file.journal in (
+              rejected_file limit number bytes journal.legal journal.behind journal.ending journal.market file.is.audits file.ends,
+              file.writes ∙ none_made limit number journal.ending journal.legal journal.behind (legal_line journal.legal) [] file.ends,
+            )
       ],
   λ illegal.
       let first = illegal.0 in
       let all = audits_first limit number bytes first in
-      inr (rw illegal.1 (file_of limit bytes (answer.Rejected number) first.pairs (first.bad ∷ all.0) all.1 first.market all.2 (ap (λ (n : ℕ). answer.Rejected n) first.counted))),
+      makes (status_of limit) audited limit bytes (answer.Rejected number) text first.pairs (first.bad ∷ all.0) all.1 first.market all.2 (ap (λ (n : ℕ). answer.Rejected n) first.counted) illegal.1,
 )

@@ -7,7 +7,7 @@ use Rattle.wire_records.specs.Records.{Record}
 use Rattle.wire_records.specs.Commands.{Command, AddAsset, OpenAccount, DepositMoney, DepositAsset, WithdrawMoney, WithdrawAsset, PlaceOrder, CancelOrder, RunBatch, PlaceUntil, SetMoneyCredit, SetUnitCredit, Answer, Pair}
 use Rattle.wire_records.specs.CommandRecords.{IsCommand}
 use Rattle.wire_records.specs.Versions.{IsReadAs}
-use Rattle.wire_records.specs.Reading.{End}
+use Rattle.wire_records.specs.Reading.{Ending, End, Torn, TooLong}
 use Rattle.wire_records.specs.declared.command.BodyFault.{BodyFault}
 use Rattle.wire_records.specs.declared.reply.Refusal.{Refusal}
 use Rattle.wire_records.specs.declared.version.Version.{Version}
@@ -27,10 +27,11 @@ use Rattle.flow_exchange.specs.declared.status.Status.{Status}
 use Rattle.flow_exchange.specs.declared.status.Status.TheVariants as answer
 use Rattle.flow_exchange.specs.Auditing.{audit_text}
 use Rattle.flow_exchange.specs.Checkpointing.{checkpoint_text, CheckpointsTo}
-use Rattle.flow_exchange.proofs.FileOf.{file_of}
+use Rattle.flow_exchange.specs.JournalFiles.{if_whole, audit_status, status_of}
+use Rattle.flow_exchange.proofs.FileOf.{makes}
 use Rattle.flow_exchange.proofs.Outcomes.{one_end}
 use Rattle.flow_laws.specs.Laws.{SpellsLegal, CheckpointsOfLegalJournals, LegalJournalsHaveCheckpoints}
-use Rattle.flow_laws.proofs.AuditLaws.{done_all}
+use Rattle.flow_laws.proofs.AuditLaws.{done_all, all_made}
 use Rattle.flow_laws.proofs.GoingOn.{legal_is_sound, orders_few}
 use Rattle.flow_laws.proofs.RunsAudited.{pairs_long}
 
@@ -44,50 +45,33 @@ done_to : (limit : ℕ) (bytes text : List ℕ) → CheckpointsTo limit bytes an
     → (version : Version) × (pairs : List (Pair Record Outcome)) × (market : Market) × SpellsLegal limit bytes version pairs market × (text ≡ checkpoint_bytes market)
 done_to limit bytes text (inl none) = absurd (not_flow_done none.1)
 done_to limit bytes text (inr file) =
-    let all = done_all limit file.ending file.legal file.behind file.ends in
-    let legal = (audits_to_end limit bytes file.legal file.market).0 (rw (all.0, all.1) at file.audits) in
-    (legal.0, file.legal, file.market, record { journal = legal.1; spelled = legal.2; within = legal.3 }, file.writes)
+    let journal = file.journal in
+    let all = done_all limit journal.ending journal.legal journal.behind file.ends in
+    let legal = (audits_to_end limit bytes journal.legal journal.market).0 (rw (all.0, all.1) at file.is.audits) in
+    (legal.0, journal.legal, journal.market, record { journal = legal.1; spelled = legal.2; within = legal.3 }, file.writes ∙ all_made journal.behind journal.ending (checkpoint_bytes journal.market) [] all)
 
 -- on another status nothing is written
-nothing_else : (status : Status) (market : Market) → status ≢ answer.Done → checkpoint_text status market ≡ []
-nothing_else answer.Done market other = absurd (other refl)
-nothing_else answer.Usage market other = refl
-nothing_else answer.NotFlow market other = refl
-nothing_else (answer.Torn place) market other = refl
-nothing_else answer.ReadFault market other = refl
-nothing_else answer.WriteFault market other = refl
-nothing_else answer.NoMemory market other = refl
-nothing_else (answer.Rejected number) market other = refl
-nothing_else (answer.TooLong most) market other = refl
-nothing_else (answer.BadText number) market other = refl
-nothing_else answer.BadCheckpoint market other = refl
-nothing_else (answer.NoAccount number) market other = refl
-nothing_else answer.DiskFault market other = refl
-nothing_else answer.NotDisk market other = refl
-nothing_else (answer.Damaged place) market other = refl
+nothing_else : (limit : ℕ) (status : Status) (market : Market) (ending : Ending) (legal : List (Pair Record Outcome)) (behind : List (Record × Record)) → status ≡ audit_status limit ending legal behind → status ≢ answer.Done → if_whole behind ending (checkpoint_bytes market) [] ≡ []
+nothing_else limit status market End legal [] ends other = absurd (other ends)
+nothing_else limit status market (Torn place) legal [] ends other = refl
+nothing_else limit status market TooLong legal [] ends other = refl
+nothing_else limit status market ending legal (bad ∷ more) ends other = refl
 
 pub checkpoints_of_legal_journals : CheckpointsOfLegalJournals
 checkpoints_of_legal_journals = record {
   done = λ limit bytes text. (
     done_to limit bytes text,
     λ (version, pairs, market, legal, is).
-        inr (record {
-          legal = pairs;
-          behind = [];
-          ending = End;
-          market = market;
-          audits = (audits_to_end limit bytes pairs market).1 (version, legal.journal, legal.spelled, legal.within);
-          ends = refl;
-          writes = is;
-        }),
+        makes (status_of limit) (λ journal text. text ≡ checkpoint_text journal) limit bytes answer.Done text pairs [] End market
+        ((audits_to_end limit bytes pairs market).1 (version, legal.journal, legal.spelled, legal.within)) refl is,
   );
   audited = λ limit bytes text line status other comes audits.
       elim comes [
         | inl none ↦ (one_end Audit limit bytes status other text line (inl none) audits).0
-        | inr file ↦ (one_end Audit limit bytes status other (audit_text status file.legal) line (inr (file_of limit bytes status file.legal file.behind file.ending file.market file.audits file.ends)) audits).0
+        | inr file ↦ (one_end Audit limit bytes status other (audit_text file.journal) line (inr (record { journal = file.journal; is = file.is; ends = file.ends; writes = refl })) audits).0
       ];
   nothing = λ limit bytes text status comes other.
-      elim comes [ inl none ↦ none.2 | inr file ↦ file.writes ∙ nothing_else status file.market other ];
+      elim comes [ inl none ↦ none.2 | inr file ↦ file.writes ∙ nothing_else limit status file.journal.market file.journal.ending file.journal.legal file.journal.behind file.ends other ];
 }
 
 -- ---- that they are checkpoints

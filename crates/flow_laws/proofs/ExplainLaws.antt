@@ -1,5 +1,5 @@
 -- Explaining comes to the status of an audit, and says what is found of the first pair that isn't legal.
-use Rattle.std.proofs.Common.{◌≡◌, ◌≢◌, ◌+◌, ℕ, List, [], ◌∷◌, length, inl, inr, ap, subst, ◌∙◌}
+use Rattle.std.proofs.Common.{◌≡◌, ◌≢◌, ◌+◌, ℕ, List, [], ◌∷◌, length, inl, inr, refl, ap, subst, ◌∙◌}
 use Rattle.wire_records.specs.Records.{Record}
 use Rattle.wire_records.specs.Commands.{Pair}
 use Rattle.wire_records.specs.Reading.{Ending}
@@ -9,9 +9,10 @@ use Rattle.journal_words.specs.Findings.{IsExplained}
 use Rattle.flow_exchange.specs.declared.form.Form.TheVariants.{Audit}
 use Rattle.flow_exchange.specs.declared.status.Status.{Status}
 use Rattle.flow_exchange.specs.declared.status.Status.TheVariants as answer
-use Rattle.flow_exchange.specs.Auditing.{audit_status}
+use Rattle.flow_exchange.specs.JournalFiles.{audit_status, status_of}
+use Rattle.flow_exchange.specs.Auditing.{audit_text}
 use Rattle.flow_exchange.specs.Explaining.{Explains}
-use Rattle.flow_exchange.proofs.FileOf.{file_of}
+use Rattle.flow_exchange.proofs.FileOf.{makes}
 use Rattle.flow_exchange.proofs.Outcomes.{one_end}
 use Rattle.flow_laws.specs.Laws.{ExplainIsAudit, RejectedIsExplained}
 use Rattle.flow_laws.proofs.AuditLaws.{audits_first, explained_file}
@@ -27,25 +28,21 @@ explain_is_audit limit bytes text line status other (inl none) audits =
     let same = one_end Audit limit bytes status other text line (inl none) audits in
     (same.0, λ not. same.1)
 explain_is_audit limit bytes text line status other (inr file) audits =
-    let same = one_end Audit limit bytes status other file.line line (inr file.audit) audits in (
-      same.0,
-      λ not. explained_alike limit file.audit.market file.audit.legal file.audit.behind file.audit.ending status file.line text file.audit.ends not file.writes ∙ same.1,
-    )
+    let journal = file.journal in
+    let told = audit_text journal in
+    let same = one_end Audit limit bytes status other told line (inr (record { journal = journal; is = file.is; ends = file.ends; writes = refl })) audits in
+    (same.0, λ not. explained_alike limit journal.market journal.legal journal.behind journal.ending status told text file.ends not file.writes ∙ same.1)
 
 pub rejected_is_explained : RejectedIsExplained
-unfolding file_of
 rejected_is_explained limit number bytes text = (
   λ comes.
       elim comes [
         | inl none ↦ absurd (let no = none.1 in cc)
-        | inr file ↦ explained_file limit number bytes file.audit.legal file.audit.behind file.audit.ending file.audit.market file.line text file.audit.audits file.audit.ends file.writes
+        | inr file ↦ explained_file limit number bytes file.journal.legal file.journal.behind file.journal.ending file.journal.market (audit_text file.journal) text file.is.audits file.ends file.writes
       ],
   λ illegal.
       let first = illegal.0 in
       let all = audits_first limit number bytes first in
-      inr (record {
-        line = [];
-        audit = file_of limit bytes (answer.Rejected number) first.pairs (first.bad ∷ all.0) all.1 first.market all.2 (ap (λ (n : ℕ). answer.Rejected n) first.counted);
-        writes = subst (λ (n : ℕ). IsExplained first.market n first.bad text) first.counted illegal.1;
-      }),
+      makes (status_of limit) (λ journal text. Explains journal.market journal.legal journal.behind (audit_text journal) text) limit bytes (answer.Rejected number) text first.pairs (first.bad ∷ all.0) all.1 first.market all.2
+      (ap (λ (n : ℕ). answer.Rejected n) first.counted) (subst (λ (n : ℕ). IsExplained first.market n first.bad text) first.counted illegal.1),
 )

@@ -6,11 +6,10 @@ mod RunsAudited
 mod GoingOn
 mod SampleLaws
 mod SomeEnd
-mod StatementFronts
 mod StatementsAreOne
+mod ResumeCuts
 mod Fronts
 mod CheckpointLaws
-mod CommandFiles
 mod ResumeEnds
 mod Resumed
 mod GoneOnAlike

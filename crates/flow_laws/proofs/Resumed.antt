@@ -34,6 +34,7 @@ use Rattle.flow_exchange.specs.declared.status.Status.TheVariants.{Done}
 use Rattle.flow_exchange.specs.Auditing.{legal_line}
 use Rattle.flow_exchange.specs.Program.{ComesTo}
 use Rattle.flow_laws.specs.Laws.{NewRecords, GoesOn, KeepsFirst, JoinsJournal, ResumptionsGoOn, ResumptionsKeepPromises}
+use Rattle.flow_laws.proofs.ResumeCuts.{cut_into}
 use Rattle.flow_laws.proofs.GoingOn.{Answers, legal_is_sound, one_journal, own_journal, same_journal}
 
 -- ---- going on
@@ -165,11 +166,13 @@ resumptions_go_on = record {
   begun = λ limit most bytes rest text version pairs market legal keeps begun wide within.
       let stands = stands_first version pairs market (take limit bytes) rest legal keeps in
       elim begun [
-        | inl into ↦ so_far most version pairs market legal wide (take limit bytes) rest text into.records into.left into.new stands into.first within
-        | inr lacks ↦
-            elim lacks [
+        | inl (n, more) ↦
+            elim (cut_into limit bytes n text more) [
               | inl empty ↦ nothing_yet most version pairs market legal wide text empty within
-              | inr short ↦ so_far most version pairs market legal wide (take limit bytes) rest text short.records short.left short.new stands short.first within
+              | inr into ↦ so_far most version pairs market legal wide (take limit bytes) rest text into.records into.left into.new stands into.first within
             ]
+        | inr (status, comes) ↦
+            let on = goes_from (limit < length bytes) (take limit bytes) comes.0 text stands.kind market stands.place rest stands.first comes.1 in
+            audited most version pairs market legal wide on.new on.records text on.continues within
       ];
 }

@@ -71,13 +71,18 @@ read : (limit most : ℕ) (text : List ℕ) (status : Status) (reading : Reading
 read limit most text status NotFlow writes ends other wide within = absurd (other ends)
 read limit most text status (File version records ending) (market, writes) ends other wide within = audited most version records market text writes wide within
 
+-- where something was written, there is a journal
+some : (most : ℕ) (text : List ℕ) (reading : Reading Version Record) → WritesOf reading text → text ≢ [] → most < 2 ^ 64 → length text ≤ most → (line : List ℕ) × ComesTo Audit most text answer.Done line
+some most text NotFlow writes other wide within = absurd (other writes)
+some most text (File version records ending) (market, writes) other wide within = audited most version records market text writes wide within
+
 pub runs_are_audited : RunsAreAudited
 runs_are_audited = record {
   journal = journal;
   done = λ limit most bytes text status runs other wide within. read limit most text status runs.reading runs.writes runs.ends other wide within;
-  begun = λ limit most bytes text begun wide within.
-      elim begun [
-        | inl into ↦ audited most into.version into.records into.market text into.writes wide within
-        | inr short ↦ audited most short.version short.records short.market text short.writes wide within
+  begun = λ limit most bytes text gets other wide within.
+      elim gets [
+        | inl (n, more) ↦ let runs = more 0 [] in some most text runs.1.reading runs.1.writes other wide within
+        | inr (status, runs) ↦ some most text runs.reading runs.writes other wide within
       ];
 }

@@ -56,7 +56,7 @@ some_sample number orders few none =
     let file = sample_file number orders in
     let records = map record_of (sample number orders) in
     some_end run start run_is_exact run_is_kept run_has_next (length file) file (λ ended text comes.
-    let runs = (run_form (length file)).to file ended text comes in
+    let runs = run_form.to (length file) file ended text comes in
     let so = run_of One (length file) file text (ended_status (length file) no_reason ended) records (samples_are_read (length file) number orders (omega arith)) runs in
     let writes = so.2 in
     let market = so.1 in

@@ -34,28 +34,28 @@ use Rattle.session_resume.proofs.SomeResumption as resumption
 use Rattle.flow_laws.proofs.SampleLaws.{some_sample}
 
 -- where a task has some end, its form has some outcome
-some_end_of : {B : Type 0} (t : Task B) (form : Form) (limit : ℕ) (own : B → Status) → IsForm t form limit own → (bytes : List ℕ)
+some_end_of : {B : Type 0} (t : Task B) (form : Form) (limit : ℕ) (own : B → Status) → IsForm t form own → (bytes : List ℕ)
     → (((ended : Ended B) (text : List ℕ) → ¬ t.Comes limit bytes ended text) → ⊥) → ((status : Status) (text : List ℕ) → ¬ ComesTo form limit bytes status text) → ⊥
-some_end_of t form limit own is bytes some none = some (λ ended text comes. none (ended_status limit own ended) text (is.to bytes ended text comes))
+some_end_of t form limit own is bytes some none = some (λ ended text comes. none (ended_status limit own ended) text (is.to limit bytes ended text comes))
 
 pub none_is_without_end : NoneIsWithoutEnd
-none_is_without_end words Run limit bytes asks = some_end_of (task run start) Run limit no_reason (run_form limit) bytes (some_end run start run_is_exact run_is_kept run_has_next limit bytes)
+none_is_without_end words Run limit bytes asks = some_end_of (task run start) Run limit no_reason run_form bytes (some_end run start run_is_exact run_is_kept run_has_next limit bytes)
 none_is_without_end words Audit limit bytes asks =
-    some_end_of (task audit audit_start) Audit limit rejected (audit_form limit) bytes
+    some_end_of (task audit audit_start) Audit limit rejected audit_form bytes
     (some_end audit audit_start audit_is_exact (over_pairs_is_kept counting audit_start (λ version. (refl, refl))) (audit_has_next audit_start sound-empty) limit bytes)
 none_is_without_end words Explain limit bytes asks =
-    some_end_of (task explain audit_start) Explain limit rejected (explain_form limit) bytes
+    some_end_of (task explain audit_start) Explain limit rejected explain_form bytes
     (some_end explain audit_start explain_is_exact (over_pairs_is_kept explaining audit_start (λ version. (refl, refl))) (explain_has_next audit_start sound-empty) limit bytes)
 none_is_without_end words Report limit bytes asks =
-    some_end_of (task report report_start) Report limit rejected (report_form limit) bytes
+    some_end_of (task report report_start) Report limit rejected report_form bytes
     (some_end report report_start report_is_exact (over_pairs_is_kept telling report_start (λ version. (refl, refl))) (report_has_next report_start sound-empty) limit bytes)
-none_is_without_end words (Encode version) limit bytes asks = some_end_of (encoding version) (Encode version) limit bad_text (encode_form version limit) bytes (encodes_some version limit bytes)
+none_is_without_end words (Encode version) limit bytes asks = some_end_of (encoding version) (Encode version) limit bad_text (encode_form version) bytes (encodes_some version limit bytes)
 none_is_without_end words (Statement number) limit bytes asks =
-    some_end_of (task statement (statement_start number)) (Statement number) limit no_statement (statement_form number limit) bytes
+    some_end_of (task statement (statement_start number)) (Statement number) limit no_statement (statement_form number) bytes
     (some_end statement (statement_start number) statement_is_exact (statement_is_kept number) (statement_has_next number) limit bytes)
 none_is_without_end words Checkpoint limit bytes asks =
-    some_end_of (task checkpoint checkpoint_start) Checkpoint limit rejected (checkpoint_form limit) bytes
+    some_end_of (task checkpoint checkpoint_start) Checkpoint limit rejected checkpoint_form bytes
     (some_end checkpoint checkpoint_start checkpoint_is_exact (over_pairs_is_kept checkpointing checkpoint_start (λ version. (refl, refl))) (checkpoint_has_next checkpoint_start sound-empty) limit bytes)
 none_is_without_end words Resume limit bytes asks =
-    some_end_of resuming Resume limit unfit_status (resume_form limit) bytes (resumption.some_end_of (limit < length bytes) (take limit bytes))
+    some_end_of resuming Resume limit unfit_status resume_form bytes (resumption.some_end_of (limit < length bytes) (take limit bytes))
 none_is_without_end words (Sample number orders) limit bytes asks = some_sample number orders asks.few

@@ -39,7 +39,7 @@ use Rattle.flow_exchange.specs.declared.form.Form.TheVariants.{Run, Audit, Expla
 use Rattle.flow_exchange.specs.declared.status.Status.{Status}
 use Rattle.flow_exchange.specs.declared.status.Status.TheVariants.{Done, NotFlow, Torn, Rejected, NoAccount, BadCheckpoint}
 use Rattle.flow_exchange.specs.Auditing.{legal_line}
-use Rattle.flow_exchange.specs.Program.{ComesTo, GetsTo, LacksAt}
+use Rattle.flow_exchange.specs.Program.{ComesTo, GetsTo}
 
 -- an audit is done exactly for the spelling of a legal journal of any version with nothing past the limit, and the line counts its pairs
 abbrev pub DoneIsForLegalJournals : Type 0
@@ -79,13 +79,13 @@ EncodedIsServed = (version : Version) (limit most : ℕ) (bytes text journal : L
     → ComesTo Run most text ran journal → (ran ≡ Done) × (market : Market) × Journals version (map record_of encoded.commands) market journal
 
 -- What a run writes is a legal journal, and an audit of it is done: of the whole text, and of what stands in out where it was cut short
--- behind a whole pair.
+-- behind a whole pair, if anything does.
 pub record RunsAreAudited : Type 0 where
   pub journal : (most : ℕ) (version : Version) (records : List Record) (market : Market) (text : List ℕ) (writes : Journals version records market text)
       → most < 2 ^ 64 → length text ≤ most → IsLegalJournal version writes.pairs market × ComesTo Audit most text Done (legal_line writes.pairs)
   pub done : (limit most : ℕ) (bytes text : List ℕ) (status : Status) → ComesTo Run limit bytes status text → status ≢ NotFlow
       → most < 2 ^ 64 → length text ≤ most → (line : List ℕ) × ComesTo Audit most text Done line
-  pub begun : (limit most : ℕ) (bytes text : List ℕ) → GetsTo Run limit bytes text ⊎ LacksAt Run limit bytes text
+  pub begun : (limit most : ℕ) (bytes text : List ℕ) → GetsTo Run limit bytes text → text ≢ []
       → most < 2 ^ 64 → length text ≤ most → (line : List ℕ) × ComesTo Audit most text Done line
 
 -- the bytes are the spelling of this legal journal of a version with nothing past the limit
@@ -128,10 +128,10 @@ abbrev pub SamplesAreRun : Type 0
 SamplesAreRun = (number orders limit most : ℕ) (bytes line : List ℕ) (status : Status) → ComesTo (Sample number orders) limit bytes status line
     → length (sample_file number orders) ≤ most → SampleIsRun number orders most line
 
--- what may stand in out while a form is at work, or where memory ran out, is a front of the text that the bytes determine
+-- what a form gets to, and so what may stand in out after a fault or where memory ran out, is a front of the text that the bytes determine
 abbrev pub BegunIsAFront : Type 0
 BegunIsAFront = (form : Form) (limit : ℕ) (bytes : List ℕ) (status : Status) (text begun : List ℕ)
-    → ComesTo form limit bytes status text → GetsTo form limit bytes begun ⊎ LacksAt form limit bytes begun → (rest : List ℕ) × (text ≡ begun ++ rest)
+    → ComesTo form limit bytes status text → GetsTo form limit bytes begun → (rest : List ℕ) × (text ≡ begun ++ rest)
 
 -- the tickers by which lines name assets are those of the market that a run of their file leads to
 abbrev pub TickersAgree : Type 0
@@ -260,7 +260,7 @@ pub record ResumptionsGoOn : Type 0 where
       → KeepsFirst version pairs market (take limit bytes) rest → ComesTo Resume limit bytes status text → most < 2 ^ 64 → length (journal_in version pairs ++ text) ≤ most
       → JoinsJournal most version pairs market rest text
   pub begun : (limit most : ℕ) (bytes rest text : List ℕ) (version : Version) (pairs : List (Pair Record Outcome)) (market : Market) → IsLegalJournal version pairs market
-      → KeepsFirst version pairs market (take limit bytes) rest → GetsTo Resume limit bytes text ⊎ LacksAt Resume limit bytes text → most < 2 ^ 64 → length (journal_in version pairs ++ text) ≤ most
+      → KeepsFirst version pairs market (take limit bytes) rest → GetsTo Resume limit bytes text → most < 2 ^ 64 → length (journal_in version pairs ++ text) ≤ most
       → (line : List ℕ) × ComesTo Audit most (journal_in version pairs ++ text) Done line
 
 -- both are done, or both are torn, at bytes that stand as far behind these places

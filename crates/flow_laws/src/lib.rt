@@ -41,7 +41,7 @@ pub fn encoded_is_served()
 {}
 
 /// What `run` writes of a command file is a legal journal: `audit` of it is done, where it is within the limit of the audit, which is
-/// below 2^64. So it is of what stands in out after a fault of the source, or where memory ran out.
+/// below 2^64. So it is of what stands in out after a fault of the source, or where memory ran out, if anything does.
 pub fn runs_are_audited()
     ensures { RunsAreAudited }
 {}
@@ -82,8 +82,8 @@ pub fn none_is_without_end()
     ensures { NoneIsWithoutEnd }
 {}
 
-/// What stands in out after a fault, up to a whole unit, or where memory ran out, is a front of the text that the bytes
-/// determine.
+/// What some first bytes come to if more follow, and so what stands in out after a fault or where memory ran out, is a front
+/// of the text that the bytes determine.
 pub fn begun_is_a_front()
     ensures { BegunIsAFront }
 {}

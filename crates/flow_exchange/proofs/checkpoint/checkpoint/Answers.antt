@@ -22,6 +22,6 @@ returns g c =
     let out = change g.K.Sink.held g.K.Sink.faults c.args.out.now c.go-ended.new.out in
     let done = subst (λ (start : Version → Watched (Unit {0})). driver.Does (task checkpoint start) c.args.limit c.go-ended.result source out) c.new-2.ensures.starts c.go-ended.ensures.does in
     record {
-      asked = rw c.pairs_status.ensures (not_asked (task checkpoint checkpoint_start) Checkpoint c.args.limit rejected (checkpoint_form c.args.limit) c.go-ended.result);
-      does = rw c.pairs_status.ensures (does (task checkpoint checkpoint_start) Checkpoint c.args.limit rejected (checkpoint_form c.args.limit) c.go-ended.result source out done);
+      asked = rw c.pairs_status.ensures (not_asked (task checkpoint checkpoint_start) Checkpoint c.args.limit rejected checkpoint_form c.go-ended.result);
+      does = rw c.pairs_status.ensures (does (task checkpoint checkpoint_start) Checkpoint c.args.limit rejected checkpoint_form c.go-ended.result source out done);
     }

@@ -11,6 +11,6 @@ returns g c =
     let source = change g.S.Source.rest g.S.Source.faults c.args.source.now c.encode_source-ended.new.source in
     let out = change g.K.Sink.held g.K.Sink.faults c.args.out.now c.encode_source-ended.new.out in
     record {
-      asked = rw c.lines_status.ensures (not_asked (encoding c.args.version) (Encode c.args.version) c.args.limit bad_text (encode_form c.args.version c.args.limit) c.encode_source-ended.result);
-      does = rw c.lines_status.ensures (does (encoding c.args.version) (Encode c.args.version) c.args.limit bad_text (encode_form c.args.version c.args.limit) c.encode_source-ended.result source out c.encode_source-ended.ensures.does);
+      asked = rw c.lines_status.ensures (not_asked (encoding c.args.version) (Encode c.args.version) c.args.limit bad_text (encode_form c.args.version) c.encode_source-ended.result);
+      does = rw c.lines_status.ensures (does (encoding c.args.version) (Encode c.args.version) c.args.limit bad_text (encode_form c.args.version) c.encode_source-ended.result source out c.encode_source-ended.ensures.does);
     }

@@ -21,6 +21,6 @@ returns g c =
     let out = change g.K.Sink.held g.K.Sink.faults c.args.out.now c.go-ended.new.out in
     let done = subst (λ (start : Version → Watched (Unit {0})). driver.Does (task report start) c.args.limit c.go-ended.result source out) c.new.ensures.starts c.go-ended.ensures.does in
     record {
-      asked = rw c.pairs_status.ensures (not_asked (task report report_start) Report c.args.limit rejected (report_form c.args.limit) c.go-ended.result);
-      does = rw c.pairs_status.ensures (does (task report report_start) Report c.args.limit rejected (report_form c.args.limit) c.go-ended.result source out done);
+      asked = rw c.pairs_status.ensures (not_asked (task report report_start) Report c.args.limit rejected report_form c.go-ended.result);
+      does = rw c.pairs_status.ensures (does (task report report_start) Report c.args.limit rejected report_form c.go-ended.result source out done);
     }

@@ -11,6 +11,6 @@ returns g c =
     let source = change g.S.Source.rest g.S.Source.faults c.args.source.now c.resume_source-ended.new.source in
     let out = change g.K.Sink.held g.K.Sink.faults c.args.out.now c.resume_source-ended.new.out in
     record {
-      asked = rw c.resumed_status.ensures (not_asked resuming Resume c.args.limit unfit_status (resume_form c.args.limit) c.resume_source-ended.result);
-      does = rw c.resumed_status.ensures (does resuming Resume c.args.limit unfit_status (resume_form c.args.limit) c.resume_source-ended.result source out c.resume_source-ended.ensures.does);
+      asked = rw c.resumed_status.ensures (not_asked resuming Resume c.args.limit unfit_status resume_form c.resume_source-ended.result);
+      does = rw c.resumed_status.ensures (does resuming Resume c.args.limit unfit_status resume_form c.resume_source-ended.result source out c.resume_source-ended.ensures.does);
     }

@@ -2,3 +2,12 @@ use Rattle.flow_exchange.proofs.top.flow.Goals as goal
 
 pub returns-clause-serves : goal.returns-clause-serves
 returns-clause-serves g c = c.flow_limited.ensures.serves
+
+pub returns-clause-wants : goal.returns-clause-wants
+returns-clause-wants g c = c.flow_limited.ensures.wants
+
+pub returns-clause-promises : goal.returns-clause-promises
+returns-clause-promises g c = c.flow_limited.ensures.promises
+
+pub returns-clause-paced : goal.returns-clause-paced
+returns-clause-paced g c = c.flow_limited.ensures.paced

@@ -1,10 +1,12 @@
 use Rattle.std.proofs.Common.{ℕ, List, Option, Result, Ok, Err, OnOk, OnErr, IsErr, refl}
 use Rattle.flow_io.specs.Faults.{Rose, Blames}
 use Rattle.flow_io.specs.Streams.{Grows, GrowsByFront}
+use Rattle.flow_io.specs.Changes.{change}
 use Rattle.flow_io.specs.declared.sink.WriteFailed.{WriteFailed}
 use Rattle.flow_exchange.specs.Statuses.{line_of}
 use Rattle.flow_io.proofs.Growth.{GrowsByFront-whole}
-use Rattle.flow_exchange.proofs.Dispatch.{serves_form, serves_none}
+use Rattle.flow_exchange.specs.declared.form.Form.TheVariants.{Run}
+use Rattle.flow_exchange.proofs.Dispatch.{serves_form, wants_form, paced_form, serves_none, promised}
 use Rattle.flow_exchange.proofs.top.flow_limited.Goals as goal
 use Rattle.flow_exchange.proofs.top.flow_limited.Goals.{in-Some, in-None}
 
@@ -27,7 +29,7 @@ returns-clause-serves g c =
           let form = w.do_form-status.ensures in
           let line = rw w.status-is at noted in
           let some = rw w.status-is at front in
-          rw (w.status-is, w.source-is, w.out-is) (serves_form c.args.limit _ w.in-Some.form w.do_form-status.result _ _ _ w.in-Some.ensures.form form.asked form.does form.paced line some)
+          rw (w.status-is, w.source-is, w.out-is) (serves_form c.args.limit _ w.in-Some.form w.do_form-status.result _ _ w.in-Some.ensures.form _ form.asked form.does line some)
       | in-None w ↦
           let line = rw w.status-is at noted in
           let some = rw w.status-is at front in
@@ -36,3 +38,24 @@ returns-clause-serves g c =
 
 pub returns-clause-idle : goal.returns-clause-idle
 returns-clause-idle g c = λ usage. elim c.match-form_of.branch [ in-Some w ↦ let form = w.do_form-status.ensures in absurd (form.asked (rw w.status-is at usage)) | in-None w ↦ (w.source-is, w.out-is) ]
+
+pub returns-clause-wants : goal.returns-clause-wants
+returns-clause-wants g c = elim c.match-form_of.branch [
+  | in-Some w ↦
+      let form = w.do_form-status.ensures in
+      rw (w.status-is, w.source-is, w.out-is) (wants_form c.args.limit _ w.in-Some.form w.do_form-status.result _ _ w.in-Some.ensures.form form.does)
+  | in-None w ↦ λ other asks. absurd (w.in-None.ensures.none other asks)
+]
+
+pub returns-clause-promises : goal.returns-clause-promises
+returns-clause-promises g c = λ form asks. promised form c.args.limit (g.S.Source.rest c.args.source.now)
+
+pub returns-clause-paced : goal.returns-clause-paced
+returns-clause-paced g c = elim c.match-form_of.branch [
+  | in-Some w ↦
+      let form = w.do_form-status.ensures in
+      let source = change g.S.Source.rest g.S.Source.faults c.args.source.now w.do_form-status.new.source in
+      let out = change g.K.Sink.held g.K.Sink.faults c.args.out.now w.do_form-status.new.out in
+      rw (w.status-is, w.source-is, w.out-is) (paced_form c.args.limit _ w.in-Some.form w.do_form-status.result source out w.in-Some.ensures.form form.paced)
+  | in-None w ↦ λ asks. absurd (w.in-None.ensures.none Run asks)
+]

@@ -1,14 +1,15 @@
 -- A command file states a length above any record's, and so begins no pair.
 use Rattle.std.proofs.Common.{ℕ, List, ◌∷◌, ◌++◌, refl, arith}
 use Rattle.wire_records.specs.Records.{head, StatesLength, most_body}
+use Rattle.wire_records.specs.Grammars.{BeginsWithNone}
 use Rattle.wire_records.specs.Formats.{command_magic_of}
 use Rattle.wire_records.specs.declared.version.Version.{Version}
 use Rattle.wire_records.specs.declared.version.Version.TheVariants.{One, Two, Three}
 use Rattle.wire_records.proofs.Fronts.{no_front-from_overlong}
 use Rattle.wire_fields.specs.Numbers.{unsigned}
 use Rattle.journal_records.specs.Replies.{most_reply_body}
+use Rattle.journal_records.specs.Formats.{journals}
 use Rattle.journal_records.proofs.PairFronts.{no_pair-from_first}
-use Rattle.flow_laws.specs.Laws.{CommandFilesBeginNoPair}
 
 -- the second to the fifth byte of a magic, as a length
 abbrev stated : ℕ
@@ -20,7 +21,7 @@ states One body = (omega arith, 70, omega arith, 77 ∷ 68 ∷ 49 ∷ body, refl
 states Two body = (omega arith, 70, omega arith, 77 ∷ 68 ∷ 50 ∷ body, refl)
 states Three body = (omega arith, 70, omega arith, 77 ∷ 68 ∷ 51 ∷ body, refl)
 
-pub command_files_begin_no_pair : CommandFilesBeginNoPair
+pub command_files_begin_no_pair : (version : Version) (body : List ℕ) → BeginsWithNone journals.units (command_magic_of version ++ body)
 command_files_begin_no_pair version body =
     let bytes = command_magic_of version ++ body in
     no_pair-from_first most_body most_reply_body bytes (no_front-from_overlong most_body stated bytes (omega arith) (states version body) (omega arith))
