@@ -1,8 +1,8 @@
 //! Accounts: deposits, withdrawals, what a settlement leaves, and how many there may be.
 use crate::market::Call::{Credit, Deposit, DepositUnits, UnitCredit, Withdraw, WithdrawUnits};
 use crate::market::{
-    add_asset, covers, covers_units, deposit, deposit_often, deposit_units, give_credit,
-    give_unit_credit, open, serve_all,
+    add_asset, covers, covers_units, deposit_often, give_credit, give_unit_credit, open, serve_all,
+    two_accounts,
 };
 use flow_accounts::AccountFault::{
     CreditLimit, Full, InUse, NoAccount, NoAsset, NotFree, TotalLimit, Zero,
@@ -14,9 +14,9 @@ use std::test::Fail;
 // What each account has, and the total.
 fn holds_money(rt: &impl Abort, accounts: &Accounts, rows: &[(u32, Option<i128>)], total: i128) {
     for (account, money) in rows {
-        assert_eq!(rt; accounts.money(*account), *money, "account {account}");
+        assert!(rt; accounts.money(*account) == *money, "account {account}");
     }
-    assert_eq!(rt; accounts.total_money(), total);
+    assert!(rt; accounts.total_money() == total);
 }
 
 // What an account has of an asset, and the asset's total.
@@ -26,12 +26,11 @@ fn holds_units(
     rows: &[(u32, u16, Option<i64>, Option<i64>)],
 ) {
     for (account, asset, units, total) in rows {
-        assert_eq!(rt;
-            accounts.units(*account, *asset),
-            *units,
+        assert!(rt;
+            accounts.units(*account, *asset) == *units,
             "account {account} asset {asset}"
         );
-        assert_eq!(rt; accounts.total_units(*asset), *total, "asset {asset}");
+        assert!(rt; accounts.total_units(*asset) == *total, "asset {asset}");
     }
 }
 
@@ -150,35 +149,56 @@ fn give(
     accounts.units(account, asset)
 }
 
+// Changes the money of each account, and sees to what it has then.
+fn pay_all(rt: &impl Abort, accounts: &mut Accounts, rows: &[(u32, i128, i128)]) {
+    for (account, grains, left) in rows {
+        assert!(rt;
+            pay(rt, accounts, *account, *grains) == Some(*left),
+            "account {account}"
+        );
+    }
+}
+
+// The same for the units of asset 0.
+fn give_all(rt: &impl Abort, accounts: &mut Accounts, rows: &[(u32, i64, i64)]) {
+    for (account, amount, left) in rows {
+        assert!(rt;
+            give(rt, accounts, *account, 0, *amount) == Some(*left),
+            "account {account}"
+        );
+    }
+}
+
 // A batch takes 214,705,415,127,500 grains from one account and gives 214,276,004,297,245 to
 // another for 499 of its units. The first account gets 500 of them.
 #[test]
 fn what_a_settlement_leaves(rt: HostRuntime) -> Result<(), Fail> {
-    let mut accounts = Accounts::new(rt.alloc());
-    laws::totals_stay_sums();
-    add_asset(&rt, &mut accounts);
-    assert_eq!(rt; open(&mut accounts)?, 1);
-    assert_eq!(rt; open(&mut accounts)?, 2);
-    deposit(&mut accounts, 1, 1_100_000)?;
-    deposit_units(&mut accounts, 2, 0, 10_000)?;
-    let paid = pay(&rt, &mut accounts, 1, -214_705_415_127_500);
-    assert_eq!(rt; paid, Some(4_509_758_610_472_500));
-    let received = pay(&rt, &mut accounts, 2, 214_276_004_297_245);
-    assert_eq!(rt; received, Some(214_276_004_297_245));
-    assert_eq!(rt; give(&rt, &mut accounts, 1, 0, 500), Some(500));
-    assert_eq!(rt; give(&rt, &mut accounts, 2, 0, -499), Some(9_501));
-    assert_eq!(rt; accounts.total_money(), 4_724_464_025_600_000);
-    assert_eq!(rt; accounts.total_units(0), Some(10_000));
+    let mut accounts = two_accounts(&rt, rt.alloc())?;
+    let rows = [
+        (Deposit(1, 1_100_000), Ok(())),
+        (DepositUnits(2, 0, 10_000), Ok(())),
+    ];
+    serve_all(&rt, &mut accounts, &rows);
+    let paid = [
+        (1, -214_705_415_127_500, 4_509_758_610_472_500),
+        (2, 214_276_004_297_245, 214_276_004_297_245),
+    ];
+    pay_all(&rt, &mut accounts, &paid);
+    give_all(&rt, &mut accounts, &[(1, 500, 500), (2, -499, 9_501)]);
+    holds_money(&rt, &accounts, &[], 4_724_464_025_600_000);
+    holds_units(&rt, &accounts, &[(2, 0, Some(9_501), Some(10_000))]);
     Ok(())
+}
+
+// What credit an account has, of money and of units of asset 0.
+fn has_credits(rt: &impl Abort, accounts: &Accounts, money: (u32, u64), units: (u32, u64)) {
+    assert!(rt; accounts.money_credit(money.0) == Some(money.1));
+    assert!(rt; accounts.unit_credit(units.0, 0) == Some(units.1));
 }
 
 #[test]
 fn credit_that_is_given(rt: HostRuntime) -> Result<(), Fail> {
-    let mut accounts = Accounts::new(rt.alloc());
-    laws::totals_stay_sums();
-    add_asset(&rt, &mut accounts);
-    open(&mut accounts)?;
-    open(&mut accounts)?;
+    let mut accounts = two_accounts(&rt, rt.alloc())?;
     let rows = [
         (Credit(0, u64::MAX, 0), Err(NoAccount)),
         (Credit(3, u64::MAX, 0), Err(NoAccount)),
@@ -194,9 +214,8 @@ fn credit_that_is_given(rt: HostRuntime) -> Result<(), Fail> {
         (UnitCredit(2, 0, 10_000, 0), Ok(())),
     ];
     serve_all(&rt, &mut accounts, &rows);
-    assert_eq!(rt; accounts.money_credit(1), Some(1_100_000));
-    assert_eq!(rt; accounts.unit_credit(2, 0), Some(10_000));
-    assert_eq!(rt; accounts.total_money(), 0);
+    has_credits(&rt, &accounts, (1, 1_100_000), (2, 10_000));
+    holds_money(&rt, &accounts, &[], 0);
     Ok(())
 }
 
@@ -226,60 +245,95 @@ fn take_units(
     accounts.unit_withdrawal(account, 0, units, reserved)
 }
 
+// What an account may take of its money, by ticks and what is reserved.
+fn may_take(
+    rt: &impl Abort,
+    accounts: &Accounts,
+    rows: &[(u32, u64, i128, Result<i128, AccountFault>)],
+) {
+    for (account, ticks, reserved, taken) in rows {
+        assert!(rt;
+            take(rt, accounts, *account, *ticks, *reserved) == *taken,
+            "account {account}"
+        );
+    }
+}
+
 // Account 1 pays for 500 units with credit, and account 2 gives them with credit. What their orders may still need is
 // 4,488,240,824,320,000 grains and 9,500 units.
 #[test]
 fn credit_that_is_in_use(rt: HostRuntime) -> Result<(), Fail> {
-    let mut accounts = Accounts::new(rt.alloc());
-    laws::totals_stay_sums();
-    add_asset(&rt, &mut accounts);
-    open(&mut accounts)?;
-    open(&mut accounts)?;
-    give_credit(&rt, &mut accounts, 1, 1_100_000, 0)?;
-    give_unit_credit(&rt, &mut accounts, 2, 0, 10_000, 0)?;
-    let paid = pay(&rt, &mut accounts, 1, -214_705_415_127_500);
-    assert_eq!(rt; paid, Some(-214_705_415_127_500));
-    let received = pay(&rt, &mut accounts, 2, 214_705_415_127_500);
-    assert_eq!(rt; received, Some(214_705_415_127_500));
-    assert_eq!(rt; give(&rt, &mut accounts, 1, 0, 500), Some(500));
-    assert_eq!(rt; give(&rt, &mut accounts, 2, 0, -500), Some(-500));
+    let mut accounts = two_accounts(&rt, rt.alloc())?;
+    let rows = [
+        (Credit(1, 1_100_000, 0), Ok(())),
+        (UnitCredit(2, 0, 10_000, 0), Ok(())),
+    ];
+    serve_all(&rt, &mut accounts, &rows);
+    let paid = [
+        (1, -214_705_415_127_500, -214_705_415_127_500),
+        (2, 214_705_415_127_500, 214_705_415_127_500),
+    ];
+    pay_all(&rt, &mut accounts, &paid);
+    give_all(&rt, &mut accounts, &[(1, 500, 500), (2, -500, -500)]);
+    let taken = [
+        (1, 1, NEEDED, Err(NotFree(-4_702_946_239_447_500))),
+        (2, 49_990, 0, Ok(-214_705_415_127_040)),
+    ];
+    may_take(&rt, &accounts, &taken);
+    assert!(rt; take_units(&rt, &accounts, 2, 1, 9_500) == Err(NotFree(-10_000)));
+    credits_again(&rt, &mut accounts);
+    has_credits(&rt, &accounts, (1, 1_094_991), (2, 10_000));
+    Ok(())
+}
 
-    let needed = 4_488_240_824_320_000;
-    let taken = take(&rt, &accounts, 1, 1, needed);
-    assert_eq!(rt; taken, Err(NotFree(-4_702_946_239_447_500)));
-    let taken = take(&rt, &accounts, 2, 49_990, 0);
-    assert_eq!(rt; taken, Ok(-214_705_415_127_040));
-    let taken = take_units(&rt, &accounts, 2, 1, 9_500);
-    assert_eq!(rt; taken, Err(NotFree(-10_000)));
+const NEEDED: i128 = 4_488_240_824_320_000;
+
+// Credit of which some is in use is given once more.
+fn credits_again(rt: &impl Abort, accounts: &mut Accounts) {
     for (ticks, given) in [
         (1_094_990, Err(InUse(4_702_946_239_447_500))),
         (1_094_991, Ok(())),
         (1_099_511_627_777, Err(CreditLimit)),
     ] {
-        assert_eq!(rt; give_credit(&rt, &mut accounts, 1, ticks, needed), given);
+        assert!(rt;
+            give_credit(rt, accounts, 1, ticks, NEEDED) == given,
+            "{ticks} ticks"
+        );
     }
     for (units, given) in [(9_999, Err(InUse(10_000))), (10_000, Ok(()))] {
-        let answer = give_unit_credit(&rt, &mut accounts, 2, 0, units, 9_500);
-        assert_eq!(rt; answer, given);
+        assert!(rt;
+            give_unit_credit(rt, accounts, 2, 0, units, 9_500) == given,
+            "{units} units"
+        );
     }
-    assert_eq!(rt; accounts.money_credit(1), Some(1_094_991));
-    assert_eq!(rt; accounts.unit_credit(2, 0), Some(10_000));
-    Ok(())
+}
+
+// Opens as many accounts as there may be, and one more.
+fn open_all(rt: &impl Abort, accounts: &mut Accounts) {
+    for number in 0..MOST_ACCOUNTS {
+        assert!(rt;
+            accounts.add_account() == Ok(number + 1),
+            "account {number}"
+        );
+    }
+    assert!(rt; accounts.add_account() == Err(Full));
+    assert!(rt; accounts.count() == 65_536);
+}
+
+// Adds as many assets as there may be.
+fn add_all(rt: &impl Abort, accounts: &mut Accounts) {
+    for number in 0..MOST_ASSETS {
+        assert!(rt; accounts.assets() == number, "asset {number}");
+        accounts.add_asset();
+    }
+    assert!(rt; accounts.assets() == 64);
 }
 
 #[test]
 fn as_many_as_there_may_be(rt: HostRuntime) -> Result<(), Fail> {
     let mut accounts = Accounts::new(rt.alloc());
-    for number in 0..MOST_ACCOUNTS {
-        assert_eq!(rt; accounts.add_account()?, number + 1);
-    }
-    assert_eq!(rt; accounts.add_account(), Err(Full));
-    assert_eq!(rt; accounts.count(), 65_536);
-    for number in 0..MOST_ASSETS {
-        assert_eq!(rt; accounts.assets(), number);
-        accounts.add_asset();
-    }
-    assert_eq!(rt; accounts.assets(), 64);
-    assert_eq!(rt; accounts.units(65_536, 63), Some(0));
+    open_all(&rt, &mut accounts);
+    add_all(&rt, &mut accounts);
+    assert!(rt; accounts.units(65_536, 63) == Some(0));
     Ok(())
 }

@@ -6,7 +6,7 @@ ghost use Rattle.flow_orders.specs.Trades.{trades};
 use crate::placing::{Placed, order_of};
 use flow_orders::Order;
 use order_book::{Book, Memory};
-use std::alloc::{AllocError, Global};
+use std::alloc::Global;
 use std::test::Fail;
 
 // Adds the order where the book can take it.
@@ -48,25 +48,31 @@ fn fill(book: &mut Book, rates: &[u32]) -> bool {
     true
 }
 
+// Adds each order, or answers false where one isn't taken.
+fn place_all(alloc: Global, book: &mut Book, rows: &[Placed<'_>]) -> bool {
+    for placed in rows {
+        if !place(alloc, book, *placed) {
+            return false;
+        }
+    }
+    true
+}
+
+fn place(alloc: Global, book: &mut Book, placed: Placed<'_>) -> bool {
+    match order_of(alloc, placed) {
+        Ok(Some(order)) => add(book, order),
+        _ => false,
+    }
+}
+
 // A buyer of account 1, a seller of account 2, and a pair of account 1.
-fn three(alloc: Global, cap: u64) -> Result<Option<Book>, AllocError> {
-    let mut book = Book::new(alloc);
+fn place_three(alloc: Global, book: &mut Book, cap: u64) -> bool {
     let rows: [Placed<'_>; 3] = [
         ((1, 1), (90, 110), (1000, cap), &[(0, 1)]),
         ((2, 2), (-110, -90), (1000, 10_000), &[(0, -1)]),
         ((7, 1), (-5, 20), (10, 100), &[(0, 2), (3, -4)]),
     ];
-    for placed in rows {
-        match order_of(alloc, placed)? {
-            Some(order) => {
-                if !add(&mut book, order) {
-                    return Ok(None);
-                }
-            }
-            None => return Ok(None),
-        }
-    }
-    Ok(Some(book))
+    place_all(alloc, book, &rows)
 }
 
 // What the accounts need: money of 1 and 2, units of asset 3 of 1, units of asset 0 of 2; and the count of orders.
@@ -82,7 +88,8 @@ fn needs_in(book: &Book) -> (i128, i128, i128, i128, usize) {
 
 #[test]
 fn cancelled_orders_need_nothing(rt: HostRuntime) -> Result<(), Fail> {
-    let mut book = three(rt.alloc(), 10_000)?.ok_or("an order isn't taken")?;
+    let mut book = Book::new(rt.alloc());
+    assert!(rt; place_three(rt.alloc(), &mut book, 10_000));
     for (account, number, there, needs) in [
         (2, 1, false, (4_733_053_960_192_000, 0, 400, 10_000, 3)),
         (1, 1, true, (8_589_934_592_000, 0, 400, 10_000, 2)),
@@ -94,27 +101,21 @@ fn cancelled_orders_need_nothing(rt: HostRuntime) -> Result<(), Fail> {
         (2, 2, true, (0, 0, 0, 0, 0)),
         (2, 2, false, (0, 0, 0, 0, 0)),
     ] {
-        assert_eq!(rt; book.cancel(account, number), there);
-        assert_eq!(rt; needs_in(&book), needs);
+        assert!(rt; book.cancel(account, number) == there, "order {number}");
+        assert!(rt; needs_in(&book) == needs, "order {number}");
     }
-    assert_eq!(rt; (book.units_needed(1, 0), book.money_needed(9)), (0, 0));
+    assert!(rt; book.units_needed(1, 0) == 0 && book.money_needed(9) == 0);
     Ok(())
 }
 
-// A book of orders of account 1 with these numbers, each of which buys one unit of asset 0.
-fn numbered(alloc: Global, numbers: &[u64]) -> Result<Option<Book>, AllocError> {
-    let mut book = Book::new(alloc);
+// Adds orders of account 1 with these numbers, each of which buys one unit of asset 0.
+fn place_numbered(alloc: Global, book: &mut Book, numbers: &[u64]) -> bool {
     for number in numbers {
-        match order_of(alloc, ((*number, 1), (0, 1), (1, 1), &[(0, 1)]))? {
-            Some(order) => {
-                if !add(&mut book, order) {
-                    return Ok(None);
-                }
-            }
-            None => return Ok(None),
+        if !place(alloc, book, ((*number, 1), (0, 1), (1, 1), &[(0, 1)])) {
+            return false;
         }
     }
-    Ok(Some(book))
+    true
 }
 
 // Whether these are the numbers of the live orders.
@@ -127,7 +128,8 @@ fn are_numbers(orders: &[Order], numbers: &[u64]) -> bool {
 
 #[test]
 fn cancelled_orders_are_gone(rt: HostRuntime) -> Result<(), Fail> {
-    let mut book = numbered(rt.alloc(), &[2, 3, 5, 8, 13, 21])?.ok_or("an order isn't taken")?;
+    let mut book = Book::new(rt.alloc());
+    assert!(rt; place_numbered(rt.alloc(), &mut book, &[2, 3, 5, 8, 13, 21]));
     for (number, there) in [
         (5, true),
         (5, false),
@@ -136,18 +138,19 @@ fn cancelled_orders_are_gone(rt: HostRuntime) -> Result<(), Fail> {
         (2, true),
         (21, false),
     ] {
-        assert_eq!(rt; book.cancel(1, number), there);
-        assert!(rt; !book.has_order(1, number));
+        assert!(rt; book.cancel(1, number) == there, "order {number}");
+        assert!(rt; !book.has_order(1, number), "order {number}");
     }
     assert!(rt; book.has_order(1, 3));
-    assert_eq!(rt; book.len(), 3);
+    assert!(rt; book.len() == 3);
     assert!(rt; are_numbers(book.orders(), &[3, 8, 13]));
     Ok(())
 }
 
 #[test]
 fn filled_orders_need_less(rt: HostRuntime) -> Result<(), Fail> {
-    let mut book = three(rt.alloc(), 501)?.ok_or("an order isn't taken")?;
+    let mut book = Book::new(rt.alloc());
+    assert!(rt; place_three(rt.alloc(), &mut book, 501));
     let batches: [(&[u32], bool, (i128, i128, i128, i128, usize)); 6] = [
         (
             &[502, 0, 0],
@@ -161,8 +164,8 @@ fn filled_orders_need_less(rt: HostRuntime) -> Result<(), Fail> {
         (&[1000, 0], true, (6_871_947_673_600, 0, 320, 7499, 2)),
     ];
     for (rates, taken, needs) in batches {
-        assert_eq!(rt; fill(&mut book, rates), taken);
-        assert_eq!(rt; needs_in(&book), needs);
+        assert!(rt; fill(&mut book, rates) == taken);
+        assert!(rt; needs_in(&book) == needs);
     }
     assert!(rt; !book.cancel(1, 1));
     Ok(())

@@ -1,10 +1,11 @@
 //! A market that settles nothing: each total stays the sum of all balances, and by that every call
 //! may be made.
-ghost use Rattle.std.specs.Prelude.{IsTrue, pos, ◌≤ℤ◌};
+ghost use Rattle.std.specs.Prelude.{IfOk, IsTrue, pos, ◌≤ℤ◌};
 ghost use Rattle.flow_accounts.specs.Balances.{IsAccount, IsAsset, money_with_credit, units_with_credit};
 ghost use Rattle.flow_accounts.specs.Sums.{TotalsAreSums};
 
 use flow_accounts::{AccountFault, Accounts, MOST_ASSETS, laws};
+use std::alloc::Global;
 use std::process::Abort;
 
 // A call on accounts whose totals are the sums of the balances. The first numbers are the account
@@ -38,6 +39,18 @@ pub fn add_asset(rt: &impl Abort, accounts: &mut Accounts)
     laws::totals_stay_sums();
     assert!(rt; accounts.assets() < MOST_ASSETS);
     accounts.add_asset();
+}
+
+// One asset, and accounts 1 and 2, which have nothing.
+pub fn two_accounts(rt: &impl Abort, alloc: Global) -> Result<Accounts, AccountFault>
+    ensures { IfOk result (λ accounts. TotalsAreSums accounts) }
+{
+    let mut accounts = Accounts::new(alloc);
+    laws::totals_stay_sums();
+    add_asset(rt, &mut accounts);
+    open(&mut accounts)?;
+    open(&mut accounts)?;
+    Ok(accounts)
 }
 
 pub fn deposit(accounts: &mut Accounts, account: u32, ticks: u64) -> Result<(), AccountFault>

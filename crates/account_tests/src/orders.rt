@@ -1,7 +1,8 @@
 //! Orders: their faults, needs and fills, and sums of their weights.
 use crate::placing::{Placed, order_of};
-use demand_curve::Curve;
 use flow_orders::{Order, OrderFault, money_need, order_fault, spread, steepness, unit_need};
+use std::alloc::Global;
+use std::process::Abort;
 use std::test::Fail;
 
 const FAR: i64 = 268_435_456;
@@ -51,8 +52,8 @@ fn tells_needs(rt: HostRuntime) -> Result<(), Fail> {
     for (high, weight, left, money, units) in cases {
         assert!(rt; -FAR <= high && high <= FAR && left <= 1 << 40);
         assert!(rt; weight.unsigned_abs() <= 4096);
-        assert_eq!(rt; money_need(high, left), money);
-        assert_eq!(rt; unit_need(weight, left), units);
+        assert!(rt; money_need(high, left) == money);
+        assert!(rt; unit_need(weight, left) == units);
     }
     Ok(())
 }
@@ -78,13 +79,23 @@ fn fill(order: &mut Order, x: u32) -> Option<bool> {
     }
 }
 
+// Fills an order by `x`, and sees to whether it is full then, how much was filled, and how much room it has.
+fn see_fill(rt: &impl Abort, order: &mut Order, row: (u32, Option<bool>, u64, u32)) {
+    let (x, full, filled, room) = row;
+    assert!(rt; fill(order, x) == full, "a fill of {x}");
+    assert!(rt; order.filled() == filled, "a fill of {x}");
+    let curve = order.curve();
+    assert!(rt; curve.low == 386_547_056_640 && curve.high == 472_446_402_560);
+    assert!(rt; curve.rate == 1000 && curve.room == room, "a fill of {x}");
+}
+
 #[test]
 fn orders_are_filled_to_their_cap(rt: HostRuntime) -> Result<(), Fail> {
     let placed: Placed<'_> = ((7, 1), (90, 110), (1000, 1501), &[(0, -3)]);
     let mut order = order_of(rt.alloc(), placed)?.ok_or("fault")?;
-    assert_eq!(rt; numbers_of(&order), (7, 1, 90, 110, 1000, 1501));
-    assert_eq!(rt; order.row().weight_of(0), -3);
-    for (x, full, filled, room) in [
+    assert!(rt; numbers_of(&order) == (7, 1, 90, 110, 1000, 1501));
+    assert!(rt; order.row().weight_of(0) == -3);
+    for row in [
         (0, Some(false), 0, 1000),
         (1001, None, 0, 1000),
         (1000, Some(false), 1000, 501),
@@ -92,18 +103,24 @@ fn orders_are_filled_to_their_cap(rt: HostRuntime) -> Result<(), Fail> {
         (500, Some(false), 1500, 1),
         (1, Some(true), 1500, 1),
     ] {
-        assert_eq!(rt; fill(&mut order, x), full);
-        assert_eq!(rt; order.filled(), filled);
-        let Curve {
-            low,
-            high,
-            rate,
-            room: left,
-        } = order.curve();
-        assert_eq!(rt; (low, high), (386_547_056_640, 472_446_402_560));
-        assert_eq!(rt; (rate, left), (1000, room));
+        see_fill(&rt, &mut order, row);
     }
     Ok(())
+}
+
+// Adds an order that has this weight of asset 5, or answers false where it isn't taken.
+fn add(alloc: Global, orders: &mut Vec<Order>, weight: i32) -> bool {
+    match order_of(alloc, ((7, 1), (0, 1), (1, 1), &[(5, weight)])) {
+        Ok(Some(order)) => orders.push(order).is_ok(),
+        _ => false,
+    }
+}
+
+// What the orders' weights of an asset come to: their spread and their steepness.
+fn see_sums(rt: &impl Abort, orders: &[Order], sums: (i64, i64)) {
+    assert!(rt; orders.len() <= 2);
+    assert!(rt; (spread(orders, 5), steepness(orders, 5)) == sums);
+    assert!(rt; (spread(orders, 4), steepness(orders, 4)) == (0, 0));
 }
 
 #[test]
@@ -115,15 +132,9 @@ fn sums_weights(rt: HostRuntime) -> Result<(), Fail> {
         (16, 0, (16, 1)),
     ] {
         let mut orders = Vec::new(rt.alloc());
-        for weight in [one, other] {
-            if let Some(order) = order_of(rt.alloc(), ((7, 1), (0, 1), (1, 1), &[(5, weight)]))? {
-                orders.push(order)?;
-            }
-        }
-        assert!(rt; orders.len() <= 2);
-        let found = (spread(&orders, 5), steepness(&orders, 5));
-        assert_eq!(rt; found, sums);
-        assert_eq!(rt; (spread(&orders, 4), steepness(&orders, 4)), (0, 0));
+        assert!(rt; add(rt.alloc(), &mut orders, one));
+        assert!(rt; add(rt.alloc(), &mut orders, other) == (other != 0));
+        see_sums(&rt, &orders, sums);
     }
     Ok(())
 }

@@ -4,6 +4,7 @@ ghost use Rattle.market_rules.specs.Market.{Market as market_value, most_batches
 ghost use Rattle.market_rules.specs.Settling.{MaySettle};
 
 use batch_outcome::{Outcome, Skipped, Trace};
+use check_lines::Told;
 use market_core::Market;
 use std::alloc::Global;
 
@@ -32,40 +33,43 @@ fn hold(market: &mut Market, outcome: &Outcome, count: u32)
 }
 
 // Appends whether a batch with this budget is allowed.
-fn put_budget(market: &Market, budget: u32, rows: &mut String) -> Option<()> {
+fn put_budget(market: &Market, budget: u32, told: &mut Told) {
     match market.batch_allowed(budget) {
-        Ok(()) => rows.push_str(" allowed").ok(),
-        Err(refusal) => {
-            let code = refusal.code();
-            write!(rows, " {code}").ok()
-        }
+        Ok(()) => told.put(" allowed"),
+        Err(refusal) => told.put_number(" ", i128::from(refusal.code())),
     }
 }
 
 // Appends how many batches were held, and which budgets are allowed then.
-fn put_row(market: &Market, rows: &mut String) -> Option<()> {
-    let held = market.batches();
-    write!(rows, "  {held}:").ok()?;
+fn put_row(market: &Market, told: &mut Told) {
+    told.put_number("  ", i128::from(market.batches()));
+    told.put(":");
     for budget in [0, 1, 65_536, 65_537] {
-        put_budget(market, budget, rows)?;
+        put_budget(market, budget, told);
     }
-    rows.push('\n').ok()
+    told.put("\n");
 }
 
 // Holds so many batches, and appends the row.
-fn put_held(alloc: Global, market: &mut Market, count: u32, rows: &mut String) -> Option<()> {
+fn put_held(alloc: Global, market: &mut Market, count: u32, told: &mut Told) {
     if count > MOST_BATCHES {
-        return None;
+        return told.give_up();
     }
     hold(market, &skipped(alloc), count);
-    put_row(market, rows)
+    put_row(market, told);
 }
 
 // Holds batches up to each of the counts, and appends its row.
-pub(crate) fn put_allowed(alloc: Global, counts: &str, rows: &mut String) -> Option<()> {
-    let mut market = Market::new(alloc);
+fn put_counts(alloc: Global, market: &mut Market, counts: &str, told: &mut Told) {
     for count in counts.split_whitespace() {
-        put_held(alloc, &mut market, count.parse().ok()?, rows)?;
+        match count.parse() {
+            Ok(count) => put_held(alloc, market, count, told),
+            Err(_) => told.give_up(),
+        }
     }
-    Some(())
+}
+
+// The same, of a market in which none was held.
+pub(crate) fn put_allowed(alloc: Global, counts: &str, told: &mut Told) {
+    put_counts(alloc, &mut Market::new(alloc), counts, told);
 }

@@ -1,5 +1,6 @@
 //! Markets as bytes, and again from them.
 use crate::state::put_market;
+use check_lines::Told;
 use journal_replay::replay;
 use market_core::Market;
 use market_snapshot::{SnapshotFault, read_market, write_market};
@@ -8,48 +9,65 @@ use std::alloc::Global;
 // The next number of a checkpoint's market is below this.
 const NUMBERS: u64 = 1 << 63;
 
-// The checkpoint of a market.
-fn checkpoint_of(alloc: Global, market: &mut Market) -> Option<Vec<u8>> {
+// Appends the checkpoint of a market.
+fn write(market: &mut Market, bytes: &mut Vec<u8>) -> Option<()> {
     if market.next_number() >= NUMBERS {
         return None;
     }
-    let mut bytes = Vec::new(alloc);
-    write_market(market, &mut bytes).ok()?;
-    Some(bytes)
+    write_market(market, bytes).ok()
 }
 
-// Appends how many bytes a market was read from, and whether it is written so again. Then come the rows of the market.
-fn put_again(
+// Whether the market is written so, or None where there is no memory.
+fn is_written_so(alloc: Global, market: &mut Market, bytes: &[u8]) -> Option<bool> {
+    let mut written = Vec::new(alloc);
+    write(market, &mut written)?;
+    Some(written.as_slice() == bytes)
+}
+
+// Whether a market is written as the first bytes, so many.
+fn is_written_again(
     alloc: Global,
     market: &mut Market,
     taken: usize,
     bytes: &[u8],
-    rows: &mut String,
-) -> Option<()> {
-    let all = bytes.len();
-    write!(rows, "  {taken} of {all} bytes").ok()?;
-    if checkpoint_of(alloc, market)?.as_slice() == bytes.get(..taken)? {
-        rows.push_str(", written so again\n").ok()?;
-    } else {
-        rows.push_str(", written otherwise\n").ok()?;
+) -> Option<bool> {
+    is_written_so(alloc, market, bytes.get(..taken)?)
+}
+
+// Appends how many bytes a market was read from, and whether it is written so again. Then come the rows of the market.
+fn put_again(alloc: Global, market: &mut Market, taken: usize, bytes: &[u8], told: &mut Told) {
+    told.put_number("  ", taken as i128);
+    told.put_number(" of ", bytes.len() as i128);
+    match is_written_again(alloc, market, taken, bytes) {
+        Some(true) => told.put(" bytes, written so again\n"),
+        Some(false) => told.put(" bytes, written otherwise\n"),
+        None => told.give_up(),
     }
-    put_market(alloc, market, rows)
+    put_market(alloc, market, told);
 }
 
 // Appends what the bytes are read as.
-pub(crate) fn put_read(alloc: Global, bytes: &[u8], rows: &mut String) -> Option<()> {
+pub(crate) fn put_read(alloc: Global, bytes: &[u8], told: &mut Told) {
     match read_market(alloc, bytes) {
-        Err(SnapshotFault::NotSound) => rows.push_str("  not sound\n").ok(),
-        Err(SnapshotFault::Memory) => None,
-        Ok((mut market, taken)) => put_again(alloc, &mut market, taken, bytes, rows),
+        Err(SnapshotFault::NotSound) => told.put("  not sound\n"),
+        Err(SnapshotFault::Memory) => told.give_up(),
+        Ok((mut market, taken)) => put_again(alloc, &mut market, taken, bytes, told),
+    }
+}
+
+// Appends the checkpoint of a journal's market.
+fn write_replayed(alloc: Global, journal: &[u8], bytes: &mut Vec<u8>) -> Option<()> {
+    match replay(alloc, journal) {
+        Ok(mut market) => write(&mut market, bytes),
+        Err(_) => None,
     }
 }
 
 // Appends what the checkpoint of a journal's market is read as.
-pub(crate) fn put_kept(alloc: Global, journal: &[u8], rows: &mut String) -> Option<()> {
-    let mut market = replay(alloc, journal).ok()?;
-    let bytes = checkpoint_of(alloc, &mut market)?;
-    put_read(alloc, &bytes, rows)
+pub(crate) fn put_kept(alloc: Global, journal: &[u8], told: &mut Told) {
+    let mut bytes = Vec::new(alloc);
+    told.keep(write_replayed(alloc, journal, &mut bytes));
+    put_read(alloc, &bytes, told);
 }
 
 // Whether a market is read of bytes. It is written so again, or there is no answer.
@@ -57,35 +75,56 @@ fn is_sound(alloc: Global, bytes: &[u8]) -> Option<bool> {
     match read_market(alloc, bytes) {
         Err(SnapshotFault::NotSound) => Some(false),
         Err(SnapshotFault::Memory) => None,
-        Ok((mut market, taken)) => {
-            if checkpoint_of(alloc, &mut market)?.as_slice() == bytes.get(..taken)? {
-                Some(true)
-            } else {
-                None
-            }
-        }
+        Ok((mut market, taken)) => match is_written_again(alloc, &mut market, taken, bytes) {
+            Some(true) => Some(true),
+            _ => None,
+        },
     }
 }
 
-// The bytes with those bits of one turned over that this one has.
-fn turned(alloc: Global, bytes: &[u8], place: usize, bits: u8) -> Option<Vec<u8>> {
-    let mut others = Vec::new(alloc);
-    others.extend_from_slice(bytes).ok()?;
-    let byte = others.get_mut(place)?;
-    *byte ^= bits;
-    Some(others)
+// How many bytes are checkpoints, and how many aren't.
+#[derive(Drop)]
+struct Counts {
+    sound: u32,
+    others: u32,
+}
+
+impl Counts {
+    // Counts one more, or answers None where it isn't known.
+    fn add(&mut self, is_sound: Option<bool>) -> Option<()> {
+        match is_sound {
+            Some(true) => self.sound = self.sound.wrapping_add(1),
+            Some(false) => self.others = self.others.wrapping_add(1),
+            None => return None,
+        }
+        Some(())
+    }
+}
+
+// Turns those bits of a byte over that this one has.
+fn turn(bytes: &mut [u8], place: usize, bits: u8) {
+    if place < bytes.len() {
+        bytes[place] ^= bits;
+    }
+}
+
+// Turns bits of each byte over in turn, and back again, and counts what is read then.
+fn count_turned(alloc: Global, bits: u8, bytes: &mut [u8], counts: &mut Counts, told: &mut Told) {
+    for place in 0..bytes.len() {
+        turn(bytes, place, bits);
+        told.keep(counts.add(is_sound(alloc, bytes)));
+        turn(bytes, place, bits);
+    }
 }
 
 // Turns bits of each byte over in turn, and appends how many are checkpoints then, and how many aren't.
-pub(crate) fn put_turned(alloc: Global, bits: u8, bytes: &[u8], rows: &mut String) -> Option<()> {
-    let mut sound = 0u32;
-    let mut others = 0u32;
-    for place in 0..bytes.len() {
-        if is_sound(alloc, &turned(alloc, bytes, place, bits)?)? {
-            sound = sound.wrapping_add(1);
-        } else {
-            others = others.wrapping_add(1);
-        }
-    }
-    write!(rows, "  {sound} sound, {others} not sound\n").ok()
+pub(crate) fn put_turned(alloc: Global, bits: u8, bytes: &mut [u8], told: &mut Told) {
+    let mut counts = Counts {
+        sound: 0,
+        others: 0,
+    };
+    count_turned(alloc, bits, bytes, &mut counts, told);
+    told.put_number("  ", i128::from(counts.sound));
+    told.put_number(" sound, ", i128::from(counts.others));
+    told.put(" not sound\n");
 }

@@ -7,79 +7,86 @@ ghost use Rattle.wire_records.specs.Views.{command_of};
 
 use crate::MANY;
 use crate::state::put_market;
-use check_lines::records;
+use check_lines::{Told, records};
 use market_core::Market;
 use std::alloc::Global;
 use wire_records::{CommandView, Framed, MOST_BODY, RecordView, Refusal, Reply, next_record};
 
-pub(crate) fn put_reply(reply: Reply, rows: &mut String) -> Option<()> {
+pub(crate) fn put_reply(reply: Reply, told: &mut Told) {
     match reply {
-        Reply::Done => rows.push_str("done").ok(),
-        Reply::Asset(number) => write!(rows, "asset {number}").ok(),
-        Reply::Account(number) => write!(rows, "account {number}").ok(),
-        Reply::Order(number) => write!(rows, "order {number}").ok(),
-        Reply::Refused(refusal) => put_refusal(refusal, rows),
+        Reply::Done => told.put("done"),
+        Reply::Asset(number) => told.put_number("asset ", i128::from(number)),
+        Reply::Account(number) => told.put_number("account ", i128::from(number)),
+        Reply::Order(number) => told.put_number("order ", i128::from(number)),
+        Reply::Refused(refusal) => put_refusal(refusal, told),
     }
 }
 
-fn put_refusal(refusal: Refusal, rows: &mut String) -> Option<()> {
-    let code = refusal.code();
-    write!(rows, "refused {code}").ok()
+fn put_refusal(refusal: Refusal, told: &mut Told) {
+    told.put_number("refused ", i128::from(refusal.code()));
 }
 
 // Appends the reply that a command is said to get, and the one that it gets.
-fn put_replies(market: &mut Market, command: &CommandView<'_>, rows: &mut String) -> Option<()>
+fn put_replies(market: &mut Market, command: &CommandView<'_>, told: &mut Told)
     requires command { IsCommand (command_of command.now) }
     requires version { IsOfVersion market.old.version (command_of command.now) }
     requires no_batch { (budget : ℕ) → ¬ (command_of command.now ≡ RunBatch budget) }
     requires next { market.old.next_order + 1 < 2 ^ 64 }
 {
-    let expected = market.expected(command);
-    let reply = market.apply(command).ok()?;
-    put_reply(expected, rows)?;
-    rows.push_str(", ").ok()?;
-    put_reply(reply, rows)
+    put_reply(market.expected(command), told);
+    told.put(", ");
+    match market.apply(command) {
+        Ok(reply) => put_reply(reply, told),
+        Err(_) => told.give_up(),
+    }
 }
 
 // Appends whether a batch with this budget is allowed.
-fn put_batch(market: &Market, budget: u32, rows: &mut String) -> Option<()> {
-    rows.push_str("batch: ").ok()?;
+fn put_batch(market: &Market, budget: u32, told: &mut Told) {
+    told.put("batch: ");
     match market.batch_allowed(budget) {
-        Ok(()) => rows.push_str("allowed").ok(),
-        Err(refusal) => put_refusal(refusal, rows),
+        Ok(()) => told.put("allowed"),
+        Err(refusal) => put_refusal(refusal, told),
     }
 }
 
 // Appends what becomes of a record.
-fn put_answer(market: &mut Market, asked: &RecordView<'_>, rows: &mut String) -> Option<()> {
+fn put_answer(market: &mut Market, asked: &RecordView<'_>, told: &mut Told) {
     if market.next_number() >= MANY {
-        return None;
+        return told.give_up();
     }
     match market.read(asked) {
-        Ok(CommandView::RunBatch { budget }) => put_batch(market, budget, rows),
-        Ok(command) => put_replies(market, &command, rows),
+        Ok(CommandView::RunBatch { budget }) => put_batch(market, budget, told),
+        Ok(command) => put_replies(market, &command, told),
         Err(refusal) => {
-            rows.push_str("unread: ").ok()?;
-            put_refusal(refusal, rows)
+            told.put("unread: ");
+            put_refusal(refusal, told);
         }
     }
 }
 
 // Appends the row of a record.
-fn put_row(market: &mut Market, record: &[u8], rows: &mut String) -> Option<()> {
-    rows.push_str("  ").ok()?;
+fn put_row(market: &mut Market, record: &[u8], told: &mut Told) {
+    told.put("  ");
     match next_record(record, MOST_BODY) {
-        Framed::Whole(asked, _) => put_answer(market, &asked, rows)?,
-        _ => return None,
+        Framed::Whole(asked, _) => put_answer(market, &asked, told),
+        _ => told.give_up(),
     }
-    rows.push('\n').ok()
+    told.put("\n");
+}
+
+fn put_all(market: &mut Market, records: &[&[u8]], told: &mut Told) {
+    for record in records {
+        put_row(market, record, told);
+    }
 }
 
 // Serves each record, and appends its row. Then come those of the market.
-pub(crate) fn put_served(alloc: Global, bytes: &[u8], rows: &mut String) -> Option<()> {
+pub(crate) fn put_served(alloc: Global, bytes: &[u8], told: &mut Told) {
     let mut market = Market::new(alloc);
-    for record in &records(alloc, bytes)? {
-        put_row(&mut market, record, rows)?;
+    match records(alloc, bytes) {
+        Some(records) => put_all(&mut market, &records, told),
+        None => told.give_up(),
     }
-    put_market(alloc, &mut market, rows)
+    put_market(alloc, &mut market, told);
 }

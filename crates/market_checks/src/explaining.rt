@@ -3,41 +3,46 @@ use crate::MANY;
 use crate::commands::put_reply;
 use batch_audit::{Audit, Finding};
 use batch_certificate::Verdict;
-use check_lines::pairs;
+use check_lines::{Told, pairs};
 use journal_records::{PairFramed, PairView, next_pair};
 use std::alloc::Global;
 use wire_records::Reply;
 
-fn put_expected(reply: Reply, rows: &mut String) -> Option<()> {
-    rows.push_str("reply ").ok()?;
-    put_reply(reply, rows)?;
-    rows.push_str(" expected").ok()
+fn put_expected(reply: Reply, told: &mut Told) {
+    told.put("reply ");
+    put_reply(reply, told);
+    told.put(" expected");
 }
 
-fn put_part(part: Verdict, rows: &mut String) -> Option<()> {
+fn put_part(part: Verdict, told: &mut Told) {
     match part {
-        Verdict::Right => rows.push_str("right").ok(),
-        Verdict::Count => rows.push_str("count").ok(),
-        Verdict::Price(asset) => write!(rows, "price {asset}").ok(),
-        Verdict::Rate(place) => write!(rows, "rate {place}").ok(),
-        Verdict::Residual(asset) => write!(rows, "residual {asset}").ok(),
-        Verdict::Gap => rows.push_str("gap").ok(),
+        Verdict::Right => told.put("right"),
+        Verdict::Count => told.put("count"),
+        Verdict::Price(asset) => told.put_number("price ", i128::from(asset)),
+        Verdict::Rate(place) => told.put_number("rate ", i128::from(place)),
+        Verdict::Residual(asset) => told.put_number("residual ", i128::from(asset)),
+        Verdict::Gap => told.put("gap"),
     }
 }
 
-fn put_finding(found: Finding, rows: &mut String) -> Option<()> {
+fn put_batch(number: u32, told: &mut Told) {
+    told.put_number("batch ", i128::from(number));
+    told.put(" expected");
+}
+
+fn put_finding(found: Finding, told: &mut Told) {
     match found {
-        Finding::NoReply => rows.push_str("no reply").ok(),
-        Finding::OtherReply(reply) => put_expected(reply, rows),
-        Finding::Batch(number) => write!(rows, "batch {number} expected").ok(),
-        Finding::Part(part) => put_part(part, rows),
-        Finding::SingleBook => rows.push_str("one-asset book").ok(),
-        Finding::TraceLength => rows.push_str("trace length").ok(),
-        Finding::TraceStep(place) => write!(rows, "trace step {place}").ok(),
-        Finding::AllSettled => rows.push_str("all settled").ok(),
-        Finding::StartDual(dual) => write!(rows, "start dual {dual}").ok(),
-        Finding::EndDual(dual) => write!(rows, "end dual {dual}").ok(),
-        Finding::Legal => rows.push_str("legal").ok(),
+        Finding::NoReply => told.put("no reply"),
+        Finding::OtherReply(reply) => put_expected(reply, told),
+        Finding::Batch(number) => put_batch(number, told),
+        Finding::Part(part) => put_part(part, told),
+        Finding::SingleBook => told.put("one-asset book"),
+        Finding::TraceLength => told.put("trace length"),
+        Finding::TraceStep(place) => told.put_number("trace step ", i128::from(place)),
+        Finding::AllSettled => told.put("all settled"),
+        Finding::StartDual(dual) => told.put_number("start dual ", dual),
+        Finding::EndDual(dual) => told.put_number("end dual ", dual),
+        Finding::Legal => told.put("legal"),
     }
 }
 
@@ -51,25 +56,40 @@ fn find(audit: &mut Audit, pair: &PairView<'_>) -> Option<Finding> {
     Some(found)
 }
 
-// Appends what is found of the pair that these bytes are, where it isn't legal.
-fn put_found(audit: &mut Audit, pair: &[u8], number: usize, rows: &mut String) -> Option<()> {
-    let found = match next_pair(pair) {
-        PairFramed::Whole(pair, _) => find(audit, &pair)?,
-        _ => return None,
-    };
-    if found == Finding::Legal {
-        return Some(());
+// The same, of the pair that these bytes are.
+fn find_one(audit: &mut Audit, pair: &[u8]) -> Option<Finding> {
+    match next_pair(pair) {
+        PairFramed::Whole(pair, _) => find(audit, &pair),
+        _ => None,
     }
-    write!(rows, "  pair {number}: ").ok()?;
-    put_finding(found, rows)?;
-    rows.push('\n').ok()
+}
+
+// Appends what was found of a pair, where it isn't legal.
+fn put_found(found: Option<Finding>, number: usize, told: &mut Told) {
+    match found {
+        Some(Finding::Legal) => (),
+        Some(found) => {
+            told.put_number("  pair ", number as i128);
+            told.put(": ");
+            put_finding(found, told);
+            told.put("\n");
+        }
+        None => told.give_up(),
+    }
 }
 
 // Appends what is found of each pair that isn't legal.
-pub(crate) fn put_explained(alloc: Global, bytes: &[u8], rows: &mut String) -> Option<()> {
-    let mut audit = Audit::new(alloc);
-    for (place, pair) in pairs(alloc, bytes)?.iter().enumerate() {
-        put_found(&mut audit, pair, place + 1, rows)?;
+fn put_all_found(audit: &mut Audit, pairs: &[&[u8]], told: &mut Told) {
+    for (place, pair) in pairs.iter().enumerate() {
+        put_found(find_one(audit, pair), place + 1, told);
     }
-    Some(())
+}
+
+// The same, of the pairs in these bytes.
+pub(crate) fn put_explained(alloc: Global, bytes: &[u8], told: &mut Told) {
+    let mut audit = Audit::new(alloc);
+    match pairs(alloc, bytes) {
+        Some(pairs) => put_all_found(&mut audit, &pairs, told),
+        None => told.give_up(),
+    }
 }

@@ -1,5 +1,6 @@
 //! Journals as a whole.
 use crate::state::put_market;
+use check_lines::Told;
 use file_units::Ending;
 use journal_records::journal_version;
 use journal_replay::{Audited, PairFault, ReplayFault, audit_pairs, replay};
@@ -8,63 +9,65 @@ use std::alloc::Global;
 // As many bytes has the magic of a journal.
 const MAGIC: usize = 8;
 
-fn put_ending(ending: Ending, rows: &mut String) -> Option<()> {
+fn put_ending(ending: Ending, told: &mut Told) {
     match ending {
-        Ending::End => rows.push_str("  end").ok(),
-        Ending::Torn(place) => write!(rows, "  torn at {place}").ok(),
-        Ending::TooLong => rows.push_str("  more").ok(),
+        Ending::End => told.put("  end"),
+        Ending::Torn(place) => told.put_number("  torn at ", i128::from(place)),
+        Ending::TooLong => told.put("  more"),
     }
 }
 
 // Appends what was found where all pairs are legal.
-fn put_found(alloc: Global, found: &mut Audited, rows: &mut String) -> Option<()> {
-    put_ending(found.ending, rows)?;
-    let pairs = found.pairs;
-    let cleared = found.cleared;
-    let skipped = found.skipped;
-    write!(
-        rows,
-        ": {pairs} pairs, {cleared} cleared, {skipped} skipped\n"
-    )
-    .ok()?;
-    put_market(alloc, &mut found.market, rows)
+fn put_found(alloc: Global, found: &mut Audited, told: &mut Told) {
+    put_ending(found.ending, told);
+    told.put_number(": ", i128::from(found.pairs));
+    told.put_number(" pairs, ", i128::from(found.cleared));
+    told.put_number(" cleared, ", i128::from(found.skipped));
+    told.put(" skipped\n");
+    put_market(alloc, &mut found.market, told);
 }
 
 // Audits the pairs behind the magic, and appends what was found.
-pub(crate) fn put_counted(
-    alloc: Global,
-    journal: &[u8],
-    more: bool,
-    rows: &mut String,
-) -> Option<()> {
-    let version = journal_version(journal)?;
+pub(crate) fn put_counted(alloc: Global, journal: &[u8], more: bool, told: &mut Told) {
     if journal.len() < MAGIC {
-        return None;
+        return told.give_up();
     }
+    let Some(version) = journal_version(journal) else {
+        return told.give_up();
+    };
     match audit_pairs(alloc, version, journal, MAGIC, more) {
-        Ok(mut found) => put_found(alloc, &mut found, rows),
-        Err(PairFault::Illegal(number)) => write!(rows, "  illegal {number}\n").ok(),
-        Err(PairFault::Memory) => None,
+        Ok(mut found) => put_found(alloc, &mut found, told),
+        Err(PairFault::Illegal(number)) => {
+            told.put_number("  illegal ", i128::from(number));
+            told.put("\n");
+        }
+        Err(PairFault::Memory) => told.give_up(),
+    }
+}
+
+fn put_fault(alloc: Global, fault: &ReplayFault, told: &mut Told) {
+    match format!(in alloc; "  {fault}\n") {
+        Ok(row) => told.put(&row),
+        Err(_) => told.give_up(),
     }
 }
 
 // Appends the market of a journal, or why there is none.
-pub(crate) fn put_replayed(alloc: Global, journal: &[u8], rows: &mut String) -> Option<()> {
+pub(crate) fn put_replayed(alloc: Global, journal: &[u8], told: &mut Told) {
     match replay(alloc, journal) {
-        Ok(mut market) => put_market(alloc, &mut market, rows),
-        Err(fault) => write!(rows, "  {fault}\n").ok(),
+        Ok(mut market) => put_market(alloc, &mut market, told),
+        Err(fault) => put_fault(alloc, &fault, told),
     }
 }
 
 // Appends the texts of the faults.
-pub(crate) fn put_faults(number: u64, rows: &mut String) -> Option<()> {
+pub(crate) fn put_faults(alloc: Global, number: u64, told: &mut Told) {
     for fault in [
         ReplayFault::NotJournal,
         ReplayFault::Torn(number),
         ReplayFault::Illegal(number),
         ReplayFault::Memory,
     ] {
-        write!(rows, "  {fault}\n").ok()?;
+        put_fault(alloc, &fault, told);
     }
-    Some(())
 }

@@ -3,7 +3,7 @@ use crate::MANY;
 use crate::state::put_market;
 use batch_audit::{Audit, Legality};
 use batch_report::report_pair;
-use check_lines::{pairs, put_text};
+use check_lines::{Told, pairs};
 use journal_records::{PairFramed, PairView, next_pair};
 use std::alloc::Global;
 
@@ -15,16 +15,39 @@ fn judge(audit: &mut Audit, pair: &PairView<'_>) -> Option<Legality> {
     audit.pair(pair).ok()
 }
 
-// Appends whether the pair that these bytes are is legal.
-fn put_legality(audit: &mut Audit, pair: &[u8], rows: &mut String) -> Option<()> {
-    let legality = match next_pair(pair) {
-        PairFramed::Whole(pair, _) => judge(audit, &pair)?,
-        _ => return None,
-    };
-    match legality {
-        Legality::Legal => rows.push_str(" legal").ok(),
-        Legality::Illegal => rows.push_str(" illegal").ok(),
+// Whether the pair that these bytes are is legal.
+fn judge_one(audit: &mut Audit, pair: &[u8]) -> Option<Legality> {
+    match next_pair(pair) {
+        PairFramed::Whole(pair, _) => judge(audit, &pair),
+        _ => None,
     }
+}
+
+fn put_legality(legality: Option<Legality>, told: &mut Told) {
+    match legality {
+        Some(Legality::Legal) => told.put(" legal"),
+        Some(Legality::Illegal) => told.put(" illegal"),
+        None => told.give_up(),
+    }
+}
+
+// Appends whether each pair is legal.
+fn put_legalities(audit: &mut Audit, pairs: &[&[u8]], told: &mut Told) {
+    told.put(" ");
+    for pair in pairs {
+        put_legality(judge_one(audit, pair), told);
+    }
+    told.put("\n");
+}
+
+// Judges each pair. Then come the rows of the market.
+pub(crate) fn put_judged(alloc: Global, bytes: &[u8], told: &mut Told) {
+    let mut audit = Audit::new(alloc);
+    match pairs(alloc, bytes) {
+        Some(pairs) => put_legalities(&mut audit, &pairs, told),
+        None => told.give_up(),
+    }
+    put_market(alloc, &mut audit.into_market(), told);
 }
 
 // Appends the text of the pair, which has to be legal.
@@ -46,23 +69,20 @@ fn report_one(audit: &mut Audit, pair: &[u8], number: u64, text: &mut Vec<u8>) -
     }
 }
 
-// Judges each pair. Then come the rows of the market.
-pub(crate) fn put_judged(alloc: Global, bytes: &[u8], rows: &mut String) -> Option<()> {
-    let mut audit = Audit::new(alloc);
-    rows.push(' ').ok()?;
-    for pair in &pairs(alloc, bytes)? {
-        put_legality(&mut audit, pair, rows)?;
+// Reports each pair, and appends the lines of the text.
+fn put_reports(audit: &mut Audit, pairs: &[&[u8]], text: &mut Vec<u8>, told: &mut Told) {
+    for (place, pair) in pairs.iter().enumerate() {
+        told.keep(report_one(audit, pair, place as u64 + 1, text));
     }
-    rows.push('\n').ok()?;
-    put_market(alloc, &mut audit.into_market(), rows)
+    told.put_text(text);
 }
 
-// Reports each pair, and appends the lines of the text.
-pub(crate) fn put_report(alloc: Global, bytes: &[u8], rows: &mut String) -> Option<()> {
+// The same, of the pairs in these bytes.
+pub(crate) fn put_report(alloc: Global, bytes: &[u8], told: &mut Told) {
     let mut audit = Audit::new(alloc);
     let mut text = Vec::new(alloc);
-    for (place, pair) in pairs(alloc, bytes)?.iter().enumerate() {
-        report_one(&mut audit, pair, place as u64 + 1, &mut text)?;
+    match pairs(alloc, bytes) {
+        Some(pairs) => put_reports(&mut audit, &pairs, &mut text, told),
+        None => told.give_up(),
     }
-    put_text(&text, rows)
 }

@@ -53,53 +53,71 @@ mod resuming;
 mod serving;
 mod state;
 
-use check_lines::{Line, Names};
+use check_lines::{Line, Names, Told};
 use std::alloc::Global;
 use std::io;
 
 // No case places as many orders.
 const MANY: u64 = 1 << 32;
 
-// Appends what a case comes to, or answers `None` where it is faulty or there is no memory.
-fn put_case(alloc: Global, words: &str, bytes: &[u8], rows: &mut String) -> Option<()> {
-    let (call, with) = words.split_once(' ').unwrap_or((words, ""));
-    match call {
-        "market" => commands::put_served(alloc, bytes, rows),
-        "batches" => batches::put_allowed(alloc, with, rows),
-        "serve" => serving::put_pairs(alloc, bytes, rows),
-        "audit" => judging::put_judged(alloc, bytes, rows),
-        "explain" => explaining::put_explained(alloc, bytes, rows),
-        "report" => judging::put_report(alloc, bytes, rows),
-        "count" => journals::put_counted(alloc, bytes, with == "more", rows),
-        "replay" => journals::put_replayed(alloc, bytes, rows),
-        "resume" => resuming::put_resumed(alloc, bytes, rows),
-        "checkpoint" => checkpoints::put_kept(alloc, bytes, rows),
-        "snapshot" => checkpoints::put_read(alloc, bytes, rows),
-        "turned" => checkpoints::put_turned(alloc, with.parse().ok()?, bytes, rows),
-        "faults" => journals::put_faults(with.parse().ok()?, rows),
-        _ => None,
+fn put_faults(alloc: Global, number: &str, told: &mut Told) {
+    match number.parse() {
+        Ok(number) => journals::put_faults(alloc, number, told),
+        Err(_) => told.give_up(),
     }
 }
 
-fn told_of(alloc: Global, words: &str, bytes: &[u8]) -> Option<String> {
-    let mut rows = format!(in alloc; "{words}:\n").ok()?;
-    put_case(alloc, words, bytes, &mut rows)?;
-    Some(rows)
+fn put_turned(alloc: Global, bits: &str, bytes: &mut [u8], told: &mut Told) {
+    match bits.parse() {
+        Ok(bits) => checkpoints::put_turned(alloc, bits, bytes, told),
+        Err(_) => told.give_up(),
+    }
 }
 
-// What a line comes to, in the same way.
-fn told(alloc: Global, names: &mut Names, line: &str) -> Option<String> {
-    match names.read(line)? {
-        Line::Remark => format!(in alloc; "{line}\n").ok(),
-        Line::Named => Some(String::new(alloc)),
-        Line::Case(words, bytes) => told_of(alloc, words, &bytes),
+// Appends what a case comes to.
+fn put_case(alloc: Global, words: &str, bytes: &mut [u8], told: &mut Told) {
+    let (call, with) = words.split_once(' ').unwrap_or((words, ""));
+    match call {
+        "market" => commands::put_served(alloc, bytes, told),
+        "batches" => batches::put_allowed(alloc, with, told),
+        "serve" => serving::put_pairs(alloc, bytes, told),
+        "audit" => judging::put_judged(alloc, bytes, told),
+        "explain" => explaining::put_explained(alloc, bytes, told),
+        "report" => judging::put_report(alloc, bytes, told),
+        "count" => journals::put_counted(alloc, bytes, with == "more", told),
+        "replay" => journals::put_replayed(alloc, bytes, told),
+        "resume" => resuming::put_resumed(alloc, bytes, told),
+        "checkpoint" => checkpoints::put_kept(alloc, bytes, told),
+        "snapshot" => checkpoints::put_read(alloc, bytes, told),
+        "turned" => put_turned(alloc, with, bytes, told),
+        "faults" => put_faults(alloc, with, told),
+        _ => told.give_up(),
+    }
+}
+
+// Appends what a line comes to.
+fn put_line(alloc: Global, names: &mut Names, line: &str, told: &mut Told) {
+    match names.read(line) {
+        Some(Line::Remark) => {
+            told.put(line);
+            told.put("\n");
+        }
+        Some(Line::Named) => (),
+        Some(Line::Case(words, mut bytes)) => {
+            told.put(words);
+            told.put(":\n");
+            put_case(alloc, words, &mut bytes, told);
+        }
+        None => told.give_up(),
     }
 }
 
 fn main(rt: HostRuntime) -> io::Result<()> {
     let mut names = Names::new(rt.alloc());
     for line in rt.lines(rt.alloc()) {
-        match told(rt.alloc(), &mut names, line?.as_str()) {
+        let mut told = Told::new(rt.alloc());
+        put_line(rt.alloc(), &mut names, line?.as_str(), &mut told);
+        match told.rows() {
             Some(rows) => print!(rt; "{rows}")?,
             None => println!(rt; "not done")?,
         }

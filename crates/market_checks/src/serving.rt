@@ -3,7 +3,7 @@ ghost use Rattle.wire_records.specs.Records.{IsRecord, most_body};
 
 use crate::MANY;
 use crate::state::put_market;
-use check_lines::{put_records, records};
+use check_lines::{Told, records};
 use exchange_session::Session;
 use std::alloc::Global;
 use wire_records::{Framed, MOST_BODY, RecordView, next_record};
@@ -26,13 +26,21 @@ pub(crate) fn serve_one(session: &mut Session, record: &[u8], pairs: &mut Vec<u8
     }
 }
 
+// Serves each record, and appends the rows of their pairs.
+fn put_served(session: &mut Session, records: &[&[u8]], pairs: &mut Vec<u8>, told: &mut Told) {
+    for record in records {
+        told.keep(serve_one(session, record, pairs));
+    }
+    told.put_records(pairs, pairs.len());
+}
+
 // Serves each record, and appends the rows of their pairs. Then come those of the market.
-pub(crate) fn put_pairs(alloc: Global, bytes: &[u8], rows: &mut String) -> Option<()> {
+pub(crate) fn put_pairs(alloc: Global, bytes: &[u8], told: &mut Told) {
     let mut session = Session::new(alloc);
     let mut pairs = Vec::new(alloc);
-    for record in &records(alloc, bytes)? {
-        serve_one(&mut session, record, &mut pairs)?;
+    match records(alloc, bytes) {
+        Some(records) => put_served(&mut session, &records, &mut pairs, told),
+        None => told.give_up(),
     }
-    put_records(alloc, &pairs, pairs.len(), rows)?;
-    put_market(alloc, &mut session.into_market(), rows)
+    put_market(alloc, &mut session.into_market(), told);
 }
