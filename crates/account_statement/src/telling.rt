@@ -34,7 +34,7 @@ impl Statement {
         ensures stays { OnErr result (self.new ≡ self.old) }
         ensures before { out.new.before ≡ out.old.before }
     {
-        // What the accounts ensure: the market is sound.
+        // Called for its contract: the market is sound.
         let _sound = market.accounts();
         match market.read(&pair.asked()) {
             Ok(command) => match reply(&pair.answered()) {

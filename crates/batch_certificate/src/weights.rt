@@ -36,7 +36,8 @@ fn add_order(order: &Order, spreads: &mut [u64], squares: &mut [u64])
     ensures squares { HasGrownBy square order.now.row squares.old squares.new }
     ensures order { IsOrder order.now }
 {
-    order.number();
+    // Called for its contract: the order is within the limits.
+    let _within = order.number();
     add_row_weights(order.row(), spreads, squares);
 }
 

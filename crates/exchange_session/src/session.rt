@@ -79,7 +79,7 @@ impl Session {
         ensures value { result.now ≡ self.now }
         ensures sound { IsSound self.now }
     {
-        // What the accounts ensure: the market is sound.
+        // Called for its contract: the market is sound.
         let _sound = self.market.accounts();
         &self.market
     }

@@ -60,7 +60,7 @@ pub fn settle(
         units_of_all accounts.new asset +ℤ units_in exchange.new asset
         ≡ units_of_all accounts.old asset +ℤ units_in exchange.old asset }
 {
-    // Its contract tells that the accounts are lawful.
+    // Called for its contract: the accounts are lawful.
     let _accounts = accounts.count();
     for (order, rate) in orders.iter().zip(rates) {
         settle_order(accounts, exchange, order, prices, *rate);

@@ -38,7 +38,7 @@ pub fn retrace(work: &mut Workspace<'_>, parts: u16, trace: &[u8]) -> Retraced
     ensures lowers { IsLowered work.old.orders work.old.prices
         (movement_of parts work.old.orders work.old.prices (made_of result trace.now)) work.new.prices }
 {
-    // Its contract tells that each order is within the limits.
+    // Called for its contract: each order is within the limits.
     let _prices = work.prices();
     for (place, asset) in trace.iter().enumerate() {
         if !move_again(work, parts, *asset) {

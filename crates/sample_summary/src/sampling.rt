@@ -116,7 +116,7 @@ impl Sampling {
         ensures taken { OnOk result (TakesOne (state_of self.old) asked.now (state_of self.new)) }
         ensures same { OnOk result (self.new.audit ≡ self.new.session) }
     {
-        // What the audit's market ensures: it is sound.
+        // Called for its contract: the audit's market is sound.
         let _sound = self.audit.market();
         serve_record(&mut self.session, asked, &mut self.pair)?;
         take_pair(&mut self.audit, &self.pair, &mut self.counts)
