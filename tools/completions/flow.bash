@@ -1,4 +1,4 @@
-# Completes the words of flow in bash, and files behind a redirection, since each word reads standard input, and behind keep.
+# Completes the words of flow in bash, and files behind a redirection and where a word names one. Made by tools/words.
 #
 #     source tools/completions/flow.bash
 
@@ -13,7 +13,7 @@ _flow() {
         return
         ;;
     esac
-    [ "$COMP_CWORD" -ne 1 ] || words="run audit explain report statement checkpoint resume encode sample keep"
+    [ "$COMP_CWORD" -ne 1 ] || words="encode run audit explain report statement checkpoint resume keep sample"
     [ "$COMP_CWORD" -ne 2 ] || [ "$before" != encode ] || words="2 3"
     mapfile -t COMPREPLY < <(compgen -W "$words" -- "$word")
 }

@@ -3,7 +3,6 @@ ghost use Rattle.std.specs.Prelude.{◌≡◌, ℕ, ◌<◌, ◌≤◌, ◌++◌
 ghost use Rattle.list_sums.specs.Sums.{int_sum_by};
 ghost use Rattle.ticker_table.specs.Adding.{IsAddable};
 ghost use Rattle.wire_records.specs.Views.{command_of};
-ghost use Rattle.flow_accounts.specs.Balances.{grains};
 ghost use Rattle.flow_accounts.specs.Lawful.{IsMoneyBalance, IsUnitBalance};
 ghost use Rattle.flow_orders.specs.Orders.{terms_of};
 ghost use Rattle.flow_orders.specs.Outcomes.{residuals_of};
@@ -16,20 +15,11 @@ ghost use Rattle.account_statement.specs.Private.{AreAlike, Tells, MayPlace, May
 
 use crate::Statement;
 use crate::batch::{OwnPart, add_brought};
+use flow_accounts::grains_of;
 use flow_orders::Order;
 use journal_records::ClearedView;
 use weight_rows::WeightRow;
 use wire_records::{CommandView, Memory, PlaceView, Reply};
-
-// One tick in grains.
-const GRAINS_PER_TICK: i128 = 1 << 32;
-
-// Ticks in grains.
-fn grains_of(ticks: u64) -> i128
-    ensures { result ≡ grains ticks }
-{
-    i128::from(ticks) * GRAINS_PER_TICK
-}
 
 // The bytes of a ticker.
 fn ticker_of(bytes: &[u8]) -> [u8; 8]

@@ -13,11 +13,11 @@ use Rattle.flow_orders.specs.Excess.{is_unsettled}
 use Rattle.flow_orders.specs.Walks.{AreSettled}
 use Rattle.flow_orders.specs.Outcomes.{Clearing, Skipping, Outcome, Cleared, Skipped, IsRightOutcome, IsRightSkip, dual_of, end_of, IsLegalFrom, EndsSettled}
 use Rattle.flow_orders.proofs.Moving.{has_walked}
-use Rattle.coordinate_search.proofs.MadeAgain.{illegal_whole}
+use Rattle.price_moves.proofs.MadeAgain.{illegal_whole}
 use Rattle.journal_records.specs.Replies.{SpellsAnswer}
 use Rattle.market_rules.specs.Market.{Market, parts_of, start_prices}
 use Rattle.market_rules.specs.Step.{FirstRefusal, refusal_of, after_batch}
-use Rattle.market_rules.proofs.LawProofs.{plain_commands_need_no_rule}
+use Rattle.market_rules.proofs.LawProofs.{plain_by_any}
 use Rattle.market_core.specs.Expected.{IsExpected}
 use Rattle.batch_audit.specs.declared.finding.Finding.{Finding}
 use Rattle.batch_audit.specs.declared.finding.Finding.TheVariants as finding
@@ -40,7 +40,7 @@ gets_refusal m asked budget refusal read first =
 pub gets_expected : (m : Market) (asked : Record) (c : Command) (reply : Reply) → ((budget : ℕ) → ¬ (c ≡ RunBatch budget)) → IsReadAs m.version asked (Ok c) → IsExpected m c reply
     → GetsReply m asked reply
 gets_expected m asked c reply none read expected =
-    (expected.0, record { read = Ok c; spelled = read; served = (plain_commands_need_no_rule m c (Plain reply) expected.0 none).0 expected.1 })
+    (expected.0, record { read = Ok c; spelled = read; served = plain_by_any IsRightOutcome m c (Plain reply) expected.0 expected.1 })
 
 -- ---- findings of a pair
 

@@ -14,8 +14,8 @@ use Rattle.flow_orders.specs.Orders.{Order}
 use Rattle.flow_orders.specs.Excess.{is_unsettled}
 use Rattle.flow_orders.specs.Walks.{IsLegal}
 use Rattle.flow_orders.specs.Outcomes.{Clearing, Skipping, Outcome, Cleared, Skipped, IsRightOutcome, IsWide, IsLegalFrom, EndsSettled, step_of, dual_of, end_of}
-use Rattle.coordinate_search.specs.Search.{IsFirstIllegal}
-use Rattle.coordinate_search.proofs.MadeAgain.{illegal_whole}
+use Rattle.price_moves.specs.Retracing.{IsFirstIllegal}
+use Rattle.price_moves.proofs.MadeAgain.{illegal_whole}
 use Rattle.batch_certificate.specs.declared.verdict.Verdict.{Verdict}
 use Rattle.batch_certificate.specs.declared.verdict.Verdict.TheVariants.{Right}
 use Rattle.batch_certificate.specs.Verdicts.{IsVerdict}

@@ -11,14 +11,13 @@ use Rattle.wire_records.specs.declared.reply.Reply.TheVariants.{Refused}
 use Rattle.wire_records.specs.declared.reply.Refusal.{Refusal}
 use Rattle.wire_records.proofs.Readings.{reading_unique}
 use Rattle.flow_orders.specs.Outcomes.{Outcome, IsRightOutcome}
-use Rattle.flow_orders.specs.Own.{IsOwnOutcome}
 use Rattle.journal_records.specs.Replies.{SpellsAnswer}
 use Rattle.journal_records.proofs.Spelled.{answer_unique}
 use Rattle.market_rules.specs.Market.{Market, most_batches}
-use Rattle.market_rules.specs.Step.{FirstRefusal, Answers, Serves, ServesRead, refusal_of, after_batch}
+use Rattle.market_rules.specs.Step.{NoOutcome, ServesPlain, FirstRefusal, Answers, Serves, ServesRead, refusal_of, after_batch}
 use Rattle.market_rules.specs.Journal.{Step}
 use Rattle.market_core.specs.Expected.{IsExpected}
-use Rattle.market_rules.proofs.LawProofs.{plain_commands_have_one_answer, plain_commands_need_no_rule, one_refusal}
+use Rattle.market_rules.proofs.LawProofs.{plain_by_any, plain_commands_have_one_answer, one_refusal}
 use Rattle.market_rules.proofs.OneStep.{one_first}
 use Rattle.batch_audit.specs.Legal.{IsLegalPair}
 use Rattle.batch_audit.specs.Judging.{IsAcceptedPlain, IsChangeOf, IsWeighed}
@@ -35,7 +34,7 @@ pub same_plain : (r q : Reply) → ◌≡◌ {A = Answer Outcome} (Plain r) (Pla
 same_plain r q e = cc
 
 -- a reply that is no refusal is that of an accepted command
-no_first : (m n : Market) (c : Command) (reply : Reply) (first : Option Refusal) → FirstRefusal m c first → Answers IsOwnOutcome m c first (Plain reply) n
+no_first : (m n : Market) (c : Command) (reply : Reply) (first : Option Refusal) → FirstRefusal m c first → Answers NoOutcome m c first (Plain reply) n
     → ((refusal : Refusal) → ¬ (reply ≡ Refused refusal)) → FirstRefusal m c None
 no_first m n c reply None refused answered accepts = refused
 no_first m n c reply (Some refusal) refused answered accepts = absurd (accepts refusal (same_plain reply (Refused refusal) answered.0))
@@ -43,7 +42,7 @@ no_first m n c reply (Some refusal) refused answered accepts = absurd (accepts r
 module _ (m : Market) (c : Command) (none : (budget : ℕ) → ¬ (c ≡ RunBatch budget)) (reply : Reply) (expected : IsExpected m c reply) where
   -- the expected reply is the one answer
   answer_is : (a : Answer Outcome) (n : Market) → Serves IsRightOutcome m c a n → a ≡ Plain reply
-  answer_is a n serves = (plain_commands_have_one_answer m c a (Plain reply) n expected.0 none serves ((plain_commands_need_no_rule m c (Plain reply) expected.0 none).0 expected.1)).0
+  answer_is a n serves = (plain_commands_have_one_answer m c a (Plain reply) n expected.0 none serves (plain_by_any IsRightOutcome m c (Plain reply) expected.0 expected.1)).0
 
   -- any other is none
   pub other_answer : (a : Answer Outcome) → ¬ (a ≡ Plain reply) → IsReadWeighed m (Ok c) a None
@@ -51,7 +50,7 @@ module _ (m : Market) (c : Command) (none : (budget : ℕ) → ¬ (c ≡ RunBatc
 
   -- the expected answer is got by any rule
   right_answer : (a : Answer Outcome) → a ≡ Plain reply → Serves IsRightOutcome m c a expected.0
-  right_answer a is = subst (λ x. Serves IsRightOutcome m c x expected.0) (sym is) ((plain_commands_need_no_rule m c (Plain reply) expected.0 none).0 expected.1)
+  right_answer a is = subst (λ x. Serves IsRightOutcome m c x expected.0) (sym is) (plain_by_any IsRightOutcome m c (Plain reply) expected.0 expected.1)
 
   -- where it is no refusal, the command makes its market
   pub accepted_answer : (a : Answer Outcome) → a ≡ Plain reply → ((refusal : Refusal) → ¬ (reply ≡ Refused refusal)) → IsReadWeighed m (Ok c) a (Some change.Command)
@@ -138,13 +137,13 @@ module _ (old : Market) (pair : Record × Record) where
     command_accepted read spelled = subst (IsAcceptedPlain old) (reading_unique old.version pair.0 is.legal.step.read read is.legal.step.spelled spelled) is.changes
 
     -- where it is served, the step is made
-    pub command_made : (c : Command) (told : Reply) (new : Market) → IsReadAs old.version pair.0 (Ok c) → Serves IsOwnOutcome old c (Plain told) new
+    pub command_made : (c : Command) (told : Reply) (new : Market) → IsReadAs old.version pair.0 (Ok c) → ServesPlain old c (Plain told) new
         → IsLegalPair old pair new
     command_made c told new spelled serves =
         let none = (command_accepted (Ok c) spelled).0 in
         let same = reading_unique old.version pair.0 is.legal.step.read (Ok c) is.legal.step.spelled spelled in
         let there = subst (λ r. ServesRead IsRightOutcome old r is.legal.answer is.new) same is.legal.step.served in
-        let here = (plain_commands_need_no_rule old c (Plain told) new none).0 serves in
+        let here = plain_by_any IsRightOutcome old c (Plain told) new serves in
         subst (IsLegalPair old pair) (plain_commands_have_one_answer old c is.legal.answer (Plain told) is.new new none there here).1 is.legal
 
 -- ---- answers of the code

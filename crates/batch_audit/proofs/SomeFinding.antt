@@ -1,5 +1,5 @@
 -- No pair of records of a sound market is without a finding.
-use Rattle.std.proofs.Common.{◌≡◌, ℕ, zero, suc, ◌+◌, ◌≤◌, ℤ, pos, length, take, Result, Ok, Err, Option, Some, None, refl, sym, ap, subst, ◌∙◌, arith}
+use Rattle.std.proofs.Common.{⊎_elim, ◌≡◌, ℕ, zero, suc, ◌+◌, ◌≤◌, ℤ, pos, length, take, Result, Ok, Err, Option, Some, None, refl, sym, ap, subst, ◌∙◌, arith}
 use Rattle.std.proofs.lemmas.List.{take_all}
 use Rattle.std.specs.Prelude.{All}
 use Rattle.wire_records.specs.Records.{Record}
@@ -19,9 +19,8 @@ use Rattle.batch_certificate.proofs.Judging.{each_has_a_verdict}
 use Rattle.journal_records.specs.Replies.{SpellsAnswer}
 use Rattle.market_rules.specs.Market.{Market, IsSound, parts_of, start_prices}
 use Rattle.market_rules.specs.Step.{FirstRefusal, Answers, Serves, refusal_of}
-use Rattle.market_rules.proofs.LawProofs.{batch_of}
-use Rattle.market_rules.proofs.Exists.{served_is_there}
-use Rattle.market_rules.proofs.OwnIsLegal.{own_served_is_right}
+use Rattle.market_rules.proofs.LawProofs.{plain_by_any, batch_of}
+use Rattle.market_rules.proofs.Exists.{plain_or_due}
 use Rattle.batch_audit.specs.declared.finding.Finding.{Finding}
 use Rattle.batch_audit.specs.declared.finding.Finding.TheVariants as finding
 use Rattle.batch_audit.specs.Findings.{GetsReply, IsDue, HasWholeTrace, HasLegalTrace, EndsUnsettled, IsFinding}
@@ -127,7 +126,14 @@ module _ (m : Market) (pair : Record × Record) (sound : IsSound m) (none : (f :
 
   no_read : (read : Result Command BodyFault) → IsReadAs m.version pair.0 read → ⊥
   no_read (Err why) read = no_reply (Refused (refusal_of why)) (gets_fault m pair.0 why (refusal_of why) read refl)
-  no_read (Ok c) read = let own = served_is_there m c in no_command c read own.0 own.1 (own_served_is_right m c own.0 own.1 sound own.2)
+  no_read (Ok c) read =
+      ⊎_elim
+      (λ plain. no_command c read plain.0 plain.1 (plain_by_any IsRightOutcome m c plain.0 plain.1 plain.2))
+      (λ due. no_batch due.0 (record {
+        asks = subst (λ d. IsReadAs m.version pair.0 (Ok d)) due.1 read;
+        allowed = subst (λ d. FirstRefusal m d None) due.1 due.2;
+      }))
+      (plain_or_due m c)
 
 pub each_has_a_finding : EachHasAFinding
 each_has_a_finding m pair sound none =

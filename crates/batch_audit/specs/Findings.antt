@@ -7,7 +7,7 @@ use Rattle.wire_records.specs.Versions.{IsReadAs}
 use Rattle.wire_records.specs.declared.reply.Reply.{Reply}
 use Rattle.flow_orders.specs.Orders.{Order}
 use Rattle.flow_orders.specs.Outcomes.{Clearing, Skipping, Outcome, Cleared, Skipped, IsRightOutcome, IsWide, IsLegalFrom, EndsSettled, end_of, dual_of}
-use Rattle.coordinate_search.specs.Search.{IsFirstIllegal}
+use Rattle.price_moves.specs.Retracing.{IsFirstIllegal}
 use Rattle.batch_certificate.specs.declared.verdict.Verdict.TheVariants.{Right}
 use Rattle.batch_certificate.specs.Verdicts.{IsVerdict}
 use Rattle.journal_records.specs.Replies.{SpellsAnswer}

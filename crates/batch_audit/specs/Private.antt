@@ -7,7 +7,7 @@ use Rattle.wire_records.specs.declared.command.BodyFault.{BodyFault}
 use Rattle.wire_records.specs.declared.reply.Reply.{Reply}
 use Rattle.flow_orders.specs.Orders.{Order}
 use Rattle.flow_orders.specs.Outcomes.{Clearing, Skipping, Outcome, IsRightOutcome, IsRightClearing, IsRightSkip, IsWide, EndsSettled, end_of}
-use Rattle.coordinate_search.specs.Search.{IsFirstIllegal}
+use Rattle.price_moves.specs.Retracing.{IsFirstIllegal}
 use Rattle.batch_outcome.specs.declared.outcome.Outcome as published
 use Rattle.batch_certificate.specs.declared.verdict.Verdict.TheVariants.{Right}
 use Rattle.batch_outcome.specs.Published.{outcome_of}

@@ -21,12 +21,12 @@ ghost use Rattle.batch_audit.specs.Private.{IsOutcomeFor, IsClearingFound, IsSki
 use crate::finding::Finding;
 use batch_certificate::{Verdict, check_cleared};
 use batch_outcome::{Outcome, Skipped, Trace};
-use coordinate_search::{Retraced, retrace};
 use dual_value::dual_floor;
 use excess_bounds::Workspace;
 use flow_orders::Order;
 use journal_records::{ClearedView, ReplyView, SkippedView};
 use market_core::Market;
+use price_moves::{Retraced, retrace};
 use std::alloc::Global;
 use wire_records::Memory;
 

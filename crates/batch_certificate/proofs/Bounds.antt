@@ -7,8 +7,7 @@ use Rattle.demand_curve.specs.Demand.{IsRounding}
 use Rattle.flow_orders.specs.Orders.{Order, IsOrder, terms_of}
 use Rattle.flow_orders.specs.Excess.{price_for, residual_bound}
 use Rattle.flow_orders.specs.Trades.{Trade, trades, residual}
-use Rattle.flow_orders.specs.Outcomes.{Fill, trades_of, fill_of, residuals_of, gap_of, IsRightClearing}
-use Rattle.flow_orders.specs.Own.{clearing_at}
+use Rattle.flow_orders.specs.Outcomes.{Fill, trades_of, fill_of, residuals_of, gap_of, IsRightClearing, clearing_at}
 use Rattle.flow_orders.specs.Welfare.{IsOptimalWithin}
 use Rattle.flow_orders.proofs.Book.{IsSound, IsSettled}
 use Rattle.flow_orders.proofs.Moving.{settled_is}

@@ -10,12 +10,12 @@ use Rattle.std.proofs.lemmas.List.{length-map}
 use Rattle.demand_curve.specs.Demand.{IsWithin}
 use Rattle.flow_orders.specs.Orders.{Order, IsOrder}
 use Rattle.flow_orders.specs.Excess.{is_unsettled, residual_bound}
-use Rattle.flow_orders.specs.Turns.{visits, IsOwnTrace}
+use Rattle.own_rule.specs.Turns.{visits, IsOwnTrace}
 use Rattle.flow_orders.specs.Trades.{trades, residual}
-use Rattle.flow_orders.specs.Outcomes.{most_budget, dual_of, step_of, end_of, trades_of, IsRightClearing, IsRightOutcome}
-use Rattle.flow_orders.specs.Own.{are_single, moved_once, ArePricesOf, rates_by_choice, clearing_at, IsOwnOutcome, ClearsNear}
-use Rattle.flow_orders.proofs.OwnIsRight.{own_prices_count, own_is_right, single_each}
-use Rattle.flow_orders.proofs.OwnLaws.{one_asset_books_clear}
+use Rattle.flow_orders.specs.Outcomes.{most_budget, dual_of, step_of, end_of, trades_of, IsRightClearing, IsRightOutcome, are_single, clearing_at, ClearsNear}
+use Rattle.own_rule.specs.Own.{moved_once, ArePricesOf, rates_by_choice, IsOwnOutcome}
+use Rattle.own_rule.proofs.OwnIsRight.{own_prices_count, own_is_right, single_each}
+use Rattle.own_rule.proofs.OwnLaws.{one_asset_books_clear}
 use Rattle.flow_orders.proofs.WalkLaws.{walks_lower_the_dual, right_skips_lower_the_dual}
 use Rattle.coordinate_search.proofs.Settling.{single_all}
 use Rattle.batch_outcome.specs.declared.outcome.Cleared.{Cleared}

@@ -4,7 +4,8 @@ use Rattle.flow_orders.specs.Orders.{Order, IsOrder}
 use Rattle.flow_orders.specs.Trades.{trades}
 use Rattle.flow_orders.specs.Welfare.{IsOptimalWithin}
 use Rattle.flow_orders.specs.Outcomes as outcomes
-use Rattle.flow_orders.specs.Own.{rates_by_choice, clearing_at, IsOwnOutcome}
+use Rattle.own_rule.specs.Own.{rates_by_choice, IsOwnOutcome}
+use Rattle.flow_orders.specs.Outcomes.{clearing_at}
 use Rattle.batch_outcome.specs.declared.outcome.Cleared.{Cleared}
 use Rattle.batch_outcome.specs.declared.outcome.Outcome.{Outcome}
 use Rattle.batch_outcome.specs.declared.outcome.Outcome.TheVariants as variants

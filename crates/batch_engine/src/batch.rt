@@ -3,8 +3,8 @@ ghost use Rattle.std.specs.Prelude.{◌≡◌, ℕ, ◌^◌, ◌≤◌, ◌↔�
 ghost use Rattle.weight_rows.specs.Rows.{IsPricedBy};
 ghost use Rattle.demand_curve.specs.Demand.{IsWithin};
 ghost use Rattle.flow_orders.specs.Orders.{IsFrom1To, most_orders};
-ghost use Rattle.flow_orders.specs.Outcomes.{most_budget, IsRightOutcome};
-ghost use Rattle.flow_orders.specs.Own.{are_single, IsOwnOutcome, ClearsNear};
+ghost use Rattle.flow_orders.specs.Outcomes.{most_budget, IsRightOutcome, are_single, ClearsNear};
+ghost use Rattle.own_rule.specs.Own.{IsOwnOutcome};
 ghost use Rattle.excess_bounds.specs.Workspace.{most_prices, AreQuoted};
 ghost use Rattle.batch_outcome.specs.Published.{outcome_of, HasOneRateEach};
 ghost use Rattle.batch_engine.specs.Certified.{IsCertified};

@@ -2,7 +2,7 @@
 //!
 //! [`clear`] finds the prices, rounds each order's demand at them so that little is left over, and certifies what comes of
 //! it. The outcome is the program's own one, the same at each run, and it is a right one: whoever checks a journal finds
-//! it so. The words are those of `flow_orders`.
+//! it so. The words are those of `flow_orders` and `own_rule`.
 //!
 //! # Costs
 //!

@@ -1,20 +1,21 @@
--- The loop that searches a book for prices, asset by asset in turn, and the one that makes a walk again.
+-- The loop that searches a book for prices, asset by asset in turn.
 use Rattle.std.proofs.Common.{◌≡◌, ℕ, suc, ◌+◌, ◌-◌, ◌^◌, ◌≤◌, ◌<◌, ⊎_elim, Bool, true, false, ℤ, pos, List, [], ◌∷◌, ◌++◌, length, Option, Some, None, refl, ap, sym, subst, ◌∙◌, arith}
 use Rattle.std.specs.Prelude.{All, unsigned_abs}
 use Rattle.std.specs.List.{range_with_len}
 use Rattle.std.proofs.lemmas.Bool.{cases_Bool, false≢true}
-use Rattle.std.proofs.lemmas.Int.{ints}
 use Rattle.std.proofs.lemmas.Option.{none-some}
 use Rattle.demand_curve.specs.Demand.{IsWithin}
 use Rattle.weight_rows.specs.Rows.{price_of}
 use Rattle.flow_orders.specs.Orders.{Order}
 use Rattle.flow_orders.specs.Excess.{is_unsettled}
 use Rattle.flow_orders.specs.Walks.{first_that}
-use Rattle.flow_orders.specs.Turns.{visits, IsInTurn, IsOwnWalk, IsOwnTrace}
+use Rattle.own_rule.specs.Turns.{visits, IsInTurn, IsOwnWalk, IsOwnTrace}
 use Rattle.flow_orders.specs.Outcomes.{step_of, end_of, IsLegalFrom, EndsSettled}
-use Rattle.flow_orders.proofs.Loops.{next_after}
-use Rattle.flow_orders.proofs.Walks.{visits-order, in_turn-push, next_after-push, walk_end-push, in_turn-legal, next_after-there, own_walk, own_trace, first_that-passes}
+use Rattle.own_rule.proofs.Loops.{next_after}
+use Rattle.own_rule.proofs.Walks.{visits-order, in_turn-push, next_after-push, in_turn-legal, next_after-there, own_walk, own_trace, first_that-passes}
+use Rattle.flow_orders.proofs.WalkParts.{walk_end-push}
 use Rattle.flow_orders.proofs.Moving.{AreWithin, has_walked}
+use Rattle.price_moves.proofs.Near.{legal_near}
 
 -- ---- the first number that passes a test
 
@@ -55,16 +56,6 @@ found_behind test (x ∷ xs) ys none =
     (cases_Bool (test x))
 
 -- ---- a walk
-
--- prices within 2^60 at the start are this near after as many moves as a batch has at most
-pub near_of : (start : List ℤ) → All (IsWithin (2 ^ 60)) start → AreWithin (2 ^ 60) start
-near_of start range k d inside = let one = range k d inside in omega (arith, ints, one)
-
-pub legal_near : (parts : ℕ) (orders : List Order) (start : List ℤ) (walk : List ℕ) → All (IsWithin (2 ^ 60)) start → IsLegalFrom parts orders start walk → length walk ≤ 65536
-    → AreWithin (2 ^ 60 + 2 ^ 61) (end_of parts orders start walk)
-legal_near parts orders start walk range legal few k d inside =
-    let one = (has_walked parts orders (length start) start walk refl legal).range (2 ^ 60) (near_of start range) k d inside in
-    omega (arith, one, few)
 
 -- what a look for the next unsettled asset answers
 abbrev pub IsNext : List Order → List ℤ → ℕ → Option ℕ → Type 0

@@ -1,6 +1,3 @@
-pub mod Ends
-pub mod Between
-pub mod InTurn
-pub mod Lowering
-pub mod MadeAgain
+mod InTurn
+mod Lowering
 pub mod Settling

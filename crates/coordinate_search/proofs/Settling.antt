@@ -10,14 +10,15 @@ use Rattle.weight_rows.specs.Rows.{price_of}
 use Rattle.flow_orders.specs.Orders.{Order, IsOrder}
 use Rattle.flow_orders.specs.Excess.{is_unsettled}
 use Rattle.flow_orders.specs.Moves.{moved, single_reach}
-use Rattle.flow_orders.specs.Turns.{visits}
+use Rattle.own_rule.specs.Turns.{visits}
 use Rattle.flow_orders.specs.Walks.{AreSettled}
-use Rattle.flow_orders.specs.Own.{are_single, moved_once}
+use Rattle.own_rule.specs.Own.{moved_once}
+use Rattle.flow_orders.specs.Outcomes.{are_single}
 use Rattle.flow_orders.proofs.Singles.{IsSingle}
 use Rattle.flow_orders.proofs.SettleSingle.{IsVisit, visit_settles}
 use Rattle.flow_orders.proofs.Moving.{settled_is, is_settled, moved_is}
-use Rattle.flow_orders.proofs.OwnIsRight.{settles_once}
-use Rattle.coordinate_search.proofs.Ends.{all_sound}
+use Rattle.own_rule.proofs.OwnIsRight.{settles_once}
+use Rattle.price_moves.proofs.Ends.{all_sound}
 
 -- the assets before this one are settled: what is left to do leads where the whole leads
 pub record IsSettling (parts : ℕ) (orders : List Order) (start prices : List ℤ) (asset : ℕ) : Type 0 where

@@ -1,22 +1,19 @@
 //! The search for prices at which all assets are settled.
-ghost use Rattle.std.specs.Prelude.{◌≡◌, ℕ, [], ◌+◌, ◌-◌, ◌^◌, ◌<◌, ◌≤◌, true, length, unsigned_abs, vec_capacity, All, IfSome};
+ghost use Rattle.std.specs.Prelude.{◌≡◌, [], ◌+◌, ◌-◌, ◌^◌, ◌<◌, ◌≤◌, length, vec_capacity, All, IfSome};
 ghost use Rattle.std.specs.List.{range_with_len};
-ghost use Rattle.weight_rows.specs.Rows.{price_of};
 ghost use Rattle.demand_curve.specs.Demand.{IsWithin};
 ghost use Rattle.flow_orders.specs.Orders.{IsOrder};
 ghost use Rattle.flow_orders.specs.Excess.{is_unsettled};
 ghost use Rattle.flow_orders.specs.Duals.{movement_of};
 ghost use Rattle.flow_orders.specs.Walks.{first_that};
-ghost use Rattle.flow_orders.specs.Turns.{visits, IsInTurn};
+ghost use Rattle.own_rule.specs.Turns.{visits, IsInTurn};
 ghost use Rattle.flow_orders.specs.Outcomes.{most_budget, step_of, end_of, IsLegalFrom};
 ghost use Rattle.excess_bounds.specs.Workspace.{most_prices};
-ghost use Rattle.coordinate_search.specs.Search.{IsFound, IsLowered};
+ghost use Rattle.coordinate_search.specs.Search.{IsFound};
+ghost use Rattle.price_moves.specs.Retracing.{IsLowered};
 
-use crate::moves::step;
 use excess_bounds::Workspace;
-
-// The reach of a move in a walk, in grains.
-const REACH: i64 = 1 << 45;
+use price_moves::make_move;
 
 /// How a search ended.
 #[derive(Clone, Copy, PartialEq, Eq)]
@@ -102,17 +99,4 @@ fn unsettled_between(work: &Workspace<'_>, first: u16, end: u16) -> Option<u16>
         }
     }
     None
-}
-
-// Makes the move of an asset in a walk.
-pub(crate) fn make_move(work: &mut Workspace<'_>, parts: u16, asset: u16)
-    requires some_parts { 1 ≤ parts }
-    requires few_parts { parts ≤ 256 }
-    requires asset { asset < length work.old.prices }
-    requires unsettled { is_unsettled work.old.orders work.old.prices asset ≡ true }
-    requires near { unsigned_abs (price_of work.old.prices asset) ≤ 2 ^ 60 + 2 ^ 61 }
-    ensures orders { work.new.orders ≡ work.old.orders }
-    ensures prices { work.new.prices ≡ step_of parts work.old.orders work.old.prices asset }
-{
-    step(work, parts, asset, REACH);
 }

@@ -4,12 +4,13 @@ ghost use Rattle.weight_rows.specs.Rows.{price_of};
 ghost use Rattle.demand_curve.specs.Demand.{IsWithin};
 ghost use Rattle.flow_orders.specs.Excess.{is_unsettled};
 ghost use Rattle.flow_orders.specs.Moves.{moved, single_reach};
-ghost use Rattle.flow_orders.specs.Turns.{visits};
+ghost use Rattle.own_rule.specs.Turns.{visits};
 ghost use Rattle.flow_orders.specs.Walks.{AreSettled};
-ghost use Rattle.flow_orders.specs.Own.{are_single, moved_once};
+ghost use Rattle.own_rule.specs.Own.{moved_once};
+ghost use Rattle.flow_orders.specs.Outcomes.{are_single};
 
-use crate::moves::step;
 use excess_bounds::Workspace;
+use price_moves::step;
 
 // As far as any two prices within 2^60 of 0 are apart, in grains.
 const REACH: i64 = 1 << 61;

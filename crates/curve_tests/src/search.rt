@@ -2,7 +2,7 @@
 ghost use Rattle.std.specs.Prelude.{◌≡◌, ◌^◌, ◌<◌, ◌≤◌, ◌≤ℤ◌, ◌+ℤ◌, ◌-ℤ◌, ◌↔◌, pos, neg_ℤ, true, length, IsTrue, All};
 ghost use Rattle.weight_rows.specs.Rows.{IsPricedBy, price_of};
 ghost use Rattle.demand_curve.specs.Demand.{IsWithin};
-ghost use Rattle.flow_orders.specs.Own.{are_single};
+ghost use Rattle.flow_orders.specs.Outcomes.{are_single};
 
 use crate::orders::{
     BASKET, BUYER, FILLED, Placed, SELLER, STEEP, TOP, are_priced, are_starts, orders_of,

@@ -1,6 +1,3 @@
 pub mod Moments
 pub mod Torn
-mod LogLemmas
-mod MemoryCalls
-mod SoundLemmas
-mod RealFiles
+mod Untold

@@ -10,23 +10,13 @@
 //! that failed, any part may have been made.
 //!
 //! [`FileDisk`] is a real file, the trusted edge, and [`PathDisk`] the one at a path, which is made by the first write where none is there.
-//! [`MemoryDisk`] is in memory: it fails at stated calls, keeps a record of
-//! its calls, and gives the image of a stop in any of them.
-//!
-//! A call costs as much as the bytes that it moves. Only [`MemoryDisk::new`], which takes all its memory at once, and
-//! [`MemoryDisk::crashed`] take memory. The latter makes all calls up to the stop again.
+//! A call costs as much as the bytes that it moves, and takes no memory.
 #![tactic(auto)]
 
-mod bytes;
-mod call_log;
-mod calls;
 mod disk;
 mod file;
-mod memory;
 mod path;
-mod replay;
 
 pub use disk::{Disk, DiskFailed};
 pub use file::FileDisk;
-pub use memory::{Memory, MemoryDisk};
 pub use path::PathDisk;

@@ -1,5 +1,6 @@
 //! The disk in memory: which of its calls fail, and what a stop in each leaves.
-use disk_edge::{Disk, DiskFailed, MemoryDisk};
+use disk_edge::{Disk, DiskFailed};
+use memory_disk::MemoryDisk;
 use std::alloc::Global;
 use std::process::Abort;
 use std::test::Fail;

@@ -5,8 +5,9 @@ ghost use Rattle.journal_disk.specs.Pairs.{RecordPair};
 ghost use Rattle.journal_disk.specs.Entries.{Holds, EndsAt};
 ghost use Rattle.journal_disk.specs.Looking.{OnlyLooks};
 
-use disk_edge::{Disk, MemoryDisk};
+use disk_edge::Disk;
 use journal_disk::{Ahead, Appender, DiskFault, DiskJournal, Step, is_whole_pair, recover};
+use memory_disk::MemoryDisk;
 use std::alloc::Global;
 use std::process::Abort;
 use std::test::Fail;

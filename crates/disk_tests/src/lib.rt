@@ -1,4 +1,5 @@
-//! Tests of disks (`disk_edge`), in memory and over a real file, and of the journal on one (`journal_disk`).
+//! Tests of disks, in memory (`memory_disk`) and over a real file (`disk_edge`), and of the journal on one
+//! (`journal_disk`).
 //!
 //! A crate with tests is proved twice, so these have a crate of their own, on which none stands.
 #![tactic(auto)]

@@ -13,7 +13,7 @@ use Rattle.wire_records.specs.declared.command.BodyFault.{BodyFault}
 use Rattle.weight_rows.specs.Rows.{IsPrice}
 use Rattle.demand_curve.specs.Demand.{IsWithin}
 use Rattle.flow_orders.specs.Outcomes.{Outcome, Cleared, Skipped, IsRightOutcome}
-use Rattle.flow_orders.specs.Own.{IsOwnOutcome}
+use Rattle.own_rule.specs.Own.{IsOwnOutcome}
 use Rattle.journal_records.specs.Replies.{answer_record, IsReply, IsAnswer, most_reply_body}
 use Rattle.journal_records.specs.Pairs.{IsPair}
 use Rattle.journal_records.proofs.Spelled.{plain_short, batch_short}
@@ -24,7 +24,8 @@ use Rattle.market_rules.specs.Journal.{Step, Follows}
 use Rattle.market_rules.proofs.Accepted.{past_unless}
 use Rattle.market_rules.proofs.Versions.{some_parts}
 use Rattle.market_rules.proofs.LawProofs.{steps_keep_soundness}
-use Rattle.market_rules.proofs.OwnIsLegal.{start_within, own_served_is_right}
+use Rattle.own_journals.proofs.OwnIsLegal.{own_served_is_right}
+use Rattle.market_rules.proofs.Starts.{start_within}
 use Rattle.exchange_session.proofs.Writable.{few_start_prices}
 
 -- an answer that can be written

@@ -16,16 +16,18 @@ use Rattle.wire_records.proofs.RecordCode.{commands_readable}
 use Rattle.file_units.specs.Inputs.{HasLongest}
 use Rattle.file_units.proofs.Longest.{record_or_over, over_stays}
 use Rattle.flow_orders.specs.Outcomes.{Outcome}
-use Rattle.flow_orders.specs.Own.{IsOwnOutcome}
+use Rattle.own_rule.specs.Own.{IsOwnOutcome}
 use Rattle.journal_records.specs.Pairs.{pair_spelling}
 use Rattle.journal_records.specs.Formats.{journal_magic_of}
 use Rattle.market_rules.specs.Market.{Market, IsSound, empty_market}
 use Rattle.market_rules.specs.Journal.{IsAnswered}
-use Rattle.market_rules.proofs.OneJournal.{own_step}
-use Rattle.market_rules.proofs.Exists.{step_is_there}
-use Rattle.market_rules.proofs.LawProofs.{own_journals_are_legal, journals_hold_deposits, steps_keep_soundness}
+use Rattle.own_journals.proofs.OneOwnJournal.{own_step}
+use Rattle.own_journals.proofs.OwnServed.{step_is_there}
+use Rattle.market_rules.proofs.LawProofs.{journals_hold_deposits, steps_keep_soundness}
+use Rattle.own_journals.proofs.LawProofs.{own_journals_are_legal}
 use Rattle.market_rules.proofs.Versions.{follows_version}
-use Rattle.market_rules.proofs.Promised.{legal_journal_keeps_promises, own_journal_clears_near}
+use Rattle.market_rules.proofs.Promised.{legal_journal_keeps_promises}
+use Rattle.own_journals.proofs.OwnPromises.{own_journal_clears_near}
 use Rattle.word_driver.specs.Word.{Goes}
 use Rattle.word_driver.specs.Laws.{IsExact, IsKept, IsNotDenied, HasNext}
 use Rattle.word_driver.proofs.Denying.{not_denied, follows}

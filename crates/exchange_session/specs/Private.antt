@@ -7,7 +7,7 @@ use Rattle.flow_orders.specs.Orders.{Order}
 use Rattle.flow_orders.specs.Outcomes.{most_budget}
 use Rattle.batch_outcome.specs.declared.outcome.Outcome.{Outcome}
 use Rattle.batch_outcome.specs.declared.outcome.Outcome.TheVariants as parts
-use Rattle.flow_orders.specs.Own.{IsOwnOutcome}
+use Rattle.own_rule.specs.Own.{IsOwnOutcome}
 use Rattle.market_rules.specs.Market.{Market, most_batches}
 use Rattle.market_rules.specs.Step.{FirstRefusal}
 use Rattle.market_rules.specs.Journal.{Step}

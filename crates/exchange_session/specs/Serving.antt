@@ -5,7 +5,7 @@ use Rattle.wire_records.specs.Commands.{Answer}
 use Rattle.wire_records.specs.Versions.{IsReadAs}
 use Rattle.journal_records.specs.Pairs.{IsPair, pair_spelling}
 use Rattle.flow_orders.specs.Outcomes.{Outcome}
-use Rattle.flow_orders.specs.Own.{IsOwnOutcome}
+use Rattle.own_rule.specs.Own.{IsOwnOutcome}
 use Rattle.market_rules.specs.Market.{Market}
 use Rattle.market_rules.specs.Journal.{Step}
 

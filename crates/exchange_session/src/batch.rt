@@ -4,7 +4,7 @@ ghost use Rattle.wire_records.specs.Records.{IsRecord, most_body};
 ghost use Rattle.wire_records.specs.Commands.{RunBatch, Batch};
 ghost use Rattle.wire_records.specs.Versions.{IsReadAs};
 ghost use Rattle.flow_orders.specs.Orders.{most_orders};
-ghost use Rattle.flow_orders.specs.Own.{IsOwnOutcome};
+ghost use Rattle.own_rule.specs.Own.{IsOwnOutcome};
 ghost use Rattle.batch_outcome.specs.Published.{outcome_of};
 ghost use Rattle.journal_records.specs.Pairs.{pair_spelling};
 ghost use Rattle.market_rules.specs.Market.{most_batches, parts_of, start_prices};

@@ -3,7 +3,7 @@ ghost use Rattle.std.specs.Prelude.{◌≡◌, ◌++◌, ◌+◌, ◌^◌, ◌<�
 ghost use Rattle.wire_records.specs.Commands.{Plain};
 ghost use Rattle.wire_records.specs.Versions.{IsReadAs};
 ghost use Rattle.journal_records.specs.Pairs.{plain_room};
-ghost use Rattle.flow_orders.specs.Own.{IsOwnOutcome};
+ghost use Rattle.own_rule.specs.Own.{IsOwnOutcome};
 ghost use Rattle.market_rules.specs.Journal.{Step};
 ghost use Rattle.market_rules.specs.Wanting.{RecordMayWant};
 ghost use Rattle.exchange_session.specs.Private.{IsAsked};
@@ -91,10 +91,10 @@ impl Session {
         self.market
     }
 
-    /// Serves one record, and appends its pair: the record as it was given, and the record of its one answer. The cost
-    /// is that of the record, however many accounts and orders there are, for a cancel on average; but for a batch, which closes the
-    /// gaps that cancelled orders left and goes over all live orders for each price that it looks at. The record's body
-    /// has at most 1,024 bytes, and the number that the next order gets is below 2^64 - 1; so the pair is one that a journal may have.
+    /// Serves one record, and appends its pair: the record as it was given, and the record of its one answer. The cost is that of the
+    /// record, however many accounts and orders there are, for a cancel on average; but for a batch, which closes the gaps that cancelled
+    /// orders left, goes over all live orders, and for each move of a price over those that name its asset. The record's body has at most
+    /// 1,024 bytes, and the number that the next order gets is below 2^64 - 1; so the pair is one that a journal may have.
     ///
     /// The room of a pair with a plain reply is taken first, and that of a batch's pair before the market changes. After
     /// `Memory` market and bytes are as before, and `out` has the room that it had or more; it comes only where that room was

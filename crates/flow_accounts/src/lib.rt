@@ -44,6 +44,7 @@ mod withdrawals;
 
 pub use fault::AccountFault;
 pub use parts::AccountParts;
+pub use places::grains_of;
 pub use restore::Memory;
 use std::alloc::Global;
 use std::marker::Model;
@@ -57,9 +58,6 @@ pub const MOST_ASSETS: u16 = 64;
 
 // The places for units, one for each asset that there may be.
 const PLACES: usize = 64;
-
-// One tick in grains.
-const GRAINS_PER_TICK: i128 = 1 << 32;
 
 // No credit is above this, in ticks or units.
 const MOST_CREDIT: u64 = 1 << 40;

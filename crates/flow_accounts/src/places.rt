@@ -2,10 +2,13 @@ ghost use Rattle.std.specs.Prelude.{◌≡◌, ◌↔◌, ◌^◌, IsTrue, slice
 ghost use Rattle.flow_accounts.specs.Balances.{grains};
 ghost use Rattle.flow_accounts.specs.Places.{HasSpare, HasSpareCredit};
 
-use crate::{Accounts, GRAINS_PER_TICK, PLACES};
+use crate::{Accounts, PLACES};
 
-// Ticks in grains.
-pub(crate) fn grains_of(ticks: u64) -> i128
+// One tick in grains.
+const GRAINS_PER_TICK: i128 = 1 << 32;
+
+/// Whole ticks in grains, of which a tick has 2^32.
+pub fn grains_of(ticks: u64) -> i128
     ensures { result ≡ grains ticks }
 {
     i128::from(ticks) * GRAINS_PER_TICK

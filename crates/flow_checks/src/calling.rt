@@ -2,7 +2,8 @@
 use crate::asked::Asked;
 use crate::telling::{put_end, put_front, put_out};
 use flow_exchange::{Status, flow, flow_limited};
-use flow_io::{MemorySink, MemorySource, read_all};
+use flow_io::read_all;
+use memory_streams::{MemorySink, MemorySource};
 use std::alloc::Global;
 
 // More bytes than a case writes to out, and than it has on notes.

@@ -19,7 +19,7 @@ use Rattle.market_rules.specs.Market.{Market, empty_market}
 use Rattle.market_rules.proofs.LawProofs.{market_is_determined}
 use Rattle.batch_report.specs.Reports.{IsReport}
 use Rattle.batch_report.proofs.OneReport.{one_report}
-use Rattle.market_rules.proofs.OneJournal.{one_own_journal}
+use Rattle.own_journals.proofs.OneOwnJournal.{one_own_journal}
 use Rattle.exchange_session.specs.Journals.{Journals}
 use Rattle.journal_words.proofs.JournalLaws.{one_line}
 use Rattle.wire_records.specs.declared.version.Version.TheVariants.{One, Two, Three}

@@ -12,7 +12,7 @@ use std::alloc::Global;
 use wire_records::Version;
 
 /// Reads the source to its end or the limit, and writes the command file of its lines, of a version: one write for the magic, and one
-/// for each record. The input is held whole; one buffer holds a record at a time.
+/// for the records of each line. The input is held whole; one buffer holds the records of a line at a time.
 pub(crate) fn encode<S: Source, K: Sink>(
     alloc: Global,
     version: Version,

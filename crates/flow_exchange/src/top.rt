@@ -74,28 +74,30 @@ pub fn flow_limited<S: Source, K: Sink, N: Sink>(
 
 /// The program: words, a source, two sinks and the status that they come to.
 ///
-/// With the word `run` it reads a command file from the source, at most 2^32 bytes, and writes its
-/// journal to out: one write for the magic, and one for each pair. With the word `audit` it reads a journal, whoever wrote
-/// it, and writes a line to out where each pair is legal and nothing stands behind them. With the word `explain` it does the
-/// same, and where a pair isn't legal it writes a line on what is found of it. With the word `report` it reads a
-/// journal in the same way, and writes the text of each legal pair to out, by one write each. With the word `encode` it reads
-/// lines of JSON, and writes the command file of what they ask for to out, of version 1, or with `encode 2` of version 2: one write
-/// for the magic, and one for each record. With the words `sample NUMBER ORDERS` it reads nothing: it makes the command file of a sample of
-/// so many orders, 1 to 16,384, that are drawn from the number on, runs it, audits the journal, and writes a line with its counts to
-/// out, by one write. With the words `statement NUMBER` it reads a journal, and writes what the account of this number sees of each legal
-/// pair to out, by one write each. With the word `checkpoint` it reads a journal, and writes its market to out, by one write. With the
-/// word `resume` it reads a journal or a checkpoint, and behind it a command file of the same version or nothing, and writes the pairs of
-/// the new commands to out, by one write each. On every status but `Done` it writes one line to notes; a fault of notes changes nothing.
+/// With the word `run` it reads a command file from the source, at most 2^32 bytes, and writes its journal to out: one write for the
+/// magic, and one for each pair. With the word `audit` it reads a journal, whoever wrote it, and writes a line to out where each pair is
+/// legal and nothing stands behind them. With the word `explain` it does the same, and where a pair isn't legal it writes a line on what
+/// is found of it. With the word `report` it reads a journal in the same way, and writes the text of each legal pair to out, by one write
+/// each. With the word `encode` it reads lines of JSON, and writes the command file of what they ask for to out, of version 1, or with
+/// `encode 2` or `encode 3` of version 2 or 3: one write for the magic, and one for the records of each line. With the words `sample
+/// NUMBER ORDERS` it reads nothing: it makes the command file of a sample of so many orders, 1 to 16,384, that are drawn from the number
+/// on, runs it, audits the journal, and writes a line with its counts to out, by one write. With the words `statement NUMBER` it reads a
+/// journal, and writes what the account of this number sees of each legal pair to out, by one write each. With the word `checkpoint` it
+/// reads a journal, and writes its market to out, by one write. With the word `resume` it reads a journal or a checkpoint, and behind it
+/// a command file of the same version or nothing, and writes the pairs of the new commands to out, by one write each. On every status but
+/// `Done` it writes one line to notes; a fault of notes changes nothing.
 ///
-/// A command of `run` costs the same however many accounts and orders there are, but for the gap that a cancelled order leaves, which is
-/// closed by a block move. Memory of `run`, `audit`, `explain`, `report`, `statement` and `checkpoint` is that of the market, whatever the
-/// length of the input: a window of 1,029 bytes (`run`) or 263,178, one buffer for a pair or its text, 1,056 bytes for each account, 72 bytes
-/// for each live order beside its entries, and the table of what orders need. Accounts and orders each stand in one block, which doubles as
-/// it grows: it has up to twice these bytes, and while it is moved the smaller one is there too. `checkpoint` holds its text whole besides,
-/// at the end. `encode` and `resume` hold their input whole.
+/// A command of `run`, but a batch, costs the same however many accounts and orders there are, a cancel on average: it leaves a gap, and
+/// gaps are closed together, in one pass over the book, once they are more than the live orders or a batch is held. Memory of `run`,
+/// `audit`, `explain`, `report`, `statement` and `checkpoint` is that of the market, whatever the length of the input: a window of 1,029
+/// bytes (`run`) or 263,178, one buffer for a pair or its text, 1,056 bytes for each account, 72 bytes for each live order beside its
+/// entries, and the table of what orders need. Accounts and orders each stand in one block, which doubles as it grows: it has up to twice
+/// these bytes, and while it is moved the smaller one is there too. `checkpoint` holds its text whole besides, at the end. `encode` and
+/// `resume` hold their input whole.
 ///
-/// `run` answers a record before it asks for more: after a read fault the pairs of all whole records that came were written, and
-/// after a write fault no more than 1,030 bytes past the last of them were read.
+/// `run` answers a record before it asks for more: after a read fault the pairs of all whole records that came were written, and after a
+/// write fault, or where memory ran out, no more than 1,030 bytes were read past the last record whose pair was written, or past the
+/// magic.
 pub fn flow<S: Source, K: Sink, N: Sink>(
     alloc: Global,
     words: &[String],

@@ -2,36 +2,27 @@
 //!
 //! A [`Source`] may tell the bytes that it has left and a [`Sink`] those that it holds: then a
 //! contract can speak of them. Each counts its faults, so that no call can blame a read or a write
-//! that did not fail. [`SteadySource`] and [`SteadySink`] are in memory and never fail;
-//! [`MemorySource`] and [`MemorySink`] are too, and fail at stated calls. [`StdSource`] and
-//! [`StdSink`] go round a reader and a writer of the system. They tell no content, for what a file
-//! or a pipe holds isn't known; but what is read came from the reader, and what is written arrives
-//! at the writer, each byte once and in its order.
+//! that did not fail. [`StdSource`] and [`StdSink`] go round a reader and a writer of the system. They
+//! tell no content, for what a file or a pipe holds isn't known; but what is read came from the
+//! reader, and what is written arrives at the writer, each byte once and in its order.
 //!
 //! [`read_all`] takes all bytes of a source up to a limit, and a [`Window`] holds a part of them at a
 //! time.
 //!
-//! A read or a write costs as much as the bytes that it moves. Only [`read_all`] and the makers of
-//! windows and of the sinks in memory take memory.
+//! A read or a write costs as much as the bytes that it moves. Only [`read_all`] and the maker of
+//! windows take memory.
 #![tactic(auto)]
 
 mod block;
-mod calls;
 pub mod laws;
-mod memory_sink;
-mod memory_source;
 mod sink;
 mod source;
 mod standard;
-mod steady;
 mod whole;
 mod window;
 
-pub use memory_sink::MemorySink;
-pub use memory_source::MemorySource;
 pub use sink::{Sink, WriteFailed};
 pub use source::{ReadFailed, Source};
 pub use standard::{StdSink, StdSource};
-pub use steady::{Memory, SteadySink, SteadySource};
 pub use whole::{ReadAllFault, WholeInput, read_all};
-pub use window::{Filled, InputEnd, Window};
+pub use window::{Filled, InputEnd, Memory, Window};

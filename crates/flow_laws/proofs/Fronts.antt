@@ -16,13 +16,14 @@ use Rattle.wire_records.proofs.Readings.{reading_unique}
 use Rattle.wire_records.proofs.ReadingLaws.{starts_first}
 use Rattle.wire_records.proofs.RecordCode.{commands_readable}
 use Rattle.flow_orders.specs.Outcomes.{Outcome, IsRightOutcome}
-use Rattle.flow_orders.specs.Own.{IsOwnOutcome}
+use Rattle.own_rule.specs.Own.{IsOwnOutcome}
 use Rattle.journal_records.specs.Pairs.{IsPair, pair_spelling}
 use Rattle.journal_records.specs.Formats.{journal_magic_of, journals, records_of}
 use Rattle.journal_records.proofs.Files.{journals_readable}
 use Rattle.market_rules.specs.Market.{Market, empty_market}
 use Rattle.market_rules.specs.Journal.{Step}
-use Rattle.market_rules.proofs.OneJournal.{follows-parts, one_own_journal}
+use Rattle.market_rules.proofs.OneJournal.{follows-parts}
+use Rattle.own_journals.proofs.OneOwnJournal.{one_own_journal}
 use Rattle.batch_audit.specs.Legal.{IsLegalPair, StopsAt}
 use Rattle.batch_audit.proofs.LawProofs.{one_market}
 use Rattle.batch_report.specs.Reports.{IsReport}

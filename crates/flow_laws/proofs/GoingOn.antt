@@ -11,15 +11,18 @@ use Rattle.wire_records.specs.Versions.{IsReadAs}
 use Rattle.wire_records.specs.declared.version.Version.{Version}
 use Rattle.wire_records.proofs.Readings.{reading_unique, read_own}
 use Rattle.flow_orders.specs.Outcomes.{Outcome, IsRightOutcome}
-use Rattle.flow_orders.specs.Own.{IsOwnOutcome}
+use Rattle.own_rule.specs.Own.{IsOwnOutcome}
 use Rattle.journal_records.specs.Pairs.{IsPair, pair_spelling}
 use Rattle.journal_records.specs.Formats.{journal_magic_of, journal_in}
 use Rattle.market_rules.specs.Market.{Market, IsSound, empty_market}
 use Rattle.market_rules.specs.Journal.{Follows, IsAnswered, IsJournal}
-use Rattle.market_rules.proofs.OneJournal.{follows-append, one_own_journal}
-use Rattle.market_rules.proofs.OwnIsLegal.{own_follows_are_right}
-use Rattle.market_rules.proofs.LawProofs.{journals_hold_deposits, steps_keep_soundness, sequences_compose, steps_number_one, legal_steps_number_one}
-use Rattle.market_rules.proofs.Promised.{legal_journal_keeps_promises, own_journal_clears_near}
+use Rattle.market_rules.proofs.OneJournal.{follows-append}
+use Rattle.own_journals.proofs.OneOwnJournal.{one_own_journal}
+use Rattle.own_journals.proofs.OwnIsLegal.{own_follows_are_right}
+use Rattle.market_rules.proofs.LawProofs.{journals_hold_deposits, steps_keep_soundness, sequences_compose, legal_steps_number_one}
+use Rattle.own_journals.proofs.LawProofs.{steps_number_one}
+use Rattle.market_rules.proofs.Promised.{legal_journal_keeps_promises}
+use Rattle.own_journals.proofs.OwnPromises.{own_journal_clears_near}
 use Rattle.batch_audit.specs.Legal.{IsLegalJournal}
 use Rattle.journal_replay.specs.declared.replaying.ReplayFault.{ReplayFault}
 use Rattle.journal_replay.specs.Replays.{IsReplayed}

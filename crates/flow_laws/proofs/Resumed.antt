@@ -14,8 +14,9 @@ use Rattle.market_rules.specs.Market.{Market, IsSound, empty_market}
 use Rattle.market_rules.specs.Journal.{HoldsDeposits}
 use Rattle.market_rules.specs.Laws.{Leads}
 use Rattle.market_rules.proofs.LawProofs.{journals_hold_deposits, sequences_compose}
-use Rattle.market_rules.proofs.OwnIsLegal.{own_follows_are_right}
-use Rattle.market_rules.proofs.Promised.{legal_journal_keeps_promises, own_journal_clears_near}
+use Rattle.own_journals.proofs.OwnIsLegal.{own_follows_are_right}
+use Rattle.market_rules.proofs.Promised.{legal_journal_keeps_promises}
+use Rattle.own_journals.proofs.OwnPromises.{own_journal_clears_near}
 use Rattle.market_rules.proofs.Versions.{follows_version}
 use Rattle.batch_audit.specs.Legal.{IsLegalJournal}
 use Rattle.word_driver.specs.Ended.{Ended}

@@ -8,13 +8,13 @@ use Rattle.wire_records.specs.Reading.{Reading, NotFlow, File}
 use Rattle.wire_records.specs.declared.version.Version.{Version}
 use Rattle.wire_records.proofs.Spelled.{length-spelling}
 use Rattle.flow_orders.specs.Outcomes.{Outcome}
-use Rattle.flow_orders.specs.Own.{IsOwnOutcome}
+use Rattle.own_rule.specs.Own.{IsOwnOutcome}
 use Rattle.journal_records.specs.Replies.{answer_record}
 use Rattle.journal_records.specs.Pairs.{pair_spelling}
 use Rattle.journal_records.specs.Formats.{journal_magic_of}
 use Rattle.market_rules.specs.Market.{Market, empty_market}
 use Rattle.market_rules.specs.Journal.{Follows}
-use Rattle.market_rules.proofs.LawProofs.{own_journals_are_legal, steps_number_one}
+use Rattle.own_journals.proofs.LawProofs.{own_journals_are_legal, steps_number_one}
 use Rattle.batch_audit.specs.Legal.{IsLegalJournal}
 use Rattle.journal_records.proofs.Files.{eight}
 use Rattle.exchange_session.specs.Journals.{Journals}

@@ -9,7 +9,7 @@ use Rattle.wire_records.specs.declared.version.Version.TheVariants.{One}
 use Rattle.wire_records.proofs.Spelled.{length-spelling}
 use Rattle.flow_orders.specs.Outcomes.{Outcome}
 use Rattle.market_rules.specs.Market.{empty_market}
-use Rattle.market_rules.proofs.LawProofs.{own_journals_are_legal}
+use Rattle.own_journals.proofs.LawProofs.{own_journals_are_legal}
 use Rattle.journal_replay.specs.Audits.{cleared_in, skipped_in}
 use Rattle.word_driver.proofs.SomeEnds.{some_end}
 use Rattle.exchange_session.specs.Running.{run}

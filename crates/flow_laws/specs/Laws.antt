@@ -41,7 +41,7 @@ use Rattle.flow_exchange.specs.declared.status.Status.TheVariants.{Done, NotFlow
 use Rattle.flow_exchange.specs.Auditing.{legal_line}
 use Rattle.flow_exchange.specs.Program.{ComesTo, GetsTo, LacksAt}
 
--- an audit is done exactly for the spelling of a legal journal of either version with nothing past the limit, and the line counts its pairs
+-- an audit is done exactly for the spelling of a legal journal of any version with nothing past the limit, and the line counts its pairs
 abbrev pub DoneIsForLegalJournals : Type 0
 DoneIsForLegalJournals = (limit : ℕ) (bytes text : List ℕ)
     → ComesTo Audit limit bytes Done text

@@ -4,6 +4,7 @@ use Rattle.std.specs.Prelude.{◌<ℤ◌, All, ℤ}
 use Rattle.weight_rows.specs.Rows.{portfolio_price}
 use Rattle.flow_orders.specs.Orders.{Order, left_of}
 use Rattle.flow_orders.specs.Trades.{Trade, trades, after_fill}
+use Rattle.flow_orders.specs.Outcomes.{Fill, fill_of}
 
 -- the orders before the batch
 abbrev pub before_fills : List Trade → List Order
@@ -30,3 +31,10 @@ All-trades P [] rates all k d inside = absurd (omega (arith, inside))
 All-trades P (o ∷ orders) [] all k d inside = absurd (omega (arith, inside))
 All-trades P (o ∷ orders) (x ∷ rates) all zero d inside = all 0 o (omega arith)
 All-trades P (o ∷ orders) (x ∷ rates) all (suc k) d inside = All-trades P orders rates (λ j e within. all (suc j) e (omega (arith, within))) k d (omega (arith, inside))
+
+-- the rates of trades
+pub rates_back : (orders : List Order) (rates : List ℕ) → length rates ≡ length orders → map (λ (f : Fill). f.rate) (map fill_of (trades orders rates)) ≡ rates
+rates_back [] [] count = refl
+rates_back [] (x ∷ rates) count = absurd (omega (arith, count))
+rates_back (o ∷ orders) [] count = absurd (omega (arith, count))
+rates_back (o ∷ orders) (x ∷ rates) count = ap (λ l. x ∷ l) (rates_back orders rates (omega (arith, count)))

@@ -3,13 +3,9 @@ pub mod Kept
 pub mod Excess
 pub mod Walks
 pub mod Moves
-pub mod Turns
-pub mod Choice
 pub mod Trades
 pub mod Residuals
 pub mod Outcomes
-pub mod Own
-pub mod Units
 pub mod Welfare
 pub mod Duals
 pub mod Laws

@@ -1,8 +1,8 @@
 -- What is published of a batch, and which outcomes are right.
-use Rattle.std.specs.Prelude.{◌≡◌, ℕ, ◌<◌, ◌≤◌, ℤ, pos, ◌-ℤ◌, unsigned_abs, List, map, length, All, Contains}
-use Rattle.std.specs.List.{range_with_len, sum_by}
+use Rattle.std.specs.Prelude.{◌≡◌, ℕ, ◌<◌, ◌≤◌, ◌^◌, ◌==◌, Bool, false, ℤ, pos, ◌-ℤ◌, unsigned_abs, List, map, length, All, Contains}
+use Rattle.std.specs.List.{range_with_len, sum_by, list_all}
 use Rattle.weight_rows.specs.Rows.{IsPrice, assets_of, price_of}
-use Rattle.demand_curve.specs.Demand.{IsRounding, loss, dual_floor}
+use Rattle.demand_curve.specs.Demand.{IsWithin, IsRounding, loss, dual_floor}
 use Rattle.flow_orders.specs.Orders.{Order, terms_of}
 use Rattle.flow_orders.specs.Excess.{price_for, residual_bound, is_unsettled}
 use Rattle.flow_orders.specs.Moves.{moved, walk_reach}
@@ -111,3 +111,17 @@ pub record IsRightSkip (parts : ℕ) (orders : List Order) (start : List ℤ) (b
 abbrev pub IsRightOutcome : BatchRule
 IsRightOutcome parts orders start budget (Cleared c) = IsRightClearing orders start c
 IsRightOutcome parts orders start budget (Skipped s) = IsRightSkip parts orders start budget s
+
+-- what is published of trades at prices of n assets
+abbrev pub clearing_at : ℕ → List ℤ → List Trade → Clearing
+clearing_at n prices ts = record { prices = prices; fills = map fill_of ts; residuals = residuals_of n ts; gap = gap_of prices ts }
+
+-- whether every order names one asset
+abbrev pub are_single : List Order → Bool
+are_single orders = list_all (λ o. length o.row == 1) orders
+
+-- a batch clears at prices within 2^60, and an asset that was settled keeps its price
+abbrev pub ClearsNear : List Order → List ℤ → Outcome → Type 0
+ClearsNear orders start (Cleared c) =
+    All (IsWithin (2 ^ 60)) c.prices × ((asset : ℕ) → is_unsettled orders start asset ≡ false → price_of c.prices asset ≡ price_of start asset)
+ClearsNear orders start (Skipped s) = ⊥

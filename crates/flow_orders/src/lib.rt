@@ -2,8 +2,8 @@
 //!
 //! An order asks for a portfolio at a rate that falls as its price rises. A batch of orders clears at one price for
 //! each asset, or is skipped. The definitions of both stand in `specs`, one topic a file: orders and what they need,
-//! excess and bounds, moves and walks of prices, trades and residuals, right outcomes and the program's own one,
-//! welfare and the dual. [`laws`] has what holds of them.
+//! excess and bounds, moves and walks of prices, trades and residuals, right outcomes, welfare and the dual. [`laws`] has
+//! what holds of them.
 //!
 //! [`Order`] is an order as the program keeps it: 72 bytes beside the entries of its row. [`order_fault`] tells
 //! what is wrong with the numbers of one that is asked for, [`money_need`] and [`unit_need`] tell what it needs.

@@ -9,7 +9,7 @@ use Rattle.flow_orders.specs.Outcomes.{Outcome}
 use Rattle.journal_records.specs.Pairs.{IsPair}
 use Rattle.journal_records.specs.Formats.{records_of}
 use Rattle.market_rules.specs.Market.{Market}
-use Rattle.market_rules.proofs.LawProofs.{steps_number_one}
+use Rattle.own_journals.proofs.LawProofs.{steps_number_one}
 use Rattle.file_units.specs.Units.{TakesOne}
 use Rattle.disk_edge.specs.Disks.{DiskState, AtEachMoment}
 use Rattle.journal_disk.specs.Pairs.{RecordPair, IsRecordPair, pair_bytes, IsWholePair}

@@ -11,12 +11,12 @@ use Rattle.wire_records.specs.Versions.{IsReadAs}
 use Rattle.wire_records.proofs.Readings.{read_own}
 use Rattle.wire_records.specs.declared.version.Version.{Version}
 use Rattle.flow_orders.specs.Outcomes.{Outcome, IsRightOutcome}
-use Rattle.flow_orders.specs.Own.{IsOwnOutcome}
+use Rattle.own_rule.specs.Own.{IsOwnOutcome}
 use Rattle.journal_records.specs.Pairs.{IsPair, pair_spelling}
 use Rattle.journal_records.specs.Formats.{records_of}
 use Rattle.market_rules.specs.Market.{Market, empty_market}
 use Rattle.market_rules.specs.Journal.{Step}
-use Rattle.market_rules.proofs.OwnIsLegal.{own_follows_are_right}
+use Rattle.own_journals.proofs.OwnIsLegal.{own_follows_are_right}
 use Rattle.market_rules.proofs.LawProofs.{journals_hold_deposits, steps_keep_soundness}
 use Rattle.disk_edge.specs.Disks.{DiskState, IsDisk}
 use Rattle.disk_edge.proofs.Moments.{no_call}

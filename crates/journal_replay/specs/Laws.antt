@@ -13,7 +13,7 @@ use Rattle.journal_replay.specs.declared.replaying.ReplayFault.TheVariants.{Memo
 use Rattle.journal_replay.specs.Audits.{Audits}
 use Rattle.journal_replay.specs.Replays.{IsReplayed}
 
--- an audit in which no pair is left and that comes to the end is that of the spelling of a legal journal of either
+-- an audit in which no pair is left and that comes to the end is that of the spelling of a legal journal of any
 -- version, with nothing past the limit
 abbrev pub AuditsToEndAreOfLegalJournals : Type 0
 AuditsToEndAreOfLegalJournals = (limit : ℕ) (bytes : List ℕ) (pairs : List (Pair Record Outcome)) (market : Market)
@@ -25,7 +25,7 @@ abbrev pub OneAudit : Type 0
 OneAudit = (limit : ℕ) (bytes : List ℕ) (p q : List (Pair Record Outcome)) (x y : List (Record × Record)) (e f : Ending) (m n : Market)
     → Audits limit bytes p x e m → Audits limit bytes q y f n → (p ≡ q) × (x ≡ y) × (e ≡ f) × (m ≡ n)
 
--- a replay answers a market exactly for the spellings of legal journals of either version, and it is theirs
+-- a replay answers a market exactly for the spellings of legal journals of any version, and it is theirs
 abbrev pub MarketsAreOfLegalJournals : Type 0
 MarketsAreOfLegalJournals = (bytes : List ℕ) (market : Market)
     → IsReplayed bytes (Ok market) ↔ ((version : Version) × (pairs : List (Pair Record Outcome)) × IsLegalJournal version pairs market × (bytes ≡ journal_in version pairs))

@@ -1,7 +1,7 @@
 //! What holds of audits and replays. Each law is the contract of a function that does nothing.
 ghost use Rattle.journal_replay.specs.Laws.{AuditsToEndAreOfLegalJournals, OneAudit, MarketsAreOfLegalJournals, OneReplay};
 
-/// An audit that finds no pair illegal and comes to the end is that of the spelling of a legal journal of either
+/// An audit that finds no pair illegal and comes to the end is that of the spelling of a legal journal of any
 /// version, with nothing past the limit; and each such spelling is audited so.
 pub fn audits_to_end_are_of_legal_journals()
     ensures { AuditsToEndAreOfLegalJournals }
@@ -12,7 +12,7 @@ pub fn one_audit()
     ensures { OneAudit }
 {}
 
-/// A replay answers a market exactly for the spellings of legal journals of either version, want of memory aside, and it is
+/// A replay answers a market exactly for the spellings of legal journals of any version, want of memory aside, and it is
 /// theirs.
 pub fn markets_are_of_legal_journals()
     ensures { MarketsAreOfLegalJournals }

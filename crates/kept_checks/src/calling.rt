@@ -2,10 +2,10 @@
 use crate::asked::Asked;
 use crate::counting::Counts;
 use check_lines::put_records;
-use disk_edge::MemoryDisk;
 use flow_exchange::Status;
-use flow_io::{MemorySink, MemorySource};
 use kept_exchange::{flow_disk, flow_disk_limited};
+use memory_disk::MemoryDisk;
+use memory_streams::{MemorySink, MemorySource};
 use std::alloc::Global;
 
 // More bytes than a case writes to out, than it has on notes, and than all of its writes to the disk have.

@@ -15,9 +15,8 @@ use Rattle.flow_accounts.specs.Answers.{RefusesAccount}
 use Rattle.flow_accounts.specs.declared.fault.AccountFault.{AccountFault}
 use Rattle.flow_accounts.specs.declared.fault.AccountFault.TheVariants as fault
 use Rattle.flow_orders.specs.Outcomes.{BatchRule}
-use Rattle.flow_orders.specs.Own.{IsOwnOutcome}
 use Rattle.market_rules.specs.Market.{Market, IsSound}
-use Rattle.market_rules.specs.Step.{FirstRefusal, Serves}
+use Rattle.market_rules.specs.Step.{FirstRefusal, Serves, NoOutcome}
 use Rattle.market_core.specs.Private.{IsAnswered, refusal_for, ticker_refusal}
 use Rattle.market_core.proofs.Fitting.{sound-served, of_each}
 
@@ -98,5 +97,5 @@ module _ (Rule : BatchRule) where
 -- whether an account was opened or not, a sound market stays sound
 pub sound-opened : (m : Market) (now : Balances) (outcome : Result ℕ AccountFault) → IsSound m → OnOk outcome (account_count m.balances < most_accounts)
     → OnOk outcome (now ≡ open_account m.balances) → OnErr outcome (now ≡ m.balances) → IsSound (record m { balances = now })
-sound-opened m now (Ok number) sound few opened same = sound-served m OpenAccount _ (record m { balances = now }) (of_each m.version OpenAccount (omega arith) (omega arith)) sound (serves-open_account IsOwnOutcome m now few opened)
+sound-opened m now (Ok number) sound few opened same = sound-served m OpenAccount _ (record m { balances = now }) (of_each m.version OpenAccount (omega arith) (omega arith)) sound (serves-open_account NoOutcome m now few opened)
 sound-opened m now (Err why) sound few opened same = subst (λ b. IsSound (record m { balances = b })) (sym same) sound

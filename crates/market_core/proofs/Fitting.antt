@@ -14,13 +14,12 @@ use Rattle.wire_records.specs.Commands.{Command, Answer}
 use Rattle.wire_records.specs.CommandRecords.{tag_of}
 use Rattle.wire_records.specs.Versions.{IsOfVersion}
 use Rattle.wire_records.specs.declared.version.Version.{Version}
-use Rattle.flow_orders.specs.Outcomes.{Outcome}
-use Rattle.flow_orders.specs.Own.{IsOwnOutcome}
+use Rattle.flow_orders.specs.Outcomes.{Outcome, IsRightOutcome}
 use Rattle.market_rules.specs.Market.{Market, IsSound}
-use Rattle.market_rules.specs.Step.{Serves}
+use Rattle.market_rules.specs.Step.{ServesPlain}
 use Rattle.market_rules.proofs.Lawful.{sound_is_lawful}
 use Rattle.market_rules.proofs.Soundness.{sound_served}
-use Rattle.market_rules.proofs.OwnIsLegal.{own_served_is_right}
+use Rattle.market_rules.proofs.LawProofs.{plain_by_any}
 
 -- of an asset that isn't there nobody holds a unit, and none was deposited
 none_held : (m : Market) → IsSound m → (asset : ℕ) → asset_count m.balances ≤ asset → units_of_all m.balances asset ≤ℤ (total_units_of m.balances asset +ℤ pos (2 ^ 61))
@@ -49,9 +48,9 @@ sound_is_near m sound = record {
 pub sound_changes_fit : (m : Market) → IsSound m → AcceptedChangesFit m.balances
 sound_changes_fit m sound = changes_fit_near_sums m.balances (sound_is_lawful m sound) (sound_is_near m sound)
 
--- what is served by the own rule keeps a market sound, where the command is one of its version
-pub sound-served : (m : Market) (c : Command) (a : Answer Outcome) (n : Market) → IsOfVersion m.version c → IsSound m → Serves IsOwnOutcome m c a n → IsSound n
-sound-served m c a n of sound serves = sound_served m c a n of sound (own_served_is_right m c a n sound serves)
+-- what is served without a batch keeps a market sound, where the command is one of its version
+pub sound-served : (m : Market) (c : Command) (a : Answer Outcome) (n : Market) → IsOfVersion m.version c → IsSound m → ServesPlain m c a n → IsSound n
+sound-served m c a n of sound serves = sound_served m c a n of sound (plain_by_any IsRightOutcome m c a n serves)
 
 -- the commands of version One are commands of each version
 pub of_each : (version : Version) (c : Command) → 1 ≤ tag_of c → tag_of c ≤ 9 → IsOfVersion version c

@@ -9,8 +9,7 @@ use Rattle.flow_orders.specs.Excess.{price_for}
 use Rattle.flow_orders.specs.Trades.{Trade, trades, staying, going_on}
 use Rattle.flow_orders.specs.Outcomes.{trades_of}
 use Rattle.flow_orders.specs.Outcomes as outcomes
-use Rattle.flow_orders.proofs.TradeFacts.{All-trades}
-use Rattle.flow_orders.proofs.OwnIsRight.{rates_back}
+use Rattle.flow_orders.proofs.TradeFacts.{All-trades, rates_back}
 use Rattle.batch_outcome.specs.declared.outcome.Cleared.{Cleared}
 use Rattle.batch_outcome.specs.Published.{clearing_of}
 use Rattle.fill_caps.specs.Settlement.{settled_balances, settled_exchange}

@@ -1,5 +1,5 @@
 //! The market of a run, and what a command makes of it.
-ghost use Rattle.std.specs.Prelude.{◌≡◌, ◌≢◌, ℕ, ◌+◌, ◌<◌, ◌≤◌, ◌^◌, IfOk, OnErr, MatchResult, None, SomeIff, length};
+ghost use Rattle.std.specs.Prelude.{◌≡◌, ℕ, ◌+◌, ◌<◌, ◌≤◌, ◌^◌, IfOk, OnErr, MatchResult, None, SomeIff, length};
 ghost use Rattle.std.specs.Borrow.{sem};
 ghost use Rattle.std.specs.Result.{ForErr};
 ghost use Rattle.wire_records.specs.Commands.{AddAsset, OpenAccount, DepositMoney, DepositAsset, WithdrawMoney, WithdrawAsset, PlaceOrder, CancelOrder, RunBatch, SetMoneyCredit, SetUnitCredit, Plain};
@@ -93,9 +93,8 @@ pub(crate) fn reply_to<T: Copy>(outcome: Result<T, AccountFault>) -> Reply
 impl Market {
     ghost use Rattle.weight_rows.specs.Rows.{price_of};
     ghost use Rattle.flow_accounts.specs.Balances.{IsAsset};
-    ghost use Rattle.flow_orders.specs.Own.{IsOwnOutcome};
     ghost use Rattle.market_rules.specs.Market.{empty_market, parts_of, IsSound};
-    ghost use Rattle.market_rules.specs.Step.{FirstRefusal, Serves};
+    ghost use Rattle.market_rules.specs.Step.{FirstRefusal, ServesPlain};
     ghost use Rattle.market_rules.specs.Wanting.{MayWant};
     ghost use Rattle.market_core.specs.Listing.{StaysAsListed};
 
@@ -134,7 +133,7 @@ impl Market {
         requires version { IsOfVersion self.old.version (command_of command.now) }
         requires no_batch { (budget : ℕ) → ¬ (command_of command.now ≡ RunBatch budget) }
         requires next { self.old.next_order + 1 < 2 ^ 64 }
-        ensures served { IfOk result (λ reply. Serves IsOwnOutcome self.old (command_of command.now) (Plain reply) self.new) }
+        ensures served { IfOk result (λ reply. ServesPlain self.old (command_of command.now) (Plain reply) self.new) }
         ensures stays { OnErr result (self.new ≡ self.old) }
         // Memory is wanted only by a new asset, account or order, and only where no refusal holds.
         ensures wanted { OnErr result (MayWant self.old (command_of command.now)) }
@@ -179,7 +178,7 @@ impl Market {
         requires no_batch { (budget : ℕ) → ¬ (command_of command.now ≡ RunBatch budget) }
         requires next { self.old.next_order + 1 < 2 ^ 64 }
         requires accepted { FirstRefusal self.old (command_of command.now) None }
-        ensures served { IfOk result (λ reply. Serves IsOwnOutcome self.old (command_of command.now) (Plain reply) self.new) }
+        ensures served { IfOk result (λ reply. ServesPlain self.old (command_of command.now) (Plain reply) self.new) }
         ensures stays { OnErr result (self.new ≡ self.old) }
         ensures wanted { OnErr result (MayWant self.old (command_of command.now)) }
     {
@@ -259,7 +258,7 @@ impl Market {
 
     fn add_asset(&mut self, ticker: &[u8]) -> Result<Reply, Memory>
         requires { length ticker.now ≡ 8 }
-        ensures served { IfOk result (λ reply. Serves IsOwnOutcome self.old (AddAsset ticker.now) (Plain reply) self.new) }
+        ensures served { IfOk result (λ reply. ServesPlain self.old (AddAsset ticker.now) (Plain reply) self.new) }
         ensures stays { OnErr result (self.new ≡ self.old) }
         ensures wanted { OnErr result (MayWant self.old (AddAsset ticker.now)) }
     {
@@ -278,7 +277,7 @@ impl Market {
     }
 
     fn open_account(&mut self) -> Result<Reply, Memory>
-        ensures served { IfOk result (λ reply. Serves IsOwnOutcome self.old OpenAccount (Plain reply) self.new) }
+        ensures served { IfOk result (λ reply. ServesPlain self.old OpenAccount (Plain reply) self.new) }
         ensures stays { OnErr result (self.new ≡ self.old) }
         ensures wanted { OnErr result (MayWant self.old OpenAccount) }
     {
@@ -290,20 +289,20 @@ impl Market {
     }
 
     fn deposit_money(&mut self, account: u32, ticks: u64) -> Reply
-        ensures { Serves IsOwnOutcome self.old (DepositMoney account ticks) (Plain result) self.new }
+        ensures { ServesPlain self.old (DepositMoney account ticks) (Plain result) self.new }
     {
         reply_to(self.accounts.deposit_money(account, ticks))
     }
 
     fn deposit_units(&mut self, account: u32, asset: u16, units: u64) -> Reply
-        ensures { Serves IsOwnOutcome self.old (DepositAsset account asset units) (Plain result) self.new }
+        ensures { ServesPlain self.old (DepositAsset account asset units) (Plain result) self.new }
     {
         reply_to(self.accounts.deposit_units(account, asset, units))
     }
 
     fn set_money_credit(&mut self, account: u32, ticks: u64) -> Reply
         requires { IsOfVersion self.old.version (SetMoneyCredit account ticks) }
-        ensures { Serves IsOwnOutcome self.old (SetMoneyCredit account ticks) (Plain result) self.new }
+        ensures { ServesPlain self.old (SetMoneyCredit account ticks) (Plain result) self.new }
     {
         let needed = self.book.money_needed(account);
         reply_to(self.accounts.set_money_credit(account, ticks, needed))
@@ -311,21 +310,21 @@ impl Market {
 
     fn set_unit_credit(&mut self, account: u32, asset: u16, units: u64) -> Reply
         requires { IsOfVersion self.old.version (SetUnitCredit account asset units) }
-        ensures { Serves IsOwnOutcome self.old (SetUnitCredit account asset units) (Plain result) self.new }
+        ensures { ServesPlain self.old (SetUnitCredit account asset units) (Plain result) self.new }
     {
         let needed = self.book.units_needed(account, asset);
         reply_to(self.accounts.set_unit_credit(account, asset, units, needed))
     }
 
     fn withdraw_money(&mut self, account: u32, ticks: u64) -> Reply
-        ensures { Serves IsOwnOutcome self.old (WithdrawMoney account ticks) (Plain result) self.new }
+        ensures { ServesPlain self.old (WithdrawMoney account ticks) (Plain result) self.new }
     {
         let reserved = self.book.money_needed(account);
         reply_to(self.accounts.withdraw_money(account, ticks, reserved))
     }
 
     fn withdraw_units(&mut self, account: u32, asset: u16, units: u64) -> Reply
-        ensures { Serves IsOwnOutcome self.old (WithdrawAsset account asset units) (Plain result) self.new }
+        ensures { ServesPlain self.old (WithdrawAsset account asset units) (Plain result) self.new }
     {
         let reserved = self.book.units_needed(account, asset);
         reply_to(

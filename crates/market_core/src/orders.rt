@@ -2,34 +2,24 @@
 ghost use Rattle.std.specs.Prelude.{◌≡◌, ◌+◌, ◌*◌, ◌<◌, ◌≤◌, ◌^◌, ◌↔◌, ◌≤ℤ◌, pos, IsTrue, IfOk, IfSome, IfNone, Some, None, OnErr, All};
 ghost use Rattle.demand_curve.specs.Numbers.{or_zero};
 ghost use Rattle.weight_rows.specs.Rows.{IsLawfulRow, IsLawfulWeight};
-ghost use Rattle.flow_accounts.specs.Balances.{IsAccount, IsAsset, grains, money_with_credit, units_with_credit};
+ghost use Rattle.flow_accounts.specs.Balances.{IsAccount, IsAsset, money_with_credit, units_with_credit};
 ghost use Rattle.flow_orders.specs.Orders.{AreLimits, IsFrom1To, most_cap, price_of_ticks, sold};
-ghost use Rattle.flow_orders.specs.Own.{IsOwnOutcome};
 ghost use Rattle.wire_records.specs.Commands.{PlaceOrder, PlaceUntil, CancelOrder, Plain};
 ghost use Rattle.wire_records.specs.Versions.{IsOfVersion};
 ghost use Rattle.wire_records.specs.CommandRecords.{IsCommand};
 ghost use Rattle.market_rules.specs.Market.{IsSound, usable_money, usable_units};
-ghost use Rattle.market_rules.specs.Step.{FirstRefusal, RefusesRow, Serves, placed};
+ghost use Rattle.market_rules.specs.Step.{FirstRefusal, RefusesRow, placed, ServesPlain};
 ghost use Rattle.market_rules.specs.Wanting.{MayWant};
 ghost use Rattle.market_core.specs.Private.{cancel_reply, RefusesNumbers, HasRightNumbers, no_other, IsFreeFor};
 
 use crate::Market;
+use flow_accounts::grains_of;
 use flow_orders::{Order, OrderFault, money_need, order_fault, unit_need};
 use weight_rows::{Entry, WeightRow};
 use wire_records::{Memory, PlaceView, Refusal, Reply, RowView};
 
-// One tick in grains.
-const GRAINS_PER_TICK: i128 = 1 << 32;
-
 // No more orders are live.
 const MOST_ORDERS: usize = 16_384;
-
-// Ticks in grains.
-fn grains_of(ticks: u64) -> i128
-    ensures { result ≡ grains ticks }
-{
-    i128::from(ticks) * GRAINS_PER_TICK
-}
 
 // The reply to a cancel, by whether the order is there.
 pub(crate) fn cancel_reply(there: bool) -> Reply
@@ -46,7 +36,7 @@ impl Market {
     pub(crate) fn place_order(&mut self, place: &PlaceView<'_>) -> Result<Reply, Memory>
         requires command { IsCommand (PlaceOrder place.now) }
         requires next { self.old.next_order + 1 < 2 ^ 64 }
-        ensures served { IfOk result (λ reply. Serves IsOwnOutcome self.old (PlaceOrder place.now) (Plain reply) self.new) }
+        ensures served { IfOk result (λ reply. ServesPlain self.old (PlaceOrder place.now) (Plain reply) self.new) }
         ensures stays { OnErr result (self.new ≡ self.old) }
         ensures wanted { OnErr result (MayWant self.old (PlaceOrder place.now)) }
     {
@@ -61,7 +51,7 @@ impl Market {
         requires command { IsCommand (PlaceOrder place.now) }
         requires next { self.old.next_order + 1 < 2 ^ 64 }
         requires accepted { FirstRefusal self.old (PlaceOrder place.now) None }
-        ensures served { IfOk result (λ reply. Serves IsOwnOutcome self.old (PlaceOrder place.now) (Plain reply) self.new) }
+        ensures served { IfOk result (λ reply. ServesPlain self.old (PlaceOrder place.now) (Plain reply) self.new) }
         ensures stays { OnErr result (self.new ≡ self.old) }
         ensures wanted { OnErr result (MayWant self.old (PlaceOrder place.now)) }
     {
@@ -88,7 +78,7 @@ impl Market {
         requires command { IsCommand (PlaceUntil last place.now) }
         requires version { IsOfVersion self.old.version (PlaceUntil last place.now) }
         requires next { self.old.next_order + 1 < 2 ^ 64 }
-        ensures served { IfOk result (λ reply. Serves IsOwnOutcome self.old (PlaceUntil last place.now) (Plain reply) self.new) }
+        ensures served { IfOk result (λ reply. ServesPlain self.old (PlaceUntil last place.now) (Plain reply) self.new) }
         ensures stays { OnErr result (self.new ≡ self.old) }
         ensures wanted { OnErr result (MayWant self.old (PlaceUntil last place.now)) }
     {
@@ -104,7 +94,7 @@ impl Market {
         requires version { IsOfVersion self.old.version (PlaceUntil last place.now) }
         requires next { self.old.next_order + 1 < 2 ^ 64 }
         requires accepted { FirstRefusal self.old (PlaceUntil last place.now) None }
-        ensures served { IfOk result (λ reply. Serves IsOwnOutcome self.old (PlaceUntil last place.now) (Plain reply) self.new) }
+        ensures served { IfOk result (λ reply. ServesPlain self.old (PlaceUntil last place.now) (Plain reply) self.new) }
         ensures stays { OnErr result (self.new ≡ self.old) }
         ensures wanted { OnErr result (MayWant self.old (PlaceUntil last place.now)) }
     {
@@ -129,7 +119,7 @@ impl Market {
     }
 
     pub(crate) fn cancel_order(&mut self, account: u32, number: u64) -> Reply
-        ensures { Serves IsOwnOutcome self.old (CancelOrder account number) (Plain result) self.new }
+        ensures { ServesPlain self.old (CancelOrder account number) (Plain result) self.new }
     {
         if self.accounts.money(account).is_none() {
             return Reply::Refused(Refusal::NoAccount);

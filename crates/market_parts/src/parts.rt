@@ -15,7 +15,7 @@ pub trait MarketParts: AccountParts {
     // All of it.
     ghost parts: { Self → Parts };
 
-    /// The number of the version: 1 or 2 in a sound market. There is one ticker, one last price and one of the exchange's
+    /// The number of the version: 1, 2 or 3 in a sound market. There is one ticker, one last price and one of the exchange's
     /// balances for each asset.
     fn version(&self) -> u8
         ensures version { result ≡ (parts self.now).version }

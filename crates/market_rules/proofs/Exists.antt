@@ -1,20 +1,14 @@
--- Every command has a step under the own rule.
-use Rattle.std.proofs.Common.{suc, arith, ◌≡◌, ◌+◌, inl, inr, List, [], ◌∷◌, Option, Some, None, Result, Ok, Err, refl, ap, ⊎_elim}
-use Rattle.std.specs.Prelude.{map, All}
+-- Every command has a first refusal or none, and is served without a batch where no batch is due.
+use Rattle.std.proofs.Common.{ℕ, ◌⊎◌, ◌≡◌, inl, inr, Option, Some, None, refl, ⊎_elim}
 use Rattle.flow_orders.specs.Orders.{most_cap}
 use Rattle.flow_orders.specs.Outcomes.{Outcome, most_budget}
-use Rattle.flow_orders.specs.Own.{IsOwnOutcome}
-use Rattle.wire_records.specs.Commands.{Command, AddAsset, OpenAccount, DepositMoney, DepositAsset, WithdrawMoney, WithdrawAsset, PlaceOrder, CancelOrder, RunBatch, PlaceUntil, SetMoneyCredit, SetUnitCredit, Answer, Plain, Batch, Pair}
+use Rattle.wire_records.specs.Commands.{Command, AddAsset, OpenAccount, DepositMoney, DepositAsset, WithdrawMoney, WithdrawAsset, PlaceOrder, CancelOrder, RunBatch, PlaceUntil, SetMoneyCredit, SetUnitCredit, Answer, Plain}
 use Rattle.wire_records.specs.declared.reply.Refusal.{Refusal}
 use Rattle.wire_records.specs.declared.reply.Reply.TheVariants.{Refused}
-use Rattle.market_rules.specs.Market.{Market, parts_of, start_prices, empty_market}
-use Rattle.market_rules.specs.Step.{◌when◌else◌, ◌unless◌else◌, accept, FirstRefusal, Accepts, Serves, placed, after_batch, refusal_of, ServesRead}
+use Rattle.market_rules.specs.Market.{Market}
+use Rattle.market_rules.specs.Step.{NoOutcome, ServesPlain, ◌when◌else◌, ◌unless◌else◌, accept, FirstRefusal, Accepts, placed}
 use Rattle.demand_curve.specs.Demand.{most_rate}
-use Rattle.wire_records.specs.declared.command.BodyFault.{BodyFault}
-use Rattle.wire_records.specs.declared.version.Version.{Version}
-use Rattle.market_rules.specs.Journal.{Step, Follows, IsJournal}
 use Rattle.market_rules.proofs.Decided.{Either, either_le, either_eq, either_lt_z, either_account, either_from_1, either_limits, either_row, either_assets, either_affordable, either_order, either_taken, either_ticker}
-use Rattle.flow_orders.proofs.OneOwn.{own_is_there}
 
 -- ---- the first refusal
 
@@ -56,53 +50,28 @@ first_is_there m (SetUnitCredit account asset units) =
 
 -- ---- steps
 
-accepted_is_there : (m : Market) (c : Command) → (a : Answer Outcome) × (n : Market) × Accepts IsOwnOutcome m c a n
-accepted_is_there m (AddAsset ticker) = (_, _, (refl, refl))
-accepted_is_there m OpenAccount = (_, _, (refl, refl))
-accepted_is_there m (DepositMoney account ticks) = (_, _, (refl, refl))
-accepted_is_there m (DepositAsset account asset units) = (_, _, (refl, refl))
-accepted_is_there m (WithdrawMoney account ticks) = (_, _, (refl, refl))
-accepted_is_there m (WithdrawAsset account asset units) = (_, _, (refl, refl))
-accepted_is_there m (PlaceOrder r) = (_, _, (refl, refl))
-accepted_is_there m (CancelOrder account number) = (_, _, (refl, refl))
-accepted_is_there m (PlaceUntil last r) = (_, _, (refl, refl))
-accepted_is_there m (SetMoneyCredit account ticks) = (_, _, (refl, refl))
-accepted_is_there m (SetUnitCredit account asset units) = (_, _, (refl, refl))
-accepted_is_there m (RunBatch budget) =
-    let own = own_is_there (parts_of m.version) m.orders (start_prices m) budget in
-    (Batch (m.batches + 1) own.0, after_batch m own.0, (own.0, own.1, (refl, refl)))
+accepted_or_batch : (m : Market) (c : Command) → ((a : Answer Outcome) × (n : Market) × Accepts NoOutcome m c a n) ⊎ ((budget : ℕ) × (c ≡ RunBatch budget))
+accepted_or_batch m (AddAsset ticker) = inl (_, _, (refl, refl))
+accepted_or_batch m OpenAccount = inl (_, _, (refl, refl))
+accepted_or_batch m (DepositMoney account ticks) = inl (_, _, (refl, refl))
+accepted_or_batch m (DepositAsset account asset units) = inl (_, _, (refl, refl))
+accepted_or_batch m (WithdrawMoney account ticks) = inl (_, _, (refl, refl))
+accepted_or_batch m (WithdrawAsset account asset units) = inl (_, _, (refl, refl))
+accepted_or_batch m (PlaceOrder r) = inl (_, _, (refl, refl))
+accepted_or_batch m (CancelOrder account number) = inl (_, _, (refl, refl))
+accepted_or_batch m (PlaceUntil last r) = inl (_, _, (refl, refl))
+accepted_or_batch m (SetMoneyCredit account ticks) = inl (_, _, (refl, refl))
+accepted_or_batch m (SetUnitCredit account asset units) = inl (_, _, (refl, refl))
+accepted_or_batch m (RunBatch budget) = inr (budget, refl)
 
--- every command has a step under the own rule, from any market
-pub served_is_there : (m : Market) (c : Command) → (a : Answer Outcome) × (n : Market) × Serves IsOwnOutcome m c a n
-served_is_there m c = by_first (first_is_there m c).0 (first_is_there m c).1
+-- every command is served without a batch, or it is a batch that is due
+pub plain_or_due : (m : Market) (c : Command) → ((a : Answer Outcome) × (n : Market) × ServesPlain m c a n) ⊎ ((budget : ℕ) × (c ≡ RunBatch budget) × FirstRefusal m c None)
+plain_or_due m c = by_first (first_is_there m c).0 (first_is_there m c).1
   where
-    by_first : (first : Option Refusal) → FirstRefusal m c first → (a : Answer Outcome) × (n : Market) × Serves IsOwnOutcome m c a n
-    by_first (Some r) refused = (Plain (Refused r), m, record { first = Some r; refused = refused; answered = (refl, refl) })
+    by_first : (first : Option Refusal) → FirstRefusal m c first → ((a : Answer Outcome) × (n : Market) × ServesPlain m c a n) ⊎ ((budget : ℕ) × (c ≡ RunBatch budget) × FirstRefusal m c None)
+    by_first (Some r) refused = inl (Plain (Refused r), m, record { first = Some r; refused = refused; answered = (refl, refl) })
     by_first None refused =
-        let accepted = accepted_is_there m c in
-        (accepted.0, accepted.1, record { first = None; refused = refused; answered = accepted.2 })
-
--- records, of which those that can be read are each read in some way
-module _ {R : Type 0} (Reads : Version → R → Result Command BodyFault → Type 0) (Readable : R → Type 0) (reading : (version : Version) (r : R) → Readable r → (read : Result Command BodyFault) × Reads version r read) where
-  read_is_there : (m : Market) (read : Result Command BodyFault) → (a : Answer Outcome) × (n : Market) × ServesRead IsOwnOutcome m read a n
-  read_is_there m (Ok c) = served_is_there m c
-  read_is_there m (Err r) = (Plain (Refused (refusal_of r)), m, (refl, refl))
-
-  pub step_is_there : (m : Market) (asked : R) → Readable asked → (a : Answer Outcome) × (n : Market) × Step Reads IsOwnOutcome m asked a n
-  step_is_there m asked readable =
-      let how = reading m.version asked readable in
-      let served = read_is_there m how.0 in
-      (served.0, served.1, record { read = how.0; spelled = how.1; served = served.2 })
-
-  follows_are_there : (m : Market) (records : List R) → All Readable records → (pairs : List (Pair R Outcome)) × (n : Market) × (map (λ (pair : Pair R Outcome). pair.asked) pairs ≡ records) × Follows Reads IsOwnOutcome m pairs n
-  follows_are_there m [] all = ([], m, refl, refl)
-  follows_are_there m (asked ∷ records) all =
-      let step = step_is_there m asked (all 0 asked (omega arith)) in
-      let rest = follows_are_there step.1 records (λ k d inside. all (suc k) d (omega (arith, inside))) in
-      (record { asked = asked; answer = step.0 } ∷ rest.0, rest.1, ap (λ l. asked ∷ l) rest.2, (step.1, step.2, rest.3))
-
-  -- so records that can be read have an own journal
-  pub own_journal_is_there : (version : Version) (records : List R) → All Readable records → (pairs : List (Pair R Outcome)) × (n : Market) × IsJournal Reads IsOwnOutcome version records pairs n
-  own_journal_is_there version records all =
-      let there = follows_are_there (empty_market version) records all in
-      (there.0, there.1, record { asked = there.2; steps = there.3 })
+        ⊎_elim
+        (λ accepted. inl (accepted.0, accepted.1, record { first = None; refused = refused; answered = accepted.2 }))
+        (λ batch. inr (batch.0, batch.1, refused))
+        (accepted_or_batch m c)

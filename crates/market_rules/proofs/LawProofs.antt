@@ -19,26 +19,22 @@ use Rattle.wire_records.specs.declared.reply.Reply.{Reply}
 use Rattle.wire_records.specs.declared.reply.Reply.TheVariants.{Done, Asset as AssetAdded, Account as AccountOpened, Order as OrderPlaced, Refused}
 use Rattle.market_rules.specs.Market.{Market, IsSound, IsInTime, IsNoCredit, parts_of, start_prices}
 use Rattle.wire_records.specs.declared.command.BodyFault.{BodyFault}
-use Rattle.flow_orders.specs.Own.{IsOwnOutcome}
-use Rattle.market_rules.specs.Step.{FirstRefusal, Accepts, Answers, Serves, ServesRead, after_batch}
-use Rattle.market_rules.specs.Laws.{MarketIsDetermined, JournalsDetermineTheMarket, OneRefusal, PlainCommandsHaveOneAnswer, PlainCommandsNeedNoRule, OneOwnJournal, OwnJournalsAreLegal, StepsKeepSoundness, HeldIsDeposited, BatchesKeepTotals, SkipsOnlyEndOrders, OrdersEndInTime, VersionOneIsAsBefore, BatchesOfVersionOne, OrdersMayLeave, SkipsLowerTheDual, LargeBudgetsClear, ClearedBatchesAreOptimal, FillsKeepCaps, SequencesCompose, EveryCommandIsServed, LimitsAgree, JournalsHoldDeposits, StepsNumberOne, LegalStepsNumberOne}
+use Rattle.market_rules.specs.Step.{NoOutcome, ServesPlain, FirstRefusal, Accepts, Answers, Serves, ServesRead, after_batch}
+use Rattle.market_rules.specs.Laws.{MarketIsDetermined, JournalsDetermineTheMarket, OneRefusal, PlainCommandsHaveOneAnswer, PlainCommandsHoldNoBatch, StepsKeepSoundness, HeldIsDeposited, BatchesKeepTotals, SkipsOnlyEndOrders, OrdersEndInTime, VersionOneIsAsBefore, BatchesOfVersionOne, OrdersMayLeave, SkipsLowerTheDual, LargeBudgetsClear, ClearedBatchesAreOptimal, FillsKeepCaps, SequencesCompose, LimitsAgree, JournalsHoldDeposits, LegalStepsNumberOne}
 use Rattle.std.proofs.lemmas.Int.{ints}
 use Rattle.std.proofs.lemmas.List.{length-map, get_or_past}
 use Rattle.std.proofs.lemmas.List.Elements.{All-filter, All-map}
 use Rattle.flow_orders.proofs.WalkLaws.{walks_lower_the_dual, right_skips_lower_the_dual, right_clearings_are_optimal}
 use Rattle.std.specs.Prelude.{All, Contains, slice_index_or, ◌<ℤ◌}
 use Rattle.market_rules.proofs.OneStep.{HasOneOutcome, one_first, one_service}
-use Rattle.market_rules.proofs.OneJournal.{step_market, journal_market, one_own_journal as one_journal, follows-append, follows-parts}
+use Rattle.market_rules.proofs.OneJournal.{step_market, journal_market, follows-append, follows-parts}
 use Rattle.market_rules.proofs.Soundness.{sound_served, sound_step, sound_follows, sound-empty}
 use Rattle.market_rules.proofs.HeldTotals.{batch_keeps_held, held_money_is, held_units_are, held_money_changes, held_units_change, more_money, more_units}
 use Rattle.market_rules.proofs.Fills.{fills_within_cap, live_fills_within_cap}
-use Rattle.market_rules.proofs.Exists.{own_journal_is_there, served_is_there}
-use Rattle.wire_records.specs.Records.{AreBytes}
 use Rattle.wire_records.specs.Versions.{IsReadAs, IsOfVersion}
 use Rattle.wire_records.specs.declared.version.Version.{Version}
 use Rattle.wire_records.specs.declared.version.Version.TheVariants.{One}
-use Rattle.wire_records.proofs.Readings.{reading_unique as one_reading, reading_some as each_is_read, read_own}
-use Rattle.market_rules.proofs.OwnIsLegal.{own_journal_is_legal}
+use Rattle.wire_records.proofs.Readings.{reading_unique as one_reading, read_own}
 
 -- the command was a batch that was held by the rule
 pub record IsBatch (Rule : BatchRule) (old : Market) (command : Command) (number : ℕ) (outcome : Outcome) (new : Market) : Type 0 where
@@ -175,8 +171,16 @@ served_by_any Rule Other m c a n none serves = record { first = serves.first; re
     by_first (Some r) answered = answered
     by_first None answered = accepted_by_any Rule Other m c a n none answered
 
-pub plain_commands_need_no_rule : PlainCommandsNeedNoRule
-plain_commands_need_no_rule old c a n none = (served_by_any IsOwnOutcome IsRightOutcome old c a n none, served_by_any IsRightOutcome IsOwnOutcome old c a n none)
+-- what is served without a batch is served by any rule
+pub plain_by_any : (Rule : BatchRule) (m : Market) (c : Command) (a : Answer Outcome) (n : Market) → ServesPlain m c a n → Serves Rule m c a n
+plain_by_any Rule m c a n serves = record { first = serves.first; refused = serves.refused; answered = by_first serves.first serves.answered }
+  where
+    by_first : (first : Option Refusal) → Answers NoOutcome m c first a n → Answers Rule m c first a n
+    by_first (Some r) answered = answered
+    by_first None answered = accepted_by_any NoOutcome Rule m c a n (λ budget is. (subst (λ d. Accepts NoOutcome m d a n) is answered).1) answered
+
+pub plain_commands_hold_no_batch : PlainCommandsHoldNoBatch
+plain_commands_hold_no_batch old c a n = (plain_by_any IsRightOutcome old c a n, served_by_any IsRightOutcome NoOutcome old c a n)
 
 same_assets : (m : Market) (o : Outcome) (asset : ℕ) → IsAsset m.balances asset → IsAsset (after_batch m o).balances asset
 same_assets m (Cleared c) asset is = is
@@ -281,14 +285,6 @@ market_is_determined old asked a m n first other = step_market IsReadAs one_read
 pub journals_determine_the_market : JournalsDetermineTheMarket
 journals_determine_the_market old pairs m n first other = journal_market IsReadAs one_reading IsRightOutcome old pairs m n first other
 
-pub one_own_journal : OneOwnJournal
-one_own_journal version records bytes =
-    let there = own_journal_is_there IsReadAs (λ r. AreBytes r.body) each_is_read version records bytes in
-    (there.0, there.1, there.2, λ other n journal. one_journal IsReadAs one_reading version records there.0 other there.1 n there.2 journal)
-
-pub own_journals_are_legal : OwnJournalsAreLegal
-own_journals_are_legal version records pairs m journal = own_journal_is_legal IsReadAs read_own version records pairs m journal
-
 pub steps_keep_soundness : StepsKeepSoundness
 steps_keep_soundness = (sound-empty, λ old asked a new sound step. (sound_step IsReadAs read_own old asked a new sound step, step_version IsRightOutcome IsReadAs old asked a new step))
 
@@ -358,9 +354,6 @@ large_budgets_clear old budget number (Skipped s) new sound large serves =
     let bounded = walks_lower_the_dual.bounded (parts_of old.version) (some_parts old.version) old.orders (start_prices old) s.trace each right.legal in
     absurd (omega (arith, large, lowers.1, bounded, right.whole, same_budget budget batch.budget batch.command_is))
 
-pub every_command_is_served : EveryCommandIsServed
-every_command_is_served = served_is_there
-
 pub limits_agree : LimitsAgree
 limits_agree = record { assets = refl; ticks = refl }
 
@@ -387,12 +380,9 @@ module _ (Rule : BatchRule) where
   answered_numbers_one m c (Some refusal) a n answers = rw answers.1 (omega arith)
   answered_numbers_one m c None a n answers = accepted_numbers_one m c a n answers
 
-  read_numbers_one : (m : Market) (read : Result Command BodyFault) (a : Answer Outcome) (n : Market) → ServesRead Rule m read a n → n.next_order ≤ m.next_order + 1
+  pub read_numbers_one : (m : Market) (read : Result Command BodyFault) (a : Answer Outcome) (n : Market) → ServesRead Rule m read a n → n.next_order ≤ m.next_order + 1
   read_numbers_one m (Ok c) a n served = answered_numbers_one m c served.first a n served.answered
   read_numbers_one m (Err why) a n served = rw served.1 (omega arith)
-
-pub steps_number_one : StepsNumberOne
-steps_number_one old asked a new step = read_numbers_one IsOwnOutcome old step.read a new step.served
 
 pub legal_steps_number_one : LegalStepsNumberOne
 legal_steps_number_one old asked a new step = read_numbers_one IsRightOutcome old step.read a new step.served

@@ -9,13 +9,11 @@ pub mod Lawful
 mod Made
 pub mod OneJournal
 pub mod OneStep
-pub mod OwnIsLegal
 mod OwnNeeds
 pub mod Promised
 mod SoundBalances
 pub mod SoundBatch
 mod SoundOrders
 pub mod Soundness
-mod VersionRows
+pub mod Starts
 pub mod Versions
-mod WorkedRows

@@ -1,12 +1,10 @@
 -- A step has one outcome: old market, command and answer determine the new market, and a command that is no batch gets one answer.
 use Rattle.std.proofs.Common.{◌≡◌, ◌+◌, ℕ, Option, Some, None, inl, inr, sym, ap, ◌∙◌}
 use Rattle.flow_orders.specs.Outcomes.{Outcome, BatchRule}
-use Rattle.flow_orders.specs.Own.{IsOwnOutcome}
 use Rattle.wire_records.specs.Commands.{Command, AddAsset, OpenAccount, DepositMoney, DepositAsset, WithdrawMoney, WithdrawAsset, PlaceOrder, CancelOrder, RunBatch, PlaceUntil, SetMoneyCredit, SetUnitCredit, Answer, Batch}
 use Rattle.wire_records.specs.declared.reply.Refusal.{Refusal}
 use Rattle.market_rules.specs.Market.{Market, parts_of, start_prices}
 use Rattle.market_rules.specs.Step.{◌when◌else◌, ◌unless◌else◌, accept, FirstRefusal, Accepts, Answers, Serves, after_batch}
-use Rattle.flow_orders.proofs.OneOwn.{one_own}
 
 -- there is one first refusal
 abbrev pub IsOne : (Option Refusal → Type 0) → Type 0
@@ -102,18 +100,3 @@ module _ (Rule : BatchRule) where
   pub one_service : (old : Market) (c : Command) (a b : Answer Outcome) (x y : Market) → HasOneOutcome old c → Serves Rule old c a x → Serves Rule old c b y → (a ≡ b) × (x ≡ y)
   one_service old c a b x y one first other =
       answered_once old c first.first a b x y one first.answered (rw (one_first old c first.first other.first first.refused other.refused) other.answered)
-
--- so every command has one outcome under the own rule
-pub own_has_one : (m : Market) (c : Command) → HasOneOutcome IsOwnOutcome m c
-own_has_one m (AddAsset ticker) = tt
-own_has_one m OpenAccount = tt
-own_has_one m (DepositMoney account ticks) = tt
-own_has_one m (DepositAsset account asset units) = tt
-own_has_one m (WithdrawMoney account ticks) = tt
-own_has_one m (WithdrawAsset account asset units) = tt
-own_has_one m (PlaceOrder r) = tt
-own_has_one m (CancelOrder account number) = tt
-own_has_one m (PlaceUntil last r) = tt
-own_has_one m (SetMoneyCredit account ticks) = tt
-own_has_one m (SetUnitCredit account asset units) = tt
-own_has_one m (RunBatch budget) = one_own (parts_of m.version) m.orders (start_prices m) budget

@@ -1,5 +1,5 @@
--- Steps from a sound market keep the promises of the exchange, and the program's own ones what its rule promises besides.
-use Rattle.std.proofs.Common.{◌≡◌, ℕ, ◌≤◌, List, ◌∷◌, Result, Ok, Err, ap, sym, subst, ◌∙◌}
+-- Steps from a sound market keep the promises of the exchange.
+use Rattle.std.proofs.Common.{◌≡◌, ℕ, ◌≤◌, List, Result, Ok, Err, ap, sym, subst, ◌∙◌}
 use Rattle.wire_records.specs.Records.{Record}
 use Rattle.wire_records.specs.Commands.{Command, RunBatch, Plain, Batch, Pair}
 use Rattle.wire_records.specs.Versions.{IsReadAs}
@@ -7,16 +7,12 @@ use Rattle.wire_records.specs.declared.command.BodyFault.{BodyFault}
 use Rattle.wire_records.specs.declared.reply.Reply.{Reply}
 use Rattle.wire_records.proofs.Readings.{reading_unique, read_own}
 use Rattle.flow_orders.specs.Outcomes.{Outcome, Skipping, Cleared, Skipped, BatchRule, IsRightOutcome, IsRightSkip}
-use Rattle.flow_orders.specs.Own.{IsOwnOutcome}
 use Rattle.flow_orders.proofs.GapBound.{gaps_are_bounded}
-use Rattle.flow_orders.proofs.OwnLaws.{one_asset_books_clear}
 use Rattle.flow_orders.proofs.WalkLaws.{walks_lower_the_dual}
 use Rattle.market_rules.specs.Market.{Market, IsSound, parts_of, start_prices}
 use Rattle.market_rules.specs.Step.{Serves, ServesRead}
-use Rattle.market_rules.specs.Journal.{Step, Follows, fills_of}
-use Rattle.market_rules.specs.Promises.{HoldsBatch, KeepsPromises, ClearNear}
-use Rattle.market_rules.proofs.OneJournal.{follows-parts, journal_market}
-use Rattle.market_rules.proofs.OwnIsLegal.{own_follows_are_right, start_within}
+use Rattle.market_rules.specs.Journal.{Follows, fills_of}
+use Rattle.market_rules.specs.Promises.{HoldsBatch, KeepsPromises}
 use Rattle.market_rules.proofs.Soundness.{sound_follows}
 use Rattle.market_rules.proofs.Versions.{some_parts}
 use Rattle.market_rules.proofs.Fills.{fills_within_cap, live_fills_within_cap}
@@ -26,7 +22,7 @@ no_plain : (n : ℕ) (o : Outcome) (r : Reply) → Batch n o ≡ Plain r → ⊥
 no_plain n o r e = cc
 
 -- a record that is answered by a batch was read as a command
-batch_served : (Rule : BatchRule) (old : Market) (read : Result Command BodyFault) (n : ℕ) (o : Outcome) (new : Market) → ServesRead Rule old read (Batch n o) new
+pub batch_served : (Rule : BatchRule) (old : Market) (read : Result Command BodyFault) (n : ℕ) (o : Outcome) (new : Market) → ServesRead Rule old read (Batch n o) new
     → (command : Command) × Serves Rule old command (Batch n o) new
 batch_served Rule old (Ok command) n o new served = (command, served)
 batch_served Rule old (Err why) n o new served = absurd (no_plain n o _ served.0)
@@ -35,7 +31,7 @@ same_budget : (a b : ℕ) → RunBatch a ≡ RunBatch b → a ≡ b
 same_budget a b e = cc
 
 module _ {start : Market} {pairs : List (Pair Record Outcome)} (begins : IsSound start) where
-  sound_before : (old : Market) (outcome : Outcome) (new : Market) → HoldsBatch IsReadAs start pairs old outcome new → IsSound old
+  pub sound_before : (old : Market) (outcome : Outcome) (new : Market) → HoldsBatch IsReadAs start pairs old outcome new → IsSound old
   sound_before old outcome new batch = sound_follows IsReadAs read_own start batch.before old begins batch.led
 
   -- the batch is served as a command with its budget
@@ -85,23 +81,3 @@ module _ (start : Market) (pairs : List (Pair Record Outcome)) (market : Market)
         (fills_within_cap IsReadAs read_own reading_unique start before after pair market number cap begins (subst (λ ps. Follows IsReadAs IsRightOutcome start ps market) stands legal) places);
     live_fills = λ o live. live_fills_within_cap IsReadAs read_own reading_unique start pairs market o begins live legal;
   }
-
-module _ (start : Market) (pairs : List (Pair Record Outcome)) (market : Market) (begins : IsSound start) (steps : Follows IsReadAs IsOwnOutcome start pairs market) where
-  -- the batch is one by the program's own rule
-  own_step : (old : Market) (outcome : Outcome) (new : Market) → HoldsBatch IsReadAs start pairs old outcome new → (budget : ℕ) × IsOwnOutcome (parts_of old.version) old.orders (start_prices old) budget outcome
-  own_step old outcome new batch =
-      let pair : Pair Record Outcome = record { asked = batch.asked; answer = Batch batch.number outcome } in
-      let parts = follows-parts IsReadAs reading_unique IsOwnOutcome start market batch.before (pair ∷ batch.after) (subst (λ ps. Follows IsReadAs IsOwnOutcome start ps market) batch.stands steps) in
-      let same : parts.0 ≡ old =
-      journal_market IsReadAs reading_unique IsRightOutcome start batch.before parts.0 old (own_follows_are_right IsReadAs read_own start batch.before parts.0 begins parts.1) batch.led in
-      let next = parts.2.0 in
-      let step : Step IsReadAs IsOwnOutcome old batch.asked (Batch batch.number outcome) next = subst (λ m. Step IsReadAs IsOwnOutcome m batch.asked (Batch batch.number outcome) next) same parts.2.1 in
-      let served = batch_served IsOwnOutcome old step.read batch.number outcome next step.served in
-      let held = batch_of IsOwnOutcome old served.0 batch.number outcome next served.1 in
-      (held.budget, held.ruled)
-
-  pub own_journal_clears_near : ClearNear IsReadAs start pairs
-  own_journal_clears_near old new outcome batch single =
-      let own = own_step old outcome new batch in
-      let sound = sound_before begins old outcome new batch in
-      one_asset_books_clear (parts_of old.version) (some_parts old.version) old.orders (start_prices old) own.0 outcome (λ k d inside. (sound.live k d inside).order) single (start_within old) own.1

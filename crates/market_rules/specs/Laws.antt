@@ -1,11 +1,11 @@
 -- What holds of steps, journals and markets.
-use Rattle.std.specs.Prelude.{◌≡◌, ◌≢◌, ◌⊎◌, ℕ, ◌+◌, ◌*◌, ◌^◌, ◌<◌, ◌≤◌, ℤ, pos, ◌+ℤ◌, ◌<ℤ◌, ◌≤ℤ◌, ◌↔◌, Bool, List, ◌∷◌, ◌++◌, length, map, All, Contains}
+use Rattle.std.specs.Prelude.{◌≡◌, ◌≢◌, ◌⊎◌, ℕ, ◌+◌, ◌*◌, ◌^◌, ◌<◌, ◌≤◌, ℤ, pos, ◌+ℤ◌, ◌<ℤ◌, ◌≤ℤ◌, Bool, List, ◌∷◌, ◌++◌, length, map, All, Contains}
 use Rattle.std.specs.List.{filter}
 use Rattle.ticker_table.specs.Tickers.{ticker_limit}
 use Rattle.flow_accounts.specs.Balances.{Balances, IsAccount, IsAsset, money_of, units_of, money_credit_of, unit_credit_of}
 use Rattle.fill_caps.specs.Covers.{CoversNeeds}
 use Rattle.flow_accounts.specs.Lawful.{most_assets}
-use Rattle.wire_records.specs.Records.{Record, AreBytes}
+use Rattle.wire_records.specs.Records.{Record}
 use Rattle.wire_records.specs.Commands.{Command, RunBatch, Answer, Plain, Batch, Pair}
 use Rattle.wire_records.specs.Versions.{IsReadAs}
 use Rattle.wire_records.specs.declared.version.Version.{Version}
@@ -16,12 +16,11 @@ use Rattle.flow_orders.specs.Orders.{Order, most_ticks}
 use Rattle.flow_orders.specs.Outcomes.{Outcome, Fill, Clearing, Cleared, Skipping, Skipped, dual_of, trades_of, IsRightOutcome}
 use Rattle.flow_orders.specs.Trades.{staying, going_on}
 use Rattle.flow_orders.specs.Duals.{movement_of}
-use Rattle.flow_orders.specs.Own.{IsOwnOutcome}
 use Rattle.flow_orders.specs.Welfare.{IsOptimalWithin}
 use Rattle.market_rules.specs.Market.{Market, empty_market, IsSound, parts_of, start_prices, held_money, held_units, free_money, free_units, usable_money, usable_units}
-use Rattle.market_rules.specs.Step.{Serves, after_batch}
-use Rattle.market_rules.specs.Journal.{Step, Follows, IsJournal, money_added, units_added, AddTogether, Places, HoldsDeposits, fills_of}
-use Rattle.market_rules.specs.Promises.{KeepsPromises, ClearNear}
+use Rattle.market_rules.specs.Step.{Serves, ServesPlain, after_batch}
+use Rattle.market_rules.specs.Journal.{Step, Follows, money_added, units_added, AddTogether, Places, HoldsDeposits, fills_of}
+use Rattle.market_rules.specs.Promises.{KeepsPromises}
 
 -- the pairs lead from a market to another one by steps
 abbrev pub Leads : Market → List (Pair Record Outcome) → Market → Type 0
@@ -49,31 +48,17 @@ PlainCommandsHaveOneAnswer = (old : Market) (command : Command) (a b : Answer Ou
     → ((budget : ℕ) → ¬ (command ≡ RunBatch budget))
     → Serves IsRightOutcome old command a m → Serves IsRightOutcome old command b n → (a ≡ b) × (m ≡ n)
 
--- so such a command needs no rule: by the own rule it is served as where any right outcome of a batch is accepted
-abbrev pub PlainCommandsNeedNoRule : Type 0
-PlainCommandsNeedNoRule = (old : Market) (command : Command) (answer : Answer Outcome) (new : Market)
-    → ((budget : ℕ) → ¬ (command ≡ RunBatch budget))
-    → Serves IsOwnOutcome old command answer new ↔ Serves IsRightOutcome old command answer new
-
--- records of bytes have exactly one own journal in each version, which leads to one market
-abbrev pub OneOwnJournal : Type 0
-OneOwnJournal = (version : Version) (records : List Record) → All (λ r. AreBytes r.body) records
-    → (pairs : List (Pair Record Outcome)) × (m : Market) × IsJournal IsReadAs IsOwnOutcome version records pairs m
-    × ((other : List (Pair Record Outcome)) (n : Market) → IsJournal IsReadAs IsOwnOutcome version records other n → (pairs ≡ other) × (m ≡ n))
-
--- and it is a legal one
-abbrev pub OwnJournalsAreLegal : Type 0
-OwnJournalsAreLegal = (version : Version) (records : List Record) (pairs : List (Pair Record Outcome)) (m : Market)
-    → IsJournal IsReadAs IsOwnOutcome version records pairs m → IsJournal IsReadAs IsRightOutcome version records pairs m
+-- what is served without a batch is served so where any right outcome of a batch is accepted, and a command that is no batch is served
+-- in no other way
+abbrev pub PlainCommandsHoldNoBatch : Type 0
+PlainCommandsHoldNoBatch = (old : Market) (command : Command) (answer : Answer Outcome) (new : Market)
+    → (ServesPlain old command answer new → Serves IsRightOutcome old command answer new)
+    × (((budget : ℕ) → ¬ (command ≡ RunBatch budget)) → Serves IsRightOutcome old command answer new → ServesPlain old command answer new)
 
 -- the empty market of each version is sound, and every step keeps a market sound, and its version
 abbrev pub StepsKeepSoundness : Type 0
 StepsKeepSoundness = ((version : Version) → IsSound (empty_market version)) × ((old : Market) (asked : Record) (answer : Answer Outcome) (new : Market)
     → IsSound old → Step IsReadAs IsRightOutcome old asked answer new → IsSound new × (new.version ≡ old.version))
-
--- every command has a step under the own rule, from any market
-abbrev pub EveryCommandIsServed : Type 0
-EveryCommandIsServed = (old : Market) (command : Command) → (answer : Answer Outcome) × (new : Market) × Serves IsOwnOutcome old command answer new
 
 -- from a sound market on what is held changes by the accepted deposits less the accepted withdrawals; in the empty market nothing is held
 pub record HeldIsDeposited : Type 0 where
@@ -174,12 +159,7 @@ pub record LimitsAgree : Type 0 where
   pub assets : ticker_limit ≡ most_assets
   pub ticks : 2 ^ 32 * most_ticks ≡ 2 ^ 60
 
--- a step gives out at most one number of an order
-abbrev pub StepsNumberOne : Type 0
-StepsNumberOne = (old : Market) (asked : Record) (answer : Answer Outcome) (new : Market)
-    → Step IsReadAs IsOwnOutcome old asked answer new → new.next_order ≤ old.next_order + 1
-
--- also where any right outcome of a batch is accepted
+-- a step gives out at most one number of an order, also where any right outcome of a batch is accepted
 abbrev pub LegalStepsNumberOne : Type 0
 LegalStepsNumberOne = (old : Market) (asked : Record) (answer : Answer Outcome) (new : Market)
     → Step IsReadAs IsRightOutcome old asked answer new → new.next_order ≤ old.next_order + 1
@@ -188,11 +168,6 @@ LegalStepsNumberOne = (old : Market) (asked : Record) (answer : Answer Outcome) 
 abbrev pub LegalJournalsKeepPromises : Type 0
 LegalJournalsKeepPromises = (start : Market) (pairs : List (Pair Record Outcome)) (m : Market)
     → IsSound start → Leads start pairs m → KeepsPromises IsReadAs start pairs
-
--- from a sound market on steps by the program's own rule keep what the rule promises of books of one-asset orders
-abbrev pub OwnJournalsClearNear : Type 0
-OwnJournalsClearNear = (start : Market) (pairs : List (Pair Record Outcome)) (m : Market)
-    → IsSound start → Follows IsReadAs IsOwnOutcome start pairs m → ClearNear IsReadAs start pairs
 
 -- settling keeps what live orders need covered, whichever orders leave: what each account holds, with its credit, is at least what
 -- its orders need that are still live

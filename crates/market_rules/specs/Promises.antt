@@ -6,8 +6,7 @@ use Rattle.wire_records.specs.declared.version.Version.{Version}
 use Rattle.flow_accounts.specs.Balances.{IsAsset}
 use Rattle.flow_orders.specs.Orders.{Order}
 use Rattle.flow_orders.specs.Trades.{going_on}
-use Rattle.flow_orders.specs.Outcomes.{Fill, Clearing, Skipping, Outcome, Cleared, Skipped, IsRightOutcome, IsRightClearing, IsRightSkip}
-use Rattle.flow_orders.specs.Own.{are_single, ClearsNear}
+use Rattle.flow_orders.specs.Outcomes.{Fill, Clearing, Skipping, Outcome, Cleared, Skipped, IsRightOutcome, IsRightClearing, IsRightSkip, are_single, ClearsNear}
 use Rattle.flow_orders.specs.Welfare.{IsOptimalWithin}
 use Rattle.batch_outcome.specs.GapBound.{gap_bound}
 use Rattle.batch_outcome.specs.Progress.{LowersTheDual}

@@ -169,6 +169,14 @@ pub record Serves (Rule : BatchRule) (old : Market) (command : Command) (answer 
   pub refused : FirstRefusal old command first
   pub answered : Answers Rule old command first answer new
 
+-- no batch ends by this rule
+abbrev pub NoOutcome : BatchRule
+NoOutcome parts orders start budget outcome = ⊥
+
+-- a command is served and no batch is held: the command is no batch, or it is a batch that is refused
+abbrev pub ServesPlain : Market → Command → Answer Outcome → Market → Type 0
+ServesPlain = Serves NoOutcome
+
 -- the refusal of a record that can't be served
 abbrev pub refusal_of : BodyFault → Refusal
 refusal_of fault.UnknownTag = refusals.UnknownTag

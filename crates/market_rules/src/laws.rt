@@ -1,8 +1,8 @@
 //! What holds of steps, journals and markets, whatever code there is. Each law is the contract of a function that
 //! does nothing.
-ghost use Rattle.market_rules.specs.Laws.{MarketIsDetermined, JournalsDetermineTheMarket, OneRefusal, PlainCommandsHaveOneAnswer, PlainCommandsNeedNoRule, EveryCommandIsServed, OneOwnJournal};
-ghost use Rattle.market_rules.specs.Laws.{OwnJournalsAreLegal, StepsKeepSoundness, HeldIsDeposited, BatchesKeepTotals, SkipsOnlyEndOrders, OrdersEndInTime, VersionOneIsAsBefore, BatchesOfVersionOne, OrdersMayLeave, FillsKeepCaps};
-ghost use Rattle.market_rules.specs.Laws.{ClearedBatchesAreOptimal, SkipsLowerTheDual, LargeBudgetsClear, SequencesCompose, LimitsAgree, JournalsHoldDeposits, StepsNumberOne, LegalStepsNumberOne, LegalJournalsKeepPromises, OwnJournalsClearNear};
+ghost use Rattle.market_rules.specs.Laws.{MarketIsDetermined, JournalsDetermineTheMarket, OneRefusal, PlainCommandsHaveOneAnswer, PlainCommandsHoldNoBatch};
+ghost use Rattle.market_rules.specs.Laws.{StepsKeepSoundness, HeldIsDeposited, BatchesKeepTotals, SkipsOnlyEndOrders, OrdersEndInTime, VersionOneIsAsBefore, BatchesOfVersionOne, OrdersMayLeave, FillsKeepCaps};
+ghost use Rattle.market_rules.specs.Laws.{ClearedBatchesAreOptimal, SkipsLowerTheDual, LargeBudgetsClear, SequencesCompose, LimitsAgree, JournalsHoldDeposits, LegalStepsNumberOne, LegalJournalsKeepPromises};
 
 /// Old market, record and answer determine the new market.
 pub fn market_is_determined()
@@ -24,25 +24,10 @@ pub fn plain_commands_have_one_answer()
     ensures { PlainCommandsHaveOneAnswer }
 {}
 
-/// A command that is no batch is served by the program's own rule exactly as where any right outcome of a batch is
-/// accepted.
-pub fn plain_commands_need_no_rule()
-    ensures { PlainCommandsNeedNoRule }
-{}
-
-/// Every command has a step under the program's own rule, from any market.
-pub fn every_command_is_served()
-    ensures { EveryCommandIsServed }
-{}
-
-/// Records of bytes have exactly one journal by the program's own rule.
-pub fn one_own_journal()
-    ensures { OneOwnJournal }
-{}
-
-/// A journal by the program's own rule is legal.
-pub fn own_journals_are_legal()
-    ensures { OwnJournalsAreLegal }
+/// A command is served without a batch exactly where it is no batch, or a batch that is refused, and then by any right
+/// outcome of a batch alike.
+pub fn plain_commands_hold_no_batch()
+    ensures { PlainCommandsHoldNoBatch }
 {}
 
 /// The empty market is sound, and every step keeps a market sound.
@@ -122,12 +107,7 @@ pub fn limits_agree()
     ensures { LimitsAgree }
 {}
 
-/// A step gives out at most one number of an order.
-pub fn steps_number_one()
-    ensures { StepsNumberOne }
-{}
-
-/// Nor does a step that ends a batch by any right outcome give out more.
+/// A step gives out at most one number of an order, whatever right outcome its batch has.
 pub fn legal_steps_number_one()
     ensures { LegalStepsNumberOne }
 {}
@@ -136,10 +116,4 @@ pub fn legal_steps_number_one()
 /// whatever right outcomes their batches have.
 pub fn legal_journals_keep_promises()
     ensures { LegalJournalsKeepPromises }
-{}
-
-/// In steps by the program's own rule from a sound market each batch of one-asset orders clears, at prices within 2^60
-/// grains, and an asset that was settled keeps its price.
-pub fn own_journals_clear_near()
-    ensures { OwnJournalsClearNear }
 {}

@@ -19,7 +19,7 @@ use Rattle.flow_orders.specs.Orders.{Order}
 use Rattle.market_rules.specs.Market.{Market, IsSound, IsLiveOrder}
 use Rattle.market_rules.proofs.Lawful.{sound_is_lawful}
 use Rattle.wire_records.specs.Versions.{number_of}
-use Rattle.market_snapshot.specs.Checkpoints.{ticks_of, read_order, parts_of}
+use Rattle.market_snapshot.specs.Checkpoints.{ticks_of, read_order, parts_of_market}
 use Rattle.market_snapshot.specs.Widths.{FitUnits, FitsAccount, FitsOrder, FitWidths}
 
 number_fits : (v : Version) → IsUnsigned 1 (number_of v)
@@ -94,7 +94,7 @@ module _ (m : Market) (sound : IsSound m) (next : m.next_order < 2 ^ 63) (last :
     row = λ i d inside. entry_fits (get_or o.row i d) (omega (arith, live.assets i d inside, lawful.few_assets)) (live.order.row.weights i d inside);
   }
 
-  pub sound_fits : FitWidths (parts_of m)
+  pub sound_fits : FitWidths (parts_of_market m)
   sound_fits = record {
     version = number_fits m.version;
     assets = omega (arith, sound.tickers.few);

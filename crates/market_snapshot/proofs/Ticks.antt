@@ -7,7 +7,7 @@ use Rattle.flow_orders.specs.Orders.{Order, IsOrder, price_of_ticks}
 use Rattle.market_rules.specs.Market.{Market}
 use Rattle.wire_records.specs.Versions.{number_of}
 use Rattle.market_parts.specs.Parts.{ReadOrder, Parts, order_of, market_of, HasParts}
-use Rattle.market_snapshot.specs.Checkpoints.{ticks_of, read_order, parts_of}
+use Rattle.market_snapshot.specs.Checkpoints.{ticks_of, read_order, parts_of_market}
 
 -- a price of whole ticks is so many ticks
 pub ticks_are : (grains ticks : ℤ) → grains ≡ price_of_ticks ticks → ticks_of grains ≡ ticks
@@ -42,13 +42,13 @@ all_written_back (o ∷ orders) each =
     ap (λ p. p ∷ map order_of (map read_order orders)) (written_back o (each 0 o (omega arith))) ∙ ap (λ os. o ∷ os) (all_written_back orders (λ i d inside. each (suc i) d (omega (arith, inside))))
 
 -- a market whose limits are whole ticks has its parts
-pub has_parts : (m : Market) → All IsOrder m.orders → HasParts (parts_of m) m
+pub has_parts : (m : Market) → All IsOrder m.orders → HasParts (parts_of_market m) m
 has_parts m each = record { version = refl; market = ap (λ os. record m { orders = os }) (sym (all_written_back m.orders each)) }
 
 -- the parts that a market has are its own
-pub own_parts : (p : Parts) (m : Market) → HasParts p m → parts_of m ≡ p
+pub own_parts : (p : Parts) (m : Market) → HasParts p m → parts_of_market m ≡ p
 own_parts p m has =
-    ap parts_of has.market
+    ap parts_of_market has.market
     ∙ ap (λ os. record p { version = number_of m.version; orders = os }) (all_read_back p.orders)
     ∙ ap (λ n. record p { version = n }) (sym has.version)
 

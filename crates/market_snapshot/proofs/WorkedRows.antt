@@ -10,7 +10,7 @@ use Rattle.flow_orders.specs.Orders.{Order}
 use Rattle.market_rules.specs.Market.{empty_market, held_money}
 use Rattle.market_rules.proofs.Soundness.{sound-empty}
 use Rattle.market_parts.specs.Parts.{Parts}
-use Rattle.market_snapshot.specs.Checkpoints.{tickers_spelling, accounts_spelling, totals_spelling, exchange_spelling, batches_spelling, orders_spelling, parts_spelling, parts_of, checkpoint_bytes, IsCheckpoint, BeginsWithNoCheckpoint}
+use Rattle.market_snapshot.specs.Checkpoints.{tickers_spelling, accounts_spelling, totals_spelling, exchange_spelling, batches_spelling, orders_spelling, parts_spelling, parts_of_market, checkpoint_bytes, IsCheckpoint, BeginsWithNoCheckpoint}
 use Rattle.market_snapshot.specs.Widths.{FitsAccount, FitsOrder, FitWidths}
 use Rattle.market_snapshot.proofs.OneMarket.{fitting, spelled}
 use Rattle.market_snapshot.proofs.OneParts.{parts_unique}
@@ -82,8 +82,8 @@ held_of p = held_money (record { version = One; tickers = p.tickers; balances = 
 a_grain_too_much : BeginsWithNoCheckpoint (with_total 1)
 unfolding a_grain held_of
 a_grain_too_much m front rest is e =
-    let same = parts_unique (parts_of m) a_grain rest [] (fitting m front is) grain_fits (ap (λ z. z ++ rest) (sym (spelled m front is)) ∙ sym e ∙ sym grain_bytes ∙ sym (append-nil (parts_spelling a_grain))) in
-    let held : held_of (parts_of m) ≡ m.balances.total_money = is.sound.totals.money in
+    let same = parts_unique (parts_of_market m) a_grain rest [] (fitting m front is) grain_fits (ap (λ z. z ++ rest) (sym (spelled m front is)) ∙ sym e ∙ sym grain_bytes ∙ sym (append-nil (parts_spelling a_grain))) in
+    let held : held_of (parts_of_market m) ≡ m.balances.total_money = is.sound.totals.money in
     let none : held_of a_grain ≡ pos 0 = refl in
     let total : m.balances.total_money ≡ pos 1 = ap (λ (p : Parts). p.balances.total_money) same.0 in
     absurd (omega (arith, ints, (sym held ∙ ap held_of same.0 ∙ none), total))

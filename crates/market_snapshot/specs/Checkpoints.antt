@@ -77,8 +77,8 @@ read_order o = record {
 }
 
 -- the parts of a market
-abbrev pub parts_of : Market → Parts
-parts_of m = record {
+abbrev pub parts_of_market : Market → Parts
+parts_of_market m = record {
   version = number_of m.version;
   balances = m.balances;
   tickers = m.tickers;
@@ -91,7 +91,7 @@ parts_of m = record {
 
 -- the bytes of a market
 unfoldable pub checkpoint_bytes : Market → List ℕ
-checkpoint_bytes m = parts_spelling (parts_of m)
+checkpoint_bytes m = parts_spelling (parts_of_market m)
 
 -- bytes are a checkpoint of this market: it is sound, its next number is below 2^63, last batches fit their bytes, and they are its
 -- bytes

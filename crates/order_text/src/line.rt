@@ -90,8 +90,8 @@ fn add_ticker(tickers: &mut TickerTable, read: &LineRead) -> Result<(), LineFaul
 
 /// What a line of JSON is, given the tickers of the lines before it. The line has no line feed at its end.
 ///
-/// A command is one of the version: an object with exactly the keys of one row, of which `credit`, and `place` with `last`, are of
-/// version Two alone:
+/// A command is one of the version: an object with exactly the keys of one row, of which `credit`, and `place` with `last`, are
+/// there from version Two on:
 ///
 /// | `do` | further keys | command |
 /// |---|---|---|

@@ -16,14 +16,14 @@ use Rattle.flow_orders.specs.Orders.{Order, IsOrder, terms_of}
 use Rattle.flow_orders.specs.Excess.{price_for}
 use Rattle.flow_orders.specs.Trades.{trades, residual}
 use Rattle.flow_orders.specs.Outcomes.{residuals_of}
-use Rattle.flow_orders.proofs.Raised.{residuals_after}
-use Rattle.flow_orders.proofs.Choice.{residuals_follow}
-use Rattle.flow_orders.specs.Choice.{absolute_sum, left_by, raised, is_raised, chosen_from}
+use Rattle.own_rule.proofs.Raised.{residuals_after}
+use Rattle.own_rule.proofs.Choice.{residuals_follow}
+use Rattle.own_rule.specs.Choice.{absolute_sum, left_by, raised, is_raised, chosen_from}
 use Rattle.flow_orders.specs.Residuals.{residual_in, AreNear, HasEach, IsTradeAdded}
-use Rattle.flow_orders.specs.Own.{floor_at, is_fraction_at, floor_rates, rates_by_choice}
-use Rattle.flow_orders.proofs.ChoiceByEntries.{absolute_sum_by_entries}
-use Rattle.flow_orders.proofs.OwnIsRight.{choices_are_roundings}
-use Rattle.flow_orders.proofs.OwnLaws.{chosen_rates_are_no_worse}
+use Rattle.own_rule.specs.Own.{floor_at, is_fraction_at, floor_rates, rates_by_choice}
+use Rattle.own_rule.proofs.ChoiceByEntries.{absolute_sum_by_entries}
+use Rattle.own_rule.proofs.OwnIsRight.{choices_are_roundings}
+use Rattle.own_rule.proofs.OwnLaws.{chosen_rates_are_no_worse}
 use Rattle.rate_rounding.specs.Private.{ceil_at, left_by_floors, is_raised_at, IsChosenBy, IsChosen}
 
 -- ---- residuals that agree on n assets lead to the same choices

@@ -13,7 +13,7 @@ use Rattle.demand_curve.proofs.RoundingLaws.{roundings_enclose_demand, roundings
 use Rattle.flow_orders.specs.Orders.{Order, IsOrder, most_orders, terms_of}
 use Rattle.flow_orders.specs.Excess.{price_for}
 use Rattle.flow_orders.specs.Residuals.{AreNear, HasEach, AreZeros, IsTradeAdded}
-use Rattle.flow_orders.specs.Own.{floor_at, is_fraction_at}
+use Rattle.own_rule.specs.Own.{floor_at, is_fraction_at}
 use Rattle.excess_bounds.specs.Quotes.{Quote, quote_at, quotes_at}
 use Rattle.rate_rounding.specs.Private.{left_by_floors}
 

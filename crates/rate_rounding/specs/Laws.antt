@@ -4,7 +4,7 @@ use Rattle.demand_curve.specs.Demand.{IsRounding}
 use Rattle.flow_orders.specs.Orders.{Order, IsOrder, terms_of}
 use Rattle.flow_orders.specs.Excess.{price_for}
 use Rattle.flow_orders.specs.Trades.{trades}
-use Rattle.flow_orders.specs.Own.{floor_rates}
+use Rattle.own_rule.specs.Own.{floor_rates}
 
 -- there is one rate for each order, which is a rounding of the order's demand and within its room
 pub record AreRoundedDown (orders : List Order) (prices : List ℤ) : Type 0 where

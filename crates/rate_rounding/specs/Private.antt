@@ -4,9 +4,9 @@ use Rattle.weight_rows.specs.Rows.{weight_in}
 use Rattle.demand_curve.specs.Demand.{ceil_rate}
 use Rattle.flow_orders.specs.Orders.{Order, terms_of}
 use Rattle.flow_orders.specs.Excess.{price_for}
-use Rattle.flow_orders.specs.Choice.{left_by, is_raised}
+use Rattle.own_rule.specs.Choice.{left_by, is_raised}
 use Rattle.flow_orders.specs.Residuals.{residual_in, IsTradeAdded}
-use Rattle.flow_orders.specs.Own.{floor_at, is_fraction_at, floor_rates}
+use Rattle.own_rule.specs.Own.{floor_at, is_fraction_at, floor_rates}
 
 -- the demand of an order at prices, rounded up
 abbrev pub ceil_at : List ℤ → Order → ℕ

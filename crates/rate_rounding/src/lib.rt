@@ -19,7 +19,7 @@ ghost use Rattle.std.specs.Prelude.{◌≡◌, ◌≤◌, IfOk, length, All};
 ghost use Rattle.weight_rows.specs.Rows.{IsPrice, IsPricedBy};
 ghost use Rattle.demand_curve.specs.Demand.{most_rate};
 ghost use Rattle.flow_orders.specs.Orders.{most_orders};
-ghost use Rattle.flow_orders.specs.Own.{floor_at, floor_rates};
+ghost use Rattle.own_rule.specs.Own.{floor_at, floor_rates};
 
 mod choice;
 pub mod laws;

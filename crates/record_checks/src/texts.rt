@@ -2,8 +2,8 @@
 use crate::telling::{put, put_command};
 use check_lines::put_records;
 use curve_ladder::CommandList;
-use flow_io::SteadySink;
 use line_records::{EncodeFault, encode_lines};
+use memory_streams::SteadySink;
 use order_text::{LineFault, LineRead, read_line};
 use std::alloc::Global;
 use ticker_table::TickerTable;

@@ -16,7 +16,7 @@ use Rattle.wire_records.specs.Commands.{OpenAccount, DepositMoney, PlaceOrder, R
 use Rattle.wire_records.specs.CommandRecords.{IsEntry}
 use Rattle.sample_market.specs.Draws.{next_state, drawn, state_after}
 use Rattle.sample_market.specs.Orders.{drawn_weight, drawn_entries, drawn_count, drawn_first, drawn_row, behind_row, usual_price, drawn_middle, drawn_half, drawn_rate, drawn_turns, drawn_order, drawn_orders, behind_order}
-use Rattle.sample_market.specs.Files.{new_asset, new_assets, new_accounts, units_of, all_units_of, deposits_of, all_deposits, batches, sample}
+use Rattle.sample_market.specs.Files.{new_asset, new_assets, new_accounts, unit_deposit, unit_deposits, deposits_of, all_deposits, batches, sample}
 use Rattle.sample_market.specs.Laws.{IsLawful}
 
 -- ---- what is drawn is small
@@ -132,15 +132,15 @@ batches_lawful : All IsLawful batches
 unfolding batches
 batches_lawful = All-replicate IsLawful 4 (RunBatch 1000) (record { fits = omega arith; short = tt; own = (omega arith, omega arith) })
 
-units_lawful : (account : ℕ) → account < 65 → All IsLawful (all_units_of account)
-unfolding all_units_of
+units_lawful : (account : ℕ) → account < 65 → All IsLawful (unit_deposits account)
+unfolding unit_deposits
 units_lawful account few =
-    All-map IsLawful (units_of account) (range_with_len 0 8)
-    (range_below (λ k. IsLawful (units_of account k)) 0 8 (λ k below. record { fits = (omega (arith, few), omega (arith, below), omega arith); short = tt; own = (omega arith, omega arith) }))
+    All-map IsLawful (unit_deposit account) (range_with_len 0 8)
+    (range_below (λ k. IsLawful (unit_deposit account k)) 0 8 (λ k below. record { fits = (omega (arith, few), omega (arith, below), omega arith); short = tt; own = (omega arith, omega arith) }))
 
 deposits_lawful : (account : ℕ) → account < 65 → All IsLawful (deposits_of account)
 deposits_lawful account few =
-    All-cons IsLawful (DepositMoney account (2 ^ 50)) (all_units_of account) (record { fits = (omega (arith, few), omega arith); short = tt; own = (omega arith, omega arith) }) (units_lawful account few)
+    All-cons IsLawful (DepositMoney account (2 ^ 50)) (unit_deposits account) (record { fits = (omega (arith, few), omega arith); short = tt; own = (omega arith, omega arith) }) (units_lawful account few)
 
 each_lawful : (a n : ℕ) → a + n ≤ 65 → All IsLawful (flat_map deposits_of (range_with_len a n))
 each_lawful a zero few = All-nil IsLawful

@@ -13,7 +13,7 @@ use Rattle.wire_records.specs.CommandRecords.{record_of, body_of}
 use Rattle.wire_records.proofs.Spelled.{length-spelling}
 use Rattle.wire_records.proofs.Requests.{request_size}
 use Rattle.sample_market.specs.Orders.{drawn_order, drawn_orders, behind_order}
-use Rattle.sample_market.specs.Files.{new_asset, new_assets, new_accounts, units_of, all_units_of, deposits_of, all_deposits, batches, sample, spell_commands, sample_file}
+use Rattle.sample_market.specs.Files.{new_asset, new_assets, new_accounts, unit_deposit, unit_deposits, deposits_of, all_deposits, batches, sample, spell_commands, sample_file}
 use Rattle.sample_market.specs.Laws.{SamplesAreShort}
 use Rattle.sample_market.proofs.Written.{spell_both}
 use Rattle.sample_market.proofs.Lawful.{row_small, range_below}
@@ -40,10 +40,10 @@ money_size : (account ticks : ℕ) → size_of (DepositMoney account ticks) ≤ 
 unfolding body_of
 money_size account ticks = omega (arith, length-spelling (record_of (DepositMoney account ticks)), length-append (unsigned 4 account) (unsigned 8 ticks), length-unsigned 4 account, length-unsigned 8 ticks)
 
-units_size : (account asset : ℕ) → size_of (units_of account asset) ≤ 19
+units_size : (account asset : ℕ) → size_of (unit_deposit account asset) ≤ 19
 unfolding body_of
 units_size account asset =
-    omega (arith, length-spelling (record_of (units_of account asset)), length-append (unsigned 4 account) (unsigned 2 asset ++ unsigned 8 (2 ^ 50)), length-append (unsigned 2 asset) (unsigned 8 (2 ^ 50)), length-unsigned 4 account, length-unsigned 2 asset, length-unsigned 8 (2 ^ 50))
+    omega (arith, length-spelling (record_of (unit_deposit account asset)), length-append (unsigned 4 account) (unsigned 2 asset ++ unsigned 8 (2 ^ 50)), length-append (unsigned 2 asset) (unsigned 8 (2 ^ 50)), length-unsigned 4 account, length-unsigned 2 asset, length-unsigned 8 (2 ^ 50))
 
 batch_size : size_of (RunBatch 1000) ≤ 9
 unfolding body_of
@@ -69,11 +69,11 @@ unfolding batches
 batches_few = omega (arith, bytes_few 9 (replicate 4 (RunBatch 1000)) (All-replicate (λ c. size_of c ≤ 9) 4 (RunBatch 1000) batch_size), length-replicate 4 (RunBatch 1000))
 
 deposits_few : (account : ℕ) → length (spell_commands (deposits_of account)) ≤ 169
-unfolding all_units_of
+unfolding unit_deposits
 deposits_few account =
-    let units = map (units_of account) (range_with_len 0 8) in
-    let few = bytes_few 19 units (All-map (λ c. size_of c ≤ 19) (units_of account) (range_with_len 0 8) (range_below (λ k. size_of (units_of account k) ≤ 19) 0 8 (λ k below. units_size account k))) in
-    omega (arith, few, length-map-range_with_len (units_of account) 0 8, money_size account (2 ^ 50), length-append (spelling (record_of (DepositMoney account (2 ^ 50)))) (spell_commands units))
+    let units = map (unit_deposit account) (range_with_len 0 8) in
+    let few = bytes_few 19 units (All-map (λ c. size_of c ≤ 19) (unit_deposit account) (range_with_len 0 8) (range_below (λ k. size_of (unit_deposit account k) ≤ 19) 0 8 (λ k below. units_size account k))) in
+    omega (arith, few, length-map-range_with_len (unit_deposit account) 0 8, money_size account (2 ^ 50), length-append (spelling (record_of (DepositMoney account (2 ^ 50)))) (spell_commands units))
 
 each_few : (a n : ℕ) → length (spell_commands (flat_map deposits_of (range_with_len a n))) ≤ 169 * n
 each_few a zero = omega arith

@@ -8,7 +8,7 @@ use Rattle.wire_records.specs.Records.{spelling, command_magic}
 use Rattle.wire_records.specs.Commands.{Command, OpenAccount, DepositMoney, RunBatch, PlaceOrder}
 use Rattle.wire_records.specs.CommandRecords.{record_of}
 use Rattle.sample_market.specs.Orders.{drawn_order, drawn_orders, behind_order}
-use Rattle.sample_market.specs.Files.{new_asset, new_assets, new_accounts, units_of, all_units_of, deposits_of, all_deposits, batches, sample, spell_commands, sample_file}
+use Rattle.sample_market.specs.Files.{new_asset, new_assets, new_accounts, unit_deposit, unit_deposits, deposits_of, all_deposits, batches, sample, spell_commands, sample_file}
 
 -- the record of a command
 abbrev bytes_of : Command → List ℕ
@@ -48,13 +48,13 @@ range_more a n = sym (map-id _) ∙ map-range_with_len_more (λ k. k) a n (a + n
 
 -- the deposits of the next account
 pub account_more : (file now between after : List ℕ) (account n m : ℕ) → now ≡ file ++ spell_commands (flat_map deposits_of (range_with_len 1 n)) → account ≡ 1 + n → m ≡ n + 1
-    → between ≡ now ++ bytes_of (DepositMoney account (2 ^ 50)) → after ≡ between ++ spell_commands (all_units_of account) → after ≡ file ++ spell_commands (flat_map deposits_of (range_with_len 1 m))
+    → between ≡ now ++ bytes_of (DepositMoney account (2 ^ 50)) → after ≡ between ++ spell_commands (unit_deposits account) → after ≡ file ++ spell_commands (flat_map deposits_of (range_with_len 1 m))
 account_more file now between after account n m before is next one units =
     let first = flat_map deposits_of (range_with_len 1 n) in
     let more : flat_map deposits_of (range_with_len 1 (n + 1)) ≡ first ++ deposits_of account =
     ap (flat_map deposits_of) (range_more 1 n) ∙ flat_map-append deposits_of (range_with_len 1 n) ((1 + n) ∷ []) ∙ ap (λ xs. first ++ xs) (append-nil (deposits_of (1 + n))) ∙ ap (λ k. first ++ deposits_of k) (sym is)
     in
-    units ∙ ap (λ xs. xs ++ spell_commands (all_units_of account)) one ∙ append_assoc now (bytes_of (DepositMoney account (2 ^ 50))) (spell_commands (all_units_of account))
+    units ∙ ap (λ xs. xs ++ spell_commands (unit_deposits account)) one ∙ append_assoc now (bytes_of (DepositMoney account (2 ^ 50))) (spell_commands (unit_deposits account))
     ∙ ap (λ xs. xs ++ spell_commands (deposits_of account)) before ∙ append_assoc file (spell_commands first) (spell_commands (deposits_of account))
     ∙ ap (λ xs. file ++ xs) (sym (spell_both first (deposits_of account))) ∙ ap (λ (cs : List Command). file ++ spell_commands cs) (sym more)
     ∙ ap (λ k. file ++ spell_commands (flat_map deposits_of (range_with_len 1 k))) (sym next)
@@ -69,9 +69,9 @@ pub accounts_written : (file now : List ℕ) (n : ℕ) → now ≡ file ++ spell
 unfolding new_accounts
 accounts_written file now n before all = before ∙ ap (λ k. file ++ spell_commands (replicate k OpenAccount)) all
 
-pub units_written : (file now : List ℕ) (account n : ℕ) → now ≡ file ++ spell_commands (map (units_of account) (range_with_len 0 n)) → n ≡ 8 → now ≡ file ++ spell_commands (all_units_of account)
-unfolding all_units_of
-units_written file now account n before all = before ∙ ap (λ k. file ++ spell_commands (map (units_of account) (range_with_len 0 k))) all
+pub units_written : (file now : List ℕ) (account n : ℕ) → now ≡ file ++ spell_commands (map (unit_deposit account) (range_with_len 0 n)) → n ≡ 8 → now ≡ file ++ spell_commands (unit_deposits account)
+unfolding unit_deposits
+units_written file now account n before all = before ∙ ap (λ k. file ++ spell_commands (map (unit_deposit account) (range_with_len 0 k))) all
 
 pub deposits_written : (file now : List ℕ) (n : ℕ) → now ≡ file ++ spell_commands (flat_map deposits_of (range_with_len 1 n)) → n ≡ 64 → now ≡ file ++ spell_commands all_deposits
 unfolding all_deposits

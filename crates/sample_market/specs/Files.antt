@@ -19,15 +19,15 @@ unfoldable pub new_accounts : List Command
 new_accounts = replicate 64 OpenAccount
 
 -- 2^50 units of an asset for an account, and of each asset
-abbrev pub units_of : ℕ → ℕ → Command
-units_of account asset = DepositAsset account asset (2 ^ 50)
+abbrev pub unit_deposit : ℕ → ℕ → Command
+unit_deposit account asset = DepositAsset account asset (2 ^ 50)
 
-unfoldable pub all_units_of : ℕ → List Command
-all_units_of account = map (units_of account) (range_with_len 0 8)
+unfoldable pub unit_deposits : ℕ → List Command
+unit_deposits account = map (unit_deposit account) (range_with_len 0 8)
 
 -- what an account gets: 2^50 ticks, and these units
 abbrev pub deposits_of : ℕ → List Command
-deposits_of account = DepositMoney account (2 ^ 50) ∷ all_units_of account
+deposits_of account = DepositMoney account (2 ^ 50) ∷ unit_deposits account
 
 -- what all accounts get, one after the other
 unfoldable pub all_deposits : List Command

@@ -1,7 +1,7 @@
 //! The command file.
 ghost use Rattle.std.specs.Prelude.{◌≡◌, ◌≤◌, ◌++◌, OnOk, IfOk};
 ghost use Rattle.sample_market.specs.Orders.{drawn_orders};
-ghost use Rattle.sample_market.specs.Files.{new_assets, new_accounts, all_units_of, all_deposits, batches, spell_commands, sample_file};
+ghost use Rattle.sample_market.specs.Files.{new_assets, new_accounts, unit_deposits, all_deposits, batches, spell_commands, sample_file};
 
 use crate::draws::Draws;
 use crate::orders::order;
@@ -51,7 +51,7 @@ fn put_accounts(file: &mut Vec<u8>) -> Result<(), Memory>
 
 // Appends the records of an account's deposits in assets.
 fn put_units(account: u32, file: &mut Vec<u8>) -> Result<(), Memory>
-    ensures { OnOk result (file.new.items ≡ file.old.items ++ spell_commands (all_units_of account)) }
+    ensures { OnOk result (file.new.items ≡ file.old.items ++ spell_commands (unit_deposits account)) }
 {
     for asset in 0..ASSETS {
         let deposit = Command::DepositAsset {

@@ -7,7 +7,7 @@ use Rattle.wire_records.specs.Versions.{IsReadAs}
 use Rattle.wire_records.specs.declared.version.Version.TheVariants.{One}
 use Rattle.wire_records.proofs.Readings.{reading_unique}
 use Rattle.flow_orders.specs.Outcomes.{Outcome}
-use Rattle.market_rules.proofs.OneJournal.{one_own_journal}
+use Rattle.own_journals.proofs.OneOwnJournal.{one_own_journal}
 use Rattle.journal_replay.specs.Audits.{cleared_in, skipped_in}
 use Rattle.sample_market.specs.Files.{sample}
 use Rattle.sample_summary.specs.Summary.{units_in, summary_line}

@@ -17,13 +17,13 @@ use Rattle.wire_records.proofs.ReadingLaws.{reads_on_one}
 use Rattle.wire_records.proofs.RecordCode.{commands_readable}
 use Rattle.file_units.specs.Units.{Leads, GoesToEnd}
 use Rattle.flow_orders.specs.Outcomes.{Outcome}
-use Rattle.flow_orders.specs.Own.{IsOwnOutcome}
+use Rattle.own_rule.specs.Own.{IsOwnOutcome}
 use Rattle.journal_records.specs.Pairs.{IsPair}
 use Rattle.journal_records.specs.Formats.{journal_magic_of}
 use Rattle.market_rules.specs.Market.{Market, empty_market}
 use Rattle.market_rules.specs.Journal.{Follows, IsAnswered}
-use Rattle.market_rules.proofs.LawProofs.{own_journals_are_legal}
-use Rattle.market_rules.proofs.OneJournal.{one_own_journal}
+use Rattle.own_journals.proofs.LawProofs.{own_journals_are_legal}
+use Rattle.own_journals.proofs.OneOwnJournal.{one_own_journal}
 use Rattle.batch_audit.specs.Legal.{IsLegalJournal}
 use Rattle.journal_replay.specs.Audits.{cleared_by, skipped_by, cleared_in, skipped_in}
 use Rattle.word_driver.specs.Word.{Goes}

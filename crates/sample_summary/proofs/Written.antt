@@ -7,7 +7,7 @@ use Rattle.wire_records.specs.Grammars.{BeginsWithNone}
 use Rattle.wire_records.specs.Versions.{IsReadAs}
 use Rattle.wire_records.specs.declared.command.BodyFault.{BodyFault}
 use Rattle.flow_orders.specs.Outcomes.{Outcome, IsRightOutcome}
-use Rattle.flow_orders.specs.Own.{IsOwnOutcome}
+use Rattle.own_rule.specs.Own.{IsOwnOutcome}
 use Rattle.journal_records.specs.Replies.{SpellsAnswer}
 use Rattle.journal_records.specs.Pairs.{IsPair, pair_spelling}
 use Rattle.journal_records.specs.Formats.{journals, records_of}
@@ -16,7 +16,7 @@ use Rattle.journal_records.proofs.Spelled.{answer_unique}
 use Rattle.market_rules.specs.Market.{Market, IsSound}
 use Rattle.market_rules.specs.Step.{ServesRead}
 use Rattle.market_rules.specs.Journal.{Step}
-use Rattle.market_rules.proofs.OwnIsLegal.{own_served_is_right}
+use Rattle.own_journals.proofs.OwnIsLegal.{own_served_is_right}
 use Rattle.market_rules.proofs.LawProofs.{market_is_determined}
 use Rattle.batch_audit.specs.Legal.{IsLegalPair}
 use Rattle.exchange_session.specs.Serving.{AnswersOne}

@@ -15,12 +15,12 @@ use Rattle.wire_records.proofs.Readings.{reading_unique}
 use Rattle.wire_records.proofs.ReadingLaws.{reads_on_one}
 use Rattle.wire_records.proofs.RecordCode.{commands_readable}
 use Rattle.flow_orders.specs.Outcomes.{Outcome}
-use Rattle.flow_orders.specs.Own.{IsOwnOutcome}
+use Rattle.own_rule.specs.Own.{IsOwnOutcome}
 use Rattle.journal_records.specs.Pairs.{pair_spelling}
 use Rattle.journal_records.specs.Formats.{journals}
 use Rattle.market_rules.specs.Market.{Market}
 use Rattle.market_rules.specs.Journal.{Follows}
-use Rattle.market_rules.proofs.OneJournal.{own_step}
+use Rattle.own_journals.proofs.OneOwnJournal.{own_step}
 use Rattle.word_driver.specs.Ended.{Ended}
 use Rattle.session_resume.specs.declared.first.Origin.{Origin}
 use Rattle.session_resume.specs.declared.first.Origin.TheVariants.{Journal, Checkpoint}

@@ -17,14 +17,16 @@ use Rattle.wire_records.specs.Formats.{commands}
 use Rattle.wire_records.proofs.Readings.{read_own, reading_unique}
 use Rattle.file_units.specs.Units.{Leads, GoesToEnd, GoesToBreak}
 use Rattle.flow_orders.specs.Outcomes.{Outcome}
-use Rattle.flow_orders.specs.Own.{IsOwnOutcome}
+use Rattle.own_rule.specs.Own.{IsOwnOutcome}
 use Rattle.journal_records.specs.Pairs.{IsPair, pair_spelling}
 use Rattle.market_rules.specs.Market.{Market, IsSound}
 use Rattle.market_rules.specs.Journal.{Follows, IsAnswered}
 use Rattle.market_rules.proofs.OneJournal.{follows-append}
-use Rattle.market_rules.proofs.OwnIsLegal.{own_follows_are_right}
-use Rattle.market_rules.proofs.LawProofs.{journals_hold_deposits, steps_number_one}
-use Rattle.market_rules.proofs.Promised.{legal_journal_keeps_promises, own_journal_clears_near}
+use Rattle.own_journals.proofs.OwnIsLegal.{own_follows_are_right}
+use Rattle.market_rules.proofs.LawProofs.{journals_hold_deposits}
+use Rattle.own_journals.proofs.LawProofs.{steps_number_one}
+use Rattle.market_rules.proofs.Promised.{legal_journal_keeps_promises}
+use Rattle.own_journals.proofs.OwnPromises.{own_journal_clears_near}
 use Rattle.exchange_session.specs.Serving.{AnswersOne}
 use Rattle.session_resume.specs.declared.serving.ServeFault.{ServeFault}
 use Rattle.session_resume.specs.declared.serving.ServeFault.TheVariants.{Write, Memory}

@@ -5,11 +5,8 @@ ghost use Rattle.flow_accounts.specs.Balances.{IsAccount, IsAsset, total_units_o
 ghost use Rattle.flow_accounts.specs.Lawful.{most_credit, IsMoneyTotal, IsUnitTotal};
 ghost use Rattle.sound_parts.specs.Tests.{most_credit_in, IsSoundMoney, AreSoundUnits, HasSoundUnits, IsSoundAccount, AreSoundBalances};
 
-use flow_accounts::{AccountParts, MOST_ACCOUNTS, MOST_ASSETS};
+use flow_accounts::{AccountParts, MOST_ACCOUNTS, MOST_ASSETS, grains_of};
 use wire_records::Version;
-
-// One tick in grains.
-const GRAINS_PER_TICK: i128 = 1 << 32;
 
 // No credit is above this, in ticks or units.
 const MOST_CREDIT: u64 = 1 << 40;
@@ -31,11 +28,7 @@ pub(crate) fn most_credit_of(version: Version) -> u64
     ensures value { result ≡ most_credit_in version }
     ensures most { result ≤ most_credit }
 {
-    match version {
-        Version::One => 0,
-        Version::Two => MOST_CREDIT,
-        Version::Three => MOST_CREDIT,
-    }
+    if version.has_credit() { MOST_CREDIT } else { 0 }
 }
 
 // Whether all counts, totals, balances and credits are within their limits.
@@ -112,7 +105,7 @@ fn is_sound_money(most: u64, money: i128, ticks: u64) -> bool
     requires { most ≤ most_credit }
     ensures { IsTrue result ↔ IsSoundMoney most money ticks }
 {
-    ticks <= most && -(i128::from(ticks) * GRAINS_PER_TICK) <= money && money < MONEY_WIDTH
+    ticks <= most && -grains_of(ticks) <= money && money < MONEY_WIDTH
 }
 
 fn has_sound_units<P: AccountParts>(parts: &P, account: u32, most: u64) -> bool

@@ -1,16 +1,13 @@
 //! What accounts have to cover for their orders.
 ghost use Rattle.std.specs.Prelude.{◌≡◌, ℕ, ◌≤ℤ◌, ◌↔◌, IsTrue};
-ghost use Rattle.flow_accounts.specs.Balances.{IsAccount, IsAsset, grains, money_with_credit, units_with_credit};
+ghost use Rattle.flow_accounts.specs.Balances.{IsAccount, IsAsset, money_with_credit, units_with_credit};
 ghost use Rattle.flow_accounts.specs.Lawful.{AreLawful};
 ghost use Rattle.flow_orders.specs.Orders.{needed_money, needed_units};
 ghost use Rattle.fill_caps.specs.Covers.{CoversNeeds};
 ghost use Rattle.sound_parts.specs.Tests.{CoversAccount};
 
-use flow_accounts::Accounts;
+use flow_accounts::{Accounts, grains_of};
 use order_book::Book;
-
-// One tick in grains.
-const GRAINS_PER_TICK: i128 = 1 << 32;
 
 // Whether what each account holds, with its credit, is at least what its orders need.
 pub(crate) fn covers_needs(accounts: &Accounts, book: &Book) -> bool
@@ -66,13 +63,6 @@ fn money_with_credit(accounts: &Accounts, account: u32) -> i128
     let held = accounts.money(account).unwrap();
     let ticks = accounts.money_credit(account).unwrap();
     held + grains_of(ticks)
-}
-
-// Ticks in grains.
-fn grains_of(ticks: u64) -> i128
-    ensures { result ≡ grains ticks }
-{
-    i128::from(ticks) * GRAINS_PER_TICK
 }
 
 // The units of an asset in an account and its credit.

@@ -86,9 +86,5 @@ fn is_account<P: AccountParts>(parts: &P, account: u32) -> bool
 fn is_still_to_come(version: Version, batches: u32, last: u32) -> bool
     ensures { IsTrue result ↔ IsStillToCome version batches last }
 {
-    match version {
-        Version::One => last == 0,
-        Version::Two => last == 0 || batches < last,
-        Version::Three => last == 0 || batches < last,
-    }
+    last == 0 || version.has_last_batches() && batches < last
 }

@@ -1,8 +1,8 @@
 //! Sources and sinks: what is read and held, and where they fail.
 use flow_io::{
-    Filled, MemorySink, MemorySource, ReadAllFault, ReadFailed, Sink, Source, StdSink, StdSource,
-    SteadySink, SteadySource, Window, read_all,
+    Filled, ReadAllFault, ReadFailed, Sink, Source, StdSink, StdSource, Window, read_all,
 };
+use memory_streams::{MemorySink, MemorySource, SteadySink, SteadySource};
 use std::alloc::Global;
 use std::io;
 use std::io::{ErrorKind, Read, Write};

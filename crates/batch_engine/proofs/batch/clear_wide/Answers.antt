@@ -1,7 +1,7 @@
 use Rattle.std.proofs.Common.{◌∙◌, sym, subst}
 use Rattle.std.specs.Prelude.{All}
 use Rattle.flow_orders.specs.Orders.{IsOrder}
-use Rattle.flow_orders.specs.Own.{ArePricesOf}
+use Rattle.own_rule.specs.Own.{ArePricesOf}
 use Rattle.excess_bounds.specs.Workspace.{AreQuoted}
 use Rattle.batch_engine.proofs.OwnClearing.{cleared_is_own, skipped_is_own}
 use Rattle.batch_engine.proofs.batch.clear_wide.Goals as goal

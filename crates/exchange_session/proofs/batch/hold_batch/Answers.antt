@@ -2,7 +2,7 @@ use Rattle.std.proofs.Common.{◌+◌, refl, None, Ok}
 use Rattle.wire_records.specs.Commands.{RunBatch, Answer, Batch}
 use Rattle.wire_records.specs.Versions.{IsReadAs}
 use Rattle.flow_orders.specs.Outcomes as flow_orders
-use Rattle.flow_orders.specs.Own.{IsOwnOutcome}
+use Rattle.own_rule.specs.Own.{IsOwnOutcome}
 use Rattle.batch_outcome.specs.Published.{outcome_of}
 use Rattle.market_rules.specs.Journal.{Step}
 use Rattle.exchange_session.proofs.AnswersFit.{pair_fits}

@@ -1,5 +1,5 @@
 use Rattle.std.proofs.Common.{◌≡◌, List, ℕ, inl, inr, refl, sym, subst, drop, arith}
-use Rattle.market_rules.proofs.LawProofs.{steps_number_one}
+use Rattle.own_journals.proofs.LawProofs.{steps_number_one}
 use Rattle.exchange_session.specs.Serving.{AnswersOne}
 use Rattle.session_resume.proofs.Frames.{has_room, record_within, no_front-from_none, not_overlong-from_none, no_front-from_large, not_overlong-from_stated}
 use Rattle.session_resume.proofs.serving.serve_next.Goals as goal

@@ -1,9 +1,8 @@
 use Rattle.std.proofs.Common.{[], ◌∷◌, ◌++◌, length, Err, ap, arith}
 use Rattle.wire_records.specs.Commands.{AddAsset, Plain}
 use Rattle.wire_records.specs.declared.reply.Reply.TheVariants.{Asset}
-use Rattle.flow_orders.specs.Own.{IsOwnOutcome}
 use Rattle.market_rules.specs.Market.{Market}
-use Rattle.market_rules.specs.Step.{Serves}
+use Rattle.market_rules.specs.Step.{ServesPlain, NoOutcome}
 use Rattle.market_core.specs.Kept.{market_in}
 use Rattle.market_core.proofs.Adding.{serves-add_asset, refuses-ticker_fault}
 use Rattle.market_core.proofs.Fitting.{sound-served, of_each}
@@ -18,9 +17,9 @@ made c = record (market_in c.self.inside) {
   last_prices = c.add_asset-in-Ok-2.new.self;
 }
 
-served : (c : goal.After-add_asset-in-Ok-2) → Serves IsOwnOutcome (market_in c.self.inside) (AddAsset c.copy_from_slice.new.self) (Plain (Asset (length c.self.inside.tickers))) (made c)
+served : (c : goal.After-add_asset-in-Ok-2) → ServesPlain (market_in c.self.inside) (AddAsset c.copy_from_slice.new.self) (Plain (Asset (length c.self.inside.tickers))) (made c)
 served c =
-    serves-add_asset IsOwnOutcome (market_in c.self.inside) c.add_asset.new.self c.add_asset-in-Ok.new.self c.add_asset-in-Ok-2.new.self c.copy_from_slice.new.self
+    serves-add_asset NoOutcome (market_in c.self.inside) c.add_asset.new.self c.add_asset-in-Ok.new.self c.add_asset-in-Ok-2.new.self c.copy_from_slice.new.self
     c.in-Ok.ensures.addable c.add_asset.ensures.added c.add_asset-in-Ok.ensures c.add_asset-in-Ok-2.ensures
 
 pub invariant_of-self : goal.invariant_of-self
@@ -39,5 +38,5 @@ returns-in-Err-clause-served c =
     let why = c.in-Err.fault in
     let is = rw c.copy_from_slice.ensures.after at c.in-Err.ensures in
     rw (c.ticker_refusal.ensures.value, ← c.self.view_is)
-    (refuses-ticker_fault IsOwnOutcome m (record m { tickers = c.add.new.self }) c.args.ticker.now why (ap (λ tickers. record m { tickers = tickers }) is.stays)
+    (refuses-ticker_fault NoOutcome m (record m { tickers = c.add.new.self }) c.args.ticker.now why (ap (λ tickers. record m { tickers = tickers }) is.stays)
     (λ bad. is.bad_ticker.0 (ap Err bad)) (λ number taken. (is.taken number).0 (ap Err taken)) (λ full. is.full.0 (ap Err full)) c.ticker_refusal.ensures.answered)

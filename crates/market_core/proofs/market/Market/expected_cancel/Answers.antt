@@ -1,6 +1,6 @@
+use Rattle.market_rules.specs.Step.{NoOutcome}
 use Rattle.std.proofs.Common.{◌∙◌, ap, not, refl}
 use Rattle.flow_accounts.specs.Balances.{IsAccount, money_of}
-use Rattle.flow_orders.specs.Own.{IsOwnOutcome}
 use Rattle.market_core.specs.Kept.{market_in}
 use Rattle.market_core.proofs.Reserving.{none_where, some_where}
 use Rattle.market_core.proofs.Placing.{refuses-no_account}
@@ -11,7 +11,7 @@ pub returns-then-is_none : goal.returns-then-is_none
 returns-then-is_none c =
     let m = market_in c.self.inside in
     let none = none_where c.money.result (IsAccount c.self.inside.accounts c.args.account) (money_of c.self.inside.accounts c.args.account) c.money.ensures (c.is_none.ensures ∙ ap not c.if-is_none.true) in
-    rw (← c.self.view_is) (m, refuses-no_account IsOwnOutcome m c.args.account c.args.number m none refl)
+    rw (← c.self.view_is) (m, refuses-no_account NoOutcome m c.args.account c.args.number m none refl)
 
 pub returns : goal.returns
 returns c =

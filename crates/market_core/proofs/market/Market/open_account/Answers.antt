@@ -1,5 +1,5 @@
+use Rattle.market_rules.specs.Step.{NoOutcome}
 use Rattle.std.proofs.Common.{ap}
-use Rattle.flow_orders.specs.Own.{IsOwnOutcome}
 use Rattle.market_core.specs.Kept.{market_in}
 use Rattle.market_core.proofs.Adding.{serves-open_account, refuses-account_fault, sound-opened}
 use Rattle.market_core.proofs.market.Market.open_account.Goals as goal
@@ -17,10 +17,10 @@ returns-clause-served c =
     elim c.match-add_account.branch [
       | in-Ok w ↦
           let opened = w.in-Ok.ensures in
-          rw (w.result-is, opened.number, ← c.self.view_is) (serves-open_account IsOwnOutcome m now opened.not_full opened.ok)
+          rw (w.result-is, opened.number, ← c.self.view_is) (serves-open_account NoOutcome m now opened.not_full opened.ok)
       | in-Err-Memory w ↦ rw w.result-is tt
       | in-Err w ↦
           let kept = w.in-Err.ensures in
           rw (w.result-is, w.refusal_of.ensures.value, ← c.self.view_is)
-          (refuses-account_fault IsOwnOutcome m (record m { balances = now }) w.in-Err.fault kept.refused w.refusal_of.ensures.answered (ap (λ b. record m { balances = b }) kept.err))
+          (refuses-account_fault NoOutcome m (record m { balances = now }) w.in-Err.fault kept.refused w.refusal_of.ensures.answered (ap (λ b. record m { balances = b }) kept.err))
     ]

@@ -2,7 +2,7 @@ use Rattle.std.proofs.Common.{◌≡◌, ◌∙◌, map, ap, arith}
 use Rattle.std.proofs.lemmas.List.{take_all}
 use Rattle.market_rules.specs.Market.{cut_price}
 use Rattle.market_core.specs.Kept.{market_in}
-use Rattle.market_rules.proofs.OwnIsLegal.{start_within}
+use Rattle.market_rules.proofs.Starts.{start_within}
 use Rattle.market_core.proofs.StartPrices.{cut_more}
 use Rattle.market_core.proofs.market.Market.start_prices.Goals as goal
 

@@ -1,8 +1,7 @@
 use Rattle.std.proofs.Common.{arith}
 use Rattle.wire_records.specs.Commands.{WithdrawMoney, Plain}
 use Rattle.flow_orders.specs.Orders.{needed_money}
-use Rattle.flow_orders.specs.Own.{IsOwnOutcome}
-use Rattle.market_rules.specs.Step.{Serves}
+use Rattle.market_rules.specs.Step.{ServesPlain, NoOutcome}
 use Rattle.market_core.specs.Kept.{market_in}
 use Rattle.market_core.proofs.Answering.{serves-withdraw_money}
 use Rattle.market_core.proofs.Fitting.{sound_changes_fit, sound-served, of_each}
@@ -25,10 +24,10 @@ withdraw_money-requires-clause-fits c =
     ((sound_changes_fit (market_in c.self.inside) c.self.invariant).money_withdrawal c.args.account c.args.ticks
     (needed_money c.self.inside.book.orders c.args.account) (needed_money_not_negative c.self.inside.book.orders c.args.account))
 
-served : (c : goal.After-reply_to) → Serves IsOwnOutcome (market_in c.self.inside) (WithdrawMoney c.args.account c.args.ticks) (Plain c.reply_to.result) (record (market_in c.self.inside) { balances = c.withdraw_money.new.self })
+served : (c : goal.After-reply_to) → ServesPlain (market_in c.self.inside) (WithdrawMoney c.args.account c.args.ticks) (Plain c.reply_to.result) (record (market_in c.self.inside) { balances = c.withdraw_money.new.self })
 served c =
     let answers = rw (same_number c.money_needed-reserved.result (record { sfits = c.money_needed-reserved.type_inv }), c.money_needed-reserved.ensures.value) at c.withdraw_money.ensures in
-    serves-withdraw_money IsOwnOutcome (market_in c.self.inside) c.withdraw_money.new.self c.args.account c.args.ticks c.withdraw_money.result c.reply_to.result
+    serves-withdraw_money NoOutcome (market_in c.self.inside) c.withdraw_money.new.self c.args.account c.args.ticks c.withdraw_money.result c.reply_to.result
     answers.accepted answers.refused answers.ok answers.err c.reply_to.ensures
 
 pub invariant_of-self : goal.invariant_of-self

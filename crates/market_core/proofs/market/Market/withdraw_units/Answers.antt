@@ -1,8 +1,7 @@
 use Rattle.std.proofs.Common.{arith}
 use Rattle.wire_records.specs.Commands.{WithdrawAsset, Plain}
 use Rattle.flow_orders.specs.Orders.{needed_units}
-use Rattle.flow_orders.specs.Own.{IsOwnOutcome}
-use Rattle.market_rules.specs.Step.{Serves}
+use Rattle.market_rules.specs.Step.{ServesPlain, NoOutcome}
 use Rattle.market_core.specs.Kept.{market_in}
 use Rattle.market_core.proofs.Answering.{serves-withdraw_units}
 use Rattle.market_core.proofs.Fitting.{sound_changes_fit, sound-served, of_each}
@@ -25,10 +24,10 @@ withdraw_units-requires-clause-fits c =
     ((sound_changes_fit (market_in c.self.inside) c.self.invariant).unit_withdrawal c.args.account c.args.asset c.args.units
     (needed_units c.self.inside.book.orders c.args.account c.args.asset) (needed_units_not_negative c.self.inside.book.orders c.args.account c.args.asset))
 
-served : (c : goal.After-reply_to) → Serves IsOwnOutcome (market_in c.self.inside) (WithdrawAsset c.args.account c.args.asset c.args.units) (Plain c.reply_to.result) (record (market_in c.self.inside) { balances = c.withdraw_units.new.self })
+served : (c : goal.After-reply_to) → ServesPlain (market_in c.self.inside) (WithdrawAsset c.args.account c.args.asset c.args.units) (Plain c.reply_to.result) (record (market_in c.self.inside) { balances = c.withdraw_units.new.self })
 served c =
     let answers = rw (same_number c.units_needed-reserved.result (record { sfits = c.units_needed-reserved.type_inv }), c.units_needed-reserved.ensures.value) at c.withdraw_units.ensures in
-    serves-withdraw_units IsOwnOutcome (market_in c.self.inside) c.withdraw_units.new.self c.args.account c.args.asset c.args.units c.withdraw_units.result c.reply_to.result
+    serves-withdraw_units NoOutcome (market_in c.self.inside) c.withdraw_units.new.self c.args.account c.args.asset c.args.units c.withdraw_units.result c.reply_to.result
     answers.accepted answers.refused answers.ok answers.err c.reply_to.ensures
 
 pub invariant_of-self : goal.invariant_of-self

@@ -2,7 +2,7 @@ use Rattle.std.proofs.Common.{◌≡◌, ◌^◌, ◌<◌, ◌∙◌, sym, subst
 use Rattle.wire_records.specs.Commands.{Answer}
 use Rattle.flow_orders.specs.Outcomes.{Outcome}
 use Rattle.market_rules.specs.Market.{Market}
-use Rattle.market_rules.proofs.LawProofs.{steps_number_one}
+use Rattle.own_journals.proofs.LawProofs.{steps_number_one}
 use Rattle.sample_summary.specs.Private.{IsWritten, CountsOne, TakesOne, state_of}
 use Rattle.sample_summary.specs.declared.sampling.Sampling.{Sampling}
 use Rattle.sample_summary.proofs.Written.{written_here, on_ok}

@@ -1,5 +1,5 @@
 use Rattle.std.proofs.Common.{refl, arith}
-use Rattle.market_rules.proofs.LawProofs.{steps_number_one}
+use Rattle.own_journals.proofs.LawProofs.{steps_number_one}
 use Rattle.sample_summary.proofs.Counted.{room_more, ready_fewer}
 use Rattle.sample_summary.proofs.Frames.{record_within, no_front-from_none, not_overlong-from_none, no_front-from_large, not_overlong-from_stated}
 use Rattle.sample_summary.proofs.sampling.SamplingTakesUnitsUnit.take.Goals as goal

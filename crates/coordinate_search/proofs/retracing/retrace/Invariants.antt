@@ -1,5 +1,0 @@
-use Rattle.coordinate_search.proofs.MadeAgain.{IsRetracing}
-use Rattle.coordinate_search.proofs.retracing.retrace.Given as goal
-
-abbrev pub invariant-loop-place : goal.invariant-loop-place
-invariant-loop-place l = IsRetracing l.parts l.fn.work.orders l.fn.work.prices l.trace l.work.orders l.work.prices l.place

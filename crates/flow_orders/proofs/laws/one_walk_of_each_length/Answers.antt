@@ -1,5 +1,0 @@
-use Rattle.flow_orders.proofs.OwnLaws.{one_walk_of_each_length}
-use Rattle.flow_orders.proofs.laws.one_walk_of_each_length.Goals as goal
-
-pub returns : goal.returns
-returns c = one_walk_of_each_length

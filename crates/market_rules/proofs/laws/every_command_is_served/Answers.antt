@@ -1,5 +1,0 @@
-use Rattle.market_rules.proofs.LawProofs.{every_command_is_served}
-use Rattle.market_rules.proofs.laws.every_command_is_served.Goals as goal
-
-pub returns : goal.returns
-returns c = every_command_is_served

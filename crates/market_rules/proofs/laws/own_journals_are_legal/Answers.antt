@@ -1,5 +1,0 @@
-use Rattle.market_rules.proofs.LawProofs.{own_journals_are_legal}
-use Rattle.market_rules.proofs.laws.own_journals_are_legal.Goals as goal
-
-pub returns : goal.returns
-returns c = own_journals_are_legal

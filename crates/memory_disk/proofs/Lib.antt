@@ -1,0 +1,3 @@
+mod LogLemmas
+mod MemoryCalls
+mod SoundLemmas

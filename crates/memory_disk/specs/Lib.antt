@@ -1,0 +1,5 @@
+pub mod Memory
+pub mod Calls
+pub mod Logs
+pub mod Sound
+pub mod MemoryLaws

@@ -1,0 +1,10 @@
+use Rattle.std.specs.Prelude.{ℕ, List}
+use Rattle.memory_disk.specs.Memory.{Made}
+
+-- a record of calls: the calls, how many there may be and are, and how many bytes of writes there may be and are
+pub record LogState : Type 0 where
+  pub made : List Made
+  pub most : ℕ
+  pub room : ℕ
+  pub used : ℕ
+  pub count : ℕ

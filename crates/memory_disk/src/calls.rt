@@ -1,0 +1,67 @@
+ghost use Rattle.std.specs.Prelude.{◌≡◌, ◌≤◌, ◌<◌, ◌+◌, Contains};
+ghost use Rattle.memory_disk.specs.Calls.{IsTurn};
+ghost use Rattle.memory_streams.specs.Fakes.{one_more};
+
+/// What a call's number says of it.
+pub(crate) enum Turn {
+    /// Above the most: it fails, and isn't taken down.
+    Past,
+    /// Listed: it fails.
+    Listed,
+    /// Neither.
+    Free,
+}
+
+/// The calls of a fake, counted from 1: which fail, how many there may be, how many there were, and how
+/// many failed.
+#[derive(Drop)]
+pub(crate) struct Calls {
+    pub failing: Vec<u64>,
+    pub most: u32,
+    pub made: u64,
+    pub failed: u64,
+}
+
+impl Calls {
+    /// No call so far.
+    pub fn new(failing: Vec<u64>, most: u32) -> Calls
+        ensures { result ≡ record { failing = failing; most = most; made = 0; failed = 0 } }
+    {
+        Calls {
+            failing,
+            most,
+            made: 0,
+            failed: 0,
+        }
+    }
+
+    /// Counts one more call.
+    pub fn next(&mut self) -> Turn
+        ensures turn { IsTurn result self.old.failing.items self.old.most self.old.made }
+        ensures failing { self.new.failing ≡ self.old.failing }
+        ensures most { self.new.most ≡ self.old.most }
+        ensures made { self.new.made ≡ one_more self.old.made }
+        ensures failed { self.new.failed ≡ self.old.failed }
+    {
+        let before = self.made;
+        self.made = self.made.saturating_add(1);
+        if before >= self.most as u64 {
+            return Turn::Past;
+        }
+        let number = before + 1;
+        if self.failing.iter().any(|listed| *listed == number) {
+            return Turn::Listed;
+        }
+        Turn::Free
+    }
+
+    /// Counts one more that failed.
+    pub fn fail(&mut self)
+        ensures failing { self.new.failing ≡ self.old.failing }
+        ensures most { self.new.most ≡ self.old.most }
+        ensures made { self.new.made ≡ self.old.made }
+        ensures failed { self.new.failed ≡ one_more self.old.failed }
+    {
+        self.failed = self.failed.saturating_add(1);
+    }
+}

@@ -1,0 +1,18 @@
+use Rattle.std.proofs.Common.{◌≡◌, ◌≤◌, ◌++◌, ℕ, List, length, take, drop, sym, ◌∙◌, ap, arith}
+use Rattle.std.proofs.lemmas.List.{drop-append-le, take-append-drop}
+use Rattle.memory_streams.proofs.memory_source.MemorySourceSource.read.Goals as goal
+
+-- what stays behind in the front of a buffer stays behind in all of it
+behind : (into front : List ℕ) (most count : ℕ) → count ≤ length front → length front ≡ length (take most into) → drop count front ≡ drop count (take most into) → drop count (front ++ drop most into) ≡ drop count into
+behind into front most count short same e =
+    drop-append-le count front (drop most into) short
+    ∙ ap (λ ys. ys ++ drop most into) e
+    ∙ sym (drop-append-le count (take most into) (drop most into) (omega arith))
+    ∙ ap (λ ys. drop count ys) (take-append-drop most into)
+
+pub returns-clause-behind : goal.returns-clause-behind
+returns-clause-behind c =
+    let all = c.read.ensures.all in
+    let kept = rw all at c.read.ensures.behind in
+    let same = c.read.auto.into in
+    rw all (behind c.args.into.now c.read.new.into c.min-most.result _ (omega arith) same kept)

@@ -1,0 +1,61 @@
+-- Records have one own journal.
+use Rattle.std.proofs.Common.{◌≡◌, List, [], ◌∷◌, Result, Ok, Err, refl, sym, ap, ◌∙◌}
+use Rattle.std.specs.Prelude.{map}
+use Rattle.flow_orders.specs.Outcomes.{Outcome}
+use Rattle.own_rule.specs.Own.{IsOwnOutcome}
+use Rattle.wire_records.specs.Commands.{Command, Answer, Pair, AddAsset, OpenAccount, DepositMoney, DepositAsset, WithdrawMoney, WithdrawAsset, PlaceOrder, CancelOrder, RunBatch, PlaceUntil, SetMoneyCredit, SetUnitCredit}
+use Rattle.market_rules.specs.Market.{Market, empty_market, parts_of, start_prices}
+use Rattle.wire_records.specs.declared.command.BodyFault.{BodyFault}
+use Rattle.wire_records.specs.declared.version.Version.{Version}
+use Rattle.market_rules.specs.Step.{ServesRead}
+use Rattle.market_rules.specs.Journal.{Step, Follows, IsJournal}
+use Rattle.market_rules.proofs.OneStep.{HasOneOutcome, one_service}
+use Rattle.own_rule.proofs.OneOwn.{one_own}
+
+-- every command has one outcome under the own rule
+pub own_has_one : (m : Market) (c : Command) → HasOneOutcome IsOwnOutcome m c
+own_has_one m (AddAsset ticker) = tt
+own_has_one m OpenAccount = tt
+own_has_one m (DepositMoney account ticks) = tt
+own_has_one m (DepositAsset account asset units) = tt
+own_has_one m (WithdrawMoney account ticks) = tt
+own_has_one m (WithdrawAsset account asset units) = tt
+own_has_one m (PlaceOrder r) = tt
+own_has_one m (CancelOrder account number) = tt
+own_has_one m (PlaceUntil last r) = tt
+own_has_one m (SetMoneyCredit account ticks) = tt
+own_has_one m (SetUnitCredit account asset units) = tt
+own_has_one m (RunBatch budget) = one_own (parts_of m.version) m.orders (start_prices m) budget
+
+-- records that are read in one way
+module _ {R : Type 0} (Reads : Version → R → Result Command BodyFault → Type 0) (one_reading : (version : Version) (r : R) (a b : Result Command BodyFault) → Reads version r a → Reads version r b → a ≡ b) where
+  read_once : (old : Market) (read : Result Command BodyFault) (a b : Answer Outcome) (x y : Market) → ServesRead IsOwnOutcome old read a x → ServesRead IsOwnOutcome old read b y → (a ≡ b) × (x ≡ y)
+  read_once old (Ok c) a b x y first other = one_service IsOwnOutcome old c a b x y (own_has_one old c) first other
+  read_once old (Err r) a b x y first other = (first.0 ∙ sym other.0, first.1 ∙ sym other.1)
+
+  -- under the own rule a record gets one answer and makes one market
+  pub own_step : (old : Market) (asked : R) (a b : Answer Outcome) (x y : Market) → Step Reads IsOwnOutcome old asked a x → Step Reads IsOwnOutcome old asked b y → (a ≡ b) × (x ≡ y)
+  own_step old asked a b x y first other =
+      read_once old first.read a b x y first.served (rw (one_reading old.version asked first.read other.read first.spelled other.spelled) other.served)
+
+  same_pair : (p q : Pair R Outcome) → p.asked ≡ q.asked → p.answer ≡ q.answer → p ≡ q
+  same_pair p q a b =
+      let made : R → Answer Outcome → Pair R Outcome = λ asked answer. record { asked = asked; answer = answer } in
+      ap (λ asked. made asked p.answer) a ∙ ap (λ answer. made q.asked answer) b
+
+  heads : (a b : R) (x y : List R) → a ∷ x ≡ b ∷ y → (a ≡ b) × (x ≡ y)
+  heads a b x y e = (cc, cc)
+
+  one_from : (old : Market) (p q : List (Pair R Outcome)) (m n : Market) → map (λ (x : Pair R Outcome). x.asked) p ≡ map (λ (x : Pair R Outcome). x.asked) q → Follows Reads IsOwnOutcome old p m → Follows Reads IsOwnOutcome old q n → (p ≡ q) × (m ≡ n)
+  one_from old [] [] m n e first other = (refl, first ∙ sym other)
+  one_from old [] (y ∷ ys) m n e first other = absurd cc
+  one_from old (x ∷ xs) [] m n e first other = absurd cc
+  one_from old (x ∷ xs) (y ∷ ys) m n e first other =
+      let asked = heads x.asked y.asked (map (λ (x : Pair R Outcome). x.asked) xs) (map (λ (x : Pair R Outcome). x.asked) ys) e in
+      let step = own_step old x.asked x.answer y.answer first.0 other.0 first.1 (rw asked.0 other.1) in
+      let rest = one_from first.0 xs ys m n asked.1 first.2 (rw step.1 other.2) in
+      (rw (same_pair x y asked.0 step.0, rest.0) refl, rest.1)
+
+  -- records have one own journal, which leads to one market
+  pub one_own_journal : (version : Version) (records : List R) (p q : List (Pair R Outcome)) (m n : Market) → IsJournal Reads IsOwnOutcome version records p m → IsJournal Reads IsOwnOutcome version records q n → (p ≡ q) × (m ≡ n)
+  one_own_journal version records p q m n first other = one_from (empty_market version) p q m n (first.asked ∙ sym other.asked) first.steps other.steps

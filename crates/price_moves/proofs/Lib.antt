@@ -1,0 +1,5 @@
+mod Between
+pub mod Ends
+pub mod Lowering
+pub mod MadeAgain
+pub mod Near

@@ -1,0 +1,194 @@
+//! The move of one asset's price.
+ghost use Rattle.std.specs.Prelude.{◌≡◌, ◌+◌, ◌*◌, ◌^◌, ◌<◌, ◌≤◌, ◌≤ℤ◌, ◌+ℤ◌, ◌-ℤ◌, pos, neg_ℤ, true, length, slice_set, unsigned_abs, All};
+ghost use Rattle.weight_rows.specs.Rows.{IsPrice, price_of};
+ghost use Rattle.flow_orders.specs.Orders.{IsOrder};
+ghost use Rattle.flow_orders.specs.Excess.{is_above, is_below, is_unsettled, steepness};
+ghost use Rattle.flow_orders.specs.Moves.{moved};
+ghost use Rattle.flow_orders.specs.Outcomes.{step_of};
+ghost use Rattle.excess_bounds.specs.Workspace.{ArePriced};
+ghost use Rattle.price_moves.specs.Retracing.{IsLowered};
+
+use crate::probes::{Fall, Rise};
+use excess_bounds::Workspace;
+use single_bisect::{greatest_true, least_true};
+
+// The reach of a move in a walk, in grains.
+const REACH: i64 = 1 << 45;
+
+/// Moves the price of an asset that isn't settled, by at most `reach` grains.
+///
+/// Where its low excess is above the steepness, the price rises by the least amount from 1 to `reach` at which it no
+/// longer is in parts of a unit, else by `reach`. Where the high excess is below minus the steepness, the price falls in
+/// the same way. The other prices stay. There are 1 to 256 parts.
+///
+/// It goes over the orders that name the asset, and then over ever fewer of them, and takes no memory.
+pub fn step(work: &mut Workspace<'_>, parts: u16, asset: u16, reach: i64)
+    requires some_parts { 1 ≤ parts }
+    requires few_parts { parts ≤ 256 }
+    requires asset { asset < length work.old.prices }
+    requires unsettled { is_unsettled work.old.orders work.old.prices asset ≡ true }
+    requires some { pos 1 ≤ℤ reach }
+    requires far { reach ≤ℤ pos (2 ^ 61) }
+    requires room_below { neg_ℤ (pos (2 ^ 62)) ≤ℤ (price_of work.old.prices asset -ℤ reach) }
+    requires room_above { (price_of work.old.prices asset +ℤ reach) ≤ℤ pos (2 ^ 62) }
+    ensures orders { work.new.orders ≡ work.old.orders }
+    ensures moved { work.new.prices ≡ moved parts work.old.orders (unsigned_abs reach) work.old.prices asset }
+
+    // Each grain of the move lowers the exact dual by a grain at least.
+    ensures lowers { IsLowered work.old.orders work.old.prices
+        (unsigned_abs (price_of work.new.prices asset -ℤ price_of work.old.prices asset)) work.new.prices }
+{
+    let end = end_of_move(work, parts, asset, reach);
+    work.set_price(asset, end);
+}
+
+/// Makes the move of an asset in a walk, of at most 2^45 grains.
+///
+/// Its price is within 2^60 + 2^61 grains of 0. It costs what [`step`] costs.
+pub fn make_move(work: &mut Workspace<'_>, parts: u16, asset: u16)
+    requires some_parts { 1 ≤ parts }
+    requires few_parts { parts ≤ 256 }
+    requires asset { asset < length work.old.prices }
+    requires unsettled { is_unsettled work.old.orders work.old.prices asset ≡ true }
+    requires near { unsigned_abs (price_of work.old.prices asset) ≤ 2 ^ 60 + 2 ^ 61 }
+    ensures orders { work.new.orders ≡ work.old.orders }
+    ensures prices { work.new.prices ≡ step_of parts work.old.orders work.old.prices asset }
+{
+    step(work, parts, asset, REACH);
+}
+
+// The price at which a move ends.
+fn end_of_move(work: &mut Workspace<'_>, parts: u16, asset: u16, reach: i64) -> i64
+    requires some_parts { 1 ≤ parts }
+    requires few_parts { parts ≤ 256 }
+    requires asset { asset < length work.old.prices }
+    requires unsettled { is_unsettled work.old.orders work.old.prices asset ≡ true }
+    requires some { pos 1 ≤ℤ reach }
+    requires far { reach ≤ℤ pos (2 ^ 61) }
+    requires room_below { neg_ℤ (pos (2 ^ 62)) ≤ℤ (price_of work.old.prices asset -ℤ reach) }
+    requires room_above { (price_of work.old.prices asset +ℤ reach) ≤ℤ pos (2 ^ 62) }
+    ensures moved { slice_set work.old.prices asset result ≡ moved parts work.old.orders (unsigned_abs reach) work.old.prices asset }
+    ensures range { IsPrice result }
+    ensures stays { work.new ≡ work.old }
+    ensures priced { ArePriced work.old.orders work.old.prices }
+{
+    let price = price_in(work, asset);
+    let steepness = work.steepness(asset);
+    let bound = work.steepness_in(parts, asset);
+    if steepness < work.excess(asset).low {
+        return end_of_rise(work, parts, asset, bound, price, reach);
+    }
+    end_of_fall(work, parts, asset, -bound, price, reach)
+}
+
+// The price of an asset.
+fn price_in(work: &Workspace<'_>, asset: u16) -> i64
+    requires { asset < length work.now.prices }
+    ensures value { result ≡ price_of work.now.prices asset }
+    ensures range { IsPrice result }
+    ensures priced { ArePriced work.now.orders work.now.prices }
+{
+    work.prices()[usize::from(asset)]
+}
+
+// The price at which a rise from a price by `reach` at most ends.
+fn end_of_rise(
+    work: &mut Workspace<'_>,
+    parts: u16,
+    asset: u16,
+    bound: i64,
+    price: i64,
+    reach: i64,
+) -> i64
+    requires some_parts { 1 ≤ parts }
+    requires few_parts { parts ≤ 256 }
+    requires asset { asset < length work.old.prices }
+    requires above { is_above work.old.orders work.old.prices asset ≡ true }
+    requires bound { bound ≡ pos (parts * steepness work.old.orders asset) }
+    requires price { price ≡ price_of work.old.prices asset }
+    requires range { IsPrice price }
+    requires far { reach ≤ℤ pos (2 ^ 61) }
+    requires some { pos 1 ≤ℤ reach }
+    requires room { (price +ℤ reach) ≤ℤ pos (2 ^ 62) }
+    requires each { All IsOrder work.old.orders }
+    ensures moved { slice_set work.old.prices asset result ≡ moved parts work.old.orders (unsigned_abs reach) work.old.prices asset }
+    ensures range { IsPrice result }
+    ensures stays { work.new ≡ work.old }
+{
+    let bracket = work.narrow_rise(parts, asset, reach.unsigned_abs());
+    let last = price + reach;
+    let mut rise = Rise {
+        work,
+        parts,
+        asset,
+        bound,
+        first: price,
+        last,
+        asks: 0,
+    };
+    least_true(
+        &mut rise,
+        risen(price, bracket.low),
+        risen(price, bracket.high),
+    )
+}
+
+// The price at which a fall from a price by `reach` at most ends.
+fn end_of_fall(
+    work: &mut Workspace<'_>,
+    parts: u16,
+    asset: u16,
+    bound: i64,
+    price: i64,
+    reach: i64,
+) -> i64
+    requires some_parts { 1 ≤ parts }
+    requires few_parts { parts ≤ 256 }
+    requires asset { asset < length work.old.prices }
+    requires below { is_below work.old.orders work.old.prices asset ≡ true }
+    requires bound { bound ≡ neg_ℤ (pos (parts * steepness work.old.orders asset)) }
+    requires price { price ≡ price_of work.old.prices asset }
+    requires range { IsPrice price }
+    requires far { reach ≤ℤ pos (2 ^ 61) }
+    requires some { pos 1 ≤ℤ reach }
+    requires room { neg_ℤ (pos (2 ^ 62)) ≤ℤ (price -ℤ reach) }
+    requires each { All IsOrder work.old.orders }
+    ensures moved { slice_set work.old.prices asset result ≡ moved parts work.old.orders (unsigned_abs reach) work.old.prices asset }
+    ensures range { IsPrice result }
+    ensures stays { work.new ≡ work.old }
+{
+    let bracket = work.narrow_fall(parts, asset, reach.unsigned_abs());
+    let first = price - reach;
+    let mut fall = Fall {
+        work,
+        parts,
+        asset,
+        bound,
+        first,
+        last: price,
+        asks: 0,
+    };
+    greatest_true(
+        &mut fall,
+        fallen(price, bracket.high),
+        fallen(price, bracket.low),
+    )
+}
+
+// A price that rose by an amount.
+fn risen(price: i64, amount: u64) -> i64
+    requires range { IsPrice price }
+    requires amount { amount ≤ 2 ^ 61 }
+    ensures { result ≡ price +ℤ pos amount }
+{
+    price + amount as i64
+}
+
+// A price that fell by an amount.
+fn fallen(price: i64, amount: u64) -> i64
+    requires range { IsPrice price }
+    requires amount { amount ≤ 2 ^ 61 }
+    ensures { result ≡ price -ℤ pos amount }
+{
+    price - amount as i64
+}

@@ -1,0 +1,278 @@
+"""The words of the program, a row each, and what README.md, docs/FORMATS.md, docs/flow.1 and the completions have of them. Whoever
+adds a word or a form adds a row or a form here, and has `tools/words --write` put it there; `tools/check/check_documents` sees that
+it was done."""
+import re
+from collections import namedtuple
+
+# The statuses, by their numbers.
+STATUSES = ("Done Usage NotFlow Torn ReadFault WriteFault NoMemory Rejected TooLong BadText BadCheckpoint NoAccount DiskFault NotDisk "
+            "Damaged").split()
+
+# A word: what may stand behind it on the command line, where capitals are the name of a value; what it reads and writes, each the
+# name of a file in capitals, where there is one, and words on it, with links within docs/FORMATS.md; how it ends but for Done,
+# Usage, ReadFault, WriteFault and NoMemory; and a line on it.
+Word = namedtuple("Word", "name forms source reads out writes ends line")
+
+WORDS = [
+    Word("encode", ["", "2", "3"],
+         "LINES", "[lines of JSON](#json-lines)",
+         "COMMANDS", "the [command file](#command-files) of version 1, 2 or 3 that they ask for",
+         "BadText TooLong",
+         "lines of JSON: write a command file"),
+    Word("run", [""],
+         "COMMANDS", "a command file",
+         "JOURNAL", "its [journal](#journals), each pair before the next record is read",
+         "NotFlow Torn TooLong",
+         "a command file: write its journal"),
+    Word("audit", [""],
+         "JOURNAL", "a journal",
+         "", "one line, where it is whole and [legal](#audits)",
+         "NotFlow Torn Rejected TooLong",
+         "a journal: is it legal?"),
+    Word("explain", [""],
+         "JOURNAL", "a journal",
+         "", "that line, or what is [found](#what-is-found-of-a-pair) of the first pair that isn't legal",
+         "NotFlow Torn Rejected TooLong",
+         "a journal: what is wrong with it?"),
+    Word("report", [""],
+         "JOURNAL", "a journal",
+         "", "the [text](#reports) of its legal pairs",
+         "NotFlow Torn Rejected TooLong",
+         "a journal: show it as text"),
+    Word("statement", ["NUMBER"],
+         "JOURNAL", "a journal",
+         "", "the [statement](#statements) of the account of this number",
+         "NotFlow Torn Rejected TooLong NoAccount",
+         "a journal: the statement of an account"),
+    Word("checkpoint", [""],
+         "JOURNAL", "a journal",
+         "CHECKPOINT", "the [checkpoint](#checkpoints) of its market, where it is whole and legal",
+         "NotFlow Torn Rejected TooLong",
+         "a journal: write its market"),
+    Word("resume", [""],
+         "JOURNAL_OR_CHECKPOINT_AND_COMMANDS", "a journal or a checkpoint, and commands behind it",
+         "PAIRS", "the [pairs of these commands](#going-on)",
+         "NotFlow Torn Rejected TooLong BadCheckpoint",
+         "a journal or a checkpoint, and commands: write their pairs"),
+    Word("keep", ["FILE"],
+         "COMMANDS", "a command file of FILE's version",
+         "PAIRS", "the pair of each record, once [FILE](#kept-files), made where it isn't there, keeps it",
+         "NotFlow Torn Rejected TooLong DiskFault NotDisk Damaged",
+         "a command file: keep its journal in a file"),
+    Word("sample", ["NUMBER ORDERS"],
+         "", "nothing",
+         "LINE", "[one line](#samples-of-large-markets) on a large market, drawn, run and audited",
+         "",
+         "a number, and how many orders: try a large market"),
+]
+
+
+def numbers_of(word):
+    """The statuses that a word may end with, but for Usage, by their numbers."""
+    names = {"Done", "WriteFault", "NoMemory", *word.ends.split(), *(["ReadFault"] if word.source else [])}
+    return sorted(map(STATUSES.index, names))
+
+
+def called(word):
+    """The forms of a word as they are typed."""
+    return [f"{word.name} {form}".rstrip() for form in word.forms]
+
+
+# ---- README.md and docs/FORMATS.md
+
+
+def ends_of(word):
+    """How a word ends: by its statuses, or by an earlier word's and those that it has beside."""
+    ends, before = word.ends.split(), WORDS[:WORDS.index(word)]
+    within = [(len(each.ends), each) for each in before if each.ends and set(each.ends.split()) <= set(ends)]
+    if not within:
+        return ", ".join(ends)
+    _, nearest = max(within, key=lambda pair: pair[0])
+    more = [name for name in ends if name not in nearest.ends.split()]
+    return f"as `{nearest.name}`" + (f", and {', '.join(more)}" if more else "")
+
+
+def row(*cells):
+    return f"| {' | '.join(cells)} |"
+
+
+def readme_table():
+    """Each word in a line, without links."""
+    yield row("`./flow` with", "reads", "writes", "and ends, but for Done, with")
+    yield "|---|---|---|---|"
+    for word in WORDS:
+        reads, writes = (re.sub(r"\[([^]]+)\]\([^)]+\)", r"\1", cell) for cell in (word.reads, word.writes))
+        yield row(", ".join(f"`{form}`" for form in called(word)), reads, writes, ends_of(word))
+
+
+def formats_table():
+    yield row("word", "reads", "writes")
+    yield "|---|---|---|"
+    for word in WORDS:
+        yield row(", ".join(f"`{form}`" for form in called(word)), word.reads, word.writes)
+
+
+def command_lines():
+    """Each form of each word, with its files."""
+    for word in WORDS:
+        files = [f"{sign} {file}" for sign, file in (("<", word.source), (">", word.out)) if file]
+        for form in called(word):
+            yield " ".join(["    ./flow", form, *files])
+
+
+# ---- docs/flow.1
+
+
+def in_manual(name):
+    return name.lower().replace("_", "-")
+
+
+def synopsis():
+    for word in WORDS:
+        yield from [".Nm", f".Cm {word.name}"]
+        choices = [form for form in word.forms if form.isdigit()]
+        if choices:
+            yield f".Op Cm {' | '.join(choices)}"
+        elif word.forms != [""]:
+            yield f".Ar {in_manual(*word.forms)}"
+        yield from (f".No {sign} Ar {in_manual(file)}" for sign, file in (("<", word.source), (">", word.out)) if file)
+
+
+def in_words(items, last):
+    *before, item = items
+    return f"{', '.join(before)} {last} {item}" if before else item
+
+
+def ranges(numbers):
+    """Numbers as a text has them: three and more that follow one another by the first and the last."""
+    spans = []
+    for number in numbers:
+        if spans and number == spans[-1][-1] + 1:
+            spans[-1].append(number)
+        else:
+            spans.append([number])
+    for span in spans:
+        yield from [f"{span[0]} to {span[-1]}"] if len(span) > 2 else map(str, span)
+
+
+def exit_statuses():
+    """Which statuses each word ends with, those of the same together."""
+    groups = {}
+    for word in WORDS:
+        groups.setdefault(tuple(numbers_of(word)), []).append(word.name)
+    for place, (numbers, names) in enumerate(groups.items(), 1):
+        for at, name in enumerate(names, 1):
+            yield f".Cm {name}" + (" ," if at < len(names) - 1 else "")
+            yield from ["and"] if at == len(names) - 1 else []
+        said = in_words(list(ranges(numbers)), "or")
+        yield f"{'end' if len(names) > 1 else 'ends'} with {said}{'.' if place == len(groups) else ';'}"
+
+
+# ---- the completions
+
+
+REDIRECTIONS = ["'<'", "'>'", "'>>'"]
+
+
+def choices():
+    """The words of which a digit may follow, and these digits; and those that a file follows."""
+    digits = {word.name: [form for form in word.forms if form.isdigit()] for word in WORDS if word.forms[1:]}
+    return digits, [word.name for word in WORDS if word.forms == ["FILE"]]
+
+
+def zsh():
+    digits, files = choices()
+    yield "#compdef flow"
+    yield "# Completes the words of flow in zsh. Files behind a redirection are completed by zsh itself. Made by tools/words."
+    yield "#"
+    yield "#     fpath=(tools/completions $fpath); autoload -Uz compinit; compinit"
+    yield ""
+    yield "local -a words_of_flow=("
+    for word in WORDS:
+        said = word.line.replace(":", "\\:")
+        yield f"    '{word.name}:{said}'"
+    yield ")"
+    yield "if (( CURRENT == 2 )); then"
+    yield "    _describe word words_of_flow"
+    for name, versions in digits.items():
+        yield f"elif (( CURRENT == 3 )) && [[ $words[2] == {name} ]]; then"
+        said = " ".join(f"{version}:of\\ version\\ {version}" for version in versions)
+        yield f"    _describe version '({said})'"
+    for name in files:
+        yield f"elif (( CURRENT == 3 )) && [[ $words[2] == {name} ]]; then"
+        yield "    _files"
+    yield "fi"
+
+
+def bash():
+    digits, files = choices()
+    yield "# Completes the words of flow in bash, and files behind a redirection and where a word names one. Made by tools/words."
+    yield "#"
+    yield "#     source tools/completions/flow.bash"
+    yield ""
+    yield "_flow() {"
+    yield "    local word=${COMP_WORDS[COMP_CWORD]} before=${COMP_WORDS[COMP_CWORD - 1]} words="
+    yield "    COMPREPLY=()"
+    yield "    case $word in '<' | '>' | '>>') word= before='<' ;; esac"
+    yield "    case $before in"
+    yield f"    {' | '.join([*REDIRECTIONS, *files])})"
+    yield "        compopt -o filenames 2>/dev/null"
+    yield '        mapfile -t COMPREPLY < <(compgen -f -- "$word")'
+    yield "        return"
+    yield "        ;;"
+    yield "    esac"
+    yield f'    [ "$COMP_CWORD" -ne 1 ] || words="{" ".join(word.name for word in WORDS)}"'
+    for name, versions in digits.items():
+        yield f'    [ "$COMP_CWORD" -ne 2 ] || [ "$before" != {name} ] || words="{" ".join(versions)}"'
+    yield '    mapfile -t COMPREPLY < <(compgen -W "$words" -- "$word")'
+    yield "}"
+    yield "complete -F _flow flow ./flow"
+
+
+def fish():
+    digits, files = choices()
+    words = "complete -c flow -n 'test (count (commandline -opc)) -eq "
+    second = f"{words}2; and test (commandline -opc)[2] = "
+    yield "# Completes the words of flow in fish. Files behind a redirection are completed by fish itself. Made by tools/words."
+    yield "#"
+    yield "#     source tools/completions/flow.fish"
+    yield ""
+    yield "complete -c flow -f"
+    for word in WORDS:
+        yield f"{words}1' -a {word.name} -d '{word.line}'"
+    for name in files:
+        yield f"{second}{name}' -F"
+    for name, versions in digits.items():
+        yield from (f"{second}{name}' -a {version} -d 'of version {version}'" for version in versions)
+
+
+# ---- where these stand
+
+
+def marked(text, begin, lines, ends):
+    """A text with these lines behind the one that begins them, up to the next that ends them. Blank ones behind the first stay."""
+    whole = text.split("\n")
+    first = whole.index(begin) + 1
+    while not whole[first]:
+        first += 1
+    last = next(at for at in range(first, len(whole)) if ends(whole[at]))
+    return "\n".join([*whole[:first], *lines, *whole[last:]])
+
+
+def with_words(name, text):
+    """A document or a completion as the table has it: the text that it should have in place of this one."""
+    for begin, make in MARKS.get(name, {}).items():
+        is_manual = begin.startswith(".")
+        text = marked(text, begin, make(), (lambda line: line == END) if is_manual else (lambda line: not line))
+    return "".join(line + "\n" for line in COMPLETIONS[name]()) if name in COMPLETIONS else text
+
+
+END = r".\" (what tools/words wrote ends here)"
+MARKS = {
+    "README.md": {"<!-- words: readme -->": readme_table},
+    "docs/FORMATS.md": {"<!-- words: lines -->": command_lines, "<!-- words: formats -->": formats_table},
+    "docs/flow.1": {r".\" (tools/words writes what follows: synopsis)": synopsis,
+                    r".\" (tools/words writes what follows: statuses)": exit_statuses},
+}
+COMPLETIONS = {"tools/completions/_flow": zsh, "tools/completions/flow.bash": bash, "tools/completions/flow.fish": fish}
+PLACES = [*MARKS, *COMPLETIONS]
