@@ -10,6 +10,7 @@ ghost use Rattle.market_rules.specs.Market.{Market};
 ghost use Rattle.journal_disk.specs.Looking.{OnlyLooks};
 ghost use Rattle.journal_keeping.specs.Keeping.{HoldsLegal, KeepsIn};
 ghost use Rattle.journal_keeping.specs.Openings.{KeepNone};
+ghost use Rattle.journal_keeping.specs.Making.{IsMadeBehindMagic};
 ghost use Rattle.journal_keeping.specs.Pacing.{KeepsPace, RunsOut};
 ghost use Rattle.journal_keeping.specs.Ended.{ComesTo, IsRefusal, MayBeginAgain};
 
@@ -28,7 +29,7 @@ use std::alloc::Global;
 /// disk takes the version of the source, whose magic is looked at before anything is written to the disk. So `NotDisk`, `Damaged` and `Rejected`
 /// come where the source wasn't asked yet and nothing was written, and leave what the disk holds. `Damaged` has the place
 /// of the first gate that isn't one, `Rejected` the number of the first kept pair that isn't legal, counted from 1. A disk that keeps no
-/// legal journal is changed at no moment, whatever is answered. `NotFlow` leaves the pairs that are kept. At `Ok`, `Torn` and `TooLong` all whole records of the first `limit` bytes of the source are served,
+/// legal journal is changed at no moment, whatever is answered, and neither is a new one before the magic of a command file was taken. `NotFlow` leaves the pairs that are kept. At `Ok`, `Torn` and `TooLong` all whole records of the first `limit` bytes of the source are served,
 /// kept and written. `Disk`, `Read` and `Write` come only where the count of faults of the disk, the source or out rose, which
 /// stands still in every other case. `Memory` comes before anything is read of the source, or at a record that may want it.
 ///
@@ -56,6 +57,8 @@ pub fn keep<S: Source, D: Disk, K: Sink>(
         IfSome (D.state disk.old).content (λ held. length held ≤ 2 ^ 60) → ¬ IsRefusal result }
     ensures untouched { IfSome (D.state disk.old).content
         (λ held. KeepNone held → OnlyLooks (D.state disk.old) (D.state disk.new) × (source.new ≡ source.old) × (out.new ≡ out.old)) }
+    ensures made { IfSome (D.state disk.old).content
+        (λ held. IsMadeBehindMagic limit held (D.state disk.old) (D.state disk.new) (S.rest source.old) (S.rest source.new)) }
     ensures taken { TakesAtMost (S.rest source.old) (S.rest source.new) (limit + 1) }
     ensures paced { KeepsPace limit (S.rest source.old) (S.rest source.new) (K.held out.old) (K.held out.new) result }
     ensures wants { result ≡ Err KeepFault.Memory → IfSome (D.state disk.old).content

@@ -14,6 +14,7 @@ ghost use Rattle.journal_disk.specs.Looking.{OnlyLooks};
 ghost use Rattle.journal_disk.specs.Recovering.{IsFound};
 ghost use Rattle.journal_keeping.specs.Keeping.{StandsForJournal, HoldsLegal};
 ghost use Rattle.journal_keeping.specs.Openings.{KeepNone};
+ghost use Rattle.journal_keeping.specs.Making.{HasTakenMagic, IsMadeBehindMagic};
 ghost use Rattle.journal_keeping.specs.Beginning.{IsBegun, OpensNot, IsOfDisk, IsBehindMagic, IsWanted, IsNoneOf, IsOfSource, NotBegun, Unread, Asked};
 
 use crate::fault::KeepFault;
@@ -207,6 +208,8 @@ fn begin_new<S: Source, D: Disk>(
     ensures moments { (v : version_value) (old : List (Pair Record Outcome)) (market : market_value) → HoldsLegal (D.state disk.old) v old market →
         AtEachMoment (D.state disk.old) (D.state disk.new) (λ image. (D.state disk.old).images image ⊎ StandsForJournal v old image) }
     ensures told { OnOk result (IsSome (D.state disk.new).content → IsSome (D.state disk.old).content) }
+    ensures made { IfErr result (λ _. OnlyLooks (D.state disk.old) (D.state disk.new)
+        ⊎ IfSome (S.rest source.old) (λ bytes. HasTakenMagic limit bytes (S.rest source.new))) }
     ensures disk_cause { Blames (result ≡ Err KeepFault.Disk) (D.state disk.old).faults (D.state disk.new).faults }
     ensures source_cause { Blames (result ≡ Err KeepFault.Read) (S.faults source.old) (S.faults source.new) }
 {
@@ -257,6 +260,8 @@ pub(crate) fn begin<S: Source, D: Disk>(
     ensures moments { (v : version_value) (old : List (Pair Record Outcome)) (market : market_value) → HoldsLegal (D.state disk.old) v old market →
         AtEachMoment (D.state disk.old) (D.state disk.new) (λ image. (D.state disk.old).images image ⊎ StandsForJournal v old image) }
     ensures told { OnOk result (IsSome (D.state disk.new).content → IsSome (D.state disk.old).content) }
+    ensures made { IfErr result (λ _. IfSome (D.state disk.old).content
+        (λ held. IsMadeBehindMagic limit held (D.state disk.old) (D.state disk.new) (S.rest source.old) (S.rest source.new))) }
     ensures disk_cause { Blames (result ≡ Err KeepFault.Disk) (D.state disk.old).faults (D.state disk.new).faults }
     ensures source_cause { Blames (result ≡ Err KeepFault.Read) (S.faults source.old) (S.faults source.new) }
 {

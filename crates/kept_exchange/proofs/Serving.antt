@@ -14,6 +14,7 @@ use Rattle.disk_edge.specs.Disks.{DiskState}
 use Rattle.journal_disk.specs.Looking.{OnlyLooks}
 use Rattle.journal_keeping.specs.Keeping.{HoldsLegal, KeepsIn}
 use Rattle.journal_keeping.specs.Openings.{KeepNone}
+use Rattle.journal_keeping.specs.Making.{IsMadeBehindMagic}
 use Rattle.journal_keeping.specs.Pacing.{KeepsPace, IsNear, RunsOut}
 use Rattle.journal_keeping.specs.Ended.{ComesTo, MayBeginAgain}
 use Rattle.journal_keeping.specs.Ended as kept
@@ -89,6 +90,7 @@ module _ (limit : ℕ) (result : Kept) (start end : DiskState) (source out : Cha
       → IfSome start.content (λ held. ComesTo limit held source.before end out.before out.after result)
       → ((version : Version) (old : List (Pair Record Outcome)) (market : Market) → HoldsLegal start version old market → IfSome start.content (λ held. length held ≤ 2 ^ 60) → ¬ kept.IsRefusal result)
       → IfSome start.content (λ held. KeepNone held → OnlyLooks start end × (source.after ≡ source.before) × (out.after ≡ out.before))
+      → IfSome start.content (λ held. IsMadeBehindMagic limit held start end source.before source.after)
       → TakesAtMost source.before source.after (limit + 1)
       → KeepsPace limit source.before source.after out.before out.after result
       → (◌≡◌ {A = Kept} result (Err Memory) → IfSome start.content (λ held. RunsOut limit held source.before source.after end out.before out.after))
@@ -99,13 +101,14 @@ module _ (limit : ℕ) (result : Kept) (start end : DiskState) (source out : Cha
       → OnErr noting (GrowsByFront notes.before notes.after (line_of (kept_status limit result)))
       → Blames (IsErr noting) notes.faults notes.faults_after
       → ServesKeep limit (kept_status limit result) start end source out notes
-  serves notes noting keeps again comes legal untouched taken paced wants disk read write line front cause = record {
+  serves notes noting keeps again comes legal untouched made taken paced wants disk read write line front cause = record {
     keeps = λ version old market holds. keeps_wider limit source.before (◌≡◌ {A = Kept} result (Err Write)) (kept_status limit result ≡ status.WriteFault) version start end old market out.before out.after (ap (kept_status limit)) (keeps version old market holds);
     again = again;
     opens = λ version old market holds small refused. legal version old market holds small (refusal_back limit result refused);
     ends = ends_as start.content comes;
     complete = λ no_disk no_read no_write memory. completes start.content comes (λ e. no_read (read.rose e)) (λ e. no_write (write.rose e)) (λ e. no_disk (disk.rose e)) memory;
     untouched = untouched;
+    made = made;
     taken = taken;
     left = λ e. paced_by (Ok tt) paced (done_back limit result e);
     read = λ e. paced_by (Err Read) paced (read_back limit result e);

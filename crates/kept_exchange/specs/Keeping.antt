@@ -12,6 +12,7 @@ use Rattle.disk_edge.specs.Disks.{DiskState}
 use Rattle.journal_disk.specs.Looking.{OnlyLooks}
 use Rattle.journal_keeping.specs.Keeping.{HoldsLegal, KeepsIn}
 use Rattle.journal_keeping.specs.Openings.{KeepNone}
+use Rattle.journal_keeping.specs.Making.{IsMadeBehindMagic}
 use Rattle.journal_keeping.specs.Pacing.{ReadsAll, IsNear, RunsOut}
 use Rattle.journal_keeping.specs.Ended.{ComesTo, MayBeginAgain}
 use Rattle.journal_keeping.specs.declared.fault.KeepFault.{KeepFault}
@@ -55,6 +56,8 @@ pub record ServesKeep (limit : ℕ) (status : Status) (start end : DiskState) (s
   -- A disk that keeps no legal journal, as it is no kept file, is damaged, or has a pair that isn't legal, is changed at no moment, whatever
   -- the status, and nothing is read or written then.
   pub untouched : IfSome start.content (λ held. KeepNone held → OnlyLooks start end × (source.after ≡ source.before) × (out.after ≡ out.before))
+  -- A new disk is changed at no moment, whatever the status, unless the magic of a command file was taken of the source.
+  pub made : IfSome start.content (λ held. IsMadeBehindMagic limit held start end source.before source.after)
   -- How much of the source was taken, and that nothing is left of it on Done.
   pub taken : TakesAtMost source.before source.after (limit + 1)
   pub left : status ≡ Done → IfSome source.before (λ bytes. source.after ≡ Some [])

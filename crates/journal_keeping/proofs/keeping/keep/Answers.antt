@@ -1,8 +1,9 @@
-use Rattle.std.proofs.Common.{ℕ, ◌+◌, List, refl, sym, subst, arith}
+use Rattle.std.proofs.Common.{inr, ℕ, List, refl, sym, subst}
 use Rattle.wire_records.specs.Formats.{commands}
 use Rattle.file_units.specs.Inputs.{HasLongest}
 use Rattle.exchange_session.proofs.RunLaws.{run_is_exact}
 use Rattle.journal_keeping.proofs.Counts.{if_some}
+use Rattle.journal_keeping.proofs.Making.{each_some, magic_taken}
 use Rattle.journal_keeping.proofs.Begun.{begun_known, legal_in, none_begun, can_serve}
 use Rattle.journal_keeping.proofs.Pacing.{paced_unread, unread_out, taken_at_most, paced_served, wants_next}
 use Rattle.journal_keeping.proofs.Whole.{keeps_none, may_begin_again, comes_not_begun, comes_served, keeps_served, not_of_serving, refused_not_legal, asked_refused}
@@ -149,3 +150,8 @@ returns-in-Ok-clause-wants g c = λ lacks.
     if_some start.content _ _
     (λ (held : List ℕ) begun. wants_next c.args.limit content after left c.in-Ok.begun.window c.in-Ok.begun.version c.in-Ok.ensures.behind c.in-Ok.begun.keeper.session c.in-Ok.begun.keeper.appender mid end before holds_out held begun c.serve_on.result c.serve_on.ensures.goes lacks)
     c.in-Ok.ensures.begun
+
+pub returns-in-Ok-clause-made : goal.returns-in-Ok-clause-made
+returns-in-Ok-clause-made g c =
+    each_some (g.D.Disk.state c.args.disk.now).content _
+    (λ (held : List ℕ) short. inr (magic_taken c.args.limit c.in-Ok.begun.window c.in-Ok.begun.version (g.S.Source.rest c.args.source.now) (g.S.Source.rest c.begin.new.source) (g.S.Source.rest c.serve_on.new.source) c.serve_on.ensures.goes.goes.taken c.in-Ok.ensures.behind c.serve_on.ensures.goes.goes.takes))
