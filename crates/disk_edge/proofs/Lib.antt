@@ -1,3 +1,3 @@
 pub mod Moments
 pub mod Torn
-mod RealFiles
+mod Untold

@@ -9,8 +9,8 @@
 //! A call fails only where the count rose. After a fault of the device the file is to be opened again: of a write or a cut
 //! that failed, any part may have been made.
 //!
-//! [`FileDisk`] is a real file, the trusted edge, and [`PathDisk`] the one at a path, which is made by the first write where none is
-//! there. A call costs as much as the bytes that it moves, and takes no memory.
+//! [`FileDisk`] is a real file, the trusted edge, and [`PathDisk`] the one at a path, which is made by the first write where none is there.
+//! A call costs as much as the bytes that it moves, and takes no memory.
 #![tactic(auto)]
 
 mod disk;

@@ -1,6 +1,6 @@
 use Rattle.std.proofs.Common.{◌≡◌, ⊎_elim, List, ℕ, length, refl, sym, ap, subst, drop, arith}
-use Rattle.wire_records.proofs.Spelled.{length-spelling}
 use Rattle.own_journals.proofs.LawProofs.{steps_number_one}
+use Rattle.wire_records.proofs.Spelled.{length-spelling}
 use Rattle.exchange_session.specs.Serving.{AnswersOne}
 use Rattle.journal_keeping.proofs.Frames.{record_within, no_front-from_none, not_overlong-from_none, no_front-from_large, not_overlong-from_stated}
 use Rattle.journal_keeping.proofs.taking.serve_next.Goals as goal

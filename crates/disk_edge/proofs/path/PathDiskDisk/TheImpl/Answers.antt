@@ -1,5 +1,5 @@
 use Rattle.std.proofs.Common.{refl}
-use Rattle.disk_edge.proofs.RealFiles.{nothing_told, always, elapses}
+use Rattle.disk_edge.proofs.Untold.{nothing_told, always, elapses}
 use Rattle.disk_edge.proofs.path.PathDiskDisk.TheImpl.Goals as goal
 
 pub length-tells : goal.length-tells
