@@ -19,19 +19,12 @@ fn put_ending(ending: Ending, rows: &mut String) -> Option<()> {
 // Appends what was found where all pairs are legal.
 fn put_found(alloc: Global, found: &mut Audited, rows: &mut String) -> Option<()> {
     put_ending(found.ending, rows)?;
-    let pairs = found.pairs;
-    let cleared = found.cleared;
-    let skipped = found.skipped;
-    write!(
-        rows,
-        ": {pairs} pairs, {cleared} cleared, {skipped} skipped\n"
-    )
-    .ok()?;
+    rows.push('\n').ok()?;
     put_market(alloc, &mut found.market, rows)
 }
 
 // Audits the pairs behind the magic, and appends what was found.
-pub(crate) fn put_counted(
+pub(crate) fn put_ended(
     alloc: Global,
     journal: &[u8],
     more: bool,
