@@ -47,7 +47,7 @@ one_magic Three = refl
 -- what answers a record is a pair
 answered : (old new : Market) (asked : Record) (text : List ℕ) → AnswersOne old asked new text → (pair : Pair Record Outcome) × (piece text ≡ pair_spelling pair ∷ [])
 answered old new asked text step =
-    let pair = record { asked = asked; answer = step.answer } in
+    let pair : Pair Record Outcome = record { asked = asked; answer = step.answer } in
     (pair, ap piece step.spelled ∙ one_pair pair)
 
 -- the pieces of records are pairs
