@@ -1,5 +1,6 @@
 pub mod Outcomes
 pub mod RunWord
+mod RunPieces
 pub mod FileOf
 pub mod IfMore
 pub mod Words

@@ -1,12 +1,16 @@
 -- What `flow run` makes of the bytes of its source.
-use Rattle.std.specs.Prelude.{◌≡◌, ◌⊎◌, ◌+◌, ◌≤◌, ◌++◌, ◌∷◌, ℕ, List, [], length, Option, IfSome}
+use Rattle.std.specs.Prelude.{◌≡◌, ◌⊎◌, ◌+◌, ◌≤◌, ◌++◌, ◌∷◌, ℕ, List, [], length, map, Option, IfSome}
 use Rattle.std.specs.List.{flat_map}
 use Rattle.flow_io.specs.Changes.{Change}
-use Rattle.flow_io.specs.Streams.{Grows}
+use Rattle.flow_io.specs.Streams.{Grows, HandsOver}
 use Rattle.wire_records.specs.Records.{Record, spelling}
+use Rattle.wire_records.specs.Commands.{Pair}
 use Rattle.wire_records.specs.Reading.{Reading, NotFlow, File, Reads, StartsWith}
 use Rattle.wire_records.specs.declared.version.Version.{Version}
 use Rattle.wire_records.specs.Formats.{commands}
+use Rattle.flow_orders.specs.Outcomes.{Outcome}
+use Rattle.journal_records.specs.Pairs.{pair_spelling}
+use Rattle.journal_records.specs.Formats.{journal_magic_of}
 use Rattle.market_rules.specs.Market.{Market}
 use Rattle.market_rules.specs.Wanting.{RecordMayWant}
 use Rattle.exchange_session.specs.Journals.{Journals}
@@ -57,3 +61,12 @@ pub record IsNearPairs (limit : ℕ) (before after : Option (List ℕ)) (bytes :
 abbrev pub KeepsPace : ℕ → Status → Change → Change → Type 0
 KeepsPace limit status source out = (status ≡ WriteFault) ⊎ (status ≡ NoMemory)
     → WhereTaken source.before source.after (λ bytes taken. (taken ≤ 8 + 1030) ⊎ IsNearPairs limit out.before out.after bytes taken)
+
+-- no piece, or the magic of a journal as one piece, and behind it each pair as one
+abbrev pub AreMagicAndPairs : List (List ℕ) → Type 0
+AreMagicAndPairs pieces = (pieces ≡ []) ⊎ ((version : Version) × (pairs : List (Pair Record Outcome)) × (pieces ≡ journal_magic_of version ∷ map pair_spelling pairs))
+
+-- What a run hands to out, by whatever status: the magic by one call, each pair by one call, and nothing besides. Where no write
+-- failed, out gained these pieces whole; of the last one a write may have failed.
+abbrev pub WritesInPieces : {O : Type 0} → (O → Option (List (List ℕ))) → (O → Option (List ℕ)) → O → O → Status → Type 0
+WritesInPieces calls held before after status = (pieces : List (List ℕ)) × AreMagicAndPairs pieces × HandsOver calls held before after (status ≡ WriteFault) pieces

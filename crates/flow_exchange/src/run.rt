@@ -2,7 +2,7 @@
 ghost use Rattle.std.specs.Prelude.{◌≢◌};
 ghost use Rattle.flow_io.specs.Changes.{change};
 ghost use Rattle.flow_exchange.specs.Private.{Serves};
-ghost use Rattle.flow_exchange.specs.Running.{KeepsPace};
+ghost use Rattle.flow_exchange.specs.Running.{KeepsPace, WritesInPieces};
 ghost use Rattle.flow_exchange.specs.declared.form.Form.TheVariants.{Run as run_form};
 
 use crate::Status;
@@ -26,6 +26,7 @@ pub(crate) fn run<S: Source, K: Sink>(
         (change K.held K.faults out.old out.new) }
     ensures paced { KeepsPace limit result (change S.rest S.faults source.old source.new)
         (change K.held K.faults out.old out.new) }
+    ensures pieces { WritesInPieces K.calls K.held out.old out.new result }
 {
     let ended = go(alloc, limit, source, out, Run::new(alloc));
     plain_status(ended, limit)

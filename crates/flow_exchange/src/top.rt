@@ -5,7 +5,7 @@ ghost use Rattle.flow_exchange.specs.Forms.{Asks};
 ghost use Rattle.flow_exchange.specs.Private.{Serves};
 ghost use Rattle.flow_exchange.specs.Program.{ServesCall};
 ghost use Rattle.flow_exchange.specs.Promising.{Promises};
-ghost use Rattle.flow_exchange.specs.Running.{KeepsPace};
+ghost use Rattle.flow_exchange.specs.Running.{KeepsPace, WritesInPieces};
 ghost use Rattle.flow_exchange.specs.Wanting.{WantsMemory};
 
 use crate::Status;
@@ -39,6 +39,7 @@ fn do_form<S: Source, K: Sink>(
         (change K.held K.faults out.old out.new) }
     ensures paced { form ≡ Form.Run → KeepsPace limit result (change S.rest S.faults source.old source.new)
         (change K.held K.faults out.old out.new) }
+    ensures pieces { form ≡ Form.Run → WritesInPieces K.calls K.held out.old out.new result }
 {
     match form {
         Form::Run => run(alloc, limit, source, out),
@@ -72,6 +73,8 @@ pub fn flow_limited<S: Source, K: Sink, N: Sink>(
     // How far a run has read that was cut short.
     ensures paced { Asks (map string_bytes words.now) Form.Run → KeepsPace limit result
         (change S.rest S.faults source.old source.new) (change K.held K.faults out.old out.new) }
+    // A run writes the magic by one call, and each pair by one.
+    ensures pieces { Asks (map string_bytes words.now) Form.Run → WritesInPieces K.calls K.held out.old out.new result }
     // The words are no form: nothing is read, and nothing is written to out.
     ensures idle { result ≡ Status.Usage → (source.new ≡ source.old) × (out.new ≡ out.old) }
 {
@@ -123,6 +126,7 @@ pub fn flow<S: Source, K: Sink, N: Sink>(
     ensures promises { (form : Form) → Asks (map string_bytes words.now) form → Promises form (2 ^ 32) (S.rest source.old) }
     ensures paced { Asks (map string_bytes words.now) Form.Run → KeepsPace (2 ^ 32) result
         (change S.rest S.faults source.old source.new) (change K.held K.faults out.old out.new) }
+    ensures pieces { Asks (map string_bytes words.now) Form.Run → WritesInPieces K.calls K.held out.old out.new result }
     ensures idle { result ≡ Status.Usage → (source.new ≡ source.old) × (out.new ≡ out.old) }
 {
     flow_limited(alloc, words, INPUT_LIMIT, source, out, notes)

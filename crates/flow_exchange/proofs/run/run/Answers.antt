@@ -7,6 +7,7 @@ use Rattle.flow_exchange.specs.declared.form.Form.TheVariants.{Run}
 use Rattle.flow_exchange.specs.Private.{no_reason}
 use Rattle.flow_exchange.proofs.Words.{does, not_asked}
 use Rattle.flow_exchange.proofs.Pace.{keeps_pace}
+use Rattle.flow_exchange.proofs.RunPieces.{writes_in_pieces}
 use Rattle.flow_exchange.proofs.RunWord.{run_form, start}
 use Rattle.flow_exchange.proofs.run.run.Goals as goal
 
@@ -21,4 +22,5 @@ returns g c =
       asked = rw c.plain_status.ensures (not_asked (task run start) Run c.args.limit no_reason run_form c.go-ended.result);
       does = rw c.plain_status.ensures (does (task run start) Run c.args.limit no_reason run_form c.go-ended.result source out (λ e. tt) c.go-ended.ensures.does);
       paced = rw c.plain_status.ensures (keeps_pace c.args.limit c.go-ended.result source out c.go-ended.ensures.does);
+      pieces = rw c.plain_status.ensures (writes_in_pieces g.K.Sink.calls g.K.Sink.held c.args.out.now c.go-ended.new.out c.args.limit c.go-ended.result c.go-ended.ensures.pieces);
     }

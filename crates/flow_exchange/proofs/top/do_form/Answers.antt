@@ -6,6 +6,9 @@ returns-in-Run-clause-does g c = rw c.in-Run.is c.run.ensures.does
 pub returns-in-Run-clause-paced : goal.returns-in-Run-clause-paced
 returns-in-Run-clause-paced g c = λ same. c.run.ensures.paced
 
+pub returns-in-Run-clause-pieces : goal.returns-in-Run-clause-pieces
+returns-in-Run-clause-pieces g c = λ same. c.run.ensures.pieces
+
 pub returns-in-Audit-clause-does : goal.returns-in-Audit-clause-does
 returns-in-Audit-clause-does g c = rw c.in-Audit.is c.audit.ensures.does
 

@@ -11,3 +11,6 @@ returns-clause-promises g c = c.flow_limited.ensures.promises
 
 pub returns-clause-paced : goal.returns-clause-paced
 returns-clause-paced g c = c.flow_limited.ensures.paced
+
+pub returns-clause-pieces : goal.returns-clause-pieces
+returns-clause-pieces g c = c.flow_limited.ensures.pieces

@@ -6,6 +6,7 @@ use Rattle.flow_io.specs.declared.sink.WriteFailed.{WriteFailed}
 use Rattle.flow_exchange.specs.Statuses.{line_of}
 use Rattle.flow_io.proofs.Growth.{GrowsByFront-whole}
 use Rattle.flow_exchange.specs.declared.form.Form.TheVariants.{Run}
+use Rattle.flow_exchange.proofs.Outcomes.{one_form}
 use Rattle.flow_exchange.proofs.Dispatch.{serves_form, wants_form, paced_form, serves_none, promised}
 use Rattle.flow_exchange.proofs.top.flow_limited.Goals as goal
 use Rattle.flow_exchange.proofs.top.flow_limited.Goals.{in-Some, in-None}
@@ -57,5 +58,11 @@ returns-clause-paced g c = elim c.match-form_of.branch [
       let source = change g.S.Source.rest g.S.Source.faults c.args.source.now w.do_form-status.new.source in
       let out = change g.K.Sink.held g.K.Sink.faults c.args.out.now w.do_form-status.new.out in
       rw (w.status-is, w.source-is, w.out-is) (paced_form c.args.limit _ w.in-Some.form w.do_form-status.result source out w.in-Some.ensures.form form.paced)
+  | in-None w ↦ λ asks. absurd (w.in-None.ensures.none Run asks)
+]
+
+pub returns-clause-pieces : goal.returns-clause-pieces
+returns-clause-pieces g c = elim c.match-form_of.branch [
+  | in-Some w ↦ rw (w.status-is, w.source-is, w.out-is) (λ asks. w.do_form-status.ensures.pieces (one_form _ w.in-Some.form Run w.in-Some.ensures.form asks))
   | in-None w ↦ λ asks. absurd (w.in-None.ensures.none Run asks)
 ]
