@@ -6,7 +6,7 @@ use Rattle.disk_edge.proofs.Moments.{then_more, weaker, no_call, at_the_end}
 use Rattle.journal_disk.specs.Entries.{framed}
 use Rattle.journal_disk.specs.Looking.{OnlyLooks}
 use Rattle.journal_disk.proofs.Entries.{length-framed}
-use Rattle.journal_disk.specs.Lengths.{HasAtMost, LeavesAtMost, ReachesAtMost}
+use Rattle.journal_disk.specs.Lengths.{HasAtMost, ReachesAtMost}
 
 -- up to a later place
 pub reach_wider : (a b : ℕ) (old new : DiskState) → a ≤ b → ReachesAtMost a old new → ReachesAtMost b old new

@@ -1,5 +1,5 @@
 -- What a run leaves is a disk that a run may begin on, and that can be opened.
-use Rattle.std.proofs.Common.{inl, inr, ⊎_elim, ◌^◌, arith}
+use Rattle.std.proofs.Common.{inl, inr, ⊎_elim, ◌+◌, ◌^◌, length, arith}
 use Rattle.disk_edge.specs.Disks.{DiskState}
 use Rattle.journal_keeping.specs.Laws.{CanBeginAgain}
 use Rattle.journal_keeping.proofs.Legal.{firsts_are_legal}
