@@ -5,6 +5,8 @@ use Rattle.std.proofs.lemmas.Bool.{false≢true}
 use Rattle.wire_records.specs.Records.{Record}
 use Rattle.wire_records.specs.Commands.{Command, RunBatch, Answer, Plain}
 use Rattle.wire_records.specs.Versions.{IsReadAs}
+use Rattle.wire_records.specs.Views.{command_of}
+use Rattle.wire_records.specs.declared.command.CommandView.{CommandView}
 use Rattle.wire_records.specs.declared.command.BodyFault.{BodyFault}
 use Rattle.wire_records.specs.declared.reply.Reply.{Reply}
 use Rattle.wire_records.specs.declared.reply.Reply.TheVariants.{Refused}
@@ -53,8 +55,11 @@ module _ (m : Market) (c : Command) (none : (budget : ℕ) → ¬ (c ≡ RunBatc
   right_answer a is = subst (λ x. Serves IsRightOutcome m c x expected.0) (sym is) (plain_by_any IsRightOutcome m c (Plain reply) expected.0 expected.1)
 
   -- where it is no refusal, the command makes its market
-  pub accepted_answer : (a : Answer Outcome) → a ≡ Plain reply → ((refusal : Refusal) → ¬ (reply ≡ Refused refusal)) → IsReadWeighed m (Ok c) a (Some change.Command)
-  accepted_answer a is accepts = (expected.0, right_answer a is, (none, no_first m expected.0 c reply expected.1.first expected.1.refused expected.1.answered accepts))
+  pub accepted_answer : (seen : CommandView) → c ≡ command_of seen → (a : Answer Outcome) → a ≡ Plain reply → ((refusal : Refusal) → ¬ (reply ≡ Refused refusal))
+      → IsReadWeighed m (Ok c) a (Some (change.Command seen))
+  accepted_answer seen shows a is accepts =
+      let accepted = no_first m expected.0 c reply expected.1.first expected.1.refused expected.1.answered accepts in
+      (expected.0, right_answer a is, subst (IsAcceptedPlain m (Ok c)) shows (record { is_read = refl; no_batch = none; accepted = accepted }))
 
   -- a refusal changes nothing
   pub refused_answer : (a : Answer Outcome) (refusal : Refusal) → a ≡ Plain reply → reply ≡ Refused refusal → IsReadWeighed m (Ok c) a (Some change.Nothing)
@@ -131,20 +136,14 @@ module _ (old : Market) (pair : Record × Record) where
   pub batch_made : (o : parts.Outcome) → IsChangeOf old pair (change.Batch o) → IsLegalPair old pair (after_batch old (outcome_of old.orders o))
   batch_made o is = subst (IsLegalPair old pair) is.changes.made is.legal
 
-  module _ (is : IsChangeOf old pair change.Command) where
-    -- the command of the pair is accepted, and there is one
-    pub command_accepted : (read : Result Command BodyFault) → IsReadAs old.version pair.0 read → IsAcceptedPlain old read
-    command_accepted read spelled = subst (IsAcceptedPlain old) (reading_unique old.version pair.0 is.legal.step.read read is.legal.step.spelled spelled) is.changes
-
-    -- where it is served, the step is made
-    pub command_made : (c : Command) (told : Reply) (new : Market) → IsReadAs old.version pair.0 (Ok c) → ServesPlain old c (Plain told) new
-        → IsLegalPair old pair new
-    command_made c told new spelled serves =
-        let none = (command_accepted (Ok c) spelled).0 in
-        let same = reading_unique old.version pair.0 is.legal.step.read (Ok c) is.legal.step.spelled spelled in
-        let there = subst (λ r. ServesRead IsRightOutcome old r is.legal.answer is.new) same is.legal.step.served in
-        let here = plain_by_any IsRightOutcome old c (Plain told) new serves in
-        subst (IsLegalPair old pair) (plain_commands_have_one_answer old c is.legal.answer (Plain told) is.new new none there here).1 is.legal
+  -- a command is served
+  pub command_made : (seen : CommandView) → IsChangeOf old pair (change.Command seen) → (told : Reply) (new : Market)
+      → ServesPlain old (command_of seen) (Plain told) new → IsLegalPair old pair new
+  command_made seen is told new serves =
+      let c = command_of seen in
+      let there = subst (λ r. ServesRead IsRightOutcome old r is.legal.answer is.new) is.changes.is_read is.legal.step.served in
+      let here = plain_by_any IsRightOutcome old c (Plain told) new serves in
+      subst (IsLegalPair old pair) (plain_commands_have_one_answer old c is.legal.answer (Plain told) is.new new is.changes.no_batch there here).1 is.legal
 
 -- ---- answers of the code
 

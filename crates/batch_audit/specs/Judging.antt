@@ -1,8 +1,9 @@
 -- What the audit of one pair answers, and what it makes of the audit's market.
-use Rattle.std.specs.Prelude.{◌≡◌, ◌<◌, ℕ, Option, Some, None, Result, Ok, Err}
+use Rattle.std.specs.Prelude.{◌≡◌, ◌<◌, ℕ, Option, Some, None, Result, Ok}
 use Rattle.wire_records.specs.Records.{Record}
 use Rattle.wire_records.specs.Commands.{RunBatch}
 use Rattle.wire_records.specs.Commands as commands
+use Rattle.wire_records.specs.Views.{command_of}
 use Rattle.wire_records.specs.declared.command.BodyFault.{BodyFault}
 use Rattle.batch_outcome.specs.declared.outcome.Outcome.{Outcome}
 use Rattle.batch_outcome.specs.Published.{outcome_of}
@@ -20,10 +21,11 @@ abbrev pub IsJudged : Legality → Market → Record × Record → Market → Ty
 IsJudged Legal old pair new = IsLegalPair old pair new
 IsJudged Illegal old pair new = IsIllegalPair old pair × (new ≡ old)
 
--- what a record is read as is a command that holds no batch, and that no refusal stops
-abbrev pub IsAcceptedPlain : Market → Result commands.Command BodyFault → Type 0
-IsAcceptedPlain m (Ok command) = ((budget : ℕ) → ¬ (command ≡ RunBatch budget)) × FirstRefusal m command None
-IsAcceptedPlain m (Err why) = ⊥
+-- what a record is read as is this command, which holds no batch, and which no refusal stops
+pub record IsAcceptedPlain (old : Market) (read : Result commands.Command BodyFault) (command : commands.Command) : Type 0 where
+  pub is_read : read ≡ Ok command
+  pub no_batch : (budget : ℕ) → ¬ (command ≡ RunBatch budget)
+  pub accepted : FirstRefusal old command None
 
 -- settling an outcome, which the market may do, makes the new market
 pub record IsSettling (old : Market) (outcome : Outcome) (new : Market) : Type 0 where
@@ -34,7 +36,7 @@ pub record IsSettling (old : Market) (outcome : Outcome) (new : Market) : Type 0
 -- a change of the old market, by what a record is read as, that makes the new one: none, that of its command, or that of a batch
 abbrev pub Changes : Market → Result commands.Command BodyFault → Change → Market → Type 0
 Changes old read Nothing new = new ≡ old
-Changes old read Command new = IsAcceptedPlain old read
+Changes old read (Command seen) new = IsAcceptedPlain old read (command_of seen)
 Changes old read (Batch outcome) new = IsSettling old outcome new
 
 -- a pair is legal, and this is what it changes

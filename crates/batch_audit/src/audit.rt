@@ -6,7 +6,6 @@ use crate::change::Change;
 use crate::explaining::finding_of;
 use crate::finding::Finding;
 use crate::judging::judge_record;
-use crate::making::make_command;
 use journal_records::{PairView, reply};
 use market_core::Market;
 use std::alloc::Global;
@@ -108,7 +107,7 @@ impl Audit {
     ///
     /// It costs what the audit of the pair costs without the step. Memory is taken for the start prices of a batch, for the
     /// prices, rates and residuals of a clearing that is right, and for a walk what a search takes but for its trace.
-    pub fn judge(&mut self, pair: &PairView<'_>) -> Result<Option<Change>, Memory>
+    pub fn judge<'a>(&mut self, pair: &PairView<'a>) -> Result<Option<Change<'a>>, Memory>
         requires next { self.old.next_order + 1 < 2 ^ 64 }
         ensures weighed { IfOk result (IsWeighed self.old pair.now) }
         ensures stays { self.new ≡ self.old }
@@ -127,8 +126,9 @@ impl Audit {
     /// Makes the step of a pair that was judged over this market: what [`Audit::judge`] answered of it is the change. The number
     /// that the next order gets is below 2^64 - 1. After `Memory` the market is as before.
     ///
-    /// It costs what the step costs. Memory is taken for what the market keeps of a command; a batch takes none.
-    pub fn make(&mut self, pair: &PairView<'_>, change: Change) -> Result<(), Memory>
+    /// It costs what the step costs: the change has the command, so nothing of the pair is read again. Memory is taken for what
+    /// the market keeps of a command; a batch takes none.
+    pub fn make(&mut self, pair: &PairView<'_>, change: Change<'_>) -> Result<(), Memory>
         requires change { IsChangeOf self.old pair.now change }
         requires next { self.old.next_order + 1 < 2 ^ 64 }
         ensures legal { OnOk result (IsLegalPair self.old pair.now self.new) }
@@ -137,7 +137,10 @@ impl Audit {
     {
         match change {
             Change::Nothing => Ok(()),
-            Change::Command => Ok(make_command(&mut self.market, pair)?),
+            Change::Command(command) => {
+                self.market.make(&command)?;
+                Ok(())
+            }
             Change::Batch(outcome) => {
                 self.market.settle(&outcome);
                 Ok(())

@@ -18,7 +18,7 @@ use std::alloc::Global;
 use wire_records::{CommandView, Memory, RecordView, Refusal, Reply};
 
 // Nothing is changed where a test holds, and else there is no step.
-fn nothing_where(test: bool) -> Option<Change>
+fn nothing_where<'a>(test: bool) -> Option<Change<'a>>
     ensures { result ≡ (if test then Some Change.Nothing else None) }
 {
     if test { Some(Change::Nothing) } else { None }
@@ -39,30 +39,34 @@ fn refusal_in(reply: Reply) -> Option<Refusal>
 }
 
 // What a command that holds no batch makes of the market, where this is the reply to it.
-fn judge_plain(market: &Market, command: &CommandView<'_>, seen: &ReplyView<'_>) -> Option<Change>
-    requires command { IsCommand (command_of command.now) }
-    requires version { IsOfVersion market.now.version (command_of command.now) }
-    requires no_batch { (budget : ℕ) → ¬ (command_of command.now ≡ RunBatch budget) }
+fn judge_plain<'a>(
+    market: &Market,
+    command: CommandView<'a>,
+    seen: &ReplyView<'_>,
+) -> Option<Change<'a>>
+    requires command { IsCommand (command_of command) }
+    requires version { IsOfVersion market.now.version (command_of command) }
+    requires no_batch { (budget : ℕ) → ¬ (command_of command ≡ RunBatch budget) }
     requires next { market.now.next_order + 1 < 2 ^ 64 }
-    ensures { IsReadWeighed market.now (Ok (command_of command.now)) (answer_of seen.now) result }
+    ensures { IsReadWeighed market.now (Ok (command_of command.entry)) (answer_of seen.now) result }
 {
-    let expected = market.expected(command);
+    let expected = market.expected(&command);
     if !is_plain(seen, expected) {
         return None;
     }
     match refusal_in(expected) {
         Some(_refusal) => Some(Change::Nothing),
-        None => Some(Change::Command),
+        None => Some(Change::Command(command)),
     }
 }
 
 // What a batch with this budget makes of the market, where the reply tells a right outcome of it, or why it is refused.
-fn judge_batch(
+fn judge_batch<'a>(
     alloc: Global,
     market: &mut Market,
     budget: u32,
     seen: &ReplyView<'_>,
-) -> Result<Option<Change>, Memory>
+) -> Result<Option<Change<'a>>, Memory>
     ensures weighed { IfOk result (IsReadWeighed market.old (Ok (RunBatch budget)) (answer_of seen.now)) }
     ensures stays { market.new ≡ market.old }
     ensures wanted { OnErr result (MayWant market.old (RunBatch budget)) }
@@ -77,12 +81,12 @@ fn judge_batch(
 }
 
 // What a record makes of the market, where this is the answer to it.
-pub(crate) fn judge_record(
+pub(crate) fn judge_record<'a>(
     alloc: Global,
     market: &mut Market,
-    asked: &RecordView<'_>,
+    asked: &RecordView<'a>,
     seen: &ReplyView<'_>,
-) -> Result<Option<Change>, Memory>
+) -> Result<Option<Change<'a>>, Memory>
     requires next { market.old.next_order + 1 < 2 ^ 64 }
     ensures weighed { IfOk result (IsAnswerWeighed market.old asked.now (answer_of seen.now)) }
     ensures stays { market.new ≡ market.old }
@@ -90,7 +94,7 @@ pub(crate) fn judge_record(
 {
     match market.read(asked) {
         Ok(CommandView::RunBatch { budget }) => Ok(judge_batch(alloc, market, budget, seen)?),
-        Ok(command) => Ok(judge_plain(market, &command, seen)),
+        Ok(command) => Ok(judge_plain(market, command, seen)),
         Err(refusal) => Ok(nothing_where(is_plain(seen, Reply::Refused(refusal)))),
     }
 }

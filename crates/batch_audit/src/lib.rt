@@ -19,7 +19,6 @@ mod explaining;
 mod finding;
 mod judging;
 pub mod laws;
-mod making;
 mod outcomes;
 
 pub use audit::{Audit, Legality};

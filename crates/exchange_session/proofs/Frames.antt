@@ -1,14 +1,14 @@
 -- What stands at the front of the rest of a command file.
-use Rattle.std.proofs.Common.{◌≡◌, ◌<◌, ◌≤◌, ℕ, List, [], ◌++◌, length, drop, ap, length-append, arith}
+use Rattle.std.proofs.Common.{◌≡◌, ◌+◌, ◌-◌, ◌<◌, ◌≤◌, ℕ, List, [], ◌++◌, length, drop, ap, length-append, arith}
 use Rattle.wire_records.specs.Records.{Record, IsRecord, StatesLength, HasNoFront, spelling}
 use Rattle.wire_records.specs.Formats.{StatesOver}
 use Rattle.wire_records.proofs.Fronts.{no_front-from_few, states_none-from_few, no_front-from_overlong}
 use Rattle.wire_records.proofs.Spelled.{length-spelling}
 use Rattle.journal_records.specs.Pairs.{plain_room}
 
--- a record has room in the buffer
-pub has_room : (r : Record) (capacity : ℕ) → IsRecord 1024 r → 1042 ≤ capacity → plain_room r ≤ capacity
-has_room r capacity fits room = omega (arith, length-spelling r, fits.body, room)
+-- where a record's pair has no room with a plain reply, the room is that of fewer than 1,042 bytes
+pub few_room : (r : Record) (capacity len : ℕ) → IsRecord 1024 r → capacity < len + plain_room r → capacity - len < 1042
+few_room r capacity len fits short = omega (arith, length-spelling r, fits.body, short)
 
 -- a record at the front of bytes leaves as many fewer, and takes five at least
 pub record_within : (bytes : List ℕ) (r : Record) (taken : ℕ) → taken ≡ length (spelling r) → bytes ≡ spelling r ++ drop taken bytes → (taken ≤ length bytes) × (5 ≤ taken)

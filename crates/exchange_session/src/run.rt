@@ -1,7 +1,8 @@
 //! `run` as a word: records in, pairs out.
-ghost use Rattle.std.specs.Prelude.{◌≡◌, ◌+◌, ◌^◌, ◌<◌};
+ghost use Rattle.std.specs.Prelude.{◌≡◌};
 ghost use Rattle.wire_records.specs.declared.version.Version.TheVariants.{One};
 ghost use Rattle.market_rules.specs.Market.{empty_market};
+ghost use Rattle.exchange_session.specs.Serving.{HasNumbers};
 ghost use Rattle.exchange_session.specs.Running.{run};
 
 use crate::Session;
@@ -9,7 +10,7 @@ use file_units::Front;
 use journal_records::journal_magic;
 use market_core::Market;
 use std::alloc::Global;
-use wire_records::{Framed, MOST_BODY, command_version, next_record};
+use wire_records::command_version;
 use word_driver::{Halt, Never, ServesWord};
 
 // As many bytes has the longest record: 5, and 1,024 of its body.
@@ -64,7 +65,7 @@ impl ServesWord for Run {
 
     ghost state = { λ r. r.session };
 
-    ghost is_ready = { λ r left. r.session.next_order + left < 2 ^ 64 };
+    ghost is_ready = { λ r left. HasNumbers r.session left };
 
     fn open(&mut self, bytes: &[u8], text: &mut Vec<u8>) -> bool {
         match command_version(bytes) {
@@ -78,14 +79,9 @@ impl ServesWord for Run {
     }
 
     fn take(&mut self, bytes: &[u8], text: &mut Vec<u8>) -> Result<Front, Halt<Never>> {
-        match next_record(bytes, MOST_BODY) {
-            Framed::Whole(asked, taken) => match self.session.serve(&asked, text) {
-                Ok(()) => Ok(Front::Taken(taken)),
-                Err(_) => Err(Halt::Memory),
-            },
-            Framed::End => Ok(Front::NoBytes),
-            Framed::TooLarge(_) => Ok(Front::Overlong),
-            Framed::Short => Ok(Front::Short),
+        match self.session.serve_next(bytes, text) {
+            Ok(front) => Ok(front),
+            Err(_) => Err(Halt::Memory),
         }
     }
 

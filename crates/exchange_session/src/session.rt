@@ -1,5 +1,5 @@
 //! One command record, and the pair that it gives.
-ghost use Rattle.std.specs.Prelude.{◌≡◌, ◌++◌, ◌+◌, ◌^◌, ◌<◌, ◌≤◌, ◌⊎◌, ℕ, List, IfOk, OnErr, OnOk, vec_len, vec_capacity};
+ghost use Rattle.std.specs.Prelude.{◌≡◌, ◌++◌, ◌+◌, ◌-◌, ◌^◌, ◌<◌, ◌≤◌, ◌⊎◌, ℕ, List, [], length, IfOk, OnErr, OnOk, vec_len, vec_capacity};
 ghost use Rattle.wire_records.specs.Commands.{Plain};
 ghost use Rattle.wire_records.specs.Versions.{IsReadAs};
 ghost use Rattle.journal_records.specs.Pairs.{plain_room};
@@ -9,11 +9,12 @@ ghost use Rattle.market_rules.specs.Wanting.{RecordMayWant};
 ghost use Rattle.exchange_session.specs.Private.{IsAsked};
 
 use crate::batch::hold_batch;
+use file_units::Front;
 use journal_records::{reserve_plain, write_plain};
 use market_core::Market;
 use std::alloc::Global;
 use std::marker::Model;
-use wire_records::{CommandView, Memory, RecordView, Reply};
+use wire_records::{CommandView, Framed, MOST_BODY, Memory, RecordView, Reply, next_record};
 
 /// The market of a run, from record to record. Contracts see it as that market.
 #[derive(Drop)]
@@ -57,7 +58,9 @@ impl Session {
     ghost use Rattle.wire_records.specs.Records.{IsRecord, most_body};
     ghost use Rattle.wire_records.specs.declared.version.Version.TheVariants.{One};
     ghost use Rattle.market_rules.specs.Market.{empty_market, IsSound};
-    ghost use Rattle.exchange_session.specs.Serving.{AnswersOne};
+    ghost use Rattle.wire_records.specs.Formats.{commands};
+    ghost use Rattle.file_units.specs.Units.{IsTaken, StaysReady};
+    ghost use Rattle.exchange_session.specs.Serving.{AnswersOne, Puts, HasNumbers, WantsNext};
 
     /// A session over the empty market of version One. Takes no memory.
     pub fn new(alloc: Global) -> Session
@@ -116,5 +119,32 @@ impl Session {
             Asked::Batch(budget) => hold_batch(self.alloc, &mut self.market, asked, budget, out)?,
         }
         Ok(())
+    }
+    /// Serves the record at the front of the bytes of a command file, if a whole one stands there, puts its pair into an
+    /// empty buffer, and answers what stood there, as whoever goes through the records asks for it. Nothing is done where no
+    /// whole record stands there, and the cost is that of [`Session::serve`].
+    ///
+    /// After `Memory` market and buffer are as before, but that the buffer may have more room; it comes only at a whole record,
+    /// where the buffer had less room than 1,042 bytes, as many as the longest pair with a plain reply has, or where the record
+    /// may want memory.
+    pub fn serve_next(&mut self, bytes: &[u8], out: &mut Vec<u8>) -> Result<Front, Memory>
+        requires ready { (left : ℕ) × (length bytes.now ≤ left) × HasNumbers self.old left }
+        requires empty { out.old.items ≡ [] }
+        ensures taken { IfOk result (λ front. IsTaken commands Puts front bytes.now self.old self.new [] out.new.items) }
+        ensures stays { IfOk result (λ front. (left : ℕ) → length bytes.now ≤ left → HasNumbers self.old left →
+            StaysReady (HasNumbers self.new) front left) }
+        ensures same { OnErr result ((self.new ≡ self.old) × (out.new.items ≡ [])) }
+        ensures wanted { OnErr result (WantsNext self.old bytes.now (vec_capacity out.old - vec_len out.old)) }
+        ensures room { vec_capacity out.old ≤ vec_capacity out.new }
+    {
+        match next_record(bytes, MOST_BODY) {
+            Framed::Whole(asked, taken) => match self.serve(&asked, out) {
+                Ok(()) => Ok(Front::Taken(taken)),
+                Err(_) => Err(Memory),
+            },
+            Framed::End => Ok(Front::NoBytes),
+            Framed::TooLarge(_) => Ok(Front::Overlong),
+            Framed::Short => Ok(Front::Short),
+        }
     }
 }

@@ -29,7 +29,7 @@ use Rattle.flow_exchange.specs.JournalFiles.{if_whole, audit_status, status_of}
 use Rattle.flow_exchange.specs.Checkpointing.{checkpoint_text, CheckpointsTo, CheckpointsShort}
 use Rattle.flow_exchange.proofs.JournalForms.{judged_all, judged_some, behind_only, at_pair}
 use Rattle.flow_exchange.proofs.FileOf.{makes}
-use Rattle.flow_exchange.proofs.Words.{IsForm, word_form}
+use Rattle.flow_exchange.proofs.Words.{Nothing, IsForm, word_form}
 
 abbrev pub checkpoint_start : Version → Watched (Unit {0})
 checkpoint_start version = record { market = empty_market version; pairs = 0; seen = tt }
@@ -105,5 +105,5 @@ checkpoint_out limit bytes text (version, body, behind, magic, is, (way, keeps))
           inr (checkpoint_bytes way.state.market, file limit bytes answer.Done (checkpoint_bytes way.state.market) are.legal [] End way.state.market audits refl refl, none)
     ]
 
-pub checkpoint_form : IsForm (task checkpoint checkpoint_start) Checkpoint rejected
+pub checkpoint_form : IsForm (task checkpoint checkpoint_start) Checkpoint rejected Nothing
 checkpoint_form = word_form checkpoint checkpoint_start checkpoint_is_exact Checkpoint rejected checkpoint_to (λ limit bytes n text more. more) checkpoint_out (λ why. tt) (λ limit. refl) (λ bytes. refl)

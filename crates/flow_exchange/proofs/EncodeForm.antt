@@ -4,6 +4,7 @@ use Rattle.std.proofs.lemmas.Grind.{flat_map-append}
 use Rattle.std.proofs.lemmas.List.{take_at}
 use Rattle.std.proofs.lemmas.List.Elements.{All-nil, All-take}
 use Rattle.flow_io.specs.Streams.{GrowsByFront}
+use Rattle.flow_io.proofs.Growth.{Grows-nothing}
 use Rattle.wire_records.specs.Formats.{command_magic_of}
 use Rattle.wire_records.specs.Commands.{Command}
 use Rattle.wire_records.specs.declared.version.Version.{Version}
@@ -17,7 +18,7 @@ use Rattle.flow_exchange.specs.declared.form.Form.TheVariants.{Encode}
 use Rattle.flow_exchange.specs.declared.status.Status.TheVariants as answer
 use Rattle.flow_exchange.specs.Statuses.{bad_text}
 use Rattle.flow_exchange.specs.Program.{ComesToIfMore, GetsTo}
-use Rattle.flow_exchange.proofs.Words.{IsForm, nothing_is_front}
+use Rattle.flow_exchange.proofs.Words.{IsForm, Unwritten, nothing_is_front}
 
 -- lines before the last one
 before_last : (read ended : List (List ℕ)) (line last : List ℕ) (more : List (List ℕ)) → read ++ line ∷ more ≡ ended ++ last ∷ [] → (rest : List (List ℕ)) × (ended ≡ read ++ rest)
@@ -90,20 +91,16 @@ module _ (version : Version) where
   lacks limit bytes text (inr short) =
       inr (subst (λ (x : List ℕ). GetsTo (Encode version) limit bytes x) (sym short.writes) (gets_by limit bytes short.commands (before_next version (limit < length bytes) (take limit bytes) short.commands short.first)))
 
-  -- before the end, and after a fault of out
-  so_far : (limit : ℕ) (bytes : List ℕ) (text : List ℕ) → (text ≡ []) ⊎ EncodesInto version limit bytes text → (text ≡ []) ⊎ GetsTo (Encode version) limit bytes text
-  so_far limit bytes text (inl none) = inl none
-  so_far limit bytes text (inr into) = inr (gets limit bytes text into)
-
+  -- after a fault of out
   cut_short : (limit : ℕ) (bytes : List ℕ) (text : List ℕ) (before after : Option (List ℕ)) → (text ≡ []) ⊎ EncodesInto version limit bytes text → GrowsByFront before after text → (other : List ℕ) × GetsTo (Encode version) limit bytes other × GrowsByFront before after other
   cut_short limit bytes text before after (inl none) written =
       (text_of [], inl (0, read_if_more [] [] [] (All-nil IsPiece) (refl, refl)), nothing_is_front before after text (text_of []) none written)
   cut_short limit bytes text before after (inr into) written = (text, gets limit bytes text into, written)
 
-  pub encode_form : IsForm (encoding version) (Encode version) bad_text
+  pub encode_form : IsForm (encoding version) (Encode version) bad_text Unwritten
   encode_form = record {
     to = λ limit bytes ended text comes. (ended, comes, refl);
-    so_far = λ limit bytes n text begun. so_far limit bytes text begun;
+    so_far = λ limit bytes n text before after begun written same. ([], refl, rw same (Grows-nothing before));
     gets = λ limit bytes n text before after begun written. cut_short limit bytes text before after begun written;
     lacks = lacks;
     out = λ limit bytes text short. short;

@@ -29,7 +29,7 @@ use Rattle.flow_exchange.specs.JournalFiles.{Journal, if_whole, audit_status, st
 use Rattle.flow_exchange.specs.Auditing.{legal_line, audit_text, AuditsShort}
 use Rattle.flow_exchange.specs.Explaining.{Explains, ExplainsTo}
 use Rattle.flow_exchange.proofs.FileOf.{makes}
-use Rattle.flow_exchange.proofs.Words.{IsForm, word_form}
+use Rattle.flow_exchange.proofs.Words.{Nothing, IsForm, word_form}
 use Rattle.flow_exchange.proofs.JournalForms.{AreCounted, are_counted, judged_all, judged_some, at_pair, audit_start, behind_only, line_is}
 
 -- ---- what was seen is what an audit sees
@@ -120,5 +120,5 @@ explain_out limit bytes text (version, body, behind, magic, is, (way, keeps)) =
       | inr end ↦ absurd end.1
     ]
 
-pub explain_form : IsForm (task explain audit_start) Explain rejected
+pub explain_form : IsForm (task explain audit_start) Explain rejected Nothing
 explain_form = word_form explain audit_start explain_is_exact Explain rejected explain_to (λ limit bytes n text more. more) explain_out (λ why. tt) (λ limit. refl) (λ bytes. refl)

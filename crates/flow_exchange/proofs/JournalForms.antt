@@ -37,7 +37,7 @@ use Rattle.flow_exchange.specs.JournalFiles.{audit_status, status_of, IsAtPair}
 use Rattle.flow_exchange.specs.Auditing.{legal_line, audit_text, AuditsTo, AuditsShort}
 use Rattle.flow_exchange.specs.Reporting.{AreReported, ReportsTo, ReportsShort}
 use Rattle.flow_exchange.proofs.FileOf.{makes}
-use Rattle.flow_exchange.proofs.Words.{IsForm, word_form}
+use Rattle.flow_exchange.proofs.Words.{Nothing, IsForm, word_form}
 
 cleared_more : (pair : Pair Record Outcome) (pairs : List (Pair Record Outcome)) → cleared_in (pair ∷ pairs) ≡ cleared_by pair.answer + cleared_in pairs
 cleared_more pair pairs = sum_by-cons (λ (p : Pair Record Outcome). cleared_by p.answer) pair pairs
@@ -240,7 +240,7 @@ audit_out limit bytes text (version, body, behind, magic, is, (way, keeps)) =
       | inr end ↦ absurd end.1
     ]
 
-pub audit_form : IsForm (task audit audit_start) Audit rejected
+pub audit_form : IsForm (task audit audit_start) Audit rejected Nothing
 audit_form = word_form audit audit_start audit_is_exact Audit rejected audit_to (λ limit bytes n text more. more) audit_out (λ why. tt) (λ limit. refl) (λ bytes. refl)
 
 -- ---- report
@@ -308,5 +308,5 @@ report_out limit bytes text (version, body, behind, magic, is, (way, keeps)) =
       | inr end ↦ absurd end.1
     ]
 
-pub report_form : IsForm (task report report_start) Report rejected
+pub report_form : IsForm (task report report_start) Report rejected Nothing
 report_form = word_form report report_start report_is_exact Report rejected report_to (λ limit bytes n text more. more) report_out (λ why. tt) (λ limit. refl) (λ bytes. refl)

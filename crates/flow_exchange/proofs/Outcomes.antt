@@ -42,7 +42,7 @@ use Rattle.flow_exchange.specs.Resuming.{ResumesTo}
 use Rattle.session_resume.proofs.OneResumption.{one_end_of}
 use Rattle.flow_exchange.specs.Forms.{Asks}
 use Rattle.flow_exchange.specs.Program.{ComesTo, Determines, Meets}
-use Rattle.flow_exchange.specs.Laws.{OneForm, OneEnd, FaultlessIsDetermined}
+use Rattle.flow_exchange.specs.Laws.{OneForm, OneEnd, OneIfMore, FaultlessIsDetermined}
 use Rattle.flow_exchange.proofs.FileOf.{one_journal}
 
 -- ---- words ask for one form: it is a function of them
@@ -173,6 +173,10 @@ one_end (Sample number orders) limit bytes s t x y a b = samples_one number orde
 one_end (Statement number) limit bytes s t x y a b = journal_one (statement_status number limit) (States number) (stated_once number) limit bytes s t x y a b
 one_end Checkpoint limit bytes s t x y a b = journal_one (status_of limit) (λ journal text. text ≡ checkpoint_text journal) (λ journal x y a b. a ∙ sym b) limit bytes s t x y a b
 one_end Resume limit bytes s t x y a b = resumes_one limit bytes s t x y a b
+
+-- and so they do if more follow
+pub one_if_more : OneIfMore
+one_if_more form bytes x y a b = (one_end form (length bytes) (bytes ++ 0 ∷ []) (a 0 []).0 (b 0 []).0 x y (a 0 []).1 (b 0 []).1).1
 
 -- ---- where no count rose and memory was there, they determine what a form did
 

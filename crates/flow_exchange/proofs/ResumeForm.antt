@@ -2,6 +2,7 @@
 use Rattle.std.proofs.Common.{◌≡◌, ◌<◌, ◌⊎◌, ℕ, List, [], ◌∷◌, ◌++◌, Option, Err, length, take, inl, inr, append-nil, append_assoc, length-append, refl, sym, ap, ◌∙◌, subst, arith}
 use Rattle.std.proofs.lemmas.List.{take_at}
 use Rattle.flow_io.specs.Streams.{GrowsByFront}
+use Rattle.flow_io.proofs.Growth.{Grows-nothing}
 use Rattle.wire_records.specs.Records.{Record}
 use Rattle.wire_records.specs.Grammars.{spell_all}
 use Rattle.wire_records.specs.Reading as reading
@@ -26,7 +27,7 @@ use Rattle.flow_exchange.specs.declared.form.Form.TheVariants.{Resume}
 use Rattle.flow_exchange.specs.declared.status.Status.TheVariants as answer
 use Rattle.flow_exchange.specs.Statuses.{unfit_status}
 use Rattle.flow_exchange.specs.Program.{ComesToIfMore, GetsTo}
-use Rattle.flow_exchange.proofs.Words.{IsOwn, IsForm, nothing_is_front}
+use Rattle.flow_exchange.proofs.Words.{IsOwn, IsForm, Unwritten, nothing_is_front}
 use Rattle.flow_exchange.proofs.CommandFiles.{command_files_begin_no_pair}
 
 -- What stands first, whatever command file stands behind it.
@@ -88,11 +89,7 @@ lacks : (limit : ℕ) (bytes : List ℕ) (text : List ℕ) → (text ≡ []) ⊎
 lacks limit bytes text (inl none) = inl none
 lacks limit bytes text (inr short) = inr (gets limit bytes short.records short.left short.new text short.first)
 
--- before the end, and after a fault of out: without bytes there is nothing to go on from
-so_far : (limit : ℕ) (bytes : List ℕ) (text : List ℕ) → (text ≡ []) ⊎ ResumesInto (take limit bytes) text → (text ≡ []) ⊎ GetsTo Resume limit bytes text
-so_far limit bytes text (inl none) = inl none
-so_far limit bytes text (inr into) = inr (gets limit bytes into.records into.left into.new text into.first)
-
+-- after a fault of out: without bytes there is nothing to go on from
 no_bytes : ComesToIfMore Resume [] []
 no_bytes = λ next more. (
   answer.NotFlow,
@@ -118,10 +115,10 @@ owns : (why : Unfit) → IsOwn (unfit_status why)
 owns (Illegal number) = tt
 owns NoCheckpoint = tt
 
-pub resume_form : IsForm resuming Resume unfit_status
+pub resume_form : IsForm resuming Resume unfit_status Unwritten
 resume_form = record {
   to = λ limit bytes ended text comes. (ended, comes, refl);
-  so_far = λ limit bytes n text begun. so_far limit bytes text begun;
+  so_far = λ limit bytes n text before after begun written same. ([], refl, rw same (Grows-nothing before));
   gets = λ limit bytes n text before after begun written. cut_short limit bytes text before after begun written;
   lacks = lacks;
   out = λ limit bytes text short. short;

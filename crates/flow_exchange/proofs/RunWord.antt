@@ -20,7 +20,7 @@ use Rattle.flow_exchange.specs.declared.form.Form.TheVariants.{Run}
 use Rattle.flow_exchange.specs.Statuses.{ended_status}
 use Rattle.flow_exchange.specs.Private.{no_reason}
 use Rattle.flow_exchange.specs.Running.{RunsTo, RunsShort}
-use Rattle.flow_exchange.proofs.Words.{IsForm, word_form}
+use Rattle.flow_exchange.proofs.Words.{Nothing, IsForm, word_form}
 
 abbrev pub start : Version → Market
 start version = empty_market version
@@ -91,5 +91,5 @@ runs_out limit bytes text (version, body, behind, magic, is, on) =
     ]
 
 -- so its task is the form of the program
-pub run_form : IsForm (task run start) Run no_reason
+pub run_form : IsForm (task run start) Run no_reason Nothing
 run_form = word_form run start run_is_exact Run no_reason runs_to (λ limit bytes n text more. more) runs_out (λ never. elim never [ ]) (λ limit. refl) (λ bytes. refl)

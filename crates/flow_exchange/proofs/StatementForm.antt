@@ -44,7 +44,7 @@ use Rattle.flow_exchange.specs.Statuses.{ended_status}
 use Rattle.flow_exchange.specs.Private.{no_statement}
 use Rattle.flow_exchange.specs.Stating.{statement_status, States, AreSeen, StatesTo, StatesShort}
 use Rattle.flow_exchange.proofs.FileOf.{makes}
-use Rattle.flow_exchange.proofs.Words.{IsOwn, IsForm, word_form}
+use Rattle.flow_exchange.proofs.Words.{IsOwn, Nothing, IsForm, word_form}
 use Rattle.flow_exchange.proofs.JournalForms.{judged_all, judged_some, at_pair}
 
 module _ (account : ℕ) where
@@ -283,5 +283,5 @@ module _ (account : ℕ) where
   owns (why.Rejected n) = tt
   owns (why.NoAccount n) = tt
 
-  pub statement_form : IsForm (task statement (statement_start account)) (Statement account) no_statement
+  pub statement_form : IsForm (task statement (statement_start account)) (Statement account) no_statement Nothing
   statement_form = word_form statement (statement_start account) statement_is_exact (Statement account) no_statement to (λ limit bytes n text more. more) out owns (λ limit. refl) (λ bytes. refl)

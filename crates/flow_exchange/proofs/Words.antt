@@ -38,16 +38,25 @@ IsOwn answer.DiskFault = ⊥
 IsOwn answer.NotDisk = ⊥
 IsOwn (answer.Damaged place) = ⊥
 
--- How a word's task is a form of the program, with a status for each of its own reasons to stop.
-pub record IsForm {B : Type 0} (t : Task B) (form : Form) (own : B → Status) : Type 0 where
+-- How a word's task is a form of the program, with a status for each of its own reasons to stop, and with what is known besides where
+-- a read failed.
+pub record IsForm {B : Type 0} (t : Task B) (form : Form) (own : B → Status) (Unread : Option (List ℕ) → Option (List ℕ) → Type 0) : Type 0 where
   pub to : (limit : ℕ) (bytes : List ℕ) (ended : Ended B) (text : List ℕ) → t.Comes limit bytes ended text → ComesTo form limit bytes (ended_status limit own ended) text
-  pub so_far : (limit : ℕ) (bytes : List ℕ) (n : ℕ) (text : List ℕ) → t.Begins limit bytes n text → WritesSoFar form limit bytes n text
+  pub so_far : (limit : ℕ) (bytes : List ℕ) (n : ℕ) (text : List ℕ) (before after : Option (List ℕ)) → t.Begins limit bytes n text → Grows before after text → Unread before after
+      → (other : List ℕ) × WritesSoFar form (take n (take limit bytes)) other × Grows before after other
   pub gets : (limit : ℕ) (bytes : List ℕ) (n : ℕ) (text : List ℕ) (before after : Option (List ℕ)) → t.Begins limit bytes n text → GrowsByFront before after text → (other : List ℕ) × GetsTo form limit bytes other × GrowsByFront before after other
   pub lacks : (limit : ℕ) (bytes : List ℕ) (text : List ℕ) → t.Lacks limit bytes text → (text ≡ []) ⊎ GetsTo form limit bytes text
   pub out : (limit : ℕ) (bytes : List ℕ) (text : List ℕ) → t.Lacks limit bytes text → LacksAt form limit bytes text
   pub owns : (why : B) → IsOwn (own why)
   pub most : (limit : ℕ) → t.most_taken limit ≡ most_taken form limit
   pub left : (bytes : List ℕ) → t.left bytes ≡ left_by form bytes
+
+-- nothing more is known of a word of the driver, and of one that reads all before it writes, that nothing was written
+abbrev pub Nothing : Option (List ℕ) → Option (List ℕ) → Type 0
+Nothing before after = Unit {0}
+
+abbrev pub Unwritten : Option (List ℕ) → Option (List ℕ) → Type 0
+Unwritten before after = after ≡ before
 
 -- nothing written is a front of anything
 pub nothing_is_front : (before after : Option (List ℕ)) (text other : List ℕ) → text ≡ [] → GrowsByFront before after text → GrowsByFront before after other
@@ -65,12 +74,12 @@ module _ {U S B : Type 0} (w : Word U S B) (start : Version → S) (exact : IsEx
       let first = take n (take limit bytes) in
       λ next more. (ended_status (length first) own ended, to (length first) (first ++ next ∷ more) ended text (comes_if_more w start first next more ended text comes))
 
-  pub word_form : ((limit : ℕ) (bytes : List ℕ) (n : ℕ) (text : List ℕ) → ComesToIfMore form (take n (take limit bytes)) text → WritesSoFar form limit bytes n text)
+  pub word_form : ((limit : ℕ) (bytes : List ℕ) (n : ℕ) (text : List ℕ) → ComesToIfMore form (take n (take limit bytes)) text → WritesSoFar form (take n (take limit bytes)) text)
       → ((limit : ℕ) (bytes : List ℕ) (text : List ℕ) → (task w start).Lacks limit bytes text → LacksAt form limit bytes text) → ((why : B) → IsOwn (own why))
-      → ((limit : ℕ) → limit + 1 ≡ most_taken form limit) → ((bytes : List ℕ) → [] ≡ left_by form bytes) → IsForm (task w start) form own
+      → ((limit : ℕ) → limit + 1 ≡ most_taken form limit) → ((bytes : List ℕ) → [] ≡ left_by form bytes) → IsForm (task w start) form own Nothing
   word_form so_far out owns most left = record {
     to = to;
-    so_far = λ limit bytes n text waits. so_far limit bytes n text (if_more limit bytes n text waits);
+    so_far = λ limit bytes n text before after begins written known. (text, so_far limit bytes n text (if_more limit bytes n text begins), written);
     gets = λ limit bytes n text before after begins written. (text, inl (n, if_more limit bytes n text begins), written);
     lacks = λ limit bytes text lacks.
         let begins = lacks_begins w start exact limit bytes text lacks in
@@ -81,7 +90,7 @@ module _ {U S B : Type 0} (w : Word U S B) (start : Version → S) (exact : IsEx
     left = left;
   }
 
-module _ {B : Type 0} (t : Task B) (form : Form) (limit : ℕ) (own : B → Status) (is : IsForm t form own) where
+module _ {B : Type 0} (t : Task B) (form : Form) (limit : ℕ) (own : B → Status) {Unread : Option (List ℕ) → Option (List ℕ) → Type 0} (is : IsForm t form own Unread) where
   determines : (bytes : List ℕ) (ended : Ended B) (before after : Option (List ℕ)) → driver.Determines t limit bytes ended before after → Determines form limit bytes (ended_status limit own ended) before after
   determines bytes ended before after (text, comes, written, one) =
       let here = is.to limit bytes ended text comes in
@@ -91,26 +100,26 @@ module _ {B : Type 0} (t : Task B) (form : Form) (limit : ℕ) (own : B → Stat
   met : (bytes : List ℕ) (left : Option (List ℕ)) (status : Status) (before after : Option (List ℕ)) → status ≢ answer.ReadFault → status ≢ answer.WriteFault → status ≢ answer.NoMemory → Determines form limit bytes status before after → Meets form limit bytes left status before after
   met bytes left status before after r w m determined = record { read = λ e. absurd (r e); write = λ e. absurd (w e); memory = λ e. absurd (m e); determined = λ _ _ _. determined }
 
-  meets : (bytes : List ℕ) (left : Option (List ℕ)) (ended : Ended B) (before after : Option (List ℕ)) → driver.Meets t limit bytes left ended before after → Meets form limit bytes left (ended_status limit own ended) before after
-  meets bytes left (Ok done) before after so = met bytes left answer.Done before after (λ e. cc) (λ e. cc) (λ e. cc) (determines bytes (Ok done) before after so)
-  meets bytes left (Err word.NotFlow) before after so = met bytes left answer.NotFlow before after (λ e. cc) (λ e. cc) (λ e. cc) (determines bytes (Err word.NotFlow) before after so)
-  meets bytes left (Err (word.Torn n)) before after so = met bytes left (answer.Torn n) before after (λ e. cc) (λ e. cc) (λ e. cc) (determines bytes (Err (word.Torn n)) before after so)
-  meets bytes left (Err word.TooLong) before after so = met bytes left (answer.TooLong limit) before after (λ e. cc) (λ e. cc) (λ e. cc) (determines bytes (Err word.TooLong) before after so)
-  meets bytes left (Err (word.Stopped why)) before after so =
+  meets : (bytes : List ℕ) (left : Option (List ℕ)) (ended : Ended B) (before after : Option (List ℕ)) → (ended ≡ Err word.Read → Unread before after) → driver.Meets t limit bytes left ended before after → Meets form limit bytes left (ended_status limit own ended) before after
+  meets bytes left (Ok done) before after unread so = met bytes left answer.Done before after (λ e. cc) (λ e. cc) (λ e. cc) (determines bytes (Ok done) before after so)
+  meets bytes left (Err word.NotFlow) before after unread so = met bytes left answer.NotFlow before after (λ e. cc) (λ e. cc) (λ e. cc) (determines bytes (Err word.NotFlow) before after so)
+  meets bytes left (Err (word.Torn n)) before after unread so = met bytes left (answer.Torn n) before after (λ e. cc) (λ e. cc) (λ e. cc) (determines bytes (Err (word.Torn n)) before after so)
+  meets bytes left (Err word.TooLong) before after unread so = met bytes left (answer.TooLong limit) before after (λ e. cc) (λ e. cc) (λ e. cc) (determines bytes (Err word.TooLong) before after so)
+  meets bytes left (Err (word.Stopped why)) before after unread so =
       met bytes left (own why) before after (λ e. subst IsOwn e (is.owns why)) (λ e. subst IsOwn e (is.owns why)) (λ e. subst IsOwn e (is.owns why)) (determines bytes (Err (word.Stopped why)) before after so)
-  meets bytes left (Err word.Read) before after (n, taken, text, waits, written) =
-      record { read = λ e. (n, taken, text, is.so_far limit bytes n text waits, written); write = λ e. absurd cc; memory = λ e. absurd cc; determined = λ r w m. absurd (r refl) }
-  meets bytes left (Err word.Write) before after (text, inl (n, begins), written) =
+  meets bytes left (Err word.Read) before after unread (n, taken, text, waits, written) =
+      record { read = λ e. (n, taken, is.so_far limit bytes n text before after waits written (unread refl)); write = λ e. absurd cc; memory = λ e. absurd cc; determined = λ r w m. absurd (r refl) }
+  meets bytes left (Err word.Write) before after unread (text, inl (n, begins), written) =
       record { read = λ e. absurd cc; write = λ e. is.gets limit bytes n text before after begins written; memory = λ e. absurd cc; determined = λ r w m. absurd (w refl) }
-  meets bytes left (Err word.Write) before after (text, inr (ended, comes), written) =
+  meets bytes left (Err word.Write) before after unread (text, inr (ended, comes), written) =
       record { read = λ e. absurd cc; write = λ e. (text, inr (ended_status limit own ended, is.to limit bytes ended text comes), written); memory = λ e. absurd cc; determined = λ r w m. absurd (w refl) }
-  meets bytes left (Err word.Memory) before after (text, lacks, written) =
+  meets bytes left (Err word.Memory) before after unread (text, lacks, written) =
       let to : (text ≡ []) ⊎ GetsTo form limit bytes text = elim lacks [ inl (taken, none) ↦ inl none | inr short ↦ is.lacks limit bytes text short ] in
       record { read = λ e. absurd cc; write = λ e. absurd cc; memory = λ e. (text, to, written); determined = λ r w m. absurd (m refl) }
 
-  meets_told : (told left : Option (List ℕ)) (ended : Ended B) (before after : Option (List ℕ)) → IfSome told (λ bytes. driver.Meets t limit bytes left ended before after) → IfSome told (λ bytes. Meets form limit bytes left (ended_status limit own ended) before after)
-  meets_told None left ended before after met = tt
-  meets_told (Some bytes) left ended before after met = meets bytes left ended before after met
+  meets_told : (told left : Option (List ℕ)) (ended : Ended B) (before after : Option (List ℕ)) → (ended ≡ Err word.Read → Unread before after) → IfSome told (λ bytes. driver.Meets t limit bytes left ended before after) → IfSome told (λ bytes. Meets form limit bytes left (ended_status limit own ended) before after)
+  meets_told None left ended before after unread met = tt
+  meets_told (Some bytes) left ended before after unread met = meets bytes left ended before after unread met
 
   pub read_back : (ended : Ended B) → ended_status limit own ended ≡ answer.ReadFault → ended ≡ Err word.Read
   read_back (Err word.Read) e = refl
@@ -171,9 +180,9 @@ module _ {B : Type 0} (t : Task B) (form : Form) (limit : ℕ) (own : B → Stat
   wants_told None left before after so = tt
   wants_told (Some bytes) left before after (text, lacks, written) = (text, elim lacks [ inl none ↦ inl none | inr short ↦ inr (is.out limit bytes text short) ], written)
 
-  pub does : (ended : Ended B) (source out : Change) → driver.Does t limit ended source out → Serves form limit (ended_status limit own ended) source out
-  does ended source out done =
-      let met = meets_told source.before source.after ended out.before out.after done.meets in
+  pub does : (ended : Ended B) (source out : Change) → (ended ≡ Err word.Read → Unread out.before out.after) → driver.Does t limit ended source out → Serves form limit (ended_status limit own ended) source out
+  does ended source out unread done =
+      let met = meets_told source.before source.after ended out.before out.after unread done.meets in
       let reads : Blames (ended_status limit own ended ≡ answer.ReadFault) source.faults source.faults_after = record {
         later = done.reads.later;
         rose = λ e. done.reads.rose (read_back ended e);

@@ -68,18 +68,18 @@ left_by (Statement number) bytes = []
 left_by Checkpoint bytes = []
 left_by Resume bytes = []
 
--- what was written while no more than the first so many bytes could be read: what they come to if more follow. A form that reads all before
--- it writes, or reads nothing, may have written nothing.
-abbrev pub WritesSoFar : Form → ℕ → List ℕ → ℕ → List ℕ → Type 0
-WritesSoFar Run limit bytes n text = ComesToIfMore Run (take n (take limit bytes)) text
-WritesSoFar Audit limit bytes n text = ComesToIfMore Audit (take n (take limit bytes)) text
-WritesSoFar Explain limit bytes n text = ComesToIfMore Explain (take n (take limit bytes)) text
-WritesSoFar Report limit bytes n text = ComesToIfMore Report (take n (take limit bytes)) text
-WritesSoFar (Encode version) limit bytes n text = (text ≡ []) ⊎ GetsTo (Encode version) limit bytes text
-WritesSoFar (Sample number orders) limit bytes n text = text ≡ []
-WritesSoFar (Statement number) limit bytes n text = ComesToIfMore (Statement number) (take n (take limit bytes)) text
-WritesSoFar Checkpoint limit bytes n text = ComesToIfMore Checkpoint (take n (take limit bytes)) text
-WritesSoFar Resume limit bytes n text = (text ≡ []) ⊎ GetsTo Resume limit bytes text
+-- what was written while no more than these bytes could be read: what they come to if more follow, and nothing by a form that reads all
+-- before it writes, or reads nothing
+abbrev pub WritesSoFar : Form → List ℕ → List ℕ → Type 0
+WritesSoFar Run bytes text = ComesToIfMore Run bytes text
+WritesSoFar Audit bytes text = ComesToIfMore Audit bytes text
+WritesSoFar Explain bytes text = ComesToIfMore Explain bytes text
+WritesSoFar Report bytes text = ComesToIfMore Report bytes text
+WritesSoFar (Encode version) bytes text = text ≡ []
+WritesSoFar (Sample number orders) bytes text = text ≡ []
+WritesSoFar (Statement number) bytes text = ComesToIfMore (Statement number) bytes text
+WritesSoFar Checkpoint bytes text = ComesToIfMore Checkpoint bytes text
+WritesSoFar Resume bytes text = text ≡ []
 
 -- ---- what holds of all forms
 
@@ -92,7 +92,7 @@ Determines form limit bytes status before after =
 -- What stands in out, by what is left of the source, and by the status.
 pub record Meets (form : Form) (limit : ℕ) (bytes : List ℕ) (left : Option (List ℕ)) (status : Status) (before after : Option (List ℕ)) : Type 0 where
   -- After a fault of the source: what was written of the bytes that were taken.
-  pub read : status ≡ ReadFault → (n : ℕ) × IsTaken bytes left n × (text : List ℕ) × WritesSoFar form limit bytes n text × Grows before after text
+  pub read : status ≡ ReadFault → (n : ℕ) × IsTaken bytes left n × (text : List ℕ) × WritesSoFar form (take n (take limit bytes)) text × Grows before after text
   -- After a fault of out: a front of what the form gets to.
   pub write : status ≡ WriteFault → (text : List ℕ) × GetsTo form limit bytes text × GrowsByFront before after text
   -- Where memory ran out: nothing, or what the form gets to.

@@ -1,7 +1,7 @@
 //! What holds of the program's words and outcomes, whatever code there is, where its own promise rests on it. Each law is the
 //! contract of a function that does nothing. What else holds stands in the crate `flow_laws`.
 ghost use Rattle.std.specs.Prelude.{◌≡◌, ◌↔◌, IsTrue};
-ghost use Rattle.flow_exchange.specs.Laws.{OneForm, OneEnd, FaultlessIsDetermined};
+ghost use Rattle.flow_exchange.specs.Laws.{OneForm, OneEnd, OneIfMore, FaultlessIsDetermined};
 
 use crate::Status;
 
@@ -13,6 +13,12 @@ pub fn one_form()
 /// For each form the bytes of the source determine one status, and one text for out.
 pub fn one_end()
     ensures { OneEnd }
+{}
+
+/// Bytes come to one text if more follow. So after a failed read nothing less stands in out than what those that were taken make,
+/// and nothing else, but for `encode` and `resume`.
+pub fn one_if_more()
+    ensures { OneIfMore }
 {}
 
 /// Where no fault came and memory wasn't wanted, the bytes of the source determine the status and what was written.

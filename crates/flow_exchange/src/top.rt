@@ -107,8 +107,8 @@ pub fn flow_limited<S: Source, K: Sink, N: Sink>(
 /// `resume` hold their input whole.
 ///
 /// Each form but `encode`, `sample` and `resume` writes what has come before it asks for more: after a read fault there stands what the
-/// bytes that came make if more follow, as after `run` the pairs of all whole records. After a write fault `run` has read no more than
-/// 1,030 bytes past the last pair that was written.
+/// bytes that came make if more follow, as after `run` the pairs of all whole records; `encode` and `resume` leave nothing. After a
+/// write fault `run` has read no more than 1,030 bytes past the last pair that was written.
 pub fn flow<S: Source, K: Sink, N: Sink>(
     alloc: Global,
     words: &[String],

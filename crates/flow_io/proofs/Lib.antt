@@ -1,4 +1,5 @@
 pub mod Reading
 pub mod Writing
 pub mod Growth
+pub mod Calls
 pub mod Filling

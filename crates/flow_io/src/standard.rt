@@ -97,6 +97,8 @@ impl<W: Write> StdSink<W> {
 impl<W: Write> Sink for StdSink<W> {
     ghost held = { λ _. None };
 
+    ghost calls = { λ _. None };
+
     ghost faults = { λ sink. sink.faults };
 
     /// Writes until nothing is left, and flushes. An error is a fault, whatever its kind, and so is a

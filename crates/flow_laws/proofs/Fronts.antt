@@ -37,7 +37,7 @@ use Rattle.flow_exchange.specs.Private.{no_reason, no_statement, rejected}
 use Rattle.flow_exchange.specs.Program.{ComesTo, ComesToIfMore}
 use Rattle.flow_exchange.proofs.Outcomes.{one_end}
 use Rattle.flow_exchange.proofs.IfMore.{comes_back}
-use Rattle.flow_exchange.proofs.Words.{IsForm}
+use Rattle.flow_exchange.proofs.Words.{Nothing, IsForm}
 use Rattle.flow_exchange.proofs.RunWord.{run_form, start}
 use Rattle.flow_exchange.proofs.JournalForms.{audit_form, report_form, audit_start, report_start}
 use Rattle.flow_exchange.proofs.ExplainForm.{explain_form}
@@ -68,7 +68,7 @@ begins_or_not (a ∷ text) (b ∷ begun) =
 
 -- ---- a word of the driver
 
-module _ {U S B : Type 0} (w : Word U S B) (start : Version → S) (exact : IsExact w) (kept : IsKept w start) (next : HasNext w start) (form : Form) (own : B → Status) (is : IsForm (task w start) form own) where
+module _ {U S B : Type 0} (w : Word U S B) (start : Version → S) (exact : IsExact w) (kept : IsKept w start) (next : HasNext w start) (form : Form) (own : B → Status) (is : IsForm (task w start) form own Nothing) where
   -- there are an end of all bytes and one of the first, under a double negation, and whether a text begins with another is decided
   word_begins : (limit : ℕ) (bytes : List ℕ) (status : Status) (text begun : List ℕ) (n : ℕ) → ComesTo form limit bytes status text → ComesToIfMore form (take n (take limit bytes)) begun → Begins text begun
   word_begins limit bytes status text begun n comes begins =

@@ -1,5 +1,5 @@
 -- No bytes are without a status and a text, whatever the form.
-use Rattle.std.proofs.Common.{ℕ, List, ◌<◌, length, take, refl}
+use Rattle.std.proofs.Common.{ℕ, Option, List, ◌<◌, length, take, refl}
 use Rattle.word_driver.specs.Does.{Task, task}
 use Rattle.word_driver.specs.Ended.{Ended}
 use Rattle.word_driver.proofs.SomeEnds.{some_end}
@@ -34,7 +34,7 @@ use Rattle.session_resume.proofs.SomeResumption as resumption
 use Rattle.flow_laws.proofs.SampleLaws.{some_sample}
 
 -- where a task has some end, its form has some outcome
-some_end_of : {B : Type 0} (t : Task B) (form : Form) (limit : ℕ) (own : B → Status) → IsForm t form own → (bytes : List ℕ)
+some_end_of : {B : Type 0} {Unread : Option (List ℕ) → Option (List ℕ) → Type 0} (t : Task B) (form : Form) (limit : ℕ) (own : B → Status) → IsForm t form own Unread → (bytes : List ℕ)
     → (((ended : Ended B) (text : List ℕ) → ¬ t.Comes limit bytes ended text) → ⊥) → ((status : Status) (text : List ℕ) → ¬ ComesTo form limit bytes status text) → ⊥
 some_end_of t form limit own is bytes some none = some (λ ended text comes. none (ended_status limit own ended) text (is.to limit bytes ended text comes))
 

@@ -2,7 +2,6 @@
 use Rattle.std.proofs.Common.{◌≡◌, ◌+◌, ℕ, List, [], ◌∷◌, ◌++◌, map, length, Bool, true, false, ◌⊎◌, inl, inr, IsTrue, refl, sym, ap, subst, ◌∙◌, append_assoc, length-append, arith}
 use Rattle.std.specs.Prelude.{All}
 use Rattle.std.proofs.lemmas.List.{append-nil, flat_map_more}
-use Rattle.std.proofs.lemmas.List.Sums.{sum_by-cons}
 use Rattle.std.proofs.lemmas.Grind.{flat_map-append}
 use Rattle.std.proofs.lemmas.List.Elements.{All-nil, All-cons, All-head, All-tail, All-append, All-push}
 use Rattle.wire_records.specs.Records.{Record}
@@ -21,7 +20,7 @@ use Rattle.market_rules.specs.Market.{Market, empty_market}
 use Rattle.market_rules.specs.Journal.{Follows}
 use Rattle.journal_replay.specs.declared.auditing.PairFault.{PairFault}
 use Rattle.journal_replay.specs.declared.auditing.PairFault.TheVariants.{Illegal, Memory}
-use Rattle.journal_replay.specs.Audits.{AuditsOn, cleared_by, skipped_by, cleared_in, skipped_in}
+use Rattle.journal_replay.specs.Audits.{AuditsOn}
 use Rattle.journal_replay.specs.Replays.{FindsFault}
 use Rattle.journal_replay.specs.Private.{State, CountsOne, BreaksOffWith}
 
@@ -40,15 +39,6 @@ pub record AreLegal (start new : State) (units : List (Record × Record)) : Type
   pub each : All IsPair legal
   pub steps : Follows IsReadAs IsRightOutcome start.market legal new.market
   pub pairs : new.pairs ≡ start.pairs + length legal
-  pub cleared : new.cleared ≡ start.cleared + cleared_in legal
-  pub skipped : new.skipped ≡ start.skipped + skipped_in legal
-
--- one pair more
-cleared_more : (pair : Pair Record Outcome) (pairs : List (Pair Record Outcome)) → cleared_in (pair ∷ pairs) ≡ cleared_by pair.answer + cleared_in pairs
-cleared_more pair pairs = sum_by-cons (λ (p : Pair Record Outcome). cleared_by p.answer) pair pairs
-
-skipped_more : (pair : Pair Record Outcome) (pairs : List (Pair Record Outcome)) → skipped_in (pair ∷ pairs) ≡ skipped_by pair.answer + skipped_in pairs
-skipped_more pair pairs = sum_by-cons (λ (p : Pair Record Outcome). skipped_by p.answer) pair pairs
 
 pub are_legal : {O : Type 0} (start new : State) (before after : O) (units : List (Record × Record)) → All journals.units.IsLawful units → Leads journals Counts start before units new after → AreLegal start new units
 are_legal start new before after [] each leads = record {
@@ -57,8 +47,6 @@ are_legal start new before after [] each leads = record {
   each = All-nil IsPair;
   steps = ap (λ (s : State). s.market) leads.0;
   pairs = rw leads.0 (omega arith);
-  cleared = rw leads.0 (omega arith);
-  skipped = rw leads.0 (omega arith);
 }
 are_legal start new before after (unit ∷ units) each leads =
     let one = leads.2 in
@@ -71,8 +59,6 @@ are_legal start new before after (unit ∷ units) each leads =
       each = All-cons IsPair pair rest.legal (record { asked = lawful.0; answer = one.legal.spelled.fits; answered = rw (← one.legal.spelled.spelled) lawful.1 }) rest.each;
       steps = (leads.0.market, one.legal.step, rest.steps);
       pairs = omega (arith, rest.pairs, one.pairs);
-      cleared = omega (arith, rest.cleared, one.cleared, cleared_more pair rest.legal);
-      skipped = omega (arith, rest.skipped, one.skipped, skipped_more pair rest.legal);
     }
 
 -- there is more, or not

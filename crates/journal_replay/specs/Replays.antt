@@ -17,15 +17,12 @@ use Rattle.journal_replay.specs.declared.auditing.PairFault.{PairFault}
 use Rattle.journal_replay.specs.declared.auditing.PairFault.TheVariants as fault
 use Rattle.journal_replay.specs.declared.replaying.ReplayFault.{ReplayFault}
 use Rattle.journal_replay.specs.declared.replaying.ReplayFault.TheVariants.{NotJournal, Torn, Illegal, Memory}
-use Rattle.journal_replay.specs.Audits.{AuditsOn, Audits, cleared_in, skipped_in}
+use Rattle.journal_replay.specs.Audits.{AuditsOn, Audits}
 
--- All whole pairs are legal: this is how the reading ends, the market that they make, and how many they are.
+-- All whole pairs are legal: this is how the reading ends, and the market that they make.
 pub record FindsLegal (version : Version) (place : ℕ) (More : Type 0) (bytes : List ℕ) (found : Audited) : Type 0 where
   pub legal : List (Pair Record Outcome)
   pub audits : AuditsOn version place More bytes legal [] (ending_of found.ending) found.market
-  pub pairs : found.pairs ≡ length legal
-  pub cleared : found.cleared ≡ cleared_in legal
-  pub skipped : found.skipped ≡ skipped_in legal
 
 -- A pair is illegal, and it is the first: this is its number, counted from 1.
 pub record FindsIllegal (version : Version) (place : ℕ) (More : Type 0) (bytes : List ℕ) (number : ℕ) : Type 0 where

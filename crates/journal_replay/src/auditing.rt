@@ -1,5 +1,5 @@
 //! Going through the pairs of a journal.
-ghost use Rattle.std.specs.Prelude.{◌≡◌, ◌≢◌, ℕ, ◌≤◌, IfOk, IfErr, IsTrue, drop, length};
+ghost use Rattle.std.specs.Prelude.{ℕ, ◌≤◌, IfOk, IfErr, IsTrue, drop, length};
 ghost use Rattle.wire_records.specs.Records.{Record};
 ghost use Rattle.journal_records.specs.Formats.{journals};
 ghost use Rattle.journal_replay.specs.Private.{State, CountsOne, BreaksOffWith, HasRoom};
@@ -12,11 +12,6 @@ use market_core::Market;
 use std::alloc::Global;
 use wire_records::Version;
 
-// The tags of the replies that tell of a batch.
-const CLEARED: u8 = 133;
-
-const SKIPPED: u8 = 134;
-
 /// What an audit of pairs has found where all whole ones are legal.
 #[derive(Drop)]
 pub struct Audited {
@@ -24,12 +19,6 @@ pub struct Audited {
     pub ending: Ending,
     /// The market that the pairs make.
     pub market: Market,
-    /// How many pairs there are.
-    pub pairs: u64,
-    /// How many of them tell of a batch that cleared.
-    pub cleared: u64,
-    /// How many of them tell of a batch that was skipped.
-    pub skipped: u64,
 }
 
 /// Why an audit of pairs breaks off.
@@ -41,21 +30,11 @@ pub enum PairFault {
     Memory,
 }
 
-// 1 for a tag that is counted, and 0 for any other.
-fn count_of(tag: u8, counted: u8) -> u64
-    ensures one { tag ≡ counted → result ≡ 1 }
-    ensures none { tag ≢ counted → result ≡ 0 }
-{
-    if tag == counted { 1 } else { 0 }
-}
-
-// The audit of a journal, and what it has counted.
+// The audit of a journal, and how many of its pairs were legal.
 #[derive(Drop)]
 struct Auditing {
     audit: Audit,
     pairs: u64,
-    cleared: u64,
-    skipped: u64,
 }
 
 impl Auditing {
@@ -74,9 +53,6 @@ impl Auditing {
             Err(_) => return Err(PairFault::Memory),
         }
         self.pairs += 1;
-        let tag = pair.answered().tag();
-        self.cleared += count_of(tag, CLEARED);
-        self.skipped += count_of(tag, SKIPPED);
         Ok(())
     }
 }
@@ -134,15 +110,10 @@ pub fn audit_pairs(
     let mut auditing = Auditing {
         audit: Audit::over(Market::new_in(alloc, version)),
         pairs: 0,
-        cleared: 0,
-        skipped: 0,
     };
     let ending = take_units(bytes, start, more, &mut auditing, &mut ())?;
     Ok(Audited {
         ending,
         market: auditing.audit.into_market(),
-        pairs: auditing.pairs,
-        cleared: auditing.cleared,
-        skipped: auditing.skipped,
     })
 }

@@ -193,7 +193,7 @@ module _ (version : Version) where
   left_told told after limit input (Err why) middle now whole taken encoded = tt
 
   -- encoding lines is no read of the source
-  encodes_without : (More : Type 0) (bytes : List ℕ) (ended : Ended ℕ) (middle now : Option (List ℕ)) → EncodesAll version More bytes ended middle now → ended ≡ Err fault.Read → ⊥
+  pub encodes_without : (More : Type 0) (bytes : List ℕ) (ended : Ended ℕ) (middle now : Option (List ℕ)) → EncodesAll version More bytes ended middle now → ended ≡ Err fault.Read → ⊥
   encodes_without More bytes ended middle now encoded e = subst (λ (z : Ended ℕ). EncodesAll version More bytes z middle now) e encoded
 
   pub read_quietly : (More : Type 0) (bytes : List ℕ) (ended : Ended ℕ) (middle now : Option (List ℕ)) → EncodesAll version More bytes ended middle now → (faults later : ℕ) → later ≡ faults → Blames (ended ≡ Err fault.Read) faults later

@@ -44,6 +44,8 @@ pub fn encode_source<S: Source, K: Sink>(
 ) -> Result<(), Fault<u64>>
     ensures does { Does (encoding version) limit result (change S.rest S.faults source.old source.new)
         (change K.held K.faults out.old out.new) }
+    // All is read before anything is written.
+    ensures unread { result ≡ Err Fault.Read → out.new ≡ out.old }
 {
     let input = match read_all(alloc, source, limit) {
         Ok(input) => input,

@@ -20,15 +20,12 @@ fn put_ending(ending: Ending, told: &mut Told) {
 // Appends what was found where all pairs are legal.
 fn put_found(alloc: Global, found: &mut Audited, told: &mut Told) {
     put_ending(found.ending, told);
-    told.put_number(": ", i128::from(found.pairs));
-    told.put_number(" pairs, ", i128::from(found.cleared));
-    told.put_number(" cleared, ", i128::from(found.skipped));
-    told.put(" skipped\n");
+    told.put("\n");
     put_market(alloc, &mut found.market, told);
 }
 
 // Audits the pairs behind the magic, and appends what was found.
-pub(crate) fn put_counted(alloc: Global, journal: &[u8], more: bool, told: &mut Told) {
+pub(crate) fn put_ended(alloc: Global, journal: &[u8], more: bool, told: &mut Told) {
     if journal.len() < MAGIC {
         return told.give_up();
     }

@@ -12,7 +12,7 @@
 //! | `audit: PAIRS` | each pair is judged: `legal` or `illegal`. Then the market |
 //! | `explain: PAIRS` | each pair that isn't legal: its number, and why |
 //! | `report: PAIRS` | each pair is judged and, where it is legal, reported: the text |
-//! | `count: JOURNAL` | the pairs behind the magic are audited: how the reading ends, and the counts. Then the market. With `count more:` there are more bytes behind these |
+//! | `ending: JOURNAL` | the pairs behind the magic are audited: how the reading ends. Then the market. With `ending more:` there are more bytes behind these |
 //! | `replay: JOURNAL` | the market, or the text of the fault |
 //! | `resume: JOURNAL` | the journal ends behind each of its pairs in turn, the magic alone first, is replayed, and a session over its market serves the commands of the pairs behind: how many bytes the new pairs have, and whether they are as they were |
 //! | `snapshot: BYTES` | the bytes are read as a checkpoint: `not sound`, or how many of them it has, and whether its market is written so again. Then the market |
@@ -84,7 +84,7 @@ fn put_case(alloc: Global, words: &str, bytes: &mut [u8], told: &mut Told) {
         "audit" => judging::put_judged(alloc, bytes, told),
         "explain" => explaining::put_explained(alloc, bytes, told),
         "report" => judging::put_report(alloc, bytes, told),
-        "count" => journals::put_counted(alloc, bytes, with == "more", told),
+        "ending" => journals::put_ended(alloc, bytes, with == "more", told),
         "replay" => journals::put_replayed(alloc, bytes, told),
         "resume" => resuming::put_resumed(alloc, bytes, told),
         "checkpoint" => checkpoints::put_kept(alloc, bytes, told),

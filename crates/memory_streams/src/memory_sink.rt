@@ -1,4 +1,4 @@
-ghost use Rattle.std.specs.Prelude.{◌≡◌, ◌↔◌, [], true, IfOk, OnOk, OnErr, IsErr};
+ghost use Rattle.std.specs.Prelude.{◌≡◌, ◌↔◌, [], None, true, IfOk, OnOk, OnErr, IsErr};
 ghost use Rattle.memory_streams.specs.Fakes.{NextIsListed, SinkState, after_write, after_failed_write};
 ghost use Rattle.flow_io.specs.Faults.{Blames};
 ghost use Rattle.memory_streams.specs.Memory.{told};
@@ -57,6 +57,8 @@ impl MemorySink {
 
 impl Sink for MemorySink {
     ghost held = { λ sink. told sink.kept };
+
+    ghost calls = { λ _. None };
 
     ghost faults = { λ sink. sink.faults };
 

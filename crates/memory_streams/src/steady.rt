@@ -1,4 +1,4 @@
-ghost use Rattle.std.specs.Prelude.{◌≡◌, ◌≤◌, ◌↔◌, ◌<◌, ℕ, List, [], Some, IfOk, OnOk, OnErr, IsErr, IsOk, true, min, length, take, drop};
+ghost use Rattle.std.specs.Prelude.{◌≡◌, ◌≤◌, ◌↔◌, ◌<◌, ℕ, List, [], None, Some, IfOk, OnOk, OnErr, IsErr, IsOk, true, min, length, take, drop};
 ghost use Rattle.flow_io.specs.Faults.{Blames};
 ghost use Rattle.memory_streams.specs.Memory.{Kept, told, keep};
 ghost use Rattle.flow_io.specs.Streams.{Takes, Grows, GrowsByFront};
@@ -99,6 +99,8 @@ impl SteadySink {
 
 impl Sink for SteadySink {
     ghost held = { told };
+
+    ghost calls = { λ _. None };
 
     ghost faults = { λ _. 0 };
 

@@ -1,5 +1,4 @@
 mod Counted
 mod Written
-mod Frames
 pub mod Sampled
 pub mod OneSummary

@@ -1,11 +1,14 @@
 -- A pair that the program's own rule gives is legal, and is what stands in its bytes.
-use Rattle.std.proofs.Common.{◌≡◌, ◌^◌, ◌<◌, ℕ, List, [], ◌++◌, append-nil, drop, length, Result, Ok, Err, refl, sym, ap, subst, ◌∙◌, arith}
+use Rattle.std.proofs.Common.{◌≡◌, ◌≤◌, ◌^◌, ◌<◌, ℕ, List, [], ◌++◌, append-nil, drop, length, length-append, Result, Ok, Err, refl, sym, ap, subst, ◌∙◌, arith}
 use Rattle.std.specs.Prelude.{OnOk, IfOk}
-use Rattle.wire_records.specs.Records.{Record}
+use Rattle.wire_records.specs.Records.{Record, spelling}
 use Rattle.wire_records.specs.Commands.{Command, Answer, Pair}
 use Rattle.wire_records.specs.Grammars.{BeginsWithNone}
 use Rattle.wire_records.specs.Versions.{IsReadAs}
+use Rattle.wire_records.specs.Formats.{commands}
+use Rattle.wire_records.proofs.Spelled.{length-spelling}
 use Rattle.wire_records.specs.declared.command.BodyFault.{BodyFault}
+use Rattle.file_units.specs.Units.{TakesOne}
 use Rattle.flow_orders.specs.Outcomes.{Outcome, IsRightOutcome}
 use Rattle.own_rule.specs.Own.{IsOwnOutcome}
 use Rattle.journal_records.specs.Replies.{SpellsAnswer}
@@ -17,9 +20,10 @@ use Rattle.market_rules.specs.Market.{Market, IsSound}
 use Rattle.market_rules.specs.Step.{ServesRead}
 use Rattle.market_rules.specs.Journal.{Step}
 use Rattle.own_journals.proofs.OwnIsLegal.{own_served_is_right}
+use Rattle.own_journals.proofs.LawProofs.{steps_number_one}
 use Rattle.market_rules.proofs.LawProofs.{market_is_determined}
 use Rattle.batch_audit.specs.Legal.{IsLegalPair}
-use Rattle.exchange_session.specs.Serving.{AnswersOne}
+use Rattle.exchange_session.specs.Serving.{AnswersOne, HasNumbers, Puts}
 use Rattle.sample_summary.specs.Private.{IsWritten}
 
 right_read : (old new : Market) (read : Result Command BodyFault) (answer : Answer Outcome) → IsSound old → ServesRead IsOwnOutcome old read answer new → ServesRead IsRightOutcome old read answer new
@@ -71,13 +75,32 @@ made_of old bytes w pair new is legal =
     let answer = answer_unique here.answer w.pair.answer here.spelled.fits w.fits.answer (sym here.spelled.spelled) in
     market_is_determined old w.pair.asked w.pair.answer new w.new (subst (λ (a : Answer Outcome). Step IsReadAs IsRightOutcome old w.pair.asked a new) answer here.step) w.step
 
--- the pair of a record that a session at the audit's market has served
-pub written_here : (audit session : Market) (asked : Record) (new : Market) (text bytes : List ℕ) → audit ≡ session → bytes ≡ text → IsSound audit → (answers : AnswersOne session asked new text) → new.next_order < 2 ^ 64
-    → (w : IsWritten audit bytes) × (w.new ≡ new) × (w.pair.answer ≡ answers.answer)
+-- The record at the front was served by a session at the audit's market: it takes five bytes at least, and its pair is written.
+pub record ServedHere (audit new : Market) (bytes text : List ℕ) (taken : ℕ) (answer : Answer Outcome) : Type 0 where
+  pub within : taken ≤ length bytes
+  pub some : 5 ≤ taken
+  pub next : new.next_order < 2 ^ 64
+  pub written : IsWritten audit text
+  pub same : written.new ≡ new
+  pub answered : written.pair.answer ≡ answer
+
+pub served_here : (audit session new : Market) (bytes text items : List ℕ) (taken left : ℕ) → (one : TakesOne commands Puts taken bytes session new [] text) → audit ≡ session → items ≡ text → IsSound audit → HasNumbers session left → length bytes ≤ left
+    → ServedHere audit new bytes items taken one.step.answer
 unfolding written_by
-written_here audit session asked new text bytes same is sound answers next =
-    subst (λ (m : Market). (w : IsWritten m bytes) × (w.new ≡ new) × (w.pair.answer ≡ answers.answer)) (sym same)
-    (subst (λ (xs : List ℕ). (w : IsWritten session xs) × (w.new ≡ new) × (w.pair.answer ≡ answers.answer)) (sym is) (written_by session asked new text (subst IsSound same sound) answers next, refl, refl))
+served_here audit session new bytes text items taken left one same is sound ready inside =
+    let within : taken ≤ length bytes = omega (arith, one.size, ap length one.front, length-append (spelling one.unit) (drop taken bytes)) in
+    let some : 5 ≤ taken = omega (arith, one.size, length-spelling one.unit) in
+    let next : new.next_order < 2 ^ 64 = omega (arith, ready, inside, within, some, steps_number_one session one.unit one.step.answer new one.step.step) in
+    subst (λ (m : Market). ServedHere m new bytes items taken one.step.answer) (sym same)
+    (subst (λ (xs : List ℕ). ServedHere session new bytes xs taken one.step.answer) (sym is)
+    (record {
+      within = within;
+      some = some;
+      next = next;
+      written = written_by session one.unit new text (subst IsSound same sound) one.step next;
+      same = refl;
+      answered = refl;
+    }))
 
 -- what holds where something was done, from what does
 pub on_ok : {A E : Type 0} (r : Result A E) (P Q : Type 0) → OnOk r P → (P → Q) → OnOk r Q

@@ -9,7 +9,7 @@ use Rattle.journal_records.specs.Pairs.{IsPair, pair_spelling}
 use Rattle.market_rules.specs.Market.{Market}
 use Rattle.market_rules.specs.Journal.{Step}
 use Rattle.journal_replay.specs.Audits.{cleared_by, skipped_by}
-use Rattle.exchange_session.specs.Serving.{AnswersOne}
+use Rattle.exchange_session.specs.Serving.{AnswersOne, HasNumbers}
 use Rattle.sample_summary.specs.declared.counting.Counts.{Counts}
 use Rattle.sample_summary.specs.declared.sampling.Sampling.{Sampling}
 use Rattle.sample_summary.specs.Summary.{units_by}
@@ -65,5 +65,5 @@ pub record TakesOne (old : State) (asked : Record) (new : State) : Type 0 where
 -- records can be taken while so many bytes are left: audit and session are at one market
 pub record IsReady (s : Sampling) (left : ℕ) : Type 0 where
   pub same : s.audit ≡ s.session
-  pub next : s.session.next_order + left < 2 ^ 64
+  pub next : HasNumbers s.session left
   pub counts : HasRoom s.counts left

@@ -1,10 +1,9 @@
 //! The run of a sample, with its audit.
 ghost use Rattle.std.specs.Prelude.{◌≡◌, ◌≤◌, ◌<◌, ◌+◌, ◌^◌, OnOk, IfOk};
-ghost use Rattle.wire_records.specs.Records.{Record, IsRecord, most_body};
+ghost use Rattle.wire_records.specs.Records.{Record};
 ghost use Rattle.wire_records.specs.Formats.{commands};
 ghost use Rattle.market_rules.specs.Market.{Market};
 ghost use Rattle.batch_audit.specs.Legal.{IsLegalPair};
-ghost use Rattle.exchange_session.specs.Serving.{AnswersOne};
 ghost use Rattle.sample_summary.specs.Summary.{Summarizes};
 ghost use Rattle.sample_summary.specs.Private.{State, IsWritten, CountsOne, HasRoom, TakesOne, IsReady};
 
@@ -16,7 +15,7 @@ use file_units::{Front, TakesUnits, take_units};
 use journal_records::{PairFramed, PairView, next_pair};
 use sample_market::sample_commands;
 use std::alloc::Global;
-use wire_records::{COMMAND_MAGIC, Framed, MOST_BODY, Memory, RecordView, next_record};
+use wire_records::{COMMAND_MAGIC, Memory};
 
 // The session that serves the records, the audit of the pairs that it writes, the last of these, and what was counted.
 #[derive(Drop)]
@@ -25,20 +24,6 @@ struct Sampling {
     audit: Audit,
     pair: Vec<u8>,
     counts: Counts,
-}
-
-// Serves a record: its pair stands in the buffer then, alone.
-fn serve_record(
-    session: &mut Session,
-    asked: &RecordView<'_>,
-    pair: &mut Vec<u8>,
-) -> Result<(), Memory>
-    requires short { IsRecord most_body asked.now }
-    requires next { session.old.next_order + 1 < 2 ^ 64 }
-    ensures served { OnOk result (AnswersOne session.old asked.now session.new pair.new.items) }
-{
-    pair.clear();
-    session.serve(asked, pair)
 }
 
 // Audits a pair that is legal.
@@ -108,19 +93,6 @@ impl Sampling {
             },
         }
     }
-
-    // Serves a record, and audits and counts its pair.
-    fn take_record(&mut self, asked: &RecordView<'_>) -> Result<(), Memory>
-        requires short { IsRecord most_body asked.now }
-        requires ready { IsReady self.old 5 }
-        ensures taken { OnOk result (TakesOne (state_of self.old) asked.now (state_of self.new)) }
-        ensures same { OnOk result (self.new.audit ≡ self.new.session) }
-    {
-        // Called for its contract: the audit's market is sound.
-        let _sound = self.audit.market();
-        serve_record(&mut self.session, asked, &mut self.pair)?;
-        take_pair(&mut self.audit, &self.pair, &mut self.counts)
-    }
 }
 
 impl TakesUnits<()> for Sampling {
@@ -143,14 +115,17 @@ impl TakesUnits<()> for Sampling {
     ghost is_ready = { λ s left. IsReady s left };
 
     fn take(&mut self, bytes: &[u8], _out: &mut ()) -> Result<Front, Memory> {
-        match next_record(bytes, MOST_BODY) {
-            Framed::Whole(asked, taken) => {
-                self.take_record(&asked)?;
+        // Called for its contract: the audit's market is sound.
+        let _sound = self.audit.market();
+        self.pair.clear();
+        match self.session.serve_next(bytes, &mut self.pair)? {
+            Front::Taken(taken) => {
+                take_pair(&mut self.audit, &self.pair, &mut self.counts)?;
                 Ok(Front::Taken(taken))
             }
-            Framed::End => Ok(Front::NoBytes),
-            Framed::TooLarge(_) => Ok(Front::Overlong),
-            Framed::Short => Ok(Front::Short),
+            Front::NoBytes => Ok(Front::NoBytes),
+            Front::Overlong => Ok(Front::Overlong),
+            Front::Short => Ok(Front::Short),
         }
     }
 }

@@ -1,5 +1,4 @@
 mod Firsts
-mod Frames
 mod Magics
 mod Written
 pub mod OneFirst

@@ -141,7 +141,7 @@ left_told (Some left) after limit input (Ok done) before now whole taken ends =
 left_told told after limit input (Err why) before now whole taken ends = tt
 
 -- going on is no read of the source
-no_read : (Comes : Ended Unfit → List ℕ → Type 0) (Into Short : List ℕ → Type 0) (ended : Ended Unfit) (before now : Option (List ℕ)) → Ends Comes Into Short ended before now → ended ≡ Err fault.Read → ⊥
+pub no_read : (Comes : Ended Unfit → List ℕ → Type 0) (Into Short : List ℕ → Type 0) (ended : Ended Unfit) (before now : Option (List ℕ)) → Ends Comes Into Short ended before now → ended ≡ Err fault.Read → ⊥
 no_read Comes Into Short ended before now ends e = subst (λ (z : Ended Unfit). Ends Comes Into Short z before now) e ends
 
 pub read_quietly : (Comes : Ended Unfit → List ℕ → Type 0) (Into Short : List ℕ → Type 0) (ended : Ended Unfit) (before now : Option (List ℕ)) → Ends Comes Into Short ended before now → (faults later : ℕ) → later ≡ faults → Blames (ended ≡ Err fault.Read) faults later

@@ -1,5 +1,5 @@
 -- Words that only private functions use: why there is nothing to go on from, what serving a record does, and how an input ends.
-use Rattle.std.specs.Prelude.{◌≡◌, ◌⊎◌, ◌+◌, ◌*◌, ◌<◌, ◌^◌, ℕ, List, [], ◌++◌, Option, Ok, Err, All}
+use Rattle.std.specs.Prelude.{◌≡◌, ◌⊎◌, ℕ, List, [], ◌++◌, Option, Ok, Err, All}
 use Rattle.flow_io.specs.Faults.{Blames}
 use Rattle.flow_io.specs.Streams.{Grows, GrowsByFront}
 use Rattle.flow_io.specs.Changes.{Change}
@@ -25,22 +25,6 @@ IsFirstFault bytes fault.Neither = IsFirst bytes Neither
 IsFirstFault bytes fault.NoCheckpoint = IsFirst bytes NoCheckpoint
 IsFirstFault bytes (fault.Illegal number) = IsFirst bytes (Illegal number)
 IsFirstFault bytes fault.Memory = Unit {0}
-
--- the numbers of orders stay within their width while so many bytes are left: each record has five at least
-abbrev pub HasNumbers : Market → ℕ → Type 0
-HasNumbers market left = 5 * market.next_order + left < 5 * 2 ^ 64
-
--- a record was answered, and its pair put into an empty buffer
-abbrev pub Puts : Market → Record → Market → List ℕ → List ℕ → Type 0
-Puts old asked new before text = AnswersOne old asked new text
-
--- The record at the front may want memory.
-pub record WantsNext (old : Market) (bytes : List ℕ) : Type 0 where
-  pub asked : Record
-  pub rest : List ℕ
-  pub lawful : commands.units.IsLawful asked
-  pub front : bytes ≡ commands.units.spell asked ++ rest
-  pub wants : RecordMayWant old asked
 
 -- A record was answered, and its pair written.
 pub record WritesPair (old : Market) (asked : Record) (new : Market) (out : Change) : Type 0 where

@@ -183,6 +183,8 @@ pub fn resume_source<S: Source, K: Sink>(
 ) -> Result<(), Fault<Unfit>>
     ensures does { Does resuming limit result (change S.rest S.faults source.old source.new)
         (change K.held K.faults out.old out.new) }
+    // All is read before anything is written.
+    ensures unread { result ≡ Err Fault.Read → out.new ≡ out.old }
 {
     let input = match read_all(alloc, source, limit) {
         Ok(input) => input,

@@ -1,14 +1,13 @@
 //! New commands, which are served one after the other, and their pairs, which are written.
-ghost use Rattle.std.specs.Prelude.{◌≡◌, ◌≤◌, ◌<◌, ◌+◌, ◌*◌, ◌^◌, ℕ, [], IfOk, OnErr, length, vec_len, vec_capacity};
+ghost use Rattle.std.specs.Prelude.{◌≤◌, vec_capacity};
 ghost use Rattle.flow_io.specs.Changes.{change};
-ghost use Rattle.file_units.specs.Units.{IsTaken, StaysReady};
 ghost use Rattle.wire_records.specs.Formats.{commands};
-ghost use Rattle.session_resume.specs.Private.{HasNumbers, Puts, WantsNext, WritesPair, BreaksPair};
+ghost use Rattle.exchange_session.specs.Serving.{HasNumbers};
+ghost use Rattle.session_resume.specs.Private.{WritesPair, BreaksPair};
 
 use exchange_session::Session;
 use file_units::{Front, TakesUnits};
 use flow_io::Sink;
-use wire_records::{Framed, MOST_BODY, Memory, next_record};
 
 // Why the pair of a record wasn't written.
 #[derive(Clone, Copy)]
@@ -19,29 +18,6 @@ pub(crate) enum ServeFault {
 
 // As many bytes has the longest pair with a plain reply: 5 and 1,024 of the record, and 13 of the reply's.
 pub(crate) const MOST_PLAIN_PAIR: usize = 1042;
-
-// Serves the record at the front of the bytes, if a whole one stands there, and puts its pair into an empty buffer.
-fn serve_next(session: &mut Session, bytes: &[u8], text: &mut Vec<u8>) -> Result<Front, Memory>
-    requires ready { (left : ℕ) × (length bytes.now ≤ left) × HasNumbers session.old left }
-    requires empty { text.old.items ≡ [] }
-    requires none { vec_len text.old ≡ 0 }
-    requires room { 1042 ≤ vec_capacity text.old }
-    ensures taken { IfOk result (λ front. IsTaken commands Puts front bytes.now session.old session.new [] text.new.items) }
-    ensures stays { IfOk result (λ front. (left : ℕ) → length bytes.now ≤ left → HasNumbers session.old left →
-        StaysReady (HasNumbers session.new) front left) }
-    ensures wanted { OnErr result (WantsNext session.old bytes.now) }
-    ensures room { vec_capacity text.old ≤ vec_capacity text.new }
-{
-    match next_record(bytes, MOST_BODY) {
-        Framed::Whole(asked, taken) => match session.serve(&asked, text) {
-            Ok(()) => Ok(Front::Taken(taken)),
-            Err(_) => Err(Memory),
-        },
-        Framed::End => Ok(Front::NoBytes),
-        Framed::TooLarge(_) => Ok(Front::Overlong),
-        Framed::Short => Ok(Front::Short),
-    }
-}
 
 // A session, and the buffer of a pair, in which any with a plain reply has room.
 #[derive(Drop)]
@@ -73,7 +49,7 @@ impl<K: Sink> TakesUnits<K> for Serving {
 
     fn take(&mut self, bytes: &[u8], out: &mut K) -> Result<Front, ServeFault> {
         self.pair.clear();
-        match serve_next(&mut self.session, bytes, &mut self.pair) {
+        match self.session.serve_next(bytes, &mut self.pair) {
             Ok(Front::Taken(taken)) => match out.write(&self.pair) {
                 Ok(()) => Ok(Front::Taken(taken)),
                 Err(_) => Err(ServeFault::Write),

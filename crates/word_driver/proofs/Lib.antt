@@ -1,4 +1,5 @@
 pub mod Pieces
+mod Puts
 pub mod Going
 pub mod Ahead
 pub mod OneEnds

@@ -1,7 +1,7 @@
 -- What taking a unit has written, and where it breaks off.
-use Rattle.std.proofs.Common.{◌≡◌, ◌≢◌, ℕ, List, [], Option, drop, inl, refl}
+use Rattle.std.proofs.Common.{◌≡◌, ◌≢◌, ℕ, List, [], Option, Some, drop, inl, inr, refl}
 use Rattle.flow_io.specs.Faults.{Blames}
-use Rattle.flow_io.specs.Streams.{Grows, GrowsByFront}
+use Rattle.flow_io.specs.Streams.{Grows, GrowsByFront, HandsOver}
 use Rattle.flow_io.specs.Changes.{change}
 use Rattle.file_units.specs.declared.units.Front.{Front}
 use Rattle.file_units.specs.declared.units.Front.TheVariants.{Taken, NoBytes, Overlong, Short}
@@ -9,7 +9,8 @@ use Rattle.file_units.specs.Units.{IsTaken, BreaksOff}
 use Rattle.word_driver.specs.declared.fault.Fault.{Fault}
 use Rattle.word_driver.specs.declared.fault.Fault.TheVariants.{Write}
 use Rattle.word_driver.specs.Word.{Word}
-use Rattle.word_driver.specs.Private.{IsTakenBy, WritesStep, BreaksStep}
+use Rattle.word_driver.specs.Pieces.{piece}
+use Rattle.word_driver.specs.Private.{IsTakenBy, WritesStep, BreaksStep, PutsStep, PutsLast}
 
 module _ {U S B O : Type 0} (w : Word U S B) (held : O → Option (List ℕ)) (faults : O → ℕ) where
   -- what a step writes to an output
@@ -20,37 +21,49 @@ module _ {U S B O : Type 0} (w : Word U S B) (held : O → Option (List ℕ)) (f
   abbrev pub Breaks : S → U → Fault B → O → O → Type 0
   Breaks old unit fault before after = BreaksStep w old unit fault (change held faults before after)
 
+module _ {U S B O : Type 0} (w : Word U S B) (calls : O → Option (List (List ℕ))) (held : O → Option (List ℕ)) (faults : O → ℕ) where
+  -- what a step writes, and what it hands over
+  abbrev pub Puts : S → U → S → O → O → Type 0
+  Puts old unit new before after = Writes w held faults old unit new before after × PutsStep w calls held old unit new before after
+
+  -- where it breaks off, and what it hands over there
+  abbrev pub BreaksPut : S → U → Fault B → O → O → Type 0
+  BreaksPut old unit fault before after = Breaks w held faults old unit fault before after × PutsLast w calls held old (Some unit) (fault ≡ Write) before after
+
   -- the unit was taken, and its text written
   pub taken : (front : Front) (bytes : List ℕ) (old new : S) (text : List ℕ) (before after : O) → IsTakenBy w front bytes old new text → Grows (held before) (held after) text → (text ≡ [] → after ≡ before) → faults after ≡ faults before
-      → IsTaken w.format Writes front bytes old new before after
-  taken (Taken n) bytes old new text before after is written none quiet = record {
+      → HandsOver calls held before after ⊥ (piece text) → IsTaken w.format Puts front bytes old new before after
+  taken (Taken n) bytes old new text before after is written none quiet hands = record {
     unit = is.unit;
     lawful = is.lawful;
     size = is.size;
     some = is.some;
     front = is.front;
-    step = record { text = text; step = is.step; written = written; quiet = quiet };
+    step = (record { text = text; step = is.step; written = written; quiet = quiet }, (text, is.step, hands));
   }
-  taken NoBytes bytes old new text before after is written none quiet = (record { none = is.0.none; state = is.0.state; output = none is.0.output }, is.1, is.2)
-  taken Overlong bytes old new text before after is written none quiet = (record { none = is.0.none; state = is.0.state; output = none is.0.output }, is.1)
-  taken Short bytes old new text before after is written none quiet = (record { none = is.0.none; state = is.0.state; output = none is.0.output }, is.1, is.2)
+  taken NoBytes bytes old new text before after is written none quiet hands = (record { none = is.0.none; state = is.0.state; output = none is.0.output }, is.1, is.2)
+  taken Overlong bytes old new text before after is written none quiet hands = (record { none = is.0.none; state = is.0.state; output = none is.0.output }, is.1)
+  taken Short bytes old new text before after is written none quiet hands = (record { none = is.0.none; state = is.0.state; output = none is.0.output }, is.1, is.2)
 
   -- the write of its text was cut
   pub cut : (front : Front) (bytes : List ℕ) (old new : S) (text : List ℕ) (before after : O) → IsTakenBy w front bytes old new text → GrowsByFront (held before) (held after) text → text ≢ [] → Blames (Unit {0}) (faults before) (faults after)
-      → BreaksOff w.format Breaks bytes old Write before after
-  cut (Taken n) bytes old new text before after is front some cause = record {
+      → HandsOver calls held before after (◌≡◌ {A = Fault B} Write Write) (piece text) → BreaksOff w.format BreaksPut bytes old Write before after
+  cut (Taken n) bytes old new text before after is front some cause hands = record {
     unit = is.unit;
     rest = drop n bytes;
     lawful = is.lawful;
     front = is.front;
-    broken = record {
-      faults = (text, inl (new, is.step), front);
-      cause = record { later = cause.later; rose = λ e. cause.rose tt; quiet = λ not. absurd (not refl) };
-    };
+    broken = (
+      record {
+        faults = (text, inl (new, is.step), front);
+        cause = record { later = cause.later; rose = λ e. cause.rose tt; quiet = λ not. absurd (not refl) };
+      },
+      (text, inr (inl (new, is.step)), hands),
+    );
   }
-  cut NoBytes bytes old new text before after is front some cause = absurd (some is.0.output)
-  cut Overlong bytes old new text before after is front some cause = absurd (some is.0.output)
-  cut Short bytes old new text before after is front some cause = absurd (some is.0.output)
+  cut NoBytes bytes old new text before after is front some cause hands = absurd (some is.0.output)
+  cut Overlong bytes old new text before after is front some cause hands = absurd (some is.0.output)
+  cut Short bytes old new text before after is front some cause hands = absurd (some is.0.output)
 
 -- what was done is to be blamed
 pub blamed : {P : Type 0} (before now : ℕ) → P → Blames P before now → Blames (Unit {0}) before now

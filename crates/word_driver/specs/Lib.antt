@@ -1,5 +1,6 @@
 pub mod Ended
 pub mod Word
+pub mod Pieces
 pub mod Does
 pub mod Laws
 pub mod Private

@@ -1,7 +1,7 @@
 -- Words of the driver's own: what the parts of a word at work answer, and what going through units has written.
 use Rattle.std.specs.Prelude.{◌≡◌, ◌⊎◌, ◌-◌, ◌+◌, ◌<◌, ◌≤◌, ◌^◌, ℕ, List, [], ◌++◌, length, take, drop, Bool, true, false, Option, Some, None, IfSome, Result, Ok, Err}
 use Rattle.flow_io.specs.Faults.{Blames}
-use Rattle.flow_io.specs.Streams.{Takes, Grows, GrowsByFront}
+use Rattle.flow_io.specs.Streams.{Takes, Grows, GrowsByFront, HandsOver}
 use Rattle.flow_io.specs.Windows.{WindowState}
 use Rattle.flow_io.specs.Changes.{Change}
 use Rattle.wire_records.specs.Grammars.{BeginsWith, BeginsWithNone, spell_all}
@@ -14,6 +14,7 @@ use Rattle.word_driver.specs.declared.fault.Fault.TheVariants.{Read, Write, Memo
 use Rattle.word_driver.specs.declared.fault.Halt.{Halt}
 use Rattle.word_driver.specs.declared.fault.Halt.TheVariants as halt
 use Rattle.word_driver.specs.Ended.{Ended}
+use Rattle.word_driver.specs.Pieces.{piece, GoesOnBy, IsByPieces, IsWriting}
 use Rattle.word_driver.specs.Word.{Word, Passes, ComesOn, LacksOn, Comes, Lacks, Passed}
 
 -- the bytes begin with the magic of this version, of eight bytes, and the word is at its start
@@ -59,14 +60,9 @@ module _ {U S B : Type 0} (w : Word U S B) where
     pub written : Grows out.before out.after text
     pub quiet : out.faults_after ≡ out.faults
 
-  -- what was being written at a unit or at the end
-  abbrev pub IsWriting : S → Option U → List ℕ → Type 0
-  IsWriting old (Some unit) text = ((new : S) × w.Steps old unit new text) ⊎ ((why : B) × w.Stops old (Some unit) why text)
-  IsWriting old None text = w.Closes old text ⊎ ((why : B) × w.Stops old None why text)
-
   -- why it goes no further at a unit or at the end, and what was written of it
   abbrev pub Faults : S → Option U → Fault B → Option (List ℕ) → Option (List ℕ) → Type 0
-  Faults old at Write before after = (text : List ℕ) × IsWriting old at text × GrowsByFront before after text
+  Faults old at Write before after = (text : List ℕ) × IsWriting w old at text × GrowsByFront before after text
   Faults old at Memory before after = w.Wants old at × (after ≡ before)
   Faults old at (Stopped why) before after = (text : List ℕ) × w.Stops old at why text × Grows before after text
   Faults old at Read before after = ⊥
@@ -150,3 +146,27 @@ pub record GoesOver {U S B : Type 0} (w : Word U S B) (start : Version → S) (l
   pub takes : Takes source.before source.after taken
   pub few : length held + length taken ≤ limit + 1
   pub finds : Finds w start (limit < length (held ++ known taken source.after)) (take limit (held ++ known taken source.after)) (w.longest + 1) (held ++ taken) source.after result out.before out.after
+
+-- ---- what was handed to the output, call by call
+
+module _ {U S B O : Type 0} (w : Word U S B) (calls : O → Option (List (List ℕ))) (held : O → Option (List ℕ)) where
+  -- the text of a unit was handed over, and written
+  abbrev pub PutsStep : S → U → S → O → O → Type 0
+  PutsStep old unit new before after = (text : List ℕ) × w.Steps old unit new text × HandsOver calls held before after ⊥ (piece text)
+
+  -- nothing was handed over, or what is written at a unit or at the end
+  abbrev pub PutsLast : S → Option U → Type 0 → O → O → Type 0
+  PutsLast old at Failed before after = (text : List ℕ) × ((text ≡ []) ⊎ IsWriting w old at text) × HandsOver calls held before after Failed (piece text)
+
+  -- the texts of units, and what is written behind them
+  abbrev pub PutsOn : S → Type 0 → O → O → Type 0
+  PutsOn old Failed before after = (pieces : List (List ℕ)) × GoesOnBy w old pieces × HandsOver calls held before after Failed pieces
+
+  -- and the opening before them
+  abbrev pub PutsAll : (Version → S) → Type 0 → O → O → Type 0
+  PutsAll start Failed before after = (pieces : List (List ℕ)) × IsByPieces w start pieces × HandsOver calls held before after Failed pieces
+
+-- what a text hands over where a word goes no further: nothing where memory was wanted
+abbrev pub halted_text : {B : Type 0} → Halt B → List ℕ → List ℕ
+halted_text halt.Memory text = []
+halted_text (halt.Stopped why) text = text

@@ -1,10 +1,12 @@
 //! The driver.
-ghost use Rattle.std.specs.Prelude.{◌≡◌, ◌-◌, ◌+◌, ◌≤◌, ◌<◌, ◌^◌, Err, None, [], length, vec_capacity};
+ghost use Rattle.std.specs.Prelude.{◌≡◌, ◌-◌, ◌+◌, ◌≤◌, ◌<◌, ◌^◌, Err, None, [], ℕ, List, length, vec_capacity};
 ghost use Rattle.flow_io.specs.Faults.{Blames};
+ghost use Rattle.flow_io.specs.Streams.{HandsOver};
 ghost use Rattle.flow_io.specs.Changes.{change};
 ghost use Rattle.word_driver.specs.Does.{Does, task};
 ghost use Rattle.word_driver.specs.Laws.{IsExact, IsKept};
-ghost use Rattle.word_driver.specs.Private.{Closed, GoesOn, GoesOver};
+ghost use Rattle.word_driver.specs.Pieces.{IsByPieces};
+ghost use Rattle.word_driver.specs.Private.{Closed, GoesOn, GoesOver, PutsLast, PutsOn, PutsAll};
 
 use crate::fault::Fault;
 use crate::serves::ServesWord;
@@ -23,6 +25,7 @@ fn close<K: Sink, W: ServesWord + Drop>(
 ) -> Result<(), Fault<W::Stop>>
     ensures closed { Closed W.word (W.state writing.old.word) result (K.held out.old) (K.held out.new) }
     ensures cause { Blames (result ≡ Err Fault.Write) (K.faults out.old) (K.faults out.new) }
+    ensures pieces { PutsLast W.word K.calls K.held (W.state writing.old.word) None (result ≡ Err Fault.Write) out.old out.new }
 {
     writing.text.clear();
     match writing.word.close(&mut writing.text) {
@@ -51,6 +54,7 @@ fn go_on<S: Source, K: Sink, W: ServesWord + Drop>(
         (change S.rest S.faults source.old source.new) (change K.held K.faults out.old out.new) }
     ensures reads { Blames (result ≡ Err Fault.Read) (S.faults source.old) (S.faults source.new) }
     ensures writes { Blames (result ≡ Err Fault.Write) (K.faults out.old) (K.faults out.new) }
+    ensures pieces { PutsOn W.word K.calls K.held (W.state word) (result ≡ Err Fault.Write) out.old out.new }
 {
     let mut window = window;
     let mut writing = Writing { word, text };
@@ -85,6 +89,7 @@ fn go_over<S: Source, K: Sink, W: ServesWord + Drop>(
         (change S.rest S.faults source.old source.new) (change K.held K.faults out.old out.new) }
     ensures reads { Blames (result ≡ Err Fault.Read) (S.faults source.old) (S.faults source.new) }
     ensures writes { Blames (result ≡ Err Fault.Write) (K.faults out.old) (K.faults out.new) }
+    ensures pieces { PutsAll W.word K.calls K.held (W.start word) (result ≡ Err Fault.Write) out.old out.new }
 {
     let mut window = window;
     let mut word = word;
@@ -121,6 +126,9 @@ pub fn go<S: Source, K: Sink, W: ServesWord + Drop>(
     requires new { W.is_new word }
     ensures does { Does (task W.word (W.start word)) limit result (change S.rest S.faults source.old source.new)
         (change K.held K.faults out.old out.new) }
+    // One call for the opening, one for the text of each unit, and one for what is written last; none for an empty text.
+    ensures pieces { (pieces : List (List ℕ)) × IsByPieces W.word (W.start word) pieces
+        × HandsOver K.calls K.held out.old out.new (result ≡ Err Fault.Write) pieces }
 {
     let mut window = match Window::new(alloc, W::LONGEST, limit) {
         Ok(window) => window,

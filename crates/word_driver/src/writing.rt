@@ -1,9 +1,10 @@
 //! A word at work with the buffer of what it writes, as what takes the units of a file.
-ghost use Rattle.std.specs.Prelude.{◌≡◌, ◌≢◌, [], OnOk, OnErr, IsErr, Err, ◌≤◌, vec_capacity};
+ghost use Rattle.std.specs.Prelude.{◌≡◌, ◌≢◌, [], OnOk, OnErr, IsErr, Err, Some, ◌≤◌, vec_capacity};
 ghost use Rattle.flow_io.specs.Faults.{Blames};
-ghost use Rattle.flow_io.specs.Streams.{Grows, GrowsByFront};
+ghost use Rattle.flow_io.specs.Streams.{Grows, GrowsByFront, HandsOver};
 ghost use Rattle.flow_io.specs.Changes.{change};
-ghost use Rattle.word_driver.specs.Private.{WritesStep, BreaksStep, Halted};
+ghost use Rattle.word_driver.specs.Private.{WritesStep, BreaksStep, Halted, PutsStep, PutsLast, halted_text};
+ghost use Rattle.word_driver.specs.Pieces.{piece};
 
 use crate::fault::{Fault, Halt};
 use crate::serves::ServesWord;
@@ -17,6 +18,7 @@ pub(crate) fn put<K: Sink>(out: &mut K, bytes: &[u8]) -> Result<(), WriteFailed>
     ensures none { bytes.now ≡ [] → out.new ≡ out.old }
     ensures some { OnErr result (bytes.now ≢ []) }
     ensures cause { Blames (IsErr result) (K.faults out.old) (K.faults out.new) }
+    ensures pieces { HandsOver K.calls K.held out.old out.new (IsErr result) (piece bytes.now) }
 {
     if bytes.is_empty() {
         return Ok(());
@@ -28,6 +30,7 @@ pub(crate) fn put<K: Sink>(out: &mut K, bytes: &[u8]) -> Result<(), WriteFailed>
 pub(crate) fn halt_with<K: Sink, B: Copy>(halt: Halt<B>, out: &mut K, text: &[u8]) -> Fault<B>
     ensures halted { Halted halt text.now result (K.held out.old) (K.held out.new) }
     ensures cause { Blames (result ≡ Fault.Write) (K.faults out.old) (K.faults out.new) }
+    ensures pieces { HandsOver K.calls K.held out.old out.new (result ≡ Fault.Write) (piece (halted_text halt text.now)) }
 {
     match halt {
         Halt::Memory => Fault::Memory,
@@ -47,6 +50,8 @@ pub(crate) struct Writing<W: ServesWord> {
 }
 
 impl<K: Sink, W: ServesWord + Drop> TakesUnits<K> for Writing<W> {
+    ghost use Rattle.word_driver.specs.declared.fault.Fault.{Fault};
+
     type Fault = Fault<W::Stop>;
 
     ghost Unit = { W.Unit };
@@ -58,10 +63,12 @@ impl<K: Sink, W: ServesWord + Drop> TakesUnits<K> for Writing<W> {
     ghost state = { λ w. W.state w.word };
 
     ghost steps = { λ old unit new before after.
-        WritesStep W.word old unit new (change K.held K.faults before after) };
+        WritesStep W.word old unit new (change K.held K.faults before after)
+        × PutsStep W.word K.calls K.held old unit new before after };
 
     ghost breaks = { λ old unit fault before after.
-        BreaksStep W.word old unit fault (change K.held K.faults before after) };
+        BreaksStep W.word old unit fault (change K.held K.faults before after)
+        × PutsLast W.word K.calls K.held old (Some unit) (fault ≡ Fault.Write) before after };
 
     ghost is_ready = { λ w left. W.is_ready w.word left };
 

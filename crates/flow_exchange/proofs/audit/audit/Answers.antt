@@ -28,5 +28,5 @@ returns g c =
     let done = subst (λ (start : Version → Watched Counts). driver.Does (task audit start) c.args.limit c.go-ended.result source out) starts c.go-ended.ensures.does in
     record {
       asked = rw c.pairs_status.ensures (not_asked (task audit audit_start) Audit c.args.limit rejected audit_form c.go-ended.result);
-      does = rw c.pairs_status.ensures (does (task audit audit_start) Audit c.args.limit rejected audit_form c.go-ended.result source out done);
+      does = rw c.pairs_status.ensures (does (task audit audit_start) Audit c.args.limit rejected audit_form c.go-ended.result source out (λ e. tt) done);
     }

@@ -23,5 +23,5 @@ returns g c =
     let done = subst (λ (start : Version → Watched (Unit {0})). driver.Does (task checkpoint start) c.args.limit c.go-ended.result source out) c.new-2.ensures.starts c.go-ended.ensures.does in
     record {
       asked = rw c.pairs_status.ensures (not_asked (task checkpoint checkpoint_start) Checkpoint c.args.limit rejected checkpoint_form c.go-ended.result);
-      does = rw c.pairs_status.ensures (does (task checkpoint checkpoint_start) Checkpoint c.args.limit rejected checkpoint_form c.go-ended.result source out done);
+      does = rw c.pairs_status.ensures (does (task checkpoint checkpoint_start) Checkpoint c.args.limit rejected checkpoint_form c.go-ended.result source out (λ e. tt) done);
     }

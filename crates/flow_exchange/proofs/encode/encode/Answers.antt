@@ -1,3 +1,4 @@
+use Rattle.std.proofs.Common.{ap}
 use Rattle.flow_io.specs.Changes.{change}
 use Rattle.line_records.specs.Tasks.{encoding}
 use Rattle.flow_exchange.specs.declared.form.Form.TheVariants.{Encode}
@@ -12,5 +13,5 @@ returns g c =
     let out = change g.K.Sink.held g.K.Sink.faults c.args.out.now c.encode_source-ended.new.out in
     record {
       asked = rw c.lines_status.ensures (not_asked (encoding c.args.version) (Encode c.args.version) c.args.limit bad_text (encode_form c.args.version) c.encode_source-ended.result);
-      does = rw c.lines_status.ensures (does (encoding c.args.version) (Encode c.args.version) c.args.limit bad_text (encode_form c.args.version) c.encode_source-ended.result source out c.encode_source-ended.ensures.does);
+      does = rw c.lines_status.ensures (does (encoding c.args.version) (Encode c.args.version) c.args.limit bad_text (encode_form c.args.version) c.encode_source-ended.result source out (λ e. ap g.K.Sink.held (c.encode_source-ended.ensures.unread e)) c.encode_source-ended.ensures.does);
     }

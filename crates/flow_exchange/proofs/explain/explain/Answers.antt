@@ -29,5 +29,5 @@ returns g c =
     let done = subst (λ (start : Version → Watched Counts). driver.Does (task explain start) c.args.limit c.go-ended.result source out) starts c.go-ended.ensures.does in
     record {
       asked = rw c.pairs_status.ensures (not_asked (task explain audit_start) Explain c.args.limit rejected explain_form c.go-ended.result);
-      does = rw c.pairs_status.ensures (does (task explain audit_start) Explain c.args.limit rejected explain_form c.go-ended.result source out done);
+      does = rw c.pairs_status.ensures (does (task explain audit_start) Explain c.args.limit rejected explain_form c.go-ended.result source out (λ e. tt) done);
     }

@@ -22,5 +22,5 @@ returns g c =
     let done = subst (λ (start : Version → Watched (Unit {0})). driver.Does (task report start) c.args.limit c.go-ended.result source out) c.new.ensures.starts c.go-ended.ensures.does in
     record {
       asked = rw c.pairs_status.ensures (not_asked (task report report_start) Report c.args.limit rejected report_form c.go-ended.result);
-      does = rw c.pairs_status.ensures (does (task report report_start) Report c.args.limit rejected report_form c.go-ended.result source out done);
+      does = rw c.pairs_status.ensures (does (task report report_start) Report c.args.limit rejected report_form c.go-ended.result source out (λ e. tt) done);
     }

@@ -19,6 +19,6 @@ returns g c =
     let out = change g.K.Sink.held g.K.Sink.faults c.args.out.now c.go-ended.new.out in
     record {
       asked = rw c.plain_status.ensures (not_asked (task run start) Run c.args.limit no_reason run_form c.go-ended.result);
-      does = rw c.plain_status.ensures (does (task run start) Run c.args.limit no_reason run_form c.go-ended.result source out c.go-ended.ensures.does);
+      does = rw c.plain_status.ensures (does (task run start) Run c.args.limit no_reason run_form c.go-ended.result source out (λ e. tt) c.go-ended.ensures.does);
       paced = rw c.plain_status.ensures (keeps_pace c.args.limit c.go-ended.result source out c.go-ended.ensures.does);
     }

@@ -29,5 +29,5 @@ returns g c =
     let done = subst (λ (start : Version → Watched Stated). driver.Does (task statement start) c.args.limit c.go-ended.result source out) c.new.ensures.starts c.go-ended.ensures.does in
     record {
       asked = rw c.statement_status.ensures (not_asked (task statement (statement_start number)) (Statement number) c.args.limit no_statement (statement_form number) c.go-ended.result);
-      does = rw c.statement_status.ensures (does (task statement (statement_start number)) (Statement number) c.args.limit no_statement (statement_form number) c.go-ended.result source out done);
+      does = rw c.statement_status.ensures (does (task statement (statement_start number)) (Statement number) c.args.limit no_statement (statement_form number) c.go-ended.result source out (λ e. tt) done);
     }

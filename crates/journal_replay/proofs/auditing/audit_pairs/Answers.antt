@@ -1,4 +1,4 @@
-use Rattle.std.proofs.Common.{refl, drop, ◌∙◌, arith}
+use Rattle.std.proofs.Common.{refl, drop, ◌∙◌}
 use Rattle.std.proofs.lemmas.Result.{err_from_is_err_and}
 use Rattle.file_units.specs.Units.{ending_of}
 use Rattle.journal_replay.specs.Private.{state_of}
@@ -13,4 +13,4 @@ returns-in_err-ending-clause-fault c =
 pub returns-clause-legal : goal.returns-clause-legal
 returns-clause-legal c =
     let all = all_legal c.args.version c.args.start c.args.more (drop c.args.start c.args.bytes.now) _ (state_of c.take_units.new.taker) _ _ (ending_of c.in_ok-ending.ending) c.in_ok-ending.ensures.ended (c.over.ensures ∙ c.new_in.ensures) in
-    record { legal = all.0.legal; audits = rw c.into_market.ensures all.1; pairs = omega (arith, all.0.pairs); cleared = omega (arith, all.0.cleared); skipped = omega (arith, all.0.skipped) }
+    record { legal = all.0.legal; audits = rw c.into_market.ensures all.1 }

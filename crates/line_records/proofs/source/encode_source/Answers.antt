@@ -5,7 +5,7 @@ use Rattle.word_driver.proofs.Going.{blames_later}
 use Rattle.word_driver.proofs.Pieces.{blamed}
 use Rattle.word_driver.proofs.Tasks.{does, keeps_up_within, does_not_read, does_not_fit}
 use Rattle.line_records.specs.Tasks.{encoding}
-use Rattle.line_records.proofs.Encoding.{encodes_lines, encodes_not, left_told, read_quietly, memory_is_not_read}
+use Rattle.line_records.proofs.Encoding.{encodes_lines, encodes_not, encodes_without, left_told, read_quietly, memory_is_not_read}
 use Rattle.line_records.proofs.source.encode_source.Goals as goal
 
 pub returns-in-Err-Read : goal.returns-in-Err-Read
@@ -14,6 +14,7 @@ returns-in-Err-Read g c =
     record {
       does = does_not_read (encoding c.args.version) c.args.limit (λ bytes n. inl refl) (change g.S.Source.rest g.S.Source.faults c.args.source.now c.read_all.new.source) read.front.0 (g.K.Sink.held c.args.out.now) (g.K.Sink.faults c.args.out.now) read.front.1 read.most
           (blamed _ _ (ap Err c.in-Err-Read.field-0-is) read.cause);
+      unread = λ e. refl;
     }
 
 pub returns-in-Err-Memory : goal.returns-in-Err-Memory
@@ -22,6 +23,7 @@ returns-in-Err-Memory g c =
     record {
       does = does_not_fit (encoding c.args.version) c.args.limit (λ left. inl refl) (change g.S.Source.rest g.S.Source.faults c.args.source.now c.read_all.new.source) (g.K.Sink.held c.args.out.now) (g.K.Sink.faults c.args.out.now) (keeps_up_within (encoding c.args.version) c.args.limit (g.S.Source.rest c.args.source.now) (g.S.Source.rest c.read_all.new.source) read.front.0 (g.K.Sink.held c.args.out.now) (g.K.Sink.held c.args.out.now) read.front.1 read.most (omega arith)) read.most
           (read.cause.quiet (memory_is_not_read _ _ c.in-Err-Memory.field-0-is));
+      unread = λ e. refl;
     }
 
 pub returns-in-Ok-write : goal.returns-in-Ok-write
@@ -37,6 +39,7 @@ returns-in-Ok-write g c =
           (left_told c.args.version source.before source.after c.args.limit c.in-Ok.input c.encode_all.result (g.K.Sink.held c.write.new.self) out.after read.whole read.taken encoded.encoded)
           (read_quietly c.args.version (IsTrue c.in-Ok.input.more) c.in-Ok.input.bytes.items c.encode_all.result (g.K.Sink.held c.write.new.self) out.after encoded.encoded source.faults source.faults_after (read.cause.quiet (λ e. cc)))
           (blames_later out.faults (g.K.Sink.faults c.write.new.self) out.faults_after (written.cause.quiet (λ e. cc)) (λ e. e) (λ e. e) encoded.cause);
+      unread = λ e. absurd (encodes_without c.args.version (IsTrue c.in-Ok.input.more) c.in-Ok.input.bytes.items c.encode_all.result (g.K.Sink.held c.write.new.self) out.after encoded.encoded e);
     }
 
 pub returns : goal.returns
@@ -51,4 +54,5 @@ returns g c =
           (encodes_not c.args.version source.before source.after c.args.limit c.in-Ok.input out.before out.after read.whole (rw c.command_magic.ensures at written.cut)) (λ why. keeps_up_within (encoding c.args.version) c.args.limit source.before source.after read.front.0 out.before out.after read.front.1 read.most (omega arith)) read.most tt
           (record { later = omega (arith, quiet); rose = λ e. absurd cc; quiet = λ _. quiet })
           (record { later = written.cause.later; rose = λ e. written.cause.rose refl; quiet = λ not. absurd (not refl) });
+      unread = λ e. absurd cc;
     }

@@ -4,7 +4,7 @@ use Rattle.word_driver.proofs.Pieces.{blamed}
 use Rattle.word_driver.proofs.Tasks.{does, keeps_up_within, does_not_read, does_not_fit}
 use Rattle.session_resume.specs.Tasks.{resuming}
 use Rattle.session_resume.specs.Resuming.{Resumes, ResumesInto, ResumesShort}
-use Rattle.session_resume.proofs.Taken.{meets_told, left_told, read_quietly, memory_is_not_read}
+use Rattle.session_resume.proofs.Taken.{meets_told, left_told, no_read, read_quietly, memory_is_not_read}
 use Rattle.session_resume.proofs.resume.resume_source.Goals as goal
 
 pub returns-in-Err-Read : goal.returns-in-Err-Read
@@ -13,6 +13,7 @@ returns-in-Err-Read g c =
     record {
       does = does_not_read resuming c.args.limit (λ bytes n. inl refl) (change g.S.Source.rest g.S.Source.faults c.args.source.now c.read_all.new.source) read.front.0 (g.K.Sink.held c.args.out.now) (g.K.Sink.faults c.args.out.now) read.front.1 read.most
           (blamed _ _ (ap Err c.in-Err-Read.field-0-is) read.cause);
+      unread = λ e. refl;
     }
 
 pub returns-in-Err-Memory : goal.returns-in-Err-Memory
@@ -21,6 +22,7 @@ returns-in-Err-Memory g c =
     record {
       does = does_not_fit resuming c.args.limit (λ left. inl refl) (change g.S.Source.rest g.S.Source.faults c.args.source.now c.read_all.new.source) (g.K.Sink.held c.args.out.now) (g.K.Sink.faults c.args.out.now) (keeps_up_within resuming c.args.limit (g.S.Source.rest c.args.source.now) (g.S.Source.rest c.read_all.new.source) read.front.0 (g.K.Sink.held c.args.out.now) (g.K.Sink.held c.args.out.now) read.front.1 read.most (omega arith)) read.most
           (read.cause.quiet (memory_is_not_read _ _ c.in-Err-Memory.field-0-is));
+      unread = λ e. refl;
     }
 
 pub returns : goal.returns
@@ -35,4 +37,6 @@ returns g c =
           (left_told source.before source.after c.args.limit c.in-Ok.input c.resume_bytes.result out.before out.after read.whole read.taken ends)
           (read_quietly (Resumes (IsTrue c.in-Ok.input.more) c.in-Ok.input.bytes.items) (ResumesInto c.in-Ok.input.bytes.items) (ResumesShort c.in-Ok.input.bytes.items) c.resume_bytes.result out.before out.after ends source.faults source.faults_after (read.cause.quiet (λ e. cc)))
           c.resume_bytes.ensures.cause;
+      unread = λ e.
+          absurd (no_read (Resumes (IsTrue c.in-Ok.input.more) c.in-Ok.input.bytes.items) (ResumesInto c.in-Ok.input.bytes.items) (ResumesShort c.in-Ok.input.bytes.items) c.resume_bytes.result out.before out.after ends e);
     }

@@ -1,8 +1,10 @@
 use Rattle.std.proofs.Common.{◌≡◌, ◌≤◌, length, refl, ap, ◌∙◌, arith}
 use Rattle.flow_io.specs.Changes.{change}
+use Rattle.flow_io.proofs.Calls.{hands_alike}
 use Rattle.flow_io.specs.Windows.{WindowState}
 use Rattle.file_units.proofs.Gone.{within_limit}
 use Rattle.word_driver.proofs.Doing.{goes_over, over_cut, over_other}
+use Rattle.word_driver.proofs.Puts.{puts_nothing, puts_all, puts_opening}
 use Rattle.word_driver.proofs.driver.go_over.Goals as goal
 
 pub returns-then-not-open-clause-goes : goal.returns-then-not-open-clause-goes
@@ -35,3 +37,19 @@ returns-in-Err-clause-goes g c =
     let few : length w.held ≤ W.word.longest = omega (arith, c.held.ensures.few, ap length c.held.ensures.held, c.requires.wide) in
     over_cut W.word (W.start c.args.word) c.requires.exact c.requires.kept w.limit w.held (g.S.Source.rest c.args.source.now) (g.S.Source.faults c.args.source.now) (g.K.Sink.held c.args.out.now) (g.K.Sink.held c.put.new.out) (g.K.Sink.faults c.args.out.now) (g.K.Sink.faults c.put.new.out) c.requires.some inside few
     (W.state c.open.new.self) (W.is_ready c.open.new.self) c.open.new.text.items opened (rw c.deref.ensures.value at c.in-Err.ensures.cut)
+
+pub returns-then-not-open-clause-pieces : goal.returns-then-not-open-clause-pieces
+returns-then-not-open-clause-pieces g c = puts_nothing g.W.ServesWord.word (g.W.ServesWord.start c.args.word) g.K.Sink.calls g.K.Sink.held c.args.out.now
+
+pub returns-in-Ok-clause-pieces : goal.returns-in-Ok-clause-pieces
+returns-in-Ok-clause-pieces g c =
+    let W = g.W.ServesWord in
+    let opened = rw (c.if-not-open.false, c.held.ensures.held) at c.open.ensures.opened in
+    puts_all W.word (W.start c.args.word) g.K.Sink.calls g.K.Sink.held c.args.window.held (W.state c.open.new.self) (W.is_ready c.open.new.self) c.open.new.text.items c.args.out.now c.put.new.out c.go_on.new.out opened (λ e. cc) (rw c.deref.ensures.value at c.in-Ok.ensures.pieces) c.go_on.ensures.pieces
+
+pub returns-in-Err-clause-pieces : goal.returns-in-Err-clause-pieces
+returns-in-Err-clause-pieces g c =
+    let W = g.W.ServesWord in
+    let opened = rw (c.if-not-open.false, c.held.ensures.held) at c.open.ensures.opened in
+    let put = rw c.deref.ensures.value at c.in-Err.ensures.pieces in
+    puts_opening W.word (W.start c.args.word) g.K.Sink.calls g.K.Sink.held c.args.window.held (W.state c.open.new.self) (W.is_ready c.open.new.self) c.open.new.text.items c.args.out.now c.put.new.out opened (hands_alike g.K.Sink.calls g.K.Sink.held c.args.out.now c.put.new.out _ (λ not e. not refl) put)

@@ -1,8 +1,8 @@
 use Rattle.std.proofs.Common.{◌≡◌, List, ℕ, inl, inr, refl, sym, subst, drop, arith}
 use Rattle.own_journals.proofs.LawProofs.{steps_number_one}
 use Rattle.exchange_session.specs.Serving.{AnswersOne}
-use Rattle.session_resume.proofs.Frames.{has_room, record_within, no_front-from_none, not_overlong-from_none, no_front-from_large, not_overlong-from_stated}
-use Rattle.session_resume.proofs.serving.serve_next.Goals as goal
+use Rattle.exchange_session.proofs.Frames.{few_room, record_within, no_front-from_none, not_overlong-from_none, no_front-from_large, not_overlong-from_stated}
+use Rattle.exchange_session.proofs.session.Session.serve_next.Goals as goal
 
 pub serve-requires : goal.serve-requires
 serve-requires c =
@@ -19,14 +19,14 @@ returns-in-Ok-clause-taken c =
       size = c.in-Whole.ensures.1;
       some = omega (arith, (record_within c.args.bytes.now c.in-Whole.asked c.in-Whole.taken c.in-Whole.ensures.1 c.in-Whole.ensures.2).1);
       front = c.in-Whole.ensures.2;
-      step = subst (λ (x : List ℕ). AnswersOne c.args.session.now c.in-Whole.asked c.serve.new.self x) (sym text) served.1;
+      step = subst (λ (x : List ℕ). AnswersOne c.args.self.now c.in-Whole.asked c.serve.new.self x) (sym text) served.1;
     }
 
 pub returns-in-Ok-clause-stays : goal.returns-in-Ok-clause-stays
 returns-in-Ok-clause-stays c = λ left inside ready.
     let within = record_within c.args.bytes.now c.in-Whole.asked c.in-Whole.taken c.in-Whole.ensures.1 c.in-Whole.ensures.2 in
     let step = c.in-Ok.ensures.served.1 in
-    omega (arith, within.0, within.1, inside, ready, steps_number_one c.args.session.now c.in-Whole.asked step.answer c.serve.new.self step.step)
+    omega (arith, within.0, within.1, inside, ready, steps_number_one c.args.self.now c.in-Whole.asked step.answer c.serve.new.self step.step)
 
 pub returns-in-Err-clause-wanted : goal.returns-in-Err-clause-wanted
 returns-in-Err-clause-wanted c = record {
@@ -34,11 +34,7 @@ returns-in-Err-clause-wanted c = record {
   rest = drop c.in-Whole.taken c.args.bytes.now;
   lawful = c.in-Whole.ensures.0;
   front = c.in-Whole.ensures.2;
-  wants =
-      elim c.in-Err.ensures.wanted [
-        | inl short ↦ absurd (omega (arith, short, has_room c.in-Whole.asked _ c.in-Whole.ensures.0 c.requires.room, c.requires.none))
-        | inr wants ↦ wants
-      ];
+  wants = elim c.in-Err.ensures.wanted [ inl short ↦ inl (few_room c.in-Whole.asked _ _ c.in-Whole.ensures.0 short) | inr wants ↦ inr wants ];
 }
 
 pub returns-in-End-clause-taken : goal.returns-in-End-clause-taken
