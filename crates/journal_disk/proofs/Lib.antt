@@ -1,4 +1,5 @@
 pub mod Entries
+pub mod Lengths
 pub mod OneList
 mod Appending
 pub mod Opening

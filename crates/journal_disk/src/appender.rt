@@ -4,6 +4,7 @@ ghost use Rattle.journal_disk.specs.Pairs.{RecordPair, IsRecordPair, pair_bytes,
 ghost use Rattle.disk_edge.specs.Disks.{AtEachMoment};
 ghost use Rattle.disk_edge.specs.Images.{LeavesOnly};
 ghost use Rattle.journal_disk.specs.Entries.{framed, WithOrWithout, Keeps};
+ghost use Rattle.journal_disk.specs.Lengths.{ReachesAtMost};
 ghost use Rattle.flow_io.specs.Faults.{Blames};
 
 use crate::DiskFault;
@@ -75,6 +76,7 @@ impl Appender {
         ensures keeps { OnOk result (IfSome (D.state disk.old).content (λ _. Keeps version [] self.new (D.state disk.new))) }
         ensures moments { (bytes : List ℕ) → (D.state disk.old).content ≡ Some bytes → LeavesOnly (D.state disk.old).images bytes →
             AtEachMoment (D.state disk.old) (D.state disk.new) (λ image. length image ≤ 9) }
+        ensures lengths { ReachesAtMost 9 (D.state disk.old) (D.state disk.new) }
         ensures told { OnOk result (IsSome (D.state disk.new).content ↔ IsSome (D.state disk.old).content) }
         ensures place { self.new ≡ 8 }
         ensures failed { OnErr result (result ≡ Err DiskFault.Failed) }
@@ -98,6 +100,7 @@ impl Appender {
         ensures moments { (version : Version) (pairs : List RecordPair) (last : RecordPair) →
             Keeps version pairs self.old (D.state disk.old) → IsRecordPair last → pair.now ≡ pair_bytes last →
             AtEachMoment (D.state disk.old) (D.state disk.new) (WithOrWithout version pairs last) }
+        ensures lengths { ReachesAtMost (self.old + (6 + length pair.now)) (D.state disk.old) (D.state disk.new) }
         ensures told { OnOk result (IsSome (D.state disk.new).content ↔ IsSome (D.state disk.old).content) }
         ensures place { OnOk result (self.new ≡ self.old + (5 + length pair.now)) }
         ensures failed { OnErr result (result ≡ Err DiskFault.Failed) }

@@ -7,6 +7,7 @@ ghost use Rattle.wire_fields.specs.Numbers.{unsigned};
 ghost use Rattle.journal_disk.specs.Entries.{disk_magic_of};
 ghost use Rattle.journal_disk.specs.Recovering.{IsMagicOf};
 ghost use Rattle.journal_disk.specs.Looking.{OnlyLooks};
+ghost use Rattle.journal_disk.specs.Lengths.{ReachesAtMost};
 
 use crate::magic::{disk_version, new_disk};
 use disk_edge::{Disk, DiskFailed};
@@ -56,6 +57,7 @@ pub(crate) fn cut_synced<D: Disk>(disk: &mut D, to: u64) -> Result<(), DiskFaile
     ensures kept { OnOk result (IfSome (D.state disk.new).content (LeavesOnly (D.state disk.new).images)) }
     ensures moments { AtEachMoment (D.state disk.old) (D.state disk.new)
         (After (TornCut to) (D.state disk.old).images) }
+    ensures lengths { ReachesAtMost 0 (D.state disk.old) (D.state disk.new) }
     ensures cause { Blames (IsErr result) (D.state disk.old).faults (D.state disk.new).faults }
 {
     disk.cut(to)?;

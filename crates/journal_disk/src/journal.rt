@@ -5,6 +5,7 @@ ghost use Rattle.disk_edge.specs.Disks.{AtEachMoment};
 ghost use Rattle.journal_disk.specs.Entries.{StandsFor, Holds, EndsAt, Keeps};
 ghost use Rattle.flow_io.specs.Faults.{Blames};
 ghost use Rattle.journal_disk.specs.Looking.{OnlyLooks};
+ghost use Rattle.journal_disk.specs.Lengths.{ReachesAtMost};
 ghost use Rattle.journal_disk.specs.Ahead.{IsPiece};
 ghost use Rattle.journal_disk.specs.Stepping.{IsStep};
 ghost use Rattle.journal_disk.specs.Recovering.{IsForeign, IsFound};
@@ -120,6 +121,7 @@ impl DiskJournal {
             EndsAt version pairs self (D.state disk.old) → Keeps version pairs appender (D.state disk.new)) }
         ensures moments { (version : version_value) (pairs : List RecordPair) → EndsAt version pairs self (D.state disk.old) →
             AtEachMoment (D.state disk.old) (D.state disk.new) (StandsFor version pairs) }
+        ensures lengths { ReachesAtMost 0 (D.state disk.old) (D.state disk.new) }
         ensures told { OnOk result (IsSome (D.state disk.new).content ↔ IsSome (D.state disk.old).content) }
         ensures place { IfOk result (λ appender. (appender ≡ self) × (appender ≤ 2 ^ 60)) }
         ensures refused { IfErr result (λ fault. (fault ≡ DiskFault.Failed) ⊎ (fault ≡ DiskFault.Memory)) }

@@ -1,5 +1,5 @@
 -- Fronts of legal journals, and what images stand for.
-use Rattle.std.proofs.Common.{◌≡◌, ⊎_elim, ℕ, zero, suc, ◌+◌, List, [], ◌∷◌, ◌++◌, length, take, refl, sym, ap, subst, arith}
+use Rattle.std.proofs.Common.{◌≡◌, ℕ, zero, suc, ◌+◌, List, [], ◌∷◌, ◌++◌, length, take, refl, sym, ap, subst, arith}
 use Rattle.std.proofs.lemmas.List.{take-append-le}
 use Rattle.std.proofs.lemmas.List.Elements.{All-take}
 use Rattle.wire_records.specs.Records.{Record}
@@ -10,9 +10,8 @@ use Rattle.flow_orders.specs.Outcomes.{Outcome, IsRightOutcome}
 use Rattle.journal_records.specs.Pairs.{IsPair}
 use Rattle.market_rules.specs.Market.{Market, empty_market}
 use Rattle.market_rules.specs.Journal.{Follows}
-use Rattle.disk_edge.specs.Disks.{DiskState}
 use Rattle.journal_keeping.specs.Keeping.{IsKeptJournal, StandsForJournal}
-use Rattle.journal_keeping.specs.Laws.{FrontsAreLegal, MorePairsStay, FirstsAreLegal, CanBeginAgain}
+use Rattle.journal_keeping.specs.Laws.{FrontsAreLegal, MorePairsStay, FirstsAreLegal}
 
 abbrev Leads : Market → List (Pair Record Outcome) → Market → Type 0
 Leads = Follows IsReadAs IsRightOutcome
@@ -49,11 +48,3 @@ firsts_are_legal version old new before after records least most image on keeps 
     let both = front_of_both old new keeps.0 in
     let front = fronts_are_legal version (old ++ new) after both.0 on.journal in
     (version, old ++ take keeps.0 new, front.0, subst (λ (l : List (Pair Record Outcome)). IsKeptJournal version l front.0) (sym both.1) front.1, keeps.3)
-
-pub can_begin_again : (start end : DiskState) → CanBeginAgain start end
-can_begin_again start end = record {
-  during = λ version of old new market before after records holds on run image left.
-      ⊎_elim (λ early. holds.each image early) (λ keeps. firsts_are_legal of old new before after records 0 (length new) image on keeps) (run.each image left);
-  returned = λ version of old new market before after records acknowledged holds on returns image left.
-      ⊎_elim (λ early. holds.each image early.0) (λ keeps. firsts_are_legal of old new before after records acknowledged (acknowledged + 1) image on keeps) (returns image left);
-}

@@ -1,5 +1,5 @@
 -- One turn of the loop that serves and keeps.
-use Rattle.std.proofs.Common.{ℕ, List, [], ◌∷◌, ◌++◌, Option, refl, ap, ◌∙◌}
+use Rattle.std.proofs.Common.{ℕ, ◌≤◌, List, [], ◌∷◌, ◌++◌, Option, length, length-append, refl, ap, ◌∙◌, arith}
 use Rattle.wire_records.specs.Formats.{commands}
 use Rattle.market_rules.specs.Market.{Market}
 use Rattle.file_units.specs.Units.{TakesOne}
@@ -18,3 +18,7 @@ takes_one new one = record {
   front = one.served.front ∙ ap (λ (l : List ℕ). commands.units.spell one.pair.asked ++ l) one.behind;
   step = (one.pair, refl, refl);
 }
+
+-- all of which is there
+pub size_within : {n : ℕ} {bytes : List ℕ} {old next : Market} {from to : ℕ} {disk later : DiskState} {before after : Option (List ℕ)} (one : TakesNext n bytes old next from to disk later before after) → n ≤ length bytes
+size_within one = omega (arith, one.size, ap length one.served.front, length-append (commands.units.spell one.pair.asked) one.served.rest)

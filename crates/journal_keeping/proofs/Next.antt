@@ -15,7 +15,9 @@ use Rattle.disk_edge.specs.Disks.{DiskState, AtEachMoment}
 use Rattle.journal_disk.specs.Pairs.{RecordPair, IsRecordPair, pair_bytes, IsWholePair}
 use Rattle.journal_disk.specs.Entries.{WithOrWithout}
 use Rattle.journal_disk.specs.Entries.{Keeps}
+use Rattle.journal_disk.specs.Lengths.{ReachesAtMost}
 use Rattle.journal_disk.proofs.Entries.{pair_short}
+use Rattle.journal_disk.proofs.Lengths.{reach_wider}
 use Rattle.journal_keeping.specs.declared.fault.KeepFault.{KeepFault}
 use Rattle.journal_keeping.specs.declared.fault.KeepFault.TheVariants.{Disk, Write}
 use Rattle.journal_keeping.specs.Private.{Answers, KeepsOneMore, IsServed, TakesNext, BreaksNext}
@@ -59,6 +61,15 @@ module _ (n : ℕ) (bytes : List ℕ) (old new : Market) (text : List ℕ) (one 
 
   pub still_ready : (place later : ℕ) → place + 263183 * left ≤ 2 ^ 61 → later ≡ place + (5 + length text) → later + 263183 * (left - n) ≤ 2 ^ 61
   still_ready place later room moved = omega (arith, room, moved, ap length their_bytes, pair_short (records_of pair_of) two_records, within.0, within.1, inside)
+
+  -- behind any place, and within any bytes that are left, it has room in 263,183 bytes
+  pub still_within : (place later other most : ℕ) → length bytes ≤ other → place + 263183 * other ≤ most → later ≡ place + (5 + length text) → later + 263183 * (other - n) ≤ most
+  still_within place later other most fits room moved = omega (arith, room, moved, ap length their_bytes, pair_short (records_of pair_of) two_records, within.0, within.1, fits)
+
+  pub still_reaches : (place : ℕ) (disk later : DiskState) (other : ℕ) → length bytes ≤ other → ReachesAtMost (place + (6 + length text)) disk later → ReachesAtMost (place + 263183 * other + 1) disk later
+  still_reaches place disk later other fits =
+      reach_wider (place + (6 + length text)) (place + 263183 * other + 1) disk later
+      (omega (arith, ap length their_bytes, pair_short (records_of pair_of) two_records, within.0, within.1, fits))
 
   -- where it wasn't kept, or not written whole
   pub breaks : (from to : ℕ) (disk later : DiskState) (before after : Option (List ℕ)) (SameDisk SameOut : Type 0) (fault : KeepFault) → (fault ≡ Disk) ⊎ (fault ≡ Write) → (fault ≡ Disk → SameOut)

@@ -35,7 +35,7 @@ use Rattle.journal_keeping.specs.Pacing.{asked_of}
 use Rattle.journal_keeping.specs.Beginning.{IsBegun, OpensNot, IsOfDisk, IsBehindMagic, IsNoneOf, IsOfSource, NotBegun, Unread, Asked}
 use Rattle.journal_keeping.proofs.Serving.{unbegun, opened_first, stand_whole}
 use Rattle.journal_keeping.proofs.Ends.{take_every}
-use Rattle.journal_keeping.proofs.Legal.{can_begin_again}
+use Rattle.journal_keeping.proofs.Again.{can_begin_again}
 use Rattle.journal_keeping.proofs.Opened.{legal_is_opened}
 use Rattle.journal_keeping.proofs.Turns.{Pairs}
 use Rattle.journal_keeping.proofs.Sources.{BeginsWithAll, asked_are_units}

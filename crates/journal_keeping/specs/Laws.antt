@@ -1,5 +1,5 @@
 -- What holds of kept journals, whatever code there is.
-use Rattle.std.specs.Prelude.{◌≡◌, ◌⊎◌, ℕ, ◌^◌, ◌≤◌, List, ◌++◌, length, take}
+use Rattle.std.specs.Prelude.{◌≡◌, ◌⊎◌, ℕ, ◌^◌, ◌≤◌, List, ◌++◌, Option, length, take}
 use Rattle.wire_records.specs.Records.{Record}
 use Rattle.wire_records.specs.Commands.{Pair}
 use Rattle.wire_records.specs.declared.version.Version.{Version}
@@ -8,6 +8,9 @@ use Rattle.flow_orders.specs.Outcomes.{Outcome}
 use Rattle.market_rules.specs.Market.{Market}
 use Rattle.disk_edge.specs.Disks.{DiskState}
 use Rattle.journal_keeping.specs.Keeping.{IsKeptJournal, StandsForJournal, IsLegalImage, HoldsLegal, GoesOn, KeepsFirst, DuringCall, AtReturn}
+use Rattle.journal_disk.specs.Lengths.{LeavesAtMost}
+use Rattle.journal_keeping.specs.Ended.{MayBeginAgain}
+use Rattle.journal_keeping.specs.Lengths.{BringsAtMost, GrowsAtMost}
 use Rattle.journal_keeping.specs.Openings.{Opening, New, Legal, IsOpening}
 
 -- the first pairs of a legal journal are one
@@ -33,6 +36,11 @@ pub record CanBeginAgain (start end : DiskState) : Type 0 where
   pub returned : (version of : Version) (old new : List (Pair Record Outcome)) (market before after : Market) (records : List Record) (acknowledged : ℕ)
       → HoldsLegal start version old market → GoesOn of old before records new after → AtReturn of start end old new acknowledged
       → (image : List ℕ) → end.images image → IsLegalImage image
+  -- And it can be opened, as a new one or as one of a legal journal, where a crash left at most 2^59 bytes at the start, and the source
+  -- has at most 2^32 within the limit.
+  pub opened : (limit count : ℕ) (content : Option (List ℕ)) → count ≤ 2 ^ 32 → BringsAtMost limit content count → LeavesAtMost (2 ^ 59) start → GrowsAtMost limit content start end → MayBeginAgain start end
+      → (image : List ℕ) → end.since start.clock image → (opening : Opening) → IsOpening image opening
+      → (opening ≡ New) ⊎ ((version : Version) × (pairs : List (Pair Record Outcome)) × (market : Market) × (opening ≡ Legal version pairs market))
 
 -- bytes that keep a legal journal are opened as that, and as nothing else, where they are at most 2^60; a new disk as a new one
 abbrev pub LegalIsOpened : Type 0

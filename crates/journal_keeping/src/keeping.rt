@@ -11,6 +11,7 @@ ghost use Rattle.journal_disk.specs.Looking.{OnlyLooks};
 ghost use Rattle.journal_keeping.specs.Keeping.{HoldsLegal, KeepsIn};
 ghost use Rattle.journal_keeping.specs.Openings.{KeepNone};
 ghost use Rattle.journal_keeping.specs.Making.{IsMadeBehindMagic};
+ghost use Rattle.journal_keeping.specs.Lengths.{GrowsAtMost};
 ghost use Rattle.journal_keeping.specs.Pacing.{KeepsPace, RunsOut};
 ghost use Rattle.journal_keeping.specs.Ended.{ComesTo, IsRefusal, MayBeginAgain};
 
@@ -23,7 +24,8 @@ use std::alloc::Global;
 
 /// Serves the records of a command file, each behind the pairs that a disk keeps: its pair is kept on the disk,
 /// and then written to out, before the source is asked for more. A crash at any moment leaves on the disk the pairs that were
-/// kept before, each new one that was written to out, and at most one more; on what it leaves a later call goes on.
+/// kept before, each new one that was written to out, and at most one more; on what it leaves a later call goes on. It leaves at most
+/// 263,183 bytes for each byte of the source more than it might have left before.
 ///
 /// First the disk is opened and its pairs are audited, then the source's magic is looked at, which has to be of the disk's version. A new
 /// disk takes the version of the source, whose magic is looked at before anything is written to the disk. So `NotDisk`, `Damaged` and `Rejected`
@@ -51,6 +53,7 @@ pub fn keep<S: Source, D: Disk, K: Sink>(
         (K.held out.old) (K.held out.new) }
     ensures again { (version : Version) (old : List (Pair Record Outcome)) (market : Market) → HoldsLegal (D.state disk.old) version old market →
         MayBeginAgain (D.state disk.old) (D.state disk.new) }
+    ensures lengths { IfSome (D.state disk.old).content (λ _. GrowsAtMost limit (S.rest source.old) (D.state disk.old) (D.state disk.new)) }
     ensures comes { IfSome (D.state disk.old).content
         (λ held. ComesTo limit held (S.rest source.old) (D.state disk.new) (K.held out.old) (K.held out.new) result) }
     ensures legal { (version : Version) (old : List (Pair Record Outcome)) (market : Market) → HoldsLegal (D.state disk.old) version old market →

@@ -11,6 +11,7 @@ ghost use Rattle.flow_orders.specs.Outcomes.{Outcome};
 ghost use Rattle.market_rules.specs.Market.{Market as market_value, empty_market};
 ghost use Rattle.disk_edge.specs.Disks.{AtEachMoment};
 ghost use Rattle.journal_disk.specs.Looking.{OnlyLooks};
+ghost use Rattle.journal_disk.specs.Lengths.{ReachesAtMost};
 ghost use Rattle.journal_disk.specs.Recovering.{IsFound};
 ghost use Rattle.journal_keeping.specs.Keeping.{StandsForJournal, HoldsLegal};
 ghost use Rattle.journal_keeping.specs.Openings.{KeepNone};
@@ -69,6 +70,7 @@ fn open_kept<D: Disk>(
     ensures untouched { IfSome (D.state disk.old).content (λ held. KeepNone held → OnlyLooks (D.state disk.old) (D.state disk.new)) }
     ensures moments { (v : version_value) (old : List (Pair Record Outcome)) (market : market_value) → HoldsLegal (D.state disk.old) v old market →
         AtEachMoment (D.state disk.old) (D.state disk.new) (λ image. (D.state disk.old).images image ⊎ StandsForJournal v old image) }
+    ensures lengths { ReachesAtMost 9 (D.state disk.old) (D.state disk.new) }
     ensures told { OnOk result (IsSome (D.state disk.new).content → IsSome (D.state disk.old).content) }
     ensures room { IfOk result (λ keeper. 1042 ≤ vec_capacity keeper.pair) }
     ensures near { IfOk result (λ keeper. (keeper.session.next_order ≤ keeper.appender) × (keeper.appender ≤ 2 ^ 60)) }
@@ -165,6 +167,7 @@ fn begin_kept<S: Source, D: Disk>(
         (λ held. KeepNone held → IsErr result × OnlyLooks (D.state disk.old) (D.state disk.new) × (source.new ≡ source.old)) }
     ensures moments { (v : version_value) (old : List (Pair Record Outcome)) (market : market_value) → HoldsLegal (D.state disk.old) v old market →
         AtEachMoment (D.state disk.old) (D.state disk.new) (λ image. (D.state disk.old).images image ⊎ StandsForJournal v old image) }
+    ensures lengths { ReachesAtMost 9 (D.state disk.old) (D.state disk.new) }
     ensures told { OnOk result (IsSome (D.state disk.new).content → IsSome (D.state disk.old).content) }
     ensures disk_cause { Blames (result ≡ Err KeepFault.Disk) (D.state disk.old).faults (D.state disk.new).faults }
     ensures source_cause { Blames (result ≡ Err KeepFault.Read) (S.faults source.old) (S.faults source.new) }
@@ -207,6 +210,7 @@ fn begin_new<S: Source, D: Disk>(
         (λ held. KeepNone held → IsErr result × OnlyLooks (D.state disk.old) (D.state disk.new) × (source.new ≡ source.old)) }
     ensures moments { (v : version_value) (old : List (Pair Record Outcome)) (market : market_value) → HoldsLegal (D.state disk.old) v old market →
         AtEachMoment (D.state disk.old) (D.state disk.new) (λ image. (D.state disk.old).images image ⊎ StandsForJournal v old image) }
+    ensures lengths { ReachesAtMost 9 (D.state disk.old) (D.state disk.new) }
     ensures told { OnOk result (IsSome (D.state disk.new).content → IsSome (D.state disk.old).content) }
     ensures made { IfErr result (λ _. OnlyLooks (D.state disk.old) (D.state disk.new)
         ⊎ IfSome (S.rest source.old) (λ bytes. HasTakenMagic limit bytes (S.rest source.new))) }
@@ -259,6 +263,7 @@ pub(crate) fn begin<S: Source, D: Disk>(
         (λ held. KeepNone held → IsErr result × OnlyLooks (D.state disk.old) (D.state disk.new) × (source.new ≡ source.old)) }
     ensures moments { (v : version_value) (old : List (Pair Record Outcome)) (market : market_value) → HoldsLegal (D.state disk.old) v old market →
         AtEachMoment (D.state disk.old) (D.state disk.new) (λ image. (D.state disk.old).images image ⊎ StandsForJournal v old image) }
+    ensures lengths { ReachesAtMost 9 (D.state disk.old) (D.state disk.new) }
     ensures told { OnOk result (IsSome (D.state disk.new).content → IsSome (D.state disk.old).content) }
     ensures made { IfErr result (λ _. IfSome (D.state disk.old).content
         (λ held. IsMadeBehindMagic limit held (D.state disk.old) (D.state disk.new) (S.rest source.old) (S.rest source.new))) }

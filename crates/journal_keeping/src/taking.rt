@@ -1,5 +1,5 @@
 //! Records that are served onto a disk, one after the other.
-ghost use Rattle.std.specs.Prelude.{◌≡◌, ◌≢◌, ◌≤◌, ◌<◌, ◌+◌, ◌-◌, ◌^◌, ◌⊎◌, ◌++◌, ℕ, List, [], ◌∷◌, length, map, Some, None, Err, IsErr, IfSome, IsSome, IfOk, IfErr, OnOk, OnErr, vec_capacity};
+ghost use Rattle.std.specs.Prelude.{◌≡◌, ◌≢◌, ◌≤◌, ◌<◌, ◌+◌, ◌-◌, ◌*◌, ◌^◌, ◌⊎◌, ◌++◌, ℕ, List, [], ◌∷◌, length, map, Some, None, Err, IsErr, IfSome, IsSome, IfOk, IfErr, OnOk, OnErr, vec_capacity};
 ghost use Rattle.flow_io.specs.Faults.{Blames};
 ghost use Rattle.flow_io.specs.Streams.{Grows, GrowsByFront};
 ghost use Rattle.flow_io.specs.Windows.{Fills, IsWithin};
@@ -15,7 +15,9 @@ ghost use Rattle.file_units.specs.Inputs.{HasLongest};
 ghost use Rattle.disk_edge.specs.Disks.{AtEachMoment};
 ghost use Rattle.journal_disk.specs.Pairs.{RecordPair, IsRecordPair, pair_bytes, IsWholePair};
 ghost use Rattle.journal_disk.specs.Entries.{WithOrWithout, Keeps};
+ghost use Rattle.journal_disk.specs.Lengths.{ReachesAtMost};
 ghost use Rattle.journal_keeping.specs.Keeping.{IsKeptJournal};
+ghost use Rattle.journal_keeping.specs.Lengths.{HasYetAtMost};
 ghost use Rattle.journal_keeping.specs.Private.{Answers, IsReady, IsTakenNext, IsStill, HasWanting, BreaksNext, ServesOn};
 
 use crate::fault::KeepFault;
@@ -73,6 +75,7 @@ fn put_pair<D: Disk, K: Sink>(
     ensures moments { (version : Version) (pairs : List RecordPair) (last : RecordPair) →
         Keeps version pairs appender.old (D.state disk.old) → IsRecordPair last → pair.now ≡ pair_bytes last →
         AtEachMoment (D.state disk.old) (D.state disk.new) (WithOrWithout version pairs last) }
+    ensures lengths { ReachesAtMost (appender.old + (6 + length pair.now)) (D.state disk.old) (D.state disk.new) }
     ensures told { OnOk result (IsSome (D.state disk.new).content → IsSome (D.state disk.old).content) }
     ensures place { OnOk result (appender.new ≡ appender.old + (5 + length pair.now)) }
     ensures written { OnOk result (Grows (K.held out.old) (K.held out.new) pair.now) }
@@ -109,6 +112,10 @@ fn keep_next<D: Disk, K: Sink>(
         × (keeper.new.appender ≡ keeper.old.appender) × (disk.new ≡ disk.old) × (out.new ≡ out.old))) }
     ensures stays { IfOk result (λ front. (left : ℕ) → length bytes.now ≤ left → IsReady keeper.old.session keeper.old.appender left →
         StaysReady (IsReady keeper.new.session keeper.new.appender) front left) }
+    ensures places { IfOk result (λ front. (left most : ℕ) → length bytes.now ≤ left → keeper.old.appender + 263183 * left ≤ most →
+        StaysReady (λ yet. keeper.new.appender + 263183 * yet ≤ most) front left) }
+    ensures lengths { (left : ℕ) → length bytes.now ≤ left →
+        ReachesAtMost (keeper.old.appender + 263183 * left + 1) (D.state disk.old) (D.state disk.new) }
     ensures broken { IfErr result (BreaksNext bytes.now keeper.old.session keeper.old.appender keeper.new.appender
         (D.state disk.old) (D.state disk.new) (K.held out.old) (K.held out.new) (disk.new ≡ disk.old) (out.new ≡ out.old)) }
     ensures disk_cause { Blames (result ≡ Err KeepFault.Disk) (D.state disk.old).faults (D.state disk.new).faults }
@@ -169,6 +176,8 @@ pub(crate) fn serve_on<S: Source, D: Disk, K: Sink>(
         × IsKeptJournal version old keeper.old.session × Keeps version (map records_of old) keeper.old.appender (D.state disk.old)) }
     ensures goes { ServesOn window.old (S.rest source.old) (S.rest source.new) result keeper.old.session keeper.old.appender
         (D.state disk.old) (D.state disk.new) (K.held out.old) (K.held out.new) }
+    ensures lengths { (count : ℕ) → HasYetAtMost count window.old (S.rest source.old) →
+        ReachesAtMost (keeper.old.appender + 263183 * count + 1) (D.state disk.old) (D.state disk.new) }
     ensures disk_cause { Blames (result ≡ Err KeepFault.Disk) (D.state disk.old).faults (D.state disk.new).faults }
     ensures source_cause { Blames (result ≡ Err KeepFault.Read) (S.faults source.old) (S.faults source.new) }
     ensures out_cause { Blames (result ≡ Err KeepFault.Write) (K.faults out.old) (K.faults out.new) }

@@ -15,6 +15,7 @@ use Rattle.journal_disk.specs.Looking.{OnlyLooks}
 use Rattle.journal_keeping.specs.Keeping.{HoldsLegal, KeepsIn}
 use Rattle.journal_keeping.specs.Openings.{KeepNone}
 use Rattle.journal_keeping.specs.Making.{IsMadeBehindMagic}
+use Rattle.journal_keeping.specs.Lengths.{GrowsAtMost}
 use Rattle.journal_keeping.specs.Pacing.{KeepsPace, IsNear, RunsOut}
 use Rattle.journal_keeping.specs.Ended.{ComesTo, MayBeginAgain}
 use Rattle.journal_keeping.specs.Ended as kept
@@ -87,6 +88,7 @@ module _ (limit : ℕ) (result : Kept) (start end : DiskState) (source out : Cha
   pub serves : (notes : Change) (noting : Result (Unit {0}) WriteFailed)
       → ((version : Version) (old : List (Pair Record Outcome)) (market : Market) → HoldsLegal start version old market → KeepsIn limit source.before (◌≡◌ {A = Kept} result (Err Write)) version start end old market out.before out.after)
       → ((version : Version) (old : List (Pair Record Outcome)) (market : Market) → HoldsLegal start version old market → MayBeginAgain start end)
+      → IfSome start.content (λ held. GrowsAtMost limit source.before start end)
       → IfSome start.content (λ held. ComesTo limit held source.before end out.before out.after result)
       → ((version : Version) (old : List (Pair Record Outcome)) (market : Market) → HoldsLegal start version old market → IfSome start.content (λ held. length held ≤ 2 ^ 60) → ¬ kept.IsRefusal result)
       → IfSome start.content (λ held. KeepNone held → OnlyLooks start end × (source.after ≡ source.before) × (out.after ≡ out.before))
@@ -101,9 +103,10 @@ module _ (limit : ℕ) (result : Kept) (start end : DiskState) (source out : Cha
       → OnErr noting (GrowsByFront notes.before notes.after (line_of (kept_status limit result)))
       → Blames (IsErr noting) notes.faults notes.faults_after
       → ServesKeep limit (kept_status limit result) start end source out notes
-  serves notes noting keeps again comes legal untouched made taken paced wants disk read write line front cause = record {
+  serves notes noting keeps again lengths comes legal untouched made taken paced wants disk read write line front cause = record {
     keeps = λ version old market holds. keeps_wider limit source.before (◌≡◌ {A = Kept} result (Err Write)) (kept_status limit result ≡ status.WriteFault) version start end old market out.before out.after (ap (kept_status limit)) (keeps version old market holds);
     again = again;
+    lengths = lengths;
     opens = λ version old market holds small refused. legal version old market holds small (refusal_back limit result refused);
     ends = ends_as start.content comes;
     complete = λ no_disk no_read no_write memory. completes start.content comes (λ e. no_read (read.rose e)) (λ e. no_write (write.rose e)) (λ e. no_disk (disk.rose e)) memory;

@@ -13,6 +13,7 @@ use Rattle.journal_disk.specs.Looking.{OnlyLooks}
 use Rattle.journal_keeping.specs.Keeping.{HoldsLegal, KeepsIn}
 use Rattle.journal_keeping.specs.Openings.{KeepNone}
 use Rattle.journal_keeping.specs.Making.{IsMadeBehindMagic}
+use Rattle.journal_keeping.specs.Lengths.{GrowsAtMost}
 use Rattle.journal_keeping.specs.Pacing.{ReadsAll, IsNear, RunsOut}
 use Rattle.journal_keeping.specs.Ended.{ComesTo, MayBeginAgain}
 use Rattle.journal_keeping.specs.declared.fault.KeepFault.{KeepFault}
@@ -45,6 +46,9 @@ pub record ServesKeep (limit : ℕ) (status : Status) (start end : DiskState) (s
       → KeepsIn limit source.before (status ≡ WriteFault) version start end old market out.before out.after
   -- What a crash leaves is then a disk of which all this holds again.
   pub again : (version : Version) (old : List (Pair Record Outcome)) (market : Market) → HoldsLegal start version old market → MayBeginAgain start end
+  -- And it leaves at each moment at most 263,183 bytes for each byte of the source more than it might have left at the start, or than the
+  -- 9 of a new disk. So where that was at most 2^59, and the source has at most 2^32 bytes, what it leaves has at most 2^60.
+  pub lengths : IfSome start.content (λ held. GrowsAtMost limit source.before start end)
   -- Such a disk isn't refused, where it has at most 2^60 bytes.
   pub opens : (version : Version) (old : List (Pair Record Outcome)) (market : Market) → HoldsLegal start version old market
       → IfSome start.content (λ held. length held ≤ 2 ^ 60) → ¬ IsRefusal status

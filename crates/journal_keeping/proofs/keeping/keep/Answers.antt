@@ -7,6 +7,7 @@ use Rattle.journal_keeping.proofs.Making.{each_some, magic_taken}
 use Rattle.journal_keeping.proofs.Begun.{begun_known, legal_in, none_begun, can_serve}
 use Rattle.journal_keeping.proofs.Pacing.{paced_unread, unread_out, taken_at_most, paced_served, wants_next}
 use Rattle.journal_keeping.proofs.Whole.{keeps_none, may_begin_again, comes_not_begun, comes_served, keeps_served, not_of_serving, refused_not_legal, asked_refused}
+use Rattle.journal_keeping.proofs.Lengths.{grows_none, grows_served}
 use Rattle.journal_keeping.proofs.keeping.keep.Goals as goal
 
 -- ---- nothing was served
@@ -155,3 +156,20 @@ pub returns-in-Ok-clause-made : goal.returns-in-Ok-clause-made
 returns-in-Ok-clause-made g c =
     each_some (g.D.Disk.state c.args.disk.now).content _
     (λ (held : List ℕ) short. inr (magic_taken c.args.limit c.in-Ok.begun.window c.in-Ok.begun.version (g.S.Source.rest c.args.source.now) (g.S.Source.rest c.begin.new.source) (g.S.Source.rest c.serve_on.new.source) c.serve_on.ensures.goes.goes.taken c.in-Ok.ensures.behind c.serve_on.ensures.goes.goes.takes))
+
+pub returns-in-Err-clause-lengths : goal.returns-in-Err-clause-lengths
+returns-in-Err-clause-lengths g c =
+    each_some (g.D.Disk.state c.args.disk.now).content _
+    (λ (held : List ℕ). grows_none c.args.limit (g.S.Source.rest c.args.source.now) (g.D.Disk.state c.args.disk.now) (g.D.Disk.state c.begin.new.disk) c.begin.ensures.lengths)
+
+pub returns-in-Ok-clause-lengths : goal.returns-in-Ok-clause-lengths
+returns-in-Ok-clause-lengths g c =
+    let start = g.D.Disk.state c.args.disk.now in
+    let mid = g.D.Disk.state c.begin.new.disk in
+    let end = g.D.Disk.state c.serve_on.new.disk in
+    let content = g.S.Source.rest c.args.source.now in
+    let after = g.S.Source.rest c.begin.new.source in
+    if_some start.content _ _
+    (λ (held : List ℕ) begun. grows_served c.args.limit c.in-Ok.begun.version c.in-Ok.begun.window content after c.in-Ok.ensures.behind start mid end (g.met.D.Disk.is_disk c.begin.new.disk) c.begin.ensures.lengths
+    held c.in-Ok.begun.keeper.session c.in-Ok.begun.keeper.appender begun c.serve_on.ensures.lengths)
+    c.in-Ok.ensures.begun

@@ -1,4 +1,4 @@
-use Rattle.journal_keeping.proofs.Legal.{can_begin_again}
+use Rattle.journal_keeping.proofs.Again.{can_begin_again}
 use Rattle.journal_keeping.proofs.laws.can_begin_again.Goals as goal
 
 pub returns : goal.returns

@@ -1,4 +1,5 @@
 use Rattle.std.proofs.Common.{inl, List, ℕ}
+use Rattle.journal_disk.proofs.Lengths.{reach_more, reach_looks}
 use Rattle.journal_keeping.proofs.Begun.{looks_first, looked_legal}
 use Rattle.journal_keeping.proofs.Counts.{on_err}
 use Rattle.journal_keeping.proofs.Making.{each_some, each_err, kept_not_new, looked_first}
@@ -29,3 +30,15 @@ returns-in-Ok-None-clause-made g c =
 
 pub returns-in-Err-clause-made : goal.returns-in-Err-clause-made
 returns-in-Err-clause-made g c = each_some (g.D.Disk.state c.args.disk.now).content _ (λ (held : List ℕ) short. inl c.recover.ensures.looks)
+
+pub returns-in-Ok-Some-clause-lengths : goal.returns-in-Ok-Some-clause-lengths
+returns-in-Ok-Some-clause-lengths g c =
+    let start = g.D.Disk.state c.args.disk.now in
+    let mid = g.D.Disk.state c.recover.new.disk in
+    reach_more 9 start mid (g.D.Disk.state c.begin_kept.new.disk) (g.met.D.Disk.is_disk c.recover.new.disk) (reach_looks 9 start mid c.recover.ensures.looks) c.begin_kept.ensures.lengths
+
+pub returns-in-Ok-None-clause-lengths : goal.returns-in-Ok-None-clause-lengths
+returns-in-Ok-None-clause-lengths g c =
+    let start = g.D.Disk.state c.args.disk.now in
+    let mid = g.D.Disk.state c.recover.new.disk in
+    reach_more 9 start mid (g.D.Disk.state c.begin_new.new.disk) (g.met.D.Disk.is_disk c.recover.new.disk) (reach_looks 9 start mid c.recover.ensures.looks) c.begin_new.ensures.lengths

@@ -1,5 +1,6 @@
-use Rattle.std.proofs.Common.{IfSome, Err, refl, ap, sym, subst, ◌∙◌}
+use Rattle.std.proofs.Common.{IfSome, Err, refl, ap, sym, subst, ◌∙◌, arith}
 use Rattle.market_rules.specs.Market.{Market}
+use Rattle.journal_disk.proofs.Lengths.{reach_wider, reach_more, reach_looks}
 use Rattle.journal_keeping.specs.Faults.{kept_fault}
 use Rattle.journal_keeping.specs.Beginning.{IsBegun}
 use Rattle.journal_keeping.proofs.Counts.{went_on, later_call, blames_alike}
@@ -77,3 +78,17 @@ returns-in-Err-clause-refused g c =
 
 pub returns-in-Err-clause-moments : goal.returns-in-Err-clause-moments
 returns-in-Err-clause-moments g c = λ v old market holds. looks_alone v old (g.D.Disk.state c.args.disk.now) (g.D.Disk.state c.audit_kept.new.disk) c.in-Err.ensures.looks
+
+pub returns-in-Ok-begin-clause-lengths : goal.returns-in-Ok-begin-clause-lengths
+returns-in-Ok-begin-clause-lengths g c =
+    let start = g.D.Disk.state c.args.disk.now in
+    let mid = g.D.Disk.state c.audit_kept.new.disk in
+    let next = g.D.Disk.state c.begin.new.disk in
+    reach_more 9 start mid next (g.met.D.Disk.is_disk c.audit_kept.new.disk) (reach_looks 9 start mid c.in-Ok.ensures.looks) (reach_wider 0 9 mid next (omega arith) c.begin.ensures.lengths)
+
+pub returns-in-Err-begin-clause-lengths : goal.returns-in-Err-begin-clause-lengths
+returns-in-Err-begin-clause-lengths g c =
+    let start = g.D.Disk.state c.args.disk.now in
+    let mid = g.D.Disk.state c.audit_kept.new.disk in
+    let next = g.D.Disk.state c.begin.new.disk in
+    reach_more 9 start mid next (g.met.D.Disk.is_disk c.audit_kept.new.disk) (reach_looks 9 start mid c.in-Ok.ensures.looks) (reach_wider 0 9 mid next (omega arith) c.begin.ensures.lengths)

@@ -1,6 +1,6 @@
 use Rattle.std.proofs.Common.{◌≡◌, Err, ap, ◌∙◌}
 use Rattle.journal_records.specs.Formats.{records_of}
-use Rattle.journal_keeping.proofs.Next.{pair_of, whole, two_records, their_bytes, takes, still_ready, breaks}
+use Rattle.journal_keeping.proofs.Next.{pair_of, whole, two_records, their_bytes, takes, still_ready, still_within, still_reaches, breaks}
 use Rattle.journal_keeping.proofs.taking.keep_next.Goals as goal
 
 pub put_pair-requires-clause-pair : goal.put_pair-requires-clause-pair
@@ -37,3 +37,21 @@ returns-in-Err-put_pair-clause-broken g c =
     breaks c.in-Ok-Taken.taken c.args.bytes.now c.args.keeper.now.session c.serve_next.new.session c.serve_next.new.text.items one ready.0 ready.1 ready.2.0 c.args.keeper.now.appender c.put_pair.new.appender (g.D.Disk.state c.args.disk.now) (g.D.Disk.state c.put_pair.new.disk) (g.K.Sink.held c.args.out.now) (g.K.Sink.held c.put_pair.new.out)
     (c.put_pair.new.disk ≡ c.args.disk.now) (c.put_pair.new.out ≡ c.args.out.now) c.in-Err-put_pair.fault put.refused (λ is. put.unasked (ap Err is)) (λ version pairs at. put.moments version pairs (records_of pair) at two bytes)
     (λ is version pairs at. put.kept (λ bad. cc (bad, is)) version pairs (records_of pair) at two bytes) (λ is. rw c.deref.ensures.value at put.cut (ap Err is))
+
+pub returns-in-Ok-clause-places : goal.returns-in-Ok-clause-places
+returns-in-Ok-clause-places g c = λ left most fits room.
+    let one = rw c.in-Ok-Taken.field-0-is at c.in-Ok-Taken.ensures.taken in
+    let ready = c.requires.ready in
+    still_within c.in-Ok-Taken.taken c.args.bytes.now c.args.keeper.now.session c.serve_next.new.session c.serve_next.new.text.items one ready.0 ready.1 ready.2.0 c.args.keeper.now.appender c.put_pair.new.appender left most fits room (rw c.deref.ensures.value at c.in-Ok.ensures.place)
+
+pub returns-in-Ok-clause-lengths : goal.returns-in-Ok-clause-lengths
+returns-in-Ok-clause-lengths g c = λ left fits.
+    let one = rw c.in-Ok-Taken.field-0-is at c.in-Ok-Taken.ensures.taken in
+    let ready = c.requires.ready in
+    still_reaches c.in-Ok-Taken.taken c.args.bytes.now c.args.keeper.now.session c.serve_next.new.session c.serve_next.new.text.items one ready.0 ready.1 ready.2.0 c.args.keeper.now.appender (g.D.Disk.state c.args.disk.now) (g.D.Disk.state c.put_pair.new.disk) left fits (rw c.deref.ensures.value at c.put_pair.ensures.lengths)
+
+pub returns-in-Err-put_pair-clause-lengths : goal.returns-in-Err-put_pair-clause-lengths
+returns-in-Err-put_pair-clause-lengths g c = λ left fits.
+    let one = rw c.in-Ok-Taken.field-0-is at c.in-Ok-Taken.ensures.taken in
+    let ready = c.requires.ready in
+    still_reaches c.in-Ok-Taken.taken c.args.bytes.now c.args.keeper.now.session c.serve_next.new.session c.serve_next.new.text.items one ready.0 ready.1 ready.2.0 c.args.keeper.now.appender (g.D.Disk.state c.args.disk.now) (g.D.Disk.state c.put_pair.new.disk) left fits (rw c.deref.ensures.value at c.put_pair.ensures.lengths)

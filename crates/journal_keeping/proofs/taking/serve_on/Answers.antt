@@ -6,7 +6,8 @@ use Rattle.journal_keeping.specs.declared.fault.KeepFault.TheVariants.{Torn, Too
 use Rattle.journal_keeping.specs.Private.{IsReady, Adds, Names}
 use Rattle.journal_keeping.proofs.Turns.{so_none, so_more}
 use Rattle.journal_keeping.proofs.Ends.{serves_so, serves_broken}
-use Rattle.journal_keeping.proofs.Loop.{takes_one}
+use Rattle.journal_keeping.proofs.Loop.{takes_one, size_within}
+use Rattle.journal_keeping.proofs.Lengths.{within_none, within_end, within_taken, within_read}
 use Rattle.journal_keeping.proofs.taking.serve_on.Goals as goal
 
 pub units-init : goal.units-init
@@ -17,6 +18,7 @@ units-init g c = (
   refl,
   refl,
   c.requires.room,
+  within_none c.args.window.now (g.S.Source.rest c.args.source.now) c.args.keeper.now.appender (g.D.Disk.state c.args.disk.now) (g.met.D.Disk.is_disk c.args.disk.now),
 )
 
 pub units-preserved-in-Taken : goal.units-preserved-in-Taken
@@ -26,6 +28,8 @@ units-preserved-in-Taken g c =
     let inside = within_limit w.place (length w.held) w.limit w.over c.held.ensures.within in
     let one = rw (c.in-Taken.is, c.bytes_of.ensures.value, c.held.ensures.held) at c.in-Ok.ensures.taken in
     let stays = rw (c.in-Taken.is, c.bytes_of.ensures.value, c.held.ensures.held) at c.in-Ok.ensures.stays in
+    let reach = rw (c.bytes_of.ensures.value, c.held.ensures.held) at c.keep_next.ensures.lengths in
+    let places = rw (c.in-Taken.is, c.bytes_of.ensures.value, c.held.ensures.held) at c.in-Ok.ensures.places in
     let all = i.0 ++ one.pair ∷ [] in (
       all,
       one_more_gone commands Adds g.S.Source.rest g.S.Source.faults c.args.window.now w c.args.source.now c.units.source [] i.0 tt tt
@@ -34,6 +38,7 @@ units-preserved-in-Taken g c =
       c.in-Ok.ensures.disk_cause.quiet (λ is. cc is) ∙ i.3,
       c.in-Ok.ensures.out_cause.quiet (λ is. cc is) ∙ i.4,
       omega (arith, i.5, c.in-Ok.ensures.room),
+      within_taken c.args.window.now w (g.S.Source.rest c.args.source.now) (g.S.Source.rest c.units.source) c.args.keeper.now.appender c.units.keeper.appender (g.D.Disk.state c.args.disk.now) (g.D.Disk.state c.units.disk) (g.D.Disk.state c.keep_next.new.disk) i.6 inside (g.met.D.Disk.is_disk c.units.disk) reach c.in-Taken.taken c.keep_next.new.keeper.appender c.advance.new.self (size_within one) c.advance.ensures places,
     )
 
 pub returns-in-Err-clause-goes : goal.returns-in-Err-clause-goes
@@ -65,6 +70,8 @@ units-preserved-in-Ok-Enough g c =
     let inside = within_limit w.place (length w.held) w.limit w.over c.held.ensures.within in
     let none = rw (c.in-Short.is, c.bytes_of.ensures.value, c.held.ensures.held) at c.in-Ok.ensures.taken in
     let same = rw (c.in-Short.is) at c.in-Ok.ensures.still in
+    let reach = rw (c.bytes_of.ensures.value, c.held.ensures.held) at c.keep_next.ensures.lengths in
+    let places = rw (c.in-Short.is, c.bytes_of.ensures.value, c.held.ensures.held) at c.in-Ok.ensures.places in
     let stays = rw (c.in-Short.is, c.bytes_of.ensures.value, c.held.ensures.held) at c.in-Ok.ensures.stays in (
       i.0,
       read_gone commands Adds g.S.Source.rest g.S.Source.faults c.args.window.now w c.args.source.now c.units.source [] i.0 tt tt
@@ -74,6 +81,7 @@ units-preserved-in-Ok-Enough g c =
       rw same.2 i.3,
       rw same.3 i.4,
       omega (arith, i.5, c.in-Ok.ensures.room),
+      within_read c.args.window.now w (g.S.Source.rest c.args.source.now) (g.S.Source.rest c.units.source) c.args.keeper.now.appender c.units.keeper.appender (g.D.Disk.state c.args.disk.now) (g.D.Disk.state c.units.disk) (g.D.Disk.state c.keep_next.new.disk) i.6 inside (g.met.D.Disk.is_disk c.units.disk) reach c.keep_next.new.keeper.appender c.read_on.new.window (g.S.Source.rest c.read_on.new.source) c.read_on.ensures.fills places,
     )
 
 pub units-smaller : goal.units-smaller
@@ -86,6 +94,8 @@ units-preserved g c =
     let inside = within_limit w.place (length w.held) w.limit w.over c.held.ensures.within in
     let none = rw (c.in-NoBytes.is, c.bytes_of.ensures.value, c.held.ensures.held) at c.in-Ok.ensures.taken in
     let same = rw (c.in-NoBytes.is) at c.in-Ok.ensures.still in
+    let reach = rw (c.bytes_of.ensures.value, c.held.ensures.held) at c.keep_next.ensures.lengths in
+    let places = rw (c.in-NoBytes.is, c.bytes_of.ensures.value, c.held.ensures.held) at c.in-Ok.ensures.places in
     let stays = rw (c.in-NoBytes.is, c.bytes_of.ensures.value, c.held.ensures.held) at c.in-Ok.ensures.stays in (
       i.0,
       read_gone commands Adds g.S.Source.rest g.S.Source.faults c.args.window.now w c.args.source.now c.units.source [] i.0 tt tt
@@ -95,6 +105,7 @@ units-preserved g c =
       rw same.2 i.3,
       rw same.3 i.4,
       omega (arith, i.5, c.in-Ok.ensures.room),
+      within_read c.args.window.now w (g.S.Source.rest c.args.source.now) (g.S.Source.rest c.units.source) c.args.keeper.now.appender c.units.keeper.appender (g.D.Disk.state c.args.disk.now) (g.D.Disk.state c.units.disk) (g.D.Disk.state c.keep_next.new.disk) i.6 inside (g.met.D.Disk.is_disk c.units.disk) reach c.keep_next.new.keeper.appender c.read_on-in-NoBytes.new.window (g.S.Source.rest c.read_on-in-NoBytes.new.source) c.read_on-in-NoBytes.ensures.fills places,
     )
 
 pub returns-in-Ok-Limited-clause-goes : goal.returns-in-Ok-Limited-clause-goes
@@ -169,3 +180,67 @@ keep_next-requires-clause-ready g c =
     let inside = within_limit w.place (length w.held) w.limit w.over c.held.ensures.within in
     let ready = c.units.invariant.1.ready in
     (w.limit - w.place, omega (arith, inside, ap length c.bytes_of.ensures.value, ap length c.held.ensures.held), ready)
+
+pub returns-in-Err-clause-lengths : goal.returns-in-Err-clause-lengths
+returns-in-Err-clause-lengths g c =
+    let w = c.units.window in
+    let i = c.units.invariant in
+    let inside = within_limit w.place (length w.held) w.limit w.over c.held.ensures.within in
+    let reach = rw (c.bytes_of.ensures.value, c.held.ensures.held) at c.keep_next.ensures.lengths in
+    within_end c.args.window.now w (g.S.Source.rest c.args.source.now) (g.S.Source.rest c.units.source) c.args.keeper.now.appender c.units.keeper.appender (g.D.Disk.state c.args.disk.now) (g.D.Disk.state c.units.disk) (g.D.Disk.state c.keep_next.new.disk) i.6 inside (g.met.D.Disk.is_disk c.units.disk) reach
+
+pub returns-in-Overlong-clause-lengths : goal.returns-in-Overlong-clause-lengths
+returns-in-Overlong-clause-lengths g c =
+    let w = c.units.window in
+    let i = c.units.invariant in
+    let inside = within_limit w.place (length w.held) w.limit w.over c.held.ensures.within in
+    let reach = rw (c.bytes_of.ensures.value, c.held.ensures.held) at c.keep_next.ensures.lengths in
+    within_end c.args.window.now w (g.S.Source.rest c.args.source.now) (g.S.Source.rest c.units.source) c.args.keeper.now.appender c.units.keeper.appender (g.D.Disk.state c.args.disk.now) (g.D.Disk.state c.units.disk) (g.D.Disk.state c.keep_next.new.disk) i.6 inside (g.met.D.Disk.is_disk c.units.disk) reach
+
+pub returns-in-Ok-Limited-clause-lengths : goal.returns-in-Ok-Limited-clause-lengths
+returns-in-Ok-Limited-clause-lengths g c =
+    let w = c.units.window in
+    let i = c.units.invariant in
+    let inside = within_limit w.place (length w.held) w.limit w.over c.held.ensures.within in
+    let reach = rw (c.bytes_of.ensures.value, c.held.ensures.held) at c.keep_next.ensures.lengths in
+    within_end c.args.window.now w (g.S.Source.rest c.args.source.now) (g.S.Source.rest c.units.source) c.args.keeper.now.appender c.units.keeper.appender (g.D.Disk.state c.args.disk.now) (g.D.Disk.state c.units.disk) (g.D.Disk.state c.keep_next.new.disk) i.6 inside (g.met.D.Disk.is_disk c.units.disk) reach
+
+pub returns-in-Ok-Ended-clause-lengths : goal.returns-in-Ok-Ended-clause-lengths
+returns-in-Ok-Ended-clause-lengths g c =
+    let w = c.units.window in
+    let i = c.units.invariant in
+    let inside = within_limit w.place (length w.held) w.limit w.over c.held.ensures.within in
+    let reach = rw (c.bytes_of.ensures.value, c.held.ensures.held) at c.keep_next.ensures.lengths in
+    within_end c.args.window.now w (g.S.Source.rest c.args.source.now) (g.S.Source.rest c.units.source) c.args.keeper.now.appender c.units.keeper.appender (g.D.Disk.state c.args.disk.now) (g.D.Disk.state c.units.disk) (g.D.Disk.state c.keep_next.new.disk) i.6 inside (g.met.D.Disk.is_disk c.units.disk) reach
+
+pub returns-in-Err-read_on-clause-lengths : goal.returns-in-Err-read_on-clause-lengths
+returns-in-Err-read_on-clause-lengths g c =
+    let w = c.units.window in
+    let i = c.units.invariant in
+    let inside = within_limit w.place (length w.held) w.limit w.over c.held.ensures.within in
+    let reach = rw (c.bytes_of.ensures.value, c.held.ensures.held) at c.keep_next.ensures.lengths in
+    within_end c.args.window.now w (g.S.Source.rest c.args.source.now) (g.S.Source.rest c.units.source) c.args.keeper.now.appender c.units.keeper.appender (g.D.Disk.state c.args.disk.now) (g.D.Disk.state c.units.disk) (g.D.Disk.state c.keep_next.new.disk) i.6 inside (g.met.D.Disk.is_disk c.units.disk) reach
+
+pub returns-in-Ok-Limited-read_on-clause-lengths : goal.returns-in-Ok-Limited-read_on-clause-lengths
+returns-in-Ok-Limited-read_on-clause-lengths g c =
+    let w = c.units.window in
+    let i = c.units.invariant in
+    let inside = within_limit w.place (length w.held) w.limit w.over c.held.ensures.within in
+    let reach = rw (c.bytes_of.ensures.value, c.held.ensures.held) at c.keep_next.ensures.lengths in
+    within_end c.args.window.now w (g.S.Source.rest c.args.source.now) (g.S.Source.rest c.units.source) c.args.keeper.now.appender c.units.keeper.appender (g.D.Disk.state c.args.disk.now) (g.D.Disk.state c.units.disk) (g.D.Disk.state c.keep_next.new.disk) i.6 inside (g.met.D.Disk.is_disk c.units.disk) reach
+
+pub returns-in-Ok-Ended-read_on-clause-lengths : goal.returns-in-Ok-Ended-read_on-clause-lengths
+returns-in-Ok-Ended-read_on-clause-lengths g c =
+    let w = c.units.window in
+    let i = c.units.invariant in
+    let inside = within_limit w.place (length w.held) w.limit w.over c.held.ensures.within in
+    let reach = rw (c.bytes_of.ensures.value, c.held.ensures.held) at c.keep_next.ensures.lengths in
+    within_end c.args.window.now w (g.S.Source.rest c.args.source.now) (g.S.Source.rest c.units.source) c.args.keeper.now.appender c.units.keeper.appender (g.D.Disk.state c.args.disk.now) (g.D.Disk.state c.units.disk) (g.D.Disk.state c.keep_next.new.disk) i.6 inside (g.met.D.Disk.is_disk c.units.disk) reach
+
+pub returns-in-Err-read_on-2-clause-lengths : goal.returns-in-Err-read_on-2-clause-lengths
+returns-in-Err-read_on-2-clause-lengths g c =
+    let w = c.units.window in
+    let i = c.units.invariant in
+    let inside = within_limit w.place (length w.held) w.limit w.over c.held.ensures.within in
+    let reach = rw (c.bytes_of.ensures.value, c.held.ensures.held) at c.keep_next.ensures.lengths in
+    within_end c.args.window.now w (g.S.Source.rest c.args.source.now) (g.S.Source.rest c.units.source) c.args.keeper.now.appender c.units.keeper.appender (g.D.Disk.state c.args.disk.now) (g.D.Disk.state c.units.disk) (g.D.Disk.state c.keep_next.new.disk) i.6 inside (g.met.D.Disk.is_disk c.units.disk) reach

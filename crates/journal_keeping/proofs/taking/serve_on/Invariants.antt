@@ -6,6 +6,7 @@ use Rattle.wire_records.specs.Formats.{commands}
 use Rattle.flow_orders.specs.Outcomes.{Outcome}
 use Rattle.file_units.proofs.Gone.{HasGone}
 use Rattle.journal_keeping.specs.Private.{IsReady, Adds, SoFar}
+use Rattle.journal_keeping.proofs.Lengths.{StaysWithin}
 use Rattle.journal_keeping.proofs.taking.serve_on.Given as goal
 
 abbrev pub invariant-units : goal.invariant-units
@@ -16,6 +17,7 @@ invariant-units g l =
     × ((g.D.Disk.state l.disk).faults ≡ (g.D.Disk.state l.fn.disk).faults)
     × (g.K.Sink.faults l.out ≡ g.K.Sink.faults l.fn.out)
     × (1042 ≤ vec_capacity l.keeper.pair)
+    × StaysWithin l.fn.window (g.S.Source.rest l.fn.source) l.window (g.S.Source.rest l.source) l.fn.keeper.appender l.keeper.appender (g.D.Disk.state l.fn.disk) (g.D.Disk.state l.disk)
 
 -- the bytes that may be given up yet, and those that may be read
 abbrev pub decreases-units : goal.decreases-units

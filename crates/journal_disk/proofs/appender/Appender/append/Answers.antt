@@ -1,6 +1,7 @@
 use Rattle.std.proofs.Common.{◌≡◌, ◌+◌, length, sym, ap, subst, ◌∙◌, [], ◌∷◌, ℕ, arith, length-append, IfSome}
 use Rattle.journal_disk.specs.Entries.{framed, Keeps}
 use Rattle.journal_disk.proofs.Entries.{pair_short, length-framed}
+use Rattle.journal_disk.proofs.Lengths.{entry_reaches, append_reaches}
 use Rattle.journal_disk.proofs.Appending.{gate_within, first_fits, cut_short, both_steps, added}
 use Rattle.journal_disk.proofs.appender.Appender.append.Goals as goal
 
@@ -36,3 +37,20 @@ pub returns-clause-kept : goal.returns-clause-kept
 returns-clause-kept g c = λ version pairs last keeps is spelled.
     let filled = c.deref.ensures.value ∙ c.fill.ensures.filled in
     added version pairs last c.self.inside.place c.args.pair.now c.deref.result.now (g.D.Disk.state c.args.disk.now) (g.D.Disk.state c.write_synced.new.disk) (subst (λ (n : ℕ). Keeps version pairs n (g.D.Disk.state c.args.disk.now)) (sym c.self.view_is) keeps) is spelled filled (g.D.Disk.state c.open_gate.new.disk) c.in_ok-write_synced.ensures.written c.in_ok-open_gate.ensures.written c.in_ok-open_gate.ensures.kept
+
+pub returns-in_err-write_synced-clause-lengths : goal.returns-in_err-write_synced-clause-lengths
+returns-in_err-write_synced-clause-lengths g c =
+    let filled = c.deref.ensures.value ∙ c.fill.ensures.filled in
+    entry_reaches c.self.inside.place c.args.self.now c.args.pair.now c.deref.result.now (g.D.Disk.state c.args.disk.now) (g.D.Disk.state c.write_synced.new.disk) c.self.view_is filled c.write_synced.ensures.moments
+
+pub returns-in_err-open_gate-clause-lengths : goal.returns-in_err-open_gate-clause-lengths
+returns-in_err-open_gate-clause-lengths g c =
+    let filled = c.deref.ensures.value ∙ c.fill.ensures.filled in
+    append_reaches c.self.inside.place c.args.self.now c.args.pair.now c.deref.result.now (g.D.Disk.state c.args.disk.now) (g.D.Disk.state c.write_synced.new.disk) c.self.view_is filled c.write_synced.ensures.moments
+    (g.D.Disk.state c.open_gate.new.disk) (g.met.D.Disk.is_disk c.write_synced.new.disk) c.open_gate.ensures.moments
+
+pub returns-clause-lengths : goal.returns-clause-lengths
+returns-clause-lengths g c =
+    let filled = c.deref.ensures.value ∙ c.fill.ensures.filled in
+    append_reaches c.self.inside.place c.args.self.now c.args.pair.now c.deref.result.now (g.D.Disk.state c.args.disk.now) (g.D.Disk.state c.write_synced.new.disk) c.self.view_is filled c.write_synced.ensures.moments
+    (g.D.Disk.state c.open_gate.new.disk) (g.met.D.Disk.is_disk c.write_synced.new.disk) c.open_gate.ensures.moments

@@ -1,0 +1,44 @@
+-- How long a run of disk calls leaves a disk.
+use Rattle.std.proofs.Common.{◌≡◌, ℕ, ◌+◌, ◌≤◌, List, [], ◌∷◌, ◌++◌, length, length-append, ap, arith}
+use Rattle.disk_edge.specs.Disks.{DiskState, IsDisk, AtEachMoment}
+use Rattle.disk_edge.specs.Images.{TornWrite, After}
+use Rattle.disk_edge.proofs.Moments.{then_more, weaker, no_call, at_the_end}
+use Rattle.journal_disk.specs.Entries.{framed}
+use Rattle.journal_disk.specs.Looking.{OnlyLooks}
+use Rattle.journal_disk.proofs.Entries.{length-framed}
+use Rattle.journal_disk.specs.Lengths.{HasAtMost, ReachesAtMost}
+
+-- up to a later place
+pub reach_wider : (a b : ℕ) (old new : DiskState) → a ≤ b → ReachesAtMost a old new → ReachesAtMost b old new
+reach_wider a b old new le reach = λ most enough short. reach most (omega (arith, le, enough)) short
+
+-- one run, and then another
+pub reach_more : (place : ℕ) (old mid new : DiskState) → IsDisk mid → ReachesAtMost place old mid → ReachesAtMost place mid new → ReachesAtMost place old new
+reach_more place old mid new is_disk first second = λ most enough short.
+    let run = first most enough short in
+    then_more old mid new (HasAtMost most) run (second most enough (at_the_end old mid (HasAtMost most) is_disk run))
+
+-- before any call
+pub reach_none : (place : ℕ) (disk : DiskState) → IsDisk disk → ReachesAtMost place disk disk
+reach_none place disk is_disk = λ most enough short. no_call disk (HasAtMost most) is_disk short
+
+-- a look
+pub reach_looks : (place : ℕ) (old new : DiskState) → OnlyLooks old new → ReachesAtMost place old new
+reach_looks place old new looks = λ most enough short. weaker old new old.images (HasAtMost most) short looks.moments
+
+-- a write reaches to its end
+pub reach_write : (place count : ℕ) (old new : DiskState) → AtEachMoment old new (After (TornWrite place count) old.images) → ReachesAtMost (place + count) old new
+reach_write place count old new run = λ most enough short.
+    weaker old new (After (TornWrite place count) old.images) (HasAtMost most) (λ image made. omega (arith, enough, short made.0 made.1, made.2.no_longer)) run
+
+-- an append writes the entry behind the gate, with a gate of its own, and then opens the gate
+module _ (place self : ℕ) (pair bytes : List ℕ) (old mid : DiskState) (at : place ≡ self) (filled : bytes ≡ framed pair ++ 0 ∷ []) (wrote : AtEachMoment old mid (After (TornWrite (place + 1) (length bytes)) old.images)) where
+  pub entry_reaches : ReachesAtMost (self + (6 + length pair)) old mid
+  entry_reaches =
+      reach_wider (place + 1 + length bytes) (self + (6 + length pair)) old mid
+      (omega (arith, at, ap length filled, length-append (framed pair) (0 ∷ []), length-framed pair)) (reach_write (place + 1) (length bytes) old mid wrote)
+
+  pub append_reaches : (new : DiskState) → IsDisk mid → AtEachMoment mid new (After (TornWrite place 1) mid.images) → ReachesAtMost (self + (6 + length pair)) old new
+  append_reaches new is_disk opened =
+      reach_more (self + (6 + length pair)) old mid new is_disk entry_reaches
+      (reach_wider (place + 1) (self + (6 + length pair)) mid new (omega (arith, at)) (reach_write place 1 mid new opened))

@@ -1,0 +1,115 @@
+-- How long keeping records leaves a disk.
+use Rattle.std.proofs.Common.{◌≡◌, inl, inr, ℕ, ◌+◌, ◌-◌, ◌*◌, ◌≤◌, List, [], ◌∷◌, ◌++◌, Option, Some, None, IfSome, length, length-append, length-drop, drop, refl, sym, ap, subst, arith}
+use Rattle.flow_io.specs.Streams.{Takes}
+use Rattle.flow_io.specs.Windows.{WindowState, Fills}
+use Rattle.wire_records.specs.declared.version.Version.{Version}
+use Rattle.wire_records.specs.Formats.{commands}
+use Rattle.market_rules.specs.Market.{Market}
+use Rattle.disk_edge.specs.Disks.{DiskState, IsDisk}
+use Rattle.disk_edge.proofs.Moments.{weaker, then_more, at_the_end}
+use Rattle.journal_disk.specs.Pairs.{RecordPair}
+use Rattle.journal_disk.specs.Entries.{entries, Keeps}
+use Rattle.journal_disk.specs.Lengths.{HasAtMost, LeavesAtMost, ReachesAtMost}
+use Rattle.journal_disk.proofs.Lengths.{reach_wider, reach_more, reach_none}
+use Rattle.journal_keeping.specs.Beginning.{IsBehindMagic, IsBegun}
+use Rattle.journal_keeping.specs.Lengths.{BringsAtMost, GrowsAtMost, HasYetAtMost}
+
+-- ---- the bytes that may be served yet
+
+-- what is held is among them
+yet_held : (count : ℕ) (window : WindowState) (rest : Option (List ℕ)) → window.place + length window.held ≤ window.limit → HasYetAtMost count window rest → length window.held ≤ count
+yet_held count window rest inside (inl up) = omega (arith, inside, up)
+yet_held count window rest inside (inr held) = omega (arith, held.2)
+
+-- a record was taken off the front
+yet_taken : (n count : ℕ) (window : WindowState) (rest : Option (List ℕ)) → n ≤ length window.held → HasYetAtMost count window rest
+    → HasYetAtMost (count - n) (record window { held = drop n window.held; place = window.place + n }) rest
+yet_taken n count window rest few (inl up) = inl (omega (arith, up))
+yet_taken n count window rest few (inr held) = inr (held.0, held.1, omega (arith, held.2, few, length-drop n window.held))
+
+-- bytes that are taken are no longer left
+left_less : (joined : List ℕ) (before after : Option (List ℕ)) (left : List ℕ) → Takes before after joined → before ≡ Some left → (more : List ℕ) × (after ≡ Some more) × (length left ≡ length joined + length more)
+left_less joined None None left takes is = absurd cc
+left_less joined None (Some more) left takes is = absurd takes
+left_less joined (Some bytes) None left takes is = absurd takes
+left_less joined (Some bytes) (Some more) left takes is =
+    let same : bytes ≡ left = cc in
+    (more, refl, omega (arith, ap length takes, ap length same, length-append joined more))
+
+-- more was read
+yet_read : (count : ℕ) (old new : WindowState) (before after : Option (List ℕ)) → Fills old new before after → HasYetAtMost count old before → HasYetAtMost count new after
+yet_read count old new before after fills (inl up) = inl (omega (arith, up, ap (λ (w : WindowState). w.limit) fills.holds, ap (λ (w : WindowState). w.place) fills.holds))
+yet_read count old new before after fills (inr held) =
+    let less = left_less (fills.joined ++ fills.past) before after held.0 fills.taken held.1 in
+    inr (less.0, less.1, omega (arith, held.2, less.2, length-append fills.joined fills.past, length-append old.held fills.joined, ap (λ (w : WindowState). length w.held) fills.holds))
+
+-- behind the magic
+yet_behind : (limit count : ℕ) (version : Version) (window : WindowState) (content after : Option (List ℕ)) → IsBehindMagic limit version window content after → BringsAtMost limit content count → HasYetAtMost count window after
+yet_behind limit count version window content after behind (inl up) = inl (omega (arith, up, behind.limited))
+yet_behind limit count version window content after behind (inr held) =
+    let less = left_less behind.first content after held.0 behind.takes held.1 in
+    inr (less.0, less.1, omega (arith, held.2, less.2, ap length behind.magic.1, length-append (commands.magics.spell version) window.held))
+
+-- ---- while records are served
+
+-- The bytes that may be served yet have room up to the same place, and the disk reaches no further.
+abbrev pub StaysWithin : WindowState → Option (List ℕ) → WindowState → Option (List ℕ) → ℕ → ℕ → DiskState → DiskState → Type 0
+StaysWithin first before window rest from place start now =
+    (count : ℕ) → HasYetAtMost count first before → (left : ℕ) × HasYetAtMost left window rest × (place + 263183 * left ≤ from + 263183 * count) × ReachesAtMost (from + 263183 * count + 1) start now
+
+pub within_none : (window : WindowState) (rest : Option (List ℕ)) (from : ℕ) (start : DiskState) → IsDisk start → StaysWithin window rest window rest from from start start
+within_none window rest from start is_disk = λ count yet. (count, yet, omega arith, reach_none (from + 263183 * count + 1) start is_disk)
+
+module _ (first window : WindowState) (before rest : Option (List ℕ)) (from place : ℕ) (start now next : DiskState) (stays : StaysWithin first before window rest from place start now)
+    (inside : window.place + length window.held ≤ window.limit) (is_disk : IsDisk now) (reach : (left : ℕ) → length window.held ≤ left → ReachesAtMost (place + 263183 * left + 1) now next) where
+  -- after a turn, whatever it did
+  pub within_end : (count : ℕ) → HasYetAtMost count first before → ReachesAtMost (from + 263183 * count + 1) start next
+  within_end count yet =
+      let now_at = stays count yet in
+      reach_more (from + 263183 * count + 1) start now next is_disk now_at.3
+      (reach_wider (place + 263183 * now_at.0 + 1) (from + 263183 * count + 1) now next (omega (arith, now_at.2)) (reach now_at.0 (yet_held now_at.0 window rest inside now_at.1)))
+
+  pub within_taken : (n later : ℕ) (ahead : WindowState) → n ≤ length window.held → ahead ≡ record window { held = drop n window.held; place = window.place + n }
+      → ((left most : ℕ) → length window.held ≤ left → place + 263183 * left ≤ most → later + 263183 * (left - n) ≤ most) → StaysWithin first before ahead rest from later start next
+  within_taken n later ahead few is moves = λ count yet.
+      let now_at = stays count yet in (
+        now_at.0 - n,
+        subst (λ (w : WindowState). HasYetAtMost (now_at.0 - n) w rest) (sym is) (yet_taken n now_at.0 window rest few now_at.1),
+        moves now_at.0 (from + 263183 * count) (yet_held now_at.0 window rest inside now_at.1) now_at.2,
+        within_end count yet,
+      )
+
+  pub within_read : (later : ℕ) (ahead : WindowState) (after : Option (List ℕ)) → Fills window ahead rest after
+      → ((left most : ℕ) → length window.held ≤ left → place + 263183 * left ≤ most → later + 263183 * left ≤ most) → StaysWithin first before ahead after from later start next
+  within_read later ahead after fills moves = λ count yet.
+      let now_at = stays count yet in (
+        now_at.0,
+        yet_read now_at.0 window ahead rest after fills now_at.1,
+        moves now_at.0 (from + 263183 * count) (yet_held now_at.0 window rest inside now_at.1) now_at.2,
+        within_end count yet,
+      )
+
+-- ---- the whole call
+
+-- where nothing was served
+pub grows_none : (limit : ℕ) (content : Option (List ℕ)) (start end : DiskState) → ReachesAtMost 9 start end → GrowsAtMost limit content start end
+grows_none limit content start end reach = λ most count nine short brings.
+    weaker start end (HasAtMost most) (HasAtMost (most + 263183 * count)) (λ image le. omega (arith, le)) (reach most nine short)
+
+-- the closed gate is among the bytes that a crash leaves
+last_gate : (version : Version) (pairs : List RecordPair) (place most : ℕ) (disk : DiskState) → IsDisk disk → Keeps version pairs place disk → LeavesAtMost most disk → place + 1 ≤ most
+last_gate version pairs place most disk is_disk keeps short =
+    let bytes = entries version pairs ++ keeps.0 ∷ [] in
+    let left : disk.images bytes = subst (λ (o : Option (List ℕ)). IfSome o disk.images) keeps.2.content is_disk.content in
+    omega (arith, short bytes left, length-append (entries version pairs) (keeps.0 ∷ []), keeps.2.begins)
+
+pub grows_served : (limit : ℕ) (version : Version) (window : WindowState) (content after : Option (List ℕ)) → IsBehindMagic limit version window content after
+    → (start mid end : DiskState) → IsDisk mid → ReachesAtMost 9 start mid → (held : List ℕ) (market : Market) (place : ℕ) → IsBegun held version market place mid
+    → ((count : ℕ) → HasYetAtMost count window after → ReachesAtMost (place + 263183 * count + 1) mid end) → GrowsAtMost limit content start end
+grows_served limit version window content after behind start mid end is_disk reach held market place begun served = λ most count nine short brings.
+    let run = reach most nine short in
+    let there = at_the_end start mid (HasAtMost most) is_disk run in
+    let last = last_gate version _ place most mid is_disk begun.2 there in
+    let all = most + 263183 * count in
+    then_more start mid end (HasAtMost all) (weaker start mid (HasAtMost most) (HasAtMost all) (λ image le. omega (arith, le)) run)
+    (served count (yet_behind limit count version window content after behind brings) all (omega (arith, last)) (λ image left. omega (arith, there image left)))
