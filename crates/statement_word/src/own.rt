@@ -58,7 +58,7 @@ impl Own {
                 Err(_) => Err(Memory),
             },
             None => {
-                // What the market ensures: it is sound.
+                // Called for its contract: the market is sound.
                 let _sound = market.version();
                 Ok(())
             }
@@ -77,7 +77,7 @@ impl Own {
             (record { account = self.now.number; market = market.now }) result text.new.items }
         ensures room { vec_capacity text.old ≤ vec_capacity text.new }
     {
-        // What the market ensures: it is sound.
+        // Called for its contract: the market is sound.
         let _sound = market.version();
         match &self.statement {
             Some(statement) if statement.is_open() => match statement.finish(text) {
