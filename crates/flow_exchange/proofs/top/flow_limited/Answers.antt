@@ -63,6 +63,6 @@ returns-clause-paced g c = elim c.match-form_of.branch [
 
 pub returns-clause-pieces : goal.returns-clause-pieces
 returns-clause-pieces g c = elim c.match-form_of.branch [
-  | in-Some w ↦ rw (w.status-is, w.source-is, w.out-is) (λ asks. w.do_form-status.ensures.pieces (one_form _ w.in-Some.form Run w.in-Some.ensures.form asks))
+  | in-Some w ↦ rw (w.status-is, w.out-is) (λ asks. w.do_form-status.ensures.pieces (one_form _ w.in-Some.form Run w.in-Some.ensures.form asks))
   | in-None w ↦ λ asks. absurd (w.in-None.ensures.none Run asks)
 ]
