@@ -2,8 +2,9 @@
 use crate::journals::keeps;
 use disk_edge::{Disk, DiskFailed, FileDisk, PathDisk};
 use std::fs;
-use std::fs::{File, OpenOptions};
+use std::fs::{File, Files, OpenOptions};
 use std::os::unix::fs::symlink;
+use std::process::Abort;
 use std::test::Fail;
 
 // What was written is there when the file is opened again. A file that can't be written or that couldn't be opened fails.
@@ -62,6 +63,14 @@ fn file_keeps_pairs(rt: HostRuntime) -> Result<(), Fail> {
     Ok(())
 }
 
+// Where no file can be made the first write fails, and each call from then on.
+fn is_never_made<R: Files<File = File> + Abort>(rt: &R, path: &str) {
+    let mut none = PathDisk::open(rt, path);
+    assert_eq!(rt; none.length(), Ok(0), "{path}");
+    assert_eq!(rt; none.write_at(0, b"abc"), Err(DiskFailed), "{path}");
+    assert_eq!(rt; none.length(), Err(DiskFailed), "{path}");
+}
+
 // A file that isn't there is an empty disk. The first write makes it, and nothing else does. A link isn't made a file, and where none can
 // be made the write fails, and each call from then on.
 #[test]
@@ -80,12 +89,9 @@ fn file_is_made_by_a_write(rt: HostRuntime) -> Result<(), Fail> {
     fs::remove_file(&rt, path)?;
     fs::remove_dir(&rt, "folder")?;
     symlink(&rt, "nothing", "link")?;
-    for path in ["", "no/such/folder", "link"] {
-        let mut none = PathDisk::open(&rt, path);
-        assert_eq!(rt; none.length(), Ok(0), "{path}");
-        assert_eq!(rt; none.write_at(0, b"abc"), Err(DiskFailed), "{path}");
-        assert_eq!(rt; none.length(), Err(DiskFailed), "{path}");
-    }
+    is_never_made(&rt, "");
+    is_never_made(&rt, "no/such/folder");
+    is_never_made(&rt, "link");
     fs::remove_file(&rt, "link")?;
     let mut folder = PathDisk::open(&rt, ".");
     assert_eq!(rt; folder.length(), Err(DiskFailed));

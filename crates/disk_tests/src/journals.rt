@@ -1,9 +1,10 @@
 //! A journal on a disk: what it holds, what a stop in any call leaves, faults, and disks that hold something else.
-ghost use Rattle.std.specs.Prelude.{ℕ, List, IfOk};
+ghost use Rattle.std.specs.Prelude.{ℕ, ◌≤◌, List, Some, IfOk, IfSome, length};
 ghost use Rattle.wire_records.specs.declared.version.Version.{Version as version_value};
 ghost use Rattle.journal_disk.specs.Pairs.{RecordPair};
 ghost use Rattle.journal_disk.specs.Entries.{Holds, EndsAt};
 ghost use Rattle.journal_disk.specs.Looking.{OnlyLooks};
+ghost use Rattle.journal_disk.specs.Recovering.{IsFound};
 
 use disk_edge::Disk;
 use journal_disk::{Ahead, Appender, DiskFault, DiskJournal, Step, is_whole_pair, recover};
@@ -50,25 +51,45 @@ fn read_kept<D: Disk>(
     }
 }
 
+// Makes a new disk one of version Two, and adds a pair.
+fn keep_first<D: Disk>(alloc: Global, disk: &mut D, pair: &[u8]) -> Result<(), DiskFault>
+    requires new { IfSome (D.state disk.old).content (λ bytes. length bytes ≤ 9) }
+{
+    let mut appender = Appender::for_new(alloc)?;
+    appender.make(disk, Version::Two)?;
+    if is_whole_pair(pair) {
+        appender.append(disk, pair)?;
+    }
+    Ok(())
+}
+
+// Reads the pairs that a disk keeps, and adds one.
+fn keep_next<D: Disk>(
+    alloc: Global,
+    disk: &mut D,
+    lasts: &mut Vec<u8>,
+    pair: &[u8],
+) -> Result<(), DiskFault>
+    requires found { IfSome (D.state disk.old).content
+        (λ bytes. (version : version_value) × IsFound (Some version) bytes (D.state disk.old)) }
+{
+    let mut found = Vec::new(alloc);
+    let mut journal = DiskJournal::behind_magic();
+    read_kept(alloc, &mut journal, disk, lasts, &mut found)?;
+    let mut appender = journal.begin(alloc, disk)?;
+    if is_whole_pair(pair) {
+        appender.append(disk, pair)?;
+    }
+    Ok(())
+}
+
 // Opens a disk, reads the pairs that are kept, and adds one. A new disk is made one of version Two. Answers the last byte of each pair
 // that was kept.
 pub fn keep<D: Disk>(alloc: Global, disk: &mut D, pair: &[u8]) -> Result<Vec<u8>, DiskFault> {
     let mut lasts = Vec::new(alloc);
-    let mut found = Vec::new(alloc);
-    let mut appender = match recover(disk)? {
-        None => {
-            let mut appender = Appender::for_new(alloc)?;
-            appender.make(disk, Version::Two)?;
-            appender
-        }
-        Some(_) => {
-            let mut journal = DiskJournal::behind_magic();
-            read_kept(alloc, &mut journal, disk, &mut lasts, &mut found)?;
-            journal.begin(alloc, disk)?
-        }
-    };
-    if is_whole_pair(pair) {
-        appender.append(disk, pair)?;
+    match recover(disk)? {
+        None => keep_first(alloc, disk, pair)?,
+        Some(_) => keep_next(alloc, disk, &mut lasts, pair)?,
     }
     Ok(lasts)
 }
