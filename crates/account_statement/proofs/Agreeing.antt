@@ -4,7 +4,7 @@ use Rattle.std.specs.Prelude.{◌==◌}
 use Rattle.std.proofs.lemmas.List.{append-nil}
 use Rattle.wire_records.specs.Records.{Record}
 use Rattle.wire_records.specs.Versions.{IsReadAs}
-use Rattle.wire_records.specs.Commands.{Command, AddAsset, OpenAccount, DepositMoney, DepositAsset, WithdrawMoney, WithdrawAsset, PlaceOrder, CancelOrder, RunBatch, PlaceUntil, SetMoneyCredit, SetUnitCredit, Answer, Plain, Batch}
+use Rattle.wire_records.specs.Commands.{Command, AddAsset, OpenAccount, RunBatch, Answer, Plain, Batch}
 use Rattle.wire_records.specs.declared.command.BodyFault.{BodyFault}
 use Rattle.wire_records.specs.declared.reply.Reply.{Reply}
 use Rattle.wire_records.proofs.Readings.{reading_unique}
@@ -43,15 +43,7 @@ pub seen_named : (account named : ℕ) (there : Bool) (c : Command) (answer : Re
 seen_named account named there (AddAsset ticker) answer names = absurd names
 seen_named account named there OpenAccount answer names = absurd names
 seen_named account named there (RunBatch budget) answer names = absurd names
-seen_named account named there (DepositMoney other ticks) answer names = ap (λ k. event_if (there && (k == account)) (Asks (DepositMoney other ticks) answer)) (sym names)
-seen_named account named there (DepositAsset other asset units) answer names = ap (λ k. event_if (there && (k == account)) (Asks (DepositAsset other asset units) answer)) (sym names)
-seen_named account named there (WithdrawMoney other ticks) answer names = ap (λ k. event_if (there && (k == account)) (Asks (WithdrawMoney other ticks) answer)) (sym names)
-seen_named account named there (WithdrawAsset other asset units) answer names = ap (λ k. event_if (there && (k == account)) (Asks (WithdrawAsset other asset units) answer)) (sym names)
-seen_named account named there (PlaceOrder r) answer names = ap (λ k. event_if (there && (k == account)) (Asks (PlaceOrder r) answer)) (sym names)
-seen_named account named there (CancelOrder other number) answer names = ap (λ k. event_if (there && (k == account)) (Asks (CancelOrder other number) answer)) (sym names)
-seen_named account named there (PlaceUntil last r) answer names = ap (λ k. event_if (there && (k == account)) (Asks (PlaceUntil last r) answer)) (sym names)
-seen_named account named there (SetMoneyCredit other ticks) answer names = ap (λ k. event_if (there && (k == account)) (Asks (SetMoneyCredit other ticks) answer)) (sym names)
-seen_named account named there (SetUnitCredit other asset units) answer names = ap (λ k. event_if (there && (k == account)) (Asks (SetUnitCredit other asset units) answer)) (sym names)
+seen_named account named there command answer names = ap (λ k. event_if (there && (k == account)) (Asks command answer)) (sym names)
 
 -- the own fills of a market are those that are found under the numbers of the own orders
 pub own_fills_are : (account : ℕ) (m : Market) (h : Holding) (c : Clearing) → IsSound m → IsHeld account m h → IsRightClearing m.orders (start_prices m) c → own_fills account m c ≡ fills_for c.fills h.orders

@@ -9,7 +9,7 @@ use Rattle.std.proofs.lemmas.List.Filters.{length-filter_both}
 use Rattle.list_sums.specs.Sums.{int_sum_by}
 use Rattle.weight_rows.specs.Rows.{IsPricedBy}
 use Rattle.demand_curve.proofs.RoundingLaws.{rounding_is_within_room}
-use Rattle.wire_records.specs.Commands.{Command, AddAsset, OpenAccount, DepositMoney, DepositAsset, WithdrawMoney, WithdrawAsset, PlaceOrder, CancelOrder, RunBatch, PlaceUntil, SetMoneyCredit, SetUnitCredit, Answer, Plain, Batch}
+use Rattle.wire_records.specs.Commands.{Command, AddAsset, DepositMoney, DepositAsset, WithdrawMoney, WithdrawAsset, PlaceOrder, CancelOrder, PlaceUntil, Answer, Plain, Batch}
 use Rattle.wire_records.specs.declared.reply.Reply.{Reply}
 use Rattle.wire_records.specs.declared.reply.Reply.TheVariants as reply
 use Rattle.wire_records.specs.declared.reply.Refusal.{Refusal}
@@ -125,12 +125,7 @@ module _ (account : ℕ) (m n : Market) (h : Holding) (sound : IsSound m) (sound
         number_is = has.number_is;
       })
   may_do (AddAsset ticker) names none is = tt
-  may_do OpenAccount names none is = tt
-  may_do (PlaceOrder r) names none is = tt
-  may_do (RunBatch budget) names none is = tt
-  may_do (PlaceUntil last r) names none is = tt
-  may_do (SetMoneyCredit named ticks) names none is = tt
-  may_do (SetUnitCredit named asset units) names none is = tt
+  may_do command names none is = tt
 
   above_all : (number : ℕ) → number ≡ m.next_order → All (λ (o : Order). o.number < number) h.orders
   above_all number is_next =
@@ -180,15 +175,7 @@ module _ (account : ℕ) (m n : Market) (h : Holding) (sound : IsSound m) (sound
         let more = not_least last m.batches later.0 in omega (arith, more),
       )
   may_order (AddAsset ticker) number names none accepts = tt
-  may_order OpenAccount number names none accepts = tt
-  may_order (DepositMoney named ticks) number names none accepts = tt
-  may_order (DepositAsset named asset units) number names none accepts = tt
-  may_order (WithdrawMoney named ticks) number names none accepts = tt
-  may_order (WithdrawAsset named asset units) number names none accepts = tt
-  may_order (CancelOrder named order) number names none accepts = tt
-  may_order (RunBatch budget) number names none accepts = tt
-  may_order (SetMoneyCredit named ticks) number names none accepts = tt
-  may_order (SetUnitCredit named asset units) number names none accepts = tt
+  may_order command number names none accepts = tt
 
   -- the account is there
   is_open_there : is_there m account ≡ true

@@ -3,7 +3,7 @@ use Rattle.std.proofs.Common.{◌≡◌, ℕ, zero, suc, ◌+◌, ◌<◌, ◌�
 use Rattle.std.specs.Prelude.{◌≢◌}
 use Rattle.std.proofs.lemmas.Bool.{cases_lt}
 use Rattle.wire_records.specs.Records.{Record}
-use Rattle.wire_records.specs.Commands.{Command, AddAsset, OpenAccount, DepositMoney, DepositAsset, WithdrawMoney, WithdrawAsset, PlaceOrder, CancelOrder, RunBatch, PlaceUntil, SetMoneyCredit, SetUnitCredit, Answer, Plain, Batch}
+use Rattle.wire_records.specs.Commands.{Command, RunBatch, Answer, Plain, Batch}
 use Rattle.wire_records.specs.Versions.{IsReadAs}
 use Rattle.wire_records.specs.declared.command.BodyFault.{BodyFault}
 use Rattle.wire_records.specs.declared.reply.Reply.{Reply}
@@ -210,18 +210,8 @@ module _ (answer : Answer Outcome) (reply : Reply) where
 
 -- a command holds a batch or doesn't
 batch_or_not : (c : Command) → ((budget : ℕ) × (c ≡ RunBatch budget)) ⊎ ((budget : ℕ) → ¬ (c ≡ RunBatch budget))
-batch_or_not (AddAsset ticker) = inr (λ budget e. cc)
-batch_or_not OpenAccount = inr (λ budget e. cc)
-batch_or_not (DepositMoney account ticks) = inr (λ budget e. cc)
-batch_or_not (DepositAsset account asset units) = inr (λ budget e. cc)
-batch_or_not (WithdrawMoney account ticks) = inr (λ budget e. cc)
-batch_or_not (WithdrawAsset account asset units) = inr (λ budget e. cc)
-batch_or_not (PlaceOrder request) = inr (λ budget e. cc)
-batch_or_not (CancelOrder account number) = inr (λ budget e. cc)
 batch_or_not (RunBatch budget) = inl (budget, refl)
-batch_or_not (PlaceUntil last request) = inr (λ budget e. cc)
-batch_or_not (SetMoneyCredit account ticks) = inr (λ budget e. cc)
-batch_or_not (SetUnitCredit account asset units) = inr (λ budget e. cc)
+batch_or_not command = inr (λ budget e. cc)
 
 same_budget : (b c : ℕ) → ◌≡◌ {A = Result Command BodyFault} (Ok (RunBatch b)) (Ok (RunBatch c)) → b ≡ c
 same_budget b c e = cc

@@ -4,7 +4,7 @@ use Rattle.std.specs.Prelude.{All, unsigned_abs, slice_index_or}
 use Rattle.std.proofs.lemmas.Int.{ints}
 use Rattle.std.proofs.lemmas.List.Elements.{All-nil, All-cons, All-head, All-tail}
 use Rattle.wire_records.specs.Records.{Record, IsRecord, most_body}
-use Rattle.wire_records.specs.Commands.{Pair, Command, AddAsset, OpenAccount, DepositMoney, DepositAsset, WithdrawMoney, WithdrawAsset, PlaceOrder, CancelOrder, RunBatch, PlaceUntil, SetMoneyCredit, SetUnitCredit, Answer, Plain, Batch}
+use Rattle.wire_records.specs.Commands.{Pair, Command, AddAsset, OpenAccount, PlaceOrder, RunBatch, PlaceUntil, Answer, Plain, Batch}
 use Rattle.wire_records.specs.Versions.{IsReadAs}
 use Rattle.wire_records.specs.declared.reply.Reply.{Reply}
 use Rattle.wire_records.specs.declared.reply.Reply.TheVariants as reply
@@ -58,35 +58,19 @@ batch_numbers_none m (Skipped s) = refl
 
 -- the number of the next order never falls
 accepted_rise : (m : Market) (c : Command) (a : Answer Outcome) (n : Market) → Accepts IsRightOutcome m c a n → m.next_order ≤ n.next_order
-accepted_rise m (AddAsset ticker) a n accepts = omega (arith, ap (λ (x : Market). x.next_order) accepts.1)
-accepted_rise m OpenAccount a n accepts = omega (arith, ap (λ (x : Market). x.next_order) accepts.1)
-accepted_rise m (DepositMoney account ticks) a n accepts = omega (arith, ap (λ (x : Market). x.next_order) accepts.1)
-accepted_rise m (DepositAsset account asset units) a n accepts = omega (arith, ap (λ (x : Market). x.next_order) accepts.1)
-accepted_rise m (WithdrawMoney account ticks) a n accepts = omega (arith, ap (λ (x : Market). x.next_order) accepts.1)
-accepted_rise m (WithdrawAsset account asset units) a n accepts = omega (arith, ap (λ (x : Market). x.next_order) accepts.1)
-accepted_rise m (PlaceOrder r) a n accepts = omega (arith, ap (λ (x : Market). x.next_order) accepts.1)
-accepted_rise m (PlaceUntil last r) a n accepts = omega (arith, ap (λ (x : Market). x.next_order) accepts.1)
-accepted_rise m (CancelOrder account number) a n accepts = omega (arith, ap (λ (x : Market). x.next_order) accepts.1)
-accepted_rise m (SetMoneyCredit account ticks) a n accepts = omega (arith, ap (λ (x : Market). x.next_order) accepts.1)
-accepted_rise m (SetUnitCredit account asset units) a n accepts = omega (arith, ap (λ (x : Market). x.next_order) accepts.1)
 accepted_rise m (RunBatch budget) a n accepts = omega (arith, ap (λ (x : Market). x.next_order) accepts.2.1, batch_numbers_none m accepts.0)
+accepted_rise m command a n accepts = omega (arith, ap (λ (x : Market). x.next_order) accepts.1)
 
 accepted_fits : (m : Market) (c : Command) (a : Answer Outcome) (n : Market) → IsSound m → FirstRefusal m c None → Accepts IsRightOutcome m c a n → n.next_order < 2 ^ 64 → Fits a
 accepted_fits m (AddAsset ticker) a n sound none accepts next = rw accepts.0 (plain_fits (reply.Asset (length m.tickers)) (omega (arith, sound.tickers.few)))
 accepted_fits m OpenAccount a n sound none accepts next = rw accepts.0 (plain_fits (reply.Account _) (omega (arith, sound.few_accounts)))
-accepted_fits m (DepositMoney account ticks) a n sound none accepts next = rw accepts.0 (plain_fits reply.Done tt)
-accepted_fits m (DepositAsset account asset units) a n sound none accepts next = rw accepts.0 (plain_fits reply.Done tt)
-accepted_fits m (WithdrawMoney account ticks) a n sound none accepts next = rw accepts.0 (plain_fits reply.Done tt)
-accepted_fits m (WithdrawAsset account asset units) a n sound none accepts next = rw accepts.0 (plain_fits reply.Done tt)
 accepted_fits m (PlaceOrder r) a n sound none accepts next = rw accepts.0 (plain_fits (reply.Order m.next_order) (omega (arith, ap (λ (x : Market). x.next_order) accepts.1, next)))
 accepted_fits m (PlaceUntil last r) a n sound none accepts next = rw accepts.0 (plain_fits (reply.Order m.next_order) (omega (arith, ap (λ (x : Market). x.next_order) accepts.1, next)))
-accepted_fits m (CancelOrder account number) a n sound none accepts next = rw accepts.0 (plain_fits reply.Done tt)
-accepted_fits m (SetMoneyCredit account ticks) a n sound none accepts next = rw accepts.0 (plain_fits reply.Done tt)
-accepted_fits m (SetUnitCredit account asset units) a n sound none accepts next = rw accepts.0 (plain_fits reply.Done tt)
 accepted_fits m (RunBatch budget) a n sound none accepts next =
     let outcome = accepts.0 in
     let before : m.next_order < 2 ^ 64 = omega (arith, ap (λ (x : Market). x.next_order) accepts.2.1, batch_numbers_none m outcome, next) in
     rw accepts.2.0 (batch_fits m budget outcome sound none before accepts.1)
+accepted_fits m command a n sound none accepts next = rw accepts.0 (plain_fits reply.Done tt)
 
 served_fits : (m : Market) (c : Command) (a : Answer Outcome) (n : Market) → IsSound m → Serves IsRightOutcome m c a n → n.next_order < 2 ^ 64 → Fits a
 served_fits m c a n sound serves next = by_first serves.first serves.refused serves.answered

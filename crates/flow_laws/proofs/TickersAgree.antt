@@ -3,7 +3,7 @@ use Rattle.std.proofs.Common.{◌≡◌, ℕ, List, [], ◌∷◌, length, All, 
 use Rattle.std.proofs.lemmas.List.Elements.{All-head, All-tail}
 use Rattle.ticker_table.specs.Adding.{IsAddable}
 use Rattle.wire_records.specs.Records.{Record}
-use Rattle.wire_records.specs.Commands.{Command, AddAsset, OpenAccount, DepositMoney, DepositAsset, WithdrawMoney, WithdrawAsset, PlaceOrder, CancelOrder, RunBatch, PlaceUntil, SetMoneyCredit, SetUnitCredit, Answer, Pair}
+use Rattle.wire_records.specs.Commands.{Command, AddAsset, RunBatch, Answer, Pair}
 use Rattle.wire_records.specs.CommandRecords.{record_of, IsCommand, Spells}
 use Rattle.wire_records.specs.Versions.{IsOfVersion, IsReadAs}
 use Rattle.wire_records.specs.declared.version.Version.{Version}
@@ -60,17 +60,8 @@ module _ (Rule : BatchRule) where
   -- an accepted command leaves the tickers, but that of an asset adds one
   accepted_tickers : (m : Market) (command : Command) (answer : Answer Outcome) (new : Market) → FirstRefusal m command None → Accepts Rule m command answer new → Leaves m.tickers command new.tickers
   accepted_tickers m (AddAsset ticker) answer new none accepts = inl (ticker, (refl, addable m ticker none), made_tickers new _ accepts.1)
-  accepted_tickers m OpenAccount answer new none accepts = kept_tickers m new _ OpenAccount (λ ticker e. absurd cc) accepts.1 refl
-  accepted_tickers m (DepositMoney account ticks) answer new none accepts = kept_tickers m new _ (DepositMoney account ticks) (λ ticker e. absurd cc) accepts.1 refl
-  accepted_tickers m (DepositAsset account asset units) answer new none accepts = kept_tickers m new _ (DepositAsset account asset units) (λ ticker e. absurd cc) accepts.1 refl
-  accepted_tickers m (WithdrawMoney account ticks) answer new none accepts = kept_tickers m new _ (WithdrawMoney account ticks) (λ ticker e. absurd cc) accepts.1 refl
-  accepted_tickers m (WithdrawAsset account asset units) answer new none accepts = kept_tickers m new _ (WithdrawAsset account asset units) (λ ticker e. absurd cc) accepts.1 refl
-  accepted_tickers m (PlaceOrder request) answer new none accepts = kept_tickers m new _ (PlaceOrder request) (λ ticker e. absurd cc) accepts.1 refl
-  accepted_tickers m (CancelOrder account order) answer new none accepts = kept_tickers m new _ (CancelOrder account order) (λ ticker e. absurd cc) accepts.1 refl
-  accepted_tickers m (PlaceUntil last request) answer new none accepts = kept_tickers m new _ (PlaceUntil last request) (λ ticker e. absurd cc) accepts.1 refl
-  accepted_tickers m (SetMoneyCredit account ticks) answer new none accepts = kept_tickers m new _ (SetMoneyCredit account ticks) (λ ticker e. absurd cc) accepts.1 refl
-  accepted_tickers m (SetUnitCredit account asset units) answer new none accepts = kept_tickers m new _ (SetUnitCredit account asset units) (λ ticker e. absurd cc) accepts.1 refl
   accepted_tickers m (RunBatch budget) answer new none accepts = kept_tickers m new (after_batch m accepts.0) (RunBatch budget) (λ ticker e. absurd cc) accepts.2.1 (batch_tickers m accepts.0)
+  accepted_tickers m command answer new none accepts = kept_tickers m new _ command (λ ticker e. absurd cc) accepts.1 refl
 
   -- either way the command leaves them
   answered_tickers : (m : Market) (command : Command) (first : Option Refusal) (answer : Answer Outcome) (new : Market) → FirstRefusal m command first → Answers Rule m command first answer new

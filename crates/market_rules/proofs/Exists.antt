@@ -51,18 +51,8 @@ first_is_there m (SetUnitCredit account asset units) =
 -- ---- steps
 
 accepted_or_batch : (m : Market) (c : Command) → ((a : Answer Outcome) × (n : Market) × Accepts NoOutcome m c a n) ⊎ ((budget : ℕ) × (c ≡ RunBatch budget))
-accepted_or_batch m (AddAsset ticker) = inl (_, _, (refl, refl))
-accepted_or_batch m OpenAccount = inl (_, _, (refl, refl))
-accepted_or_batch m (DepositMoney account ticks) = inl (_, _, (refl, refl))
-accepted_or_batch m (DepositAsset account asset units) = inl (_, _, (refl, refl))
-accepted_or_batch m (WithdrawMoney account ticks) = inl (_, _, (refl, refl))
-accepted_or_batch m (WithdrawAsset account asset units) = inl (_, _, (refl, refl))
-accepted_or_batch m (PlaceOrder r) = inl (_, _, (refl, refl))
-accepted_or_batch m (CancelOrder account number) = inl (_, _, (refl, refl))
-accepted_or_batch m (PlaceUntil last r) = inl (_, _, (refl, refl))
-accepted_or_batch m (SetMoneyCredit account ticks) = inl (_, _, (refl, refl))
-accepted_or_batch m (SetUnitCredit account asset units) = inl (_, _, (refl, refl))
 accepted_or_batch m (RunBatch budget) = inr (budget, refl)
+accepted_or_batch m command = inl (_, _, (refl, refl))
 
 -- every command is served without a batch, or it is a batch that is due
 pub plain_or_due : (m : Market) (c : Command) → ((a : Answer Outcome) × (n : Market) × ServesPlain m c a n) ⊎ ((budget : ℕ) × (c ≡ RunBatch budget) × FirstRefusal m c None)

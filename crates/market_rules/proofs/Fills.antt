@@ -9,7 +9,7 @@ use Rattle.std.proofs.lemmas.Bool.Decides.{eqb_tells}
 use Rattle.flow_orders.specs.Orders.{Order}
 use Rattle.flow_orders.specs.Outcomes.{Clearing, Fill, Outcome, Cleared, Skipped, trades_of, IsRightOutcome, IsRightClearing}
 use Rattle.flow_orders.specs.Trades.{Trade, after_fill, is_live, staying}
-use Rattle.wire_records.specs.Commands.{Request, Command, AddAsset, OpenAccount, DepositMoney, DepositAsset, WithdrawMoney, WithdrawAsset, PlaceOrder, CancelOrder, RunBatch, PlaceUntil, SetMoneyCredit, SetUnitCredit, Answer, Plain, Batch, Pair}
+use Rattle.wire_records.specs.Commands.{Request, Command, PlaceOrder, CancelOrder, RunBatch, PlaceUntil, Answer, Plain, Batch, Pair}
 use Rattle.wire_records.specs.declared.reply.Refusal.{Refusal}
 use Rattle.wire_records.specs.declared.reply.Reply.TheVariants.{Order as OrderPlaced, Refused}
 use Rattle.std.proofs.lemmas.Bool.{cases_lt}
@@ -153,14 +153,6 @@ filled_same m n number cap filled now is orders next none =
 
 -- a command that is no batch fills nothing
 filled_accepted : (m : Market) (c : Command) (a : Answer Outcome) (n : Market) (number cap filled : ℕ) → IsSound m → Accepts IsRightOutcome m c a n → IsFilled m number cap filled → IsFilled n number cap (filled + filled_by number a)
-filled_accepted m (AddAsset ticker) a n number cap filled sound accepts is = rw (accepts.0, accepts.1) (filled_same m _ number cap filled (filled + 0) is refl refl refl)
-filled_accepted m OpenAccount a n number cap filled sound accepts is = rw (accepts.0, accepts.1) (filled_same m _ number cap filled (filled + 0) is refl refl refl)
-filled_accepted m (DepositMoney account ticks) a n number cap filled sound accepts is = rw (accepts.0, accepts.1) (filled_same m _ number cap filled (filled + 0) is refl refl refl)
-filled_accepted m (DepositAsset account asset units) a n number cap filled sound accepts is = rw (accepts.0, accepts.1) (filled_same m _ number cap filled (filled + 0) is refl refl refl)
-filled_accepted m (WithdrawMoney account ticks) a n number cap filled sound accepts is = rw (accepts.0, accepts.1) (filled_same m _ number cap filled (filled + 0) is refl refl refl)
-filled_accepted m (WithdrawAsset account asset units) a n number cap filled sound accepts is = rw (accepts.0, accepts.1) (filled_same m _ number cap filled (filled + 0) is refl refl refl)
-filled_accepted m (SetMoneyCredit account ticks) a n number cap filled sound accepts is = rw (accepts.0, accepts.1) (filled_same m _ number cap filled (filled + 0) is refl refl refl)
-filled_accepted m (SetUnitCredit account asset units) a n number cap filled sound accepts is = rw (accepts.0, accepts.1) (filled_same m _ number cap filled (filled + 0) is refl refl refl)
 filled_accepted m (PlaceUntil last r) a n number cap filled sound accepts is =
     let none : filled + 0 ≡ filled = omega arith in
     rw (accepts.0, accepts.1) (record {
@@ -193,6 +185,7 @@ filled_accepted m (RunBatch budget) a n number cap filled sound accepts is = rw 
           used = is.used;
           live = rw none (All-filter (λ (o : Order). not (o.last == m.batches + 1)) (λ (o : Order). o.number ≡ number → (o.cap ≡ cap) × (o.filled ≡ filled)) m.orders is.live);
         }
+filled_accepted m command a n number cap filled sound accepts is = rw (accepts.0, accepts.1) (filled_same m _ number cap filled (filled + 0) is refl refl refl)
 
 -- numbers that aren't given out yet get no fills, and numbers never come back
 record IsUnused (m n : Market) (number filled : ℕ) : Type 0 where
@@ -207,22 +200,12 @@ unused_cleared m c number sound right above =
     filled_is_traded number m.orders c.fills right.numbers ∙ traded_none number ts (λ k d inside same. let less = below k d inside in omega (arith, less, same, above))
 
 unused_accepted : (m : Market) (c : Command) (a : Answer Outcome) (n : Market) (number : ℕ) → IsSound m → Accepts IsRightOutcome m c a n → IsUnused m n number (filled_by number a)
-unused_accepted m (AddAsset ticker) a n number sound accepts = rw (accepts.0, accepts.1) (record { later = omega arith; none = λ _. refl })
-unused_accepted m OpenAccount a n number sound accepts = rw (accepts.0, accepts.1) (record { later = omega arith; none = λ _. refl })
-unused_accepted m (DepositMoney account ticks) a n number sound accepts = rw (accepts.0, accepts.1) (record { later = omega arith; none = λ _. refl })
-unused_accepted m (DepositAsset account asset units) a n number sound accepts = rw (accepts.0, accepts.1) (record { later = omega arith; none = λ _. refl })
-unused_accepted m (WithdrawMoney account ticks) a n number sound accepts = rw (accepts.0, accepts.1) (record { later = omega arith; none = λ _. refl })
-unused_accepted m (WithdrawAsset account asset units) a n number sound accepts = rw (accepts.0, accepts.1) (record { later = omega arith; none = λ _. refl })
-unused_accepted m (PlaceOrder r) a n number sound accepts = rw (accepts.0, accepts.1) (record { later = omega arith; none = λ _. refl })
-unused_accepted m (CancelOrder account other) a n number sound accepts = rw (accepts.0, accepts.1) (record { later = omega arith; none = λ _. refl })
-unused_accepted m (PlaceUntil last r) a n number sound accepts = rw (accepts.0, accepts.1) (record { later = omega arith; none = λ _. refl })
-unused_accepted m (SetMoneyCredit account ticks) a n number sound accepts = rw (accepts.0, accepts.1) (record { later = omega arith; none = λ _. refl })
-unused_accepted m (SetUnitCredit account asset units) a n number sound accepts = rw (accepts.0, accepts.1) (record { later = omega arith; none = λ _. refl })
 unused_accepted m (RunBatch budget) a n number sound accepts = rw (accepts.2.0, accepts.2.1) (by_outcome accepts.0 accepts.1)
   where
     by_outcome : (o : Outcome) → IsRightOutcome (parts_of m.version) m.orders (start_prices m) budget o → IsUnused m (after_batch m o) number (filled_by number (Batch (m.batches + 1) o))
     by_outcome (Cleared c) right = record { later = omega arith; none = unused_cleared m c number sound right }
     by_outcome (Skipped s) right = record { later = omega arith; none = λ _. refl }
+unused_accepted m command a n number sound accepts = rw (accepts.0, accepts.1) (record { later = omega arith; none = λ _. refl })
 
 -- an accepted command that places an order on a request
 abbrev IsPlacing : Market → Request → Command → Type 0

@@ -9,7 +9,7 @@ use Rattle.list_sums.proofs.SumLemmas.{int_sum_by-zeros}
 use Rattle.flow_accounts.specs.Balances.{Account, IsAccount, IsAsset, asset_count, grains, units_in, total_units_of, change_units}
 use Rattle.flow_accounts.proofs.Moves.{units_change, assets_start_at_zero}
 use Rattle.flow_orders.specs.Outcomes.{Outcome, BatchRule, Cleared, Skipped, IsRightOutcome}
-use Rattle.wire_records.specs.Commands.{Command, AddAsset, OpenAccount, DepositMoney, DepositAsset, WithdrawMoney, WithdrawAsset, PlaceOrder, CancelOrder, RunBatch, PlaceUntil, SetMoneyCredit, SetUnitCredit, Answer, Pair}
+use Rattle.wire_records.specs.Commands.{Command, AddAsset, DepositMoney, DepositAsset, WithdrawMoney, WithdrawAsset, RunBatch, Answer, Pair}
 use Rattle.wire_records.specs.declared.reply.Refusal.{Refusal}
 use Rattle.market_rules.specs.Market.{Market, IsSound, empty_market, held_money, held_units}
 use Rattle.market_rules.specs.Step.{FirstRefusal, Accepts, Answers, after_batch, ServesRead}
@@ -61,18 +61,10 @@ batch_units asset m (Skipped s) = refl
 module _ (Rule : BatchRule) where
   -- an accepted command adds its own amount of money
   accepted_money : (m : Market) (c : Command) (a : Answer Outcome) (n : Market) → Accepts Rule m c a n → money_total n ≡ money_total m +ℤ added_by money_added c a
-  accepted_money m (AddAsset ticker) a n accepts = rw (accepts.0, accepts.1) (same _ _ _ refl refl)
-  accepted_money m OpenAccount a n accepts = rw (accepts.0, accepts.1) (same _ _ _ refl refl)
   accepted_money m (DepositMoney account ticks) a n accepts = rw (accepts.0, accepts.1) (one_part (money_total m) (grains ticks))
-  accepted_money m (DepositAsset account asset units) a n accepts = rw (accepts.0, accepts.1) (same _ _ _ refl refl)
   accepted_money m (WithdrawMoney account ticks) a n accepts = rw (accepts.0, accepts.1) (one_part (money_total m) (neg_ℤ (grains ticks)))
-  accepted_money m (WithdrawAsset account asset units) a n accepts = rw (accepts.0, accepts.1) (same _ _ _ refl refl)
-  accepted_money m (PlaceOrder r) a n accepts = rw (accepts.0, accepts.1) (same _ _ _ refl refl)
-  accepted_money m (CancelOrder account number) a n accepts = rw (accepts.0, accepts.1) (same _ _ _ refl refl)
-  accepted_money m (PlaceUntil last r) a n accepts = rw (accepts.0, accepts.1) (same _ _ _ refl refl)
-  accepted_money m (SetMoneyCredit account ticks) a n accepts = rw (accepts.0, accepts.1) (same _ _ _ refl refl)
-  accepted_money m (SetUnitCredit account asset units) a n accepts = rw (accepts.0, accepts.1) (same _ _ _ refl refl)
   accepted_money m (RunBatch budget) a n accepts = rw (accepts.2.0, accepts.2.1) (same _ _ _ (batch_money m accepts.0) refl)
+  accepted_money m command a n accepts = rw (accepts.0, accepts.1) (same _ _ _ refl refl)
 
   -- a change of units changes one total
   changed_units : (m : Market) (asset account named : ℕ) (amount : ℤ) → IsSound m → IsAccount m.balances account → IsAsset m.balances named
@@ -86,23 +78,16 @@ module _ (Rule : BatchRule) where
 
   accepted_units : (asset : ℕ) (m : Market) (c : Command) (a : Answer Outcome) (n : Market) → IsSound m → FirstRefusal m c None → Accepts Rule m c a n → units_total asset n ≡ units_total asset m +ℤ added_by (units_added asset) c a
   accepted_units asset m (AddAsset ticker) a n sound none accepts = rw (accepts.0, accepts.1) (same _ _ _ ((assets_start_at_zero m.balances (sound_is_lawful m sound)).totals asset) refl)
-  accepted_units asset m OpenAccount a n sound none accepts = rw (accepts.0, accepts.1) (same _ _ _ refl refl)
-  accepted_units asset m (DepositMoney account ticks) a n sound none accepts = rw (accepts.0, accepts.1) (same _ _ _ refl refl)
   accepted_units asset m (DepositAsset account named units) a n sound none accepts =
       let one = past_unless none in
       let two = past_unless one.1 in
       rw (accepts.0, accepts.1) (changed_units m asset account named (pos units) sound one.0 two.0)
-  accepted_units asset m (WithdrawMoney account ticks) a n sound none accepts = rw (accepts.0, accepts.1) (same _ _ _ refl refl)
   accepted_units asset m (WithdrawAsset account named units) a n sound none accepts =
       let one = past_unless none in
       let two = past_unless one.1 in
       rw (accepts.0, accepts.1) (changed_units m asset account named (neg_ℤ (pos units)) sound one.0 two.0)
-  accepted_units asset m (PlaceOrder r) a n sound none accepts = rw (accepts.0, accepts.1) (same _ _ _ refl refl)
-  accepted_units asset m (CancelOrder account number) a n sound none accepts = rw (accepts.0, accepts.1) (same _ _ _ refl refl)
-  accepted_units asset m (PlaceUntil last r) a n sound none accepts = rw (accepts.0, accepts.1) (same _ _ _ refl refl)
-  accepted_units asset m (SetMoneyCredit account ticks) a n sound none accepts = rw (accepts.0, accepts.1) (same _ _ _ refl refl)
-  accepted_units asset m (SetUnitCredit account named units) a n sound none accepts = rw (accepts.0, accepts.1) (same _ _ _ refl refl)
   accepted_units asset m (RunBatch budget) a n sound none accepts = rw (accepts.2.0, accepts.2.1) (same _ _ _ (batch_units asset m accepts.0) refl)
+  accepted_units asset m command a n sound none accepts = rw (accepts.0, accepts.1) (same _ _ _ refl refl)
 
   served_money : (m : Market) (c : Command) (first : Option Refusal) (a : Answer Outcome) (n : Market) → Answers Rule m c first a n → money_total n ≡ money_total m +ℤ added_by money_added c a
   served_money m c (Some r) a n answers = rw (answers.0, answers.1) (same _ _ _ refl refl)

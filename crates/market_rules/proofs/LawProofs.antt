@@ -13,7 +13,7 @@ use Rattle.market_rules.proofs.Lawful.{sound_is_lawful}
 use Rattle.market_rules.proofs.OwnNeeds.{needs-filter}
 use Rattle.flow_orders.specs.Duals.{movement_of}
 use Rattle.flow_orders.specs.Outcomes.{Fill, Skipping, Outcome, BatchRule, Cleared, Skipped, IsRightOutcome}
-use Rattle.wire_records.specs.Commands.{Command, AddAsset, OpenAccount, DepositMoney, DepositAsset, WithdrawMoney, WithdrawAsset, PlaceOrder, CancelOrder, RunBatch, PlaceUntil, SetMoneyCredit, SetUnitCredit, Answer, Plain, Batch}
+use Rattle.wire_records.specs.Commands.{Command, AddAsset, OpenAccount, PlaceOrder, RunBatch, PlaceUntil, Answer, Plain, Batch}
 use Rattle.wire_records.specs.declared.reply.Refusal.{Refusal}
 use Rattle.wire_records.specs.declared.reply.Reply.{Reply}
 use Rattle.wire_records.specs.declared.reply.Reply.TheVariants.{Done, Asset as AssetAdded, Account as AccountOpened, Order as OrderPlaced, Refused}
@@ -55,17 +55,6 @@ outcomes n k o p e = cc
 
 module _ (Rule : BatchRule) where
   accepted_batch : (m : Market) (c : Command) (n : ℕ) (o : Outcome) (new : Market) → Accepts Rule m c (Batch n o) new → IsBatch Rule m c n o new
-  accepted_batch m (AddAsset ticker) n o new accepts = absurd (no_plain n o _ accepts.0)
-  accepted_batch m OpenAccount n o new accepts = absurd (no_plain n o _ accepts.0)
-  accepted_batch m (DepositMoney account ticks) n o new accepts = absurd (no_plain n o _ accepts.0)
-  accepted_batch m (DepositAsset account asset units) n o new accepts = absurd (no_plain n o _ accepts.0)
-  accepted_batch m (WithdrawMoney account ticks) n o new accepts = absurd (no_plain n o _ accepts.0)
-  accepted_batch m (WithdrawAsset account asset units) n o new accepts = absurd (no_plain n o _ accepts.0)
-  accepted_batch m (PlaceOrder r) n o new accepts = absurd (no_plain n o _ accepts.0)
-  accepted_batch m (CancelOrder account number) n o new accepts = absurd (no_plain n o _ accepts.0)
-  accepted_batch m (PlaceUntil last request) n o new accepts = absurd (no_plain n o _ accepts.0)
-  accepted_batch m (SetMoneyCredit account ticks) n o new accepts = absurd (no_plain n o _ accepts.0)
-  accepted_batch m (SetUnitCredit account asset units) n o new accepts = absurd (no_plain n o _ accepts.0)
   accepted_batch m (RunBatch budget) n o new accepts =
       let same = outcomes n (m.batches + 1) o accepts.0 accepts.2.0 in
       record {
@@ -75,6 +64,7 @@ module _ (Rule : BatchRule) where
         number_is = numbers n (m.batches + 1) o accepts.0 accepts.2.0;
         made = accepts.2.1 ∙ ap (after_batch m) (sym same);
       }
+  accepted_batch m command n o new accepts = absurd (no_plain n o _ accepts.0)
 
   pub batch_of : (m : Market) (c : Command) (n : ℕ) (o : Outcome) (new : Market) → Serves Rule m c (Batch n o) new → IsBatch Rule m c n o new
   batch_of m c n o new serves = by_first serves.first serves.answered
@@ -84,18 +74,8 @@ module _ (Rule : BatchRule) where
       by_first None answers = accepted_batch m c n o new answers
 
   no_batch : (m : Market) (c : Command) → ((budget : ℕ) → ¬ (c ≡ RunBatch budget)) → HasOneOutcome Rule m c
-  no_batch m (AddAsset ticker) none = tt
-  no_batch m OpenAccount none = tt
-  no_batch m (DepositMoney account ticks) none = tt
-  no_batch m (DepositAsset account asset units) none = tt
-  no_batch m (WithdrawMoney account ticks) none = tt
-  no_batch m (WithdrawAsset account asset units) none = tt
-  no_batch m (PlaceOrder r) none = tt
-  no_batch m (CancelOrder account number) none = tt
-  no_batch m (PlaceUntil last request) none = tt
-  no_batch m (SetMoneyCredit account ticks) none = tt
-  no_batch m (SetUnitCredit account asset units) none = tt
   no_batch m (RunBatch budget) none = absurd (none budget refl)
+  no_batch m command none = tt
 
 -- an accepted command isn't answered by a refusal
 no_done : (r : Refusal) → ◌≡◌ {A = Answer Outcome} (Plain (Refused r)) (Plain Done) → ⊥
@@ -117,16 +97,10 @@ module _ (Rule : BatchRule) where
   never_refuses : (m : Market) (c : Command) (r : Refusal) (n : Market) → Accepts Rule m c (Plain (Refused r)) n → ⊥
   never_refuses m (AddAsset ticker) r n accepts = no_asset r _ accepts.0
   never_refuses m OpenAccount r n accepts = no_account r _ accepts.0
-  never_refuses m (DepositMoney account ticks) r n accepts = no_done r accepts.0
-  never_refuses m (DepositAsset account asset units) r n accepts = no_done r accepts.0
-  never_refuses m (WithdrawMoney account ticks) r n accepts = no_done r accepts.0
-  never_refuses m (WithdrawAsset account asset units) r n accepts = no_done r accepts.0
   never_refuses m (PlaceOrder q) r n accepts = no_order r _ accepts.0
-  never_refuses m (CancelOrder account number) r n accepts = no_done r accepts.0
   never_refuses m (PlaceUntil last request) r n accepts = no_order r _ accepts.0
-  never_refuses m (SetMoneyCredit account ticks) r n accepts = no_done r accepts.0
-  never_refuses m (SetUnitCredit account asset units) r n accepts = no_done r accepts.0
   never_refuses m (RunBatch budget) r n accepts = no_plain (m.batches + 1) accepts.0 (Refused r) (sym accepts.2.0)
+  never_refuses m command r n accepts = no_done r accepts.0
 
   -- a refusal that is answered is the first that holds, and nothing changed
   refused_is : (m : Market) (c : Command) (r : Refusal) (n : Market) → Serves Rule m c (Plain (Refused r)) n → FirstRefusal m c (Some r) × (n ≡ m)
@@ -150,18 +124,8 @@ plain_commands_have_one_answer old c a b m n none first other = one_service IsRi
 
 -- an accepted command that is no batch is accepted by any rule
 accepted_by_any : (Rule Other : BatchRule) (m : Market) (c : Command) (a : Answer Outcome) (n : Market) → ((budget : ℕ) → ¬ (c ≡ RunBatch budget)) → Accepts Rule m c a n → Accepts Other m c a n
-accepted_by_any Rule Other m (AddAsset ticker) a n none accepts = accepts
-accepted_by_any Rule Other m OpenAccount a n none accepts = accepts
-accepted_by_any Rule Other m (DepositMoney account ticks) a n none accepts = accepts
-accepted_by_any Rule Other m (DepositAsset account asset units) a n none accepts = accepts
-accepted_by_any Rule Other m (WithdrawMoney account ticks) a n none accepts = accepts
-accepted_by_any Rule Other m (WithdrawAsset account asset units) a n none accepts = accepts
-accepted_by_any Rule Other m (PlaceOrder r) a n none accepts = accepts
-accepted_by_any Rule Other m (CancelOrder account number) a n none accepts = accepts
-accepted_by_any Rule Other m (PlaceUntil last request) a n none accepts = accepts
-accepted_by_any Rule Other m (SetMoneyCredit account ticks) a n none accepts = accepts
-accepted_by_any Rule Other m (SetUnitCredit account asset units) a n none accepts = accepts
 accepted_by_any Rule Other m (RunBatch budget) a n none accepts = absurd (none budget refl)
+accepted_by_any Rule Other m command a n none accepts = accepts
 
 -- and it is served so
 pub served_by_any : (Rule Other : BatchRule) (m : Market) (c : Command) (a : Answer Outcome) (n : Market) → ((budget : ℕ) → ¬ (c ≡ RunBatch budget)) → Serves Rule m c a n → Serves Other m c a n
@@ -359,22 +323,12 @@ limits_agree = record { assets = refl; ticks = refl }
 
 module _ (Rule : BatchRule) where
   accepted_numbers_one : (m : Market) (c : Command) (a : Answer Outcome) (n : Market) → Accepts Rule m c a n → n.next_order ≤ m.next_order + 1
-  accepted_numbers_one m (AddAsset ticker) a n accepts = rw accepts.1 (omega arith)
-  accepted_numbers_one m OpenAccount a n accepts = rw accepts.1 (omega arith)
-  accepted_numbers_one m (DepositMoney account ticks) a n accepts = rw accepts.1 (omega arith)
-  accepted_numbers_one m (DepositAsset account asset units) a n accepts = rw accepts.1 (omega arith)
-  accepted_numbers_one m (WithdrawMoney account ticks) a n accepts = rw accepts.1 (omega arith)
-  accepted_numbers_one m (WithdrawAsset account asset units) a n accepts = rw accepts.1 (omega arith)
-  accepted_numbers_one m (PlaceOrder request) a n accepts = rw accepts.1 (omega arith)
-  accepted_numbers_one m (CancelOrder account number) a n accepts = rw accepts.1 (omega arith)
-  accepted_numbers_one m (PlaceUntil last request) a n accepts = rw accepts.1 (omega arith)
-  accepted_numbers_one m (SetMoneyCredit account ticks) a n accepts = rw accepts.1 (omega arith)
-  accepted_numbers_one m (SetUnitCredit account asset units) a n accepts = rw accepts.1 (omega arith)
   accepted_numbers_one m (RunBatch budget) a n accepts = rw accepts.2.1 (by_outcome accepts.0)
     where
       by_outcome : (o : Outcome) → (after_batch m o).next_order ≤ m.next_order + 1
       by_outcome (Cleared c) = omega arith
       by_outcome (Skipped s) = omega arith
+  accepted_numbers_one m command a n accepts = rw accepts.1 (omega arith)
 
   answered_numbers_one : (m : Market) (c : Command) (first : Option Refusal) (a : Answer Outcome) (n : Market) → Answers Rule m c first a n → n.next_order ≤ m.next_order + 1
   answered_numbers_one m c (Some refusal) a n answers = rw answers.1 (omega arith)

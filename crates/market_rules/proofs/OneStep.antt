@@ -1,7 +1,7 @@
 -- A step has one outcome: old market, command and answer determine the new market, and a command that is no batch gets one answer.
 use Rattle.std.proofs.Common.{◌≡◌, ◌+◌, ℕ, Option, Some, None, inl, inr, sym, ap, ◌∙◌}
 use Rattle.flow_orders.specs.Outcomes.{Outcome, BatchRule}
-use Rattle.wire_records.specs.Commands.{Command, AddAsset, OpenAccount, DepositMoney, DepositAsset, WithdrawMoney, WithdrawAsset, PlaceOrder, CancelOrder, RunBatch, PlaceUntil, SetMoneyCredit, SetUnitCredit, Answer, Batch}
+use Rattle.wire_records.specs.Commands.{Command, OpenAccount, DepositAsset, WithdrawAsset, PlaceOrder, CancelOrder, RunBatch, PlaceUntil, SetUnitCredit, Answer, Batch}
 use Rattle.wire_records.specs.declared.reply.Refusal.{Refusal}
 use Rattle.market_rules.specs.Market.{Market, parts_of, start_prices}
 use Rattle.market_rules.specs.Step.{◌when◌else◌, ◌unless◌else◌, accept, FirstRefusal, Accepts, Answers, Serves, after_batch}
@@ -28,39 +28,26 @@ one_unless r C others rest x y first other =
     ]
 
 pub one_first : (m : Market) (c : Command) → IsOne (FirstRefusal m c)
-one_first m (AddAsset ticker) = one_unless _ _ _ (one_when _ _ _ (one_when _ _ _ one_accept))
 one_first m OpenAccount = one_when _ _ _ one_accept
-one_first m (DepositMoney account ticks) = one_unless _ _ _ (one_when _ _ _ (one_when _ _ _ one_accept))
 one_first m (DepositAsset account asset units) = one_unless _ _ _ (one_unless _ _ _ (one_when _ _ _ (one_when _ _ _ one_accept)))
-one_first m (WithdrawMoney account ticks) = one_unless _ _ _ (one_when _ _ _ (one_when _ _ _ one_accept))
 one_first m (WithdrawAsset account asset units) = one_unless _ _ _ (one_unless _ _ _ (one_when _ _ _ (one_when _ _ _ one_accept)))
 one_first m (PlaceOrder r) = one_unless _ _ _ (one_unless _ _ _ (one_unless _ _ _ (one_unless _ _ _ (one_unless _ _ _ (one_unless _ _ _ (one_when _ _ _ (one_unless _ _ _ one_accept)))))))
 one_first m (CancelOrder account number) = one_unless _ _ _ (one_unless _ _ _ one_accept)
 one_first m (RunBatch budget) = one_unless _ _ _ (one_when _ _ _ one_accept)
 one_first m (PlaceUntil last r) = one_unless _ _ _ (one_unless _ _ _ (one_unless _ _ _ (one_unless _ _ _ (one_when _ _ _ (one_unless _ _ _ (one_unless _ _ _ (one_when _ _ _ (one_unless _ _ _ one_accept))))))))
-one_first m (SetMoneyCredit account ticks) = one_unless _ _ _ (one_when _ _ _ (one_when _ _ _ one_accept))
 one_first m (SetUnitCredit account asset units) = one_unless _ _ _ (one_unless _ _ _ (one_when _ _ _ (one_when _ _ _ one_accept)))
+one_first m command = one_unless _ _ _ (one_when _ _ _ (one_when _ _ _ one_accept))
 
 -- how a batch may end
 module _ (Rule : BatchRule) where
   -- an accepted command that got the same answer made the same market
   accepted_market : (m : Market) (c : Command) (a : Answer Outcome) (x y : Market) → Accepts Rule m c a x → Accepts Rule m c a y → x ≡ y
-  accepted_market m (AddAsset ticker) a x y first other = first.1 ∙ sym other.1
-  accepted_market m OpenAccount a x y first other = first.1 ∙ sym other.1
-  accepted_market m (DepositMoney account ticks) a x y first other = first.1 ∙ sym other.1
-  accepted_market m (DepositAsset account asset units) a x y first other = first.1 ∙ sym other.1
-  accepted_market m (WithdrawMoney account ticks) a x y first other = first.1 ∙ sym other.1
-  accepted_market m (WithdrawAsset account asset units) a x y first other = first.1 ∙ sym other.1
-  accepted_market m (PlaceOrder r) a x y first other = first.1 ∙ sym other.1
-  accepted_market m (CancelOrder account number) a x y first other = first.1 ∙ sym other.1
-  accepted_market m (PlaceUntil last r) a x y first other = first.1 ∙ sym other.1
-  accepted_market m (SetMoneyCredit account ticks) a x y first other = first.1 ∙ sym other.1
-  accepted_market m (SetUnitCredit account asset units) a x y first other = first.1 ∙ sym other.1
   accepted_market m (RunBatch budget) a x y first other =
       first.2.1 ∙ ap (after_batch m) (outcome_of (m.batches + 1) first.0 other.0 (sym first.2.0 ∙ other.2.0)) ∙ sym other.2.1
     where
       outcome_of : (n : ℕ) (o p : Outcome) → Batch n o ≡ Batch n p → o ≡ p
       outcome_of n o p e = cc
+  accepted_market m command a x y first other = first.1 ∙ sym other.1
 
   answered_market : (m : Market) (c : Command) (f : Option Refusal) (a : Answer Outcome) (x y : Market) → Answers Rule m c f a x → Answers Rule m c f a y → x ≡ y
   answered_market m c (Some r) a x y first other = first.1 ∙ sym other.1
@@ -77,20 +64,10 @@ module _ (Rule : BatchRule) where
   HasOneOutcome m _ = Unit {0}
 
   accepted_once : (m : Market) (c : Command) (a b : Answer Outcome) (x y : Market) → HasOneOutcome m c → Accepts Rule m c a x → Accepts Rule m c b y → (a ≡ b) × (x ≡ y)
-  accepted_once m (AddAsset ticker) a b x y one first other = (first.0 ∙ sym other.0, first.1 ∙ sym other.1)
-  accepted_once m OpenAccount a b x y one first other = (first.0 ∙ sym other.0, first.1 ∙ sym other.1)
-  accepted_once m (DepositMoney account ticks) a b x y one first other = (first.0 ∙ sym other.0, first.1 ∙ sym other.1)
-  accepted_once m (DepositAsset account asset units) a b x y one first other = (first.0 ∙ sym other.0, first.1 ∙ sym other.1)
-  accepted_once m (WithdrawMoney account ticks) a b x y one first other = (first.0 ∙ sym other.0, first.1 ∙ sym other.1)
-  accepted_once m (WithdrawAsset account asset units) a b x y one first other = (first.0 ∙ sym other.0, first.1 ∙ sym other.1)
-  accepted_once m (PlaceOrder r) a b x y one first other = (first.0 ∙ sym other.0, first.1 ∙ sym other.1)
-  accepted_once m (CancelOrder account number) a b x y one first other = (first.0 ∙ sym other.0, first.1 ∙ sym other.1)
-  accepted_once m (PlaceUntil last r) a b x y one first other = (first.0 ∙ sym other.0, first.1 ∙ sym other.1)
-  accepted_once m (SetMoneyCredit account ticks) a b x y one first other = (first.0 ∙ sym other.0, first.1 ∙ sym other.1)
-  accepted_once m (SetUnitCredit account asset units) a b x y one first other = (first.0 ∙ sym other.0, first.1 ∙ sym other.1)
   accepted_once m (RunBatch budget) a b x y one first other =
       let same = one first.0 other.0 first.1 other.1 in
       (first.2.0 ∙ ap (Batch (m.batches + 1)) same ∙ sym other.2.0, first.2.1 ∙ ap (after_batch m) same ∙ sym other.2.1)
+  accepted_once m command a b x y one first other = (first.0 ∙ sym other.0, first.1 ∙ sym other.1)
 
   answered_once : (m : Market) (c : Command) (f : Option Refusal) (a b : Answer Outcome) (x y : Market) → HasOneOutcome m c → Answers Rule m c f a x → Answers Rule m c f b y → (a ≡ b) × (x ≡ y)
   answered_once m c (Some r) a b x y one first other = (first.0 ∙ sym other.0, first.1 ∙ sym other.1)

@@ -1,6 +1,6 @@
 -- What holds of versions, and that a step keeps the market's.
 use Rattle.std.proofs.Common.{◌≡◌, ◌≢◌, ◌≤◌, List, [], ◌∷◌, Option, Some, None, Result, Ok, Err, refl, ap, ◌∙◌, arith}
-use Rattle.wire_records.specs.Commands.{Command, AddAsset, OpenAccount, DepositMoney, DepositAsset, WithdrawMoney, WithdrawAsset, PlaceOrder, CancelOrder, RunBatch, PlaceUntil, SetMoneyCredit, SetUnitCredit, Answer, Pair}
+use Rattle.wire_records.specs.Commands.{Command, RunBatch, Answer, Pair}
 use Rattle.wire_records.specs.declared.command.BodyFault.{BodyFault}
 use Rattle.wire_records.specs.declared.reply.Refusal.{Refusal}
 use Rattle.wire_records.specs.declared.version.Version.{Version}
@@ -32,18 +32,8 @@ batch_version m (Skipped s) = refl
 
 module _ (Rule : BatchRule) where
   accepted_version : (m : Market) (c : Command) (a : Answer Outcome) (n : Market) → Accepts Rule m c a n → n.version ≡ m.version
-  accepted_version m (AddAsset ticker) a n accepts = ap (λ (x : Market). x.version) accepts.1
-  accepted_version m OpenAccount a n accepts = ap (λ (x : Market). x.version) accepts.1
-  accepted_version m (DepositMoney account ticks) a n accepts = ap (λ (x : Market). x.version) accepts.1
-  accepted_version m (DepositAsset account asset units) a n accepts = ap (λ (x : Market). x.version) accepts.1
-  accepted_version m (WithdrawMoney account ticks) a n accepts = ap (λ (x : Market). x.version) accepts.1
-  accepted_version m (WithdrawAsset account asset units) a n accepts = ap (λ (x : Market). x.version) accepts.1
-  accepted_version m (PlaceOrder request) a n accepts = ap (λ (x : Market). x.version) accepts.1
-  accepted_version m (CancelOrder account number) a n accepts = ap (λ (x : Market). x.version) accepts.1
   accepted_version m (RunBatch budget) a n accepts = ap (λ (x : Market). x.version) accepts.2.1 ∙ batch_version m accepts.0
-  accepted_version m (PlaceUntil last request) a n accepts = ap (λ (x : Market). x.version) accepts.1
-  accepted_version m (SetMoneyCredit account ticks) a n accepts = ap (λ (x : Market). x.version) accepts.1
-  accepted_version m (SetUnitCredit account asset units) a n accepts = ap (λ (x : Market). x.version) accepts.1
+  accepted_version m command a n accepts = ap (λ (x : Market). x.version) accepts.1
 
   answered_version : (m : Market) (c : Command) (first : Option Refusal) (a : Answer Outcome) (n : Market) → Answers Rule m c first a n → n.version ≡ m.version
   answered_version m c (Some refusal) a n answers = ap (λ (x : Market). x.version) answers.1

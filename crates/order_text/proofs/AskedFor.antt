@@ -4,7 +4,7 @@ use Rattle.std.specs.Prelude.{codes, unwrap_or, option_and_then}
 use Rattle.weight_rows.specs.declared.entries.Entry.{Entry}
 use Rattle.serde_json.specs.Data.{Data}
 use Rattle.serde_json.specs.Find.{get, as_str}
-use Rattle.wire_records.specs.Commands.{Request, Command, AddAsset, OpenAccount, DepositMoney, DepositAsset, WithdrawMoney, WithdrawAsset, PlaceOrder, CancelOrder, RunBatch, PlaceUntil, SetMoneyCredit, SetUnitCredit}
+use Rattle.wire_records.specs.Commands.{Request, Command, AddAsset, DepositMoney, DepositAsset, WithdrawMoney, WithdrawAsset, PlaceOrder, CancelOrder, RunBatch, PlaceUntil, SetMoneyCredit, SetUnitCredit}
 use Rattle.wire_records.specs.declared.command.Command as owned
 use Rattle.wire_records.specs.Versions.{most_tag, HasLastBatches, HasCredit, IsOfVersion}
 use Rattle.wire_records.specs.Views.{command_in}
@@ -69,17 +69,7 @@ text_where tickers d key text is = by (get key d) refl is
 -- an object's members begin with the word at `do`
 word_first : (command : Command) → members_of command ≡ (codes "do", Text (word_of command)) ∷ drop 1 (members_of command)
 word_first (AddAsset ticker) = refl
-word_first OpenAccount = refl
-word_first (DepositMoney account ticks) = refl
-word_first (DepositAsset account asset units) = refl
-word_first (WithdrawMoney account ticks) = refl
-word_first (WithdrawAsset account asset units) = refl
-word_first (PlaceOrder request) = refl
-word_first (CancelOrder account order) = refl
-word_first (RunBatch budget) = refl
-word_first (PlaceUntil last request) = refl
-word_first (SetMoneyCredit account ticks) = refl
-word_first (SetUnitCredit account asset units) = refl
+word_first command = refl
 
 -- the members behind the first
 pub rest_of : (tickers : List (List ℕ)) (d : Data) (m : List ℕ × Value) (members : List (List ℕ × Value)) → Has tickers d (m ∷ members) → Has tickers d members

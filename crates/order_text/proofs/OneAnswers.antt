@@ -40,31 +40,11 @@ own_of (SetUnitCredit account asset units) = own.SetUnitCredit account asset uni
 
 own_is : (c : owned.Command) → own_of (command_in c) ≡ c
 own_is (own.AddAsset ticker) = refl
-own_is own.OpenAccount = refl
-own_is (own.DepositMoney account ticks) = refl
-own_is (own.DepositAsset account asset units) = refl
-own_is (own.WithdrawMoney account ticks) = refl
-own_is (own.WithdrawAsset account asset units) = refl
-own_is (own.PlaceOrder account low high rate cap row) = refl
-own_is (own.CancelOrder account order) = refl
-own_is (own.RunBatch budget) = refl
-own_is (own.PlaceUntil last account low high rate cap row) = refl
-own_is (own.SetMoneyCredit account ticks) = refl
-own_is (own.SetUnitCredit account asset units) = refl
+own_is command = refl
 
 plain_is : (c : Command) → command_in (own_of c) ≡ c
 plain_is (AddAsset ticker) = refl
-plain_is OpenAccount = refl
-plain_is (DepositMoney account ticks) = refl
-plain_is (DepositAsset account asset units) = refl
-plain_is (WithdrawMoney account ticks) = refl
-plain_is (WithdrawAsset account asset units) = refl
-plain_is (PlaceOrder r) = refl
-plain_is (CancelOrder account order) = refl
-plain_is (RunBatch budget) = refl
-plain_is (PlaceUntil last r) = refl
-plain_is (SetMoneyCredit account ticks) = refl
-plain_is (SetUnitCredit account asset units) = refl
+plain_is command = refl
 
 same_own : (a b : owned.Command) → command_in a ≡ command_in b → a ≡ b
 same_own a b same = sym (own_is a) ∙ ap own_of same ∙ own_is b

@@ -3,7 +3,7 @@ use Rattle.std.proofs.Common.{◌≡◌, List, [], ◌∷◌, Result, Ok, Err, r
 use Rattle.std.specs.Prelude.{map}
 use Rattle.flow_orders.specs.Outcomes.{Outcome}
 use Rattle.own_rule.specs.Own.{IsOwnOutcome}
-use Rattle.wire_records.specs.Commands.{Command, Answer, Pair, AddAsset, OpenAccount, DepositMoney, DepositAsset, WithdrawMoney, WithdrawAsset, PlaceOrder, CancelOrder, RunBatch, PlaceUntil, SetMoneyCredit, SetUnitCredit}
+use Rattle.wire_records.specs.Commands.{Command, Answer, Pair, RunBatch}
 use Rattle.market_rules.specs.Market.{Market, empty_market, parts_of, start_prices}
 use Rattle.wire_records.specs.declared.command.BodyFault.{BodyFault}
 use Rattle.wire_records.specs.declared.version.Version.{Version}
@@ -14,18 +14,8 @@ use Rattle.own_rule.proofs.OneOwn.{one_own}
 
 -- every command has one outcome under the own rule
 pub own_has_one : (m : Market) (c : Command) → HasOneOutcome IsOwnOutcome m c
-own_has_one m (AddAsset ticker) = tt
-own_has_one m OpenAccount = tt
-own_has_one m (DepositMoney account ticks) = tt
-own_has_one m (DepositAsset account asset units) = tt
-own_has_one m (WithdrawMoney account ticks) = tt
-own_has_one m (WithdrawAsset account asset units) = tt
-own_has_one m (PlaceOrder r) = tt
-own_has_one m (CancelOrder account number) = tt
-own_has_one m (PlaceUntil last r) = tt
-own_has_one m (SetMoneyCredit account ticks) = tt
-own_has_one m (SetUnitCredit account asset units) = tt
 own_has_one m (RunBatch budget) = one_own (parts_of m.version) m.orders (start_prices m) budget
+own_has_one m command = tt
 
 -- records that are read in one way
 module _ {R : Type 0} (Reads : Version → R → Result Command BodyFault → Type 0) (one_reading : (version : Version) (r : R) (a b : Result Command BodyFault) → Reads version r a → Reads version r b → a ≡ b) where

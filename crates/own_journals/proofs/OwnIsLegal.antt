@@ -2,7 +2,7 @@
 use Rattle.std.proofs.Common.{List, [], ◌∷◌, Option, Some, None, Result, Ok, Err}
 use Rattle.flow_orders.specs.Outcomes.{Outcome, IsRightOutcome}
 use Rattle.own_rule.specs.Own.{IsOwnOutcome}
-use Rattle.wire_records.specs.Commands.{Command, AddAsset, OpenAccount, DepositMoney, DepositAsset, WithdrawMoney, WithdrawAsset, PlaceOrder, CancelOrder, RunBatch, PlaceUntil, SetMoneyCredit, SetUnitCredit, Answer, Pair}
+use Rattle.wire_records.specs.Commands.{Command, RunBatch, Answer, Pair}
 use Rattle.wire_records.specs.declared.reply.Refusal.{Refusal}
 use Rattle.market_rules.specs.Market.{Market, IsSound, parts_of, start_prices, empty_market}
 use Rattle.market_rules.specs.Step.{FirstRefusal, Accepts, Answers, Serves, ServesRead}
@@ -16,19 +16,9 @@ use Rattle.market_rules.proofs.Versions.{some_parts}
 use Rattle.own_rule.proofs.OwnIsRight.{own_is_right}
 
 accepted_right : (m : Market) (c : Command) (a : Answer Outcome) (n : Market) → IsSound m → FirstRefusal m c None → Accepts IsOwnOutcome m c a n → Accepts IsRightOutcome m c a n
-accepted_right m (AddAsset ticker) a n sound none accepts = accepts
-accepted_right m OpenAccount a n sound none accepts = accepts
-accepted_right m (DepositMoney account ticks) a n sound none accepts = accepts
-accepted_right m (DepositAsset account asset units) a n sound none accepts = accepts
-accepted_right m (WithdrawMoney account ticks) a n sound none accepts = accepts
-accepted_right m (WithdrawAsset account asset units) a n sound none accepts = accepts
-accepted_right m (PlaceOrder r) a n sound none accepts = accepts
-accepted_right m (CancelOrder account number) a n sound none accepts = accepts
-accepted_right m (PlaceUntil last r) a n sound none accepts = accepts
-accepted_right m (SetMoneyCredit account ticks) a n sound none accepts = accepts
-accepted_right m (SetUnitCredit account asset units) a n sound none accepts = accepts
 accepted_right m (RunBatch budget) a n sound none accepts =
     (accepts.0, own_is_right (parts_of m.version) (some_parts m.version) m.orders (start_prices m) budget accepts.0 (λ k d inside. (sound.live k d inside).order) (start_within m) (past_unless none).0.1 accepts.1, accepts.2)
+accepted_right m command a n sound none accepts = accepts
 
 -- an own step of a sound market is a step
 pub own_served_is_right : (m : Market) (c : Command) (a : Answer Outcome) (n : Market) → IsSound m → Serves IsOwnOutcome m c a n → Serves IsRightOutcome m c a n

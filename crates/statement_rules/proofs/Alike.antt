@@ -3,7 +3,7 @@ use Rattle.std.proofs.Common.{◌≡◌, ℕ, zero, suc, ◌+◌, ◌<◌, List,
 use Rattle.std.specs.List.{flat_map, range_with_len, sum_by}
 use Rattle.std.specs.Prelude.{codes, decimal}
 use Rattle.std.specs.Fmt.{signed_decimal}
-use Rattle.wire_records.specs.Commands.{Command, AddAsset, OpenAccount, DepositMoney, DepositAsset, WithdrawMoney, WithdrawAsset, PlaceOrder, CancelOrder, RunBatch, PlaceUntil, SetMoneyCredit, SetUnitCredit}
+use Rattle.wire_records.specs.Commands.{Command, PlaceOrder, CancelOrder, PlaceUntil}
 use Rattle.wire_records.specs.declared.reply.Reply.{Reply}
 use Rattle.wire_records.specs.declared.reply.Reply.TheVariants.{Done, Asset, Account, Order, Refused}
 use Rattle.flow_orders.specs.Orders.{money_need, unit_need}
@@ -24,32 +24,13 @@ record IsLike (h g : Holding) : Type 0 where
   orders : h.orders ≡ g.orders
 
 like_done : (h g : Holding) (c : Command) → IsLike h g → IsLike (after_done h c) (after_done g c)
-like_done h g (AddAsset ticker) like = record { tickers = like.tickers; orders = like.orders }
-like_done h g OpenAccount like = record { tickers = like.tickers; orders = like.orders }
-like_done h g (DepositMoney named ticks) like = record { tickers = like.tickers; orders = like.orders }
-like_done h g (DepositAsset named asset units) like = record { tickers = like.tickers; orders = like.orders }
-like_done h g (WithdrawMoney named ticks) like = record { tickers = like.tickers; orders = like.orders }
-like_done h g (WithdrawAsset named asset units) like = record { tickers = like.tickers; orders = like.orders }
-like_done h g (PlaceOrder r) like = record { tickers = like.tickers; orders = like.orders }
 like_done h g (CancelOrder named number) like = record { tickers = like.tickers; orders = ap (λ l. without l number) like.orders }
-like_done h g (RunBatch budget) like = record { tickers = like.tickers; orders = like.orders }
-like_done h g (PlaceUntil last r) like = record { tickers = like.tickers; orders = like.orders }
-like_done h g (SetMoneyCredit named ticks) like = record { tickers = like.tickers; orders = like.orders }
-like_done h g (SetUnitCredit named asset units) like = record { tickers = like.tickers; orders = like.orders }
+like_done h g command like = record { tickers = like.tickers; orders = like.orders }
 
 like_placing : (h g : Holding) (n : ℕ) (c : Command) → IsLike h g → IsLike (after_placing h n c) (after_placing g n c)
-like_placing h g n (AddAsset ticker) like = record { tickers = like.tickers; orders = like.orders }
-like_placing h g n OpenAccount like = record { tickers = like.tickers; orders = like.orders }
-like_placing h g n (DepositMoney named ticks) like = record { tickers = like.tickers; orders = like.orders }
-like_placing h g n (DepositAsset named asset units) like = record { tickers = like.tickers; orders = like.orders }
-like_placing h g n (WithdrawMoney named ticks) like = record { tickers = like.tickers; orders = like.orders }
-like_placing h g n (WithdrawAsset named asset units) like = record { tickers = like.tickers; orders = like.orders }
 like_placing h g n (PlaceOrder r) like = record { tickers = like.tickers; orders = ap (λ l. l ++ ordered n 0 r ∷ []) like.orders }
-like_placing h g n (CancelOrder named number) like = record { tickers = like.tickers; orders = like.orders }
-like_placing h g n (RunBatch budget) like = record { tickers = like.tickers; orders = like.orders }
 like_placing h g n (PlaceUntil last r) like = record { tickers = like.tickers; orders = ap (λ l. l ++ ordered n last r ∷ []) like.orders }
-like_placing h g n (SetMoneyCredit named ticks) like = record { tickers = like.tickers; orders = like.orders }
-like_placing h g n (SetUnitCredit named asset units) like = record { tickers = like.tickers; orders = like.orders }
+like_placing h g n command like = record { tickers = like.tickers; orders = like.orders }
 
 like_asked : (h g : Holding) (c : Command) (answer : Reply) → IsLike h g → IsLike (after_asked h c answer) (after_asked g c answer)
 like_asked h g c Done like = like_done h g c like

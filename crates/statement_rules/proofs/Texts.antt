@@ -4,7 +4,7 @@ use Rattle.std.specs.Prelude.{◌==◌}
 use Rattle.std.proofs.lemmas.Bool.{true≢false, false_from_ne_true}
 use Rattle.std.proofs.lemmas.List.{append_assoc}
 use Rattle.wire_records.specs.Records.{Record}
-use Rattle.wire_records.specs.Commands.{Command, AddAsset, OpenAccount, DepositMoney, DepositAsset, WithdrawMoney, WithdrawAsset, PlaceOrder, CancelOrder, RunBatch, PlaceUntil, SetMoneyCredit, SetUnitCredit, Answer, Plain, Batch, Pair}
+use Rattle.wire_records.specs.Commands.{Command, AddAsset, OpenAccount, RunBatch, Answer, Plain, Batch, Pair}
 use Rattle.wire_records.specs.declared.command.BodyFault.{BodyFault}
 use Rattle.wire_records.specs.declared.reply.Reply.{Reply}
 use Rattle.wire_records.specs.declared.reply.Reply.TheVariants.{Done, Asset, Account, Order, Refused}
@@ -29,31 +29,11 @@ texts_go_on v w = lines_both v nothing w
 
 done_stays : (h : Holding) (c : Command) → (after_done h c).is_open ≡ h.is_open
 done_stays h (AddAsset ticker) = refl
-done_stays h OpenAccount = refl
-done_stays h (DepositMoney named ticks) = refl
-done_stays h (DepositAsset named asset units) = refl
-done_stays h (WithdrawMoney named ticks) = refl
-done_stays h (WithdrawAsset named asset units) = refl
-done_stays h (PlaceOrder r) = refl
-done_stays h (CancelOrder named number) = refl
-done_stays h (RunBatch budget) = refl
-done_stays h (PlaceUntil last r) = refl
-done_stays h (SetMoneyCredit named ticks) = refl
-done_stays h (SetUnitCredit named asset units) = refl
+done_stays h command = refl
 
 placing_stays : (h : Holding) (n : ℕ) (c : Command) → (after_placing h n c).is_open ≡ h.is_open
 placing_stays h n (AddAsset ticker) = refl
-placing_stays h n OpenAccount = refl
-placing_stays h n (DepositMoney named ticks) = refl
-placing_stays h n (DepositAsset named asset units) = refl
-placing_stays h n (WithdrawMoney named ticks) = refl
-placing_stays h n (WithdrawAsset named asset units) = refl
-placing_stays h n (PlaceOrder r) = refl
-placing_stays h n (CancelOrder named number) = refl
-placing_stays h n (RunBatch budget) = refl
-placing_stays h n (PlaceUntil last r) = refl
-placing_stays h n (SetMoneyCredit named ticks) = refl
-placing_stays h n (SetUnitCredit named asset units) = refl
+placing_stays h n command = refl
 
 stays : (h : Holding) (event : Event) → (after h event).is_open ≡ false → h.is_open ≡ false
 stays h (Adds ticker) closed = closed
@@ -94,16 +74,8 @@ no_lines account h there OpenAccount (Asset n) not_there closed = refl
 no_lines account h there OpenAccount (Account n) not_there closed = no_opening h (n == account) account closed
 no_lines account h there OpenAccount (Order n) not_there closed = refl
 no_lines account h there OpenAccount (Refused refusal) not_there closed = refl
-no_lines account h there (DepositMoney named ticks) reply not_there closed = not_seen h (there && (named == account)) (Asks (DepositMoney named ticks) reply) (not_own there (named == account) not_there)
-no_lines account h there (DepositAsset named asset units) reply not_there closed = not_seen h (there && (named == account)) (Asks (DepositAsset named asset units) reply) (not_own there (named == account) not_there)
-no_lines account h there (WithdrawMoney named ticks) reply not_there closed = not_seen h (there && (named == account)) (Asks (WithdrawMoney named ticks) reply) (not_own there (named == account) not_there)
-no_lines account h there (WithdrawAsset named asset units) reply not_there closed = not_seen h (there && (named == account)) (Asks (WithdrawAsset named asset units) reply) (not_own there (named == account) not_there)
-no_lines account h there (PlaceOrder r) reply not_there closed = not_seen h (there && (r.account == account)) (Asks (PlaceOrder r) reply) (not_own there (r.account == account) not_there)
-no_lines account h there (CancelOrder named number) reply not_there closed = not_seen h (there && (named == account)) (Asks (CancelOrder named number) reply) (not_own there (named == account) not_there)
 no_lines account h there (RunBatch budget) reply not_there closed = refl
-no_lines account h there (PlaceUntil last r) reply not_there closed = not_seen h (there && (r.account == account)) (Asks (PlaceUntil last r) reply) (not_own there (r.account == account) not_there)
-no_lines account h there (SetMoneyCredit named ticks) reply not_there closed = not_seen h (there && (named == account)) (Asks (SetMoneyCredit named ticks) reply) (not_own there (named == account) not_there)
-no_lines account h there (SetUnitCredit named asset units) reply not_there closed = not_seen h (there && (named == account)) (Asks (SetUnitCredit named asset units) reply) (not_own there (named == account) not_there)
+no_lines account h there command reply not_there closed = not_seen h _ (Asks command reply) (not_own there _ not_there)
 
 pub quiet : (account : ℕ) (m : Market) (h : Holding) (read : Result Command BodyFault) (a : Answer Outcome) → is_there m account ≡ false → (after_all h (seen account m read a)).is_open ≡ false → lines_from h (seen account m read a) ≡ []
 quiet account m h (Ok c) (Plain reply) not_there closed = no_lines account h (is_there m account) c reply not_there closed

@@ -333,15 +333,7 @@ module _ (account : ℕ) (m : Market) (h : Holding) (sound : IsSound m) (held : 
   refused_keeps (AddAsset ticker) r = held
   refused_keeps OpenAccount r = held
   refused_keeps (RunBatch budget) r = held
-  refused_keeps (DepositMoney named ticks) r = told_if account m h (is_there m account && (named == account)) (Asks (DepositMoney named ticks) (reply.Refused r)) (λ is_so. held) (λ not_so. held)
-  refused_keeps (DepositAsset named asset units) r = told_if account m h (is_there m account && (named == account)) (Asks (DepositAsset named asset units) (reply.Refused r)) (λ is_so. held) (λ not_so. held)
-  refused_keeps (WithdrawMoney named ticks) r = told_if account m h (is_there m account && (named == account)) (Asks (WithdrawMoney named ticks) (reply.Refused r)) (λ is_so. held) (λ not_so. held)
-  refused_keeps (WithdrawAsset named asset units) r = told_if account m h (is_there m account && (named == account)) (Asks (WithdrawAsset named asset units) (reply.Refused r)) (λ is_so. held) (λ not_so. held)
-  refused_keeps (PlaceOrder q) r = told_if account m h (is_there m account && (q.account == account)) (Asks (PlaceOrder q) (reply.Refused r)) (λ is_so. held) (λ not_so. held)
-  refused_keeps (CancelOrder named number) r = told_if account m h (is_there m account && (named == account)) (Asks (CancelOrder named number) (reply.Refused r)) (λ is_so. held) (λ not_so. held)
-  refused_keeps (PlaceUntil last q) r = told_if account m h (is_there m account && (q.account == account)) (Asks (PlaceUntil last q) (reply.Refused r)) (λ is_so. held) (λ not_so. held)
-  refused_keeps (SetMoneyCredit named ticks) r = told_if account m h (is_there m account && (named == account)) (Asks (SetMoneyCredit named ticks) (reply.Refused r)) (λ is_so. held) (λ not_so. held)
-  refused_keeps (SetUnitCredit named asset units) r = told_if account m h (is_there m account && (named == account)) (Asks (SetUnitCredit named asset units) (reply.Refused r)) (λ is_so. held) (λ not_so. held)
+  refused_keeps command r = told_if account m h _ (Asks command (reply.Refused r)) (λ is_so. held) (λ not_so. held)
 
   -- what is seen of an accepted command, with its answer put in
   answered_so : (c : Command) (a b : Answer Outcome) (n k : Market) → a ≡ b → n ≡ k → IsHeld account k (after_all h (seen account m (Ok c) b)) → IsHeld account n (after_all h (seen account m (Ok c) a))

@@ -20,16 +20,10 @@ pub length-body_of : (c : Command) → IsCommand c → tag_of c ≢ 7 → tag_of
 unfolding body_of
 length-body_of (AddAsset ticker) h other until = h.0
 length-body_of OpenAccount h other until = refl
-length-body_of (DepositMoney account ticks) h other until = simp (length-append, length-unsigned)
-length-body_of (DepositAsset account asset units) h other until = simp (length-append, length-unsigned)
-length-body_of (WithdrawMoney account ticks) h other until = simp (length-append, length-unsigned)
-length-body_of (WithdrawAsset account asset units) h other until = simp (length-append, length-unsigned)
 length-body_of (PlaceOrder request) h other until = absurd (other refl)
-length-body_of (CancelOrder account number) h other until = simp (length-append, length-unsigned)
 length-body_of (RunBatch budget) h other until = length-unsigned 4 budget
 length-body_of (PlaceUntil last request) h other until = absurd (until refl)
-length-body_of (SetMoneyCredit account ticks) h other until = simp (length-append, length-unsigned)
-length-body_of (SetUnitCredit account asset units) h other until = simp (length-append, length-unsigned)
+length-body_of command h other until = simp (length-append, length-unsigned)
 
 -- a record is its tag and its body
 pub same_record : (r : Record) (tag : ℕ) (body : List ℕ) → r.tag ≡ tag → r.body ≡ body → r ≡ record { tag = tag; body = body }
@@ -51,18 +45,8 @@ spells_none r order until other c s =
 -- a command of the tag 7 has the body of a request
 is_request : (c : Command) → IsCommand c → tag_of c ≡ 7 → SpellsNoRequest (body_of c) → ⊥
 unfolding body_of
-is_request (AddAsset ticker) h e none = absurd (omega (arith, e))
-is_request OpenAccount h e none = absurd (omega (arith, e))
-is_request (DepositMoney account ticks) h e none = absurd (omega (arith, e))
-is_request (DepositAsset account asset units) h e none = absurd (omega (arith, e))
-is_request (WithdrawMoney account ticks) h e none = absurd (omega (arith, e))
-is_request (WithdrawAsset account asset units) h e none = absurd (omega (arith, e))
 is_request (PlaceOrder request) h e none = none request (record { fits = h; spelled = refl })
-is_request (CancelOrder account number) h e none = absurd (omega (arith, e))
-is_request (RunBatch budget) h e none = absurd (omega (arith, e))
-is_request (PlaceUntil last request) h e none = absurd (omega (arith, e))
-is_request (SetMoneyCredit account ticks) h e none = absurd (omega (arith, e))
-is_request (SetUnitCredit account asset units) h e none = absurd (omega (arith, e))
+is_request command h e none = absurd (omega (arith, e))
 
 -- a body that is no request's is no order's
 pub spells_none-from_request : (r : Record) → r.tag ≡ 7 → SpellsNoRequest r.body → SpellsNone r
@@ -72,18 +56,8 @@ spells_none-from_request r order none c s =
 -- a command of the tag 10 has the body of a last batch and a request
 is_until : (c : Command) → IsCommand c → tag_of c ≡ 10 → SpellsNoUntil (body_of c) → ⊥
 unfolding body_of
-is_until (AddAsset ticker) h e none = absurd (omega (arith, e))
-is_until OpenAccount h e none = absurd (omega (arith, e))
-is_until (DepositMoney account ticks) h e none = absurd (omega (arith, e))
-is_until (DepositAsset account asset units) h e none = absurd (omega (arith, e))
-is_until (WithdrawMoney account ticks) h e none = absurd (omega (arith, e))
-is_until (WithdrawAsset account asset units) h e none = absurd (omega (arith, e))
-is_until (PlaceOrder request) h e none = absurd (omega (arith, e))
-is_until (CancelOrder account number) h e none = absurd (omega (arith, e))
-is_until (RunBatch budget) h e none = absurd (omega (arith, e))
 is_until (PlaceUntil last request) h e none = none last request (record { fits = h; spelled = refl })
-is_until (SetMoneyCredit account ticks) h e none = absurd (omega (arith, e))
-is_until (SetUnitCredit account asset units) h e none = absurd (omega (arith, e))
+is_until command h e none = absurd (omega (arith, e))
 
 -- a body that is none of these is no such order's
 pub spells_none-from_until : (r : Record) → r.tag ≡ 10 → SpellsNoUntil r.body → SpellsNone r
@@ -121,29 +95,18 @@ number_unique size m n a b e =
 same_command : (c d : Command) → IsCommand c → IsCommand d → tag_of c ≡ tag_of d → body_of c ≡ body_of d → c ≡ d
 unfolding body_of
 same_command (AddAsset t) (AddAsset u) h k tags bodies = ap AddAsset bodies
-same_command (AddAsset t) d h k tags bodies = absurd (omega (arith, tags))
 same_command OpenAccount OpenAccount h k tags bodies = refl
-same_command OpenAccount d h k tags bodies = absurd (omega (arith, tags))
 same_command (DepositMoney a t) (DepositMoney b u) h k tags bodies = let e = money_unique a t b u h k bodies in rw (e.0, e.1) refl
-same_command (DepositMoney a t) d h k tags bodies = absurd (omega (arith, tags))
 same_command (DepositAsset a i t) (DepositAsset b j u) h k tags bodies = let e = units_unique a i t b j u h k bodies in rw (e.0, e.1, e.2) refl
-same_command (DepositAsset a i t) d h k tags bodies = absurd (omega (arith, tags))
 same_command (WithdrawMoney a t) (WithdrawMoney b u) h k tags bodies = let e = money_unique a t b u h k bodies in rw (e.0, e.1) refl
-same_command (WithdrawMoney a t) d h k tags bodies = absurd (omega (arith, tags))
 same_command (WithdrawAsset a i t) (WithdrawAsset b j u) h k tags bodies = let e = units_unique a i t b j u h k bodies in rw (e.0, e.1, e.2) refl
-same_command (WithdrawAsset a i t) d h k tags bodies = absurd (omega (arith, tags))
 same_command (PlaceOrder r) (PlaceOrder s) h k tags bodies = ap PlaceOrder (request_unique r s h k bodies)
-same_command (PlaceOrder r) d h k tags bodies = absurd (omega (arith, tags))
 same_command (CancelOrder a n) (CancelOrder b m) h k tags bodies = let e = money_unique a n b m h k bodies in rw (e.0, e.1) refl
-same_command (CancelOrder a n) d h k tags bodies = absurd (omega (arith, tags))
 same_command (RunBatch m) (RunBatch n) h k tags bodies = ap RunBatch (number_unique 4 m n h k bodies)
-same_command (RunBatch m) d h k tags bodies = absurd (omega (arith, tags))
 same_command (PlaceUntil m r) (PlaceUntil n s) h k tags bodies = let e = until_unique m n r s h k bodies in rw (e.0, e.1) refl
-same_command (PlaceUntil m r) d h k tags bodies = absurd (omega (arith, tags))
 same_command (SetMoneyCredit a t) (SetMoneyCredit b u) h k tags bodies = let e = money_unique a t b u h k bodies in rw (e.0, e.1) refl
-same_command (SetMoneyCredit a t) d h k tags bodies = absurd (omega (arith, tags))
 same_command (SetUnitCredit a i t) (SetUnitCredit b j u) h k tags bodies = let e = units_unique a i t b j u h k bodies in rw (e.0, e.1, e.2) refl
-same_command (SetUnitCredit a i t) d h k tags bodies = absurd (omega (arith, tags))
+same_command command d h k tags bodies = absurd (omega (arith, tags))
 
 -- a record spells at most one command
 pub command_unique : (c d : Command) (r : Record) → Spells c r → Spells d r → c ≡ d

@@ -22,17 +22,7 @@ use Rattle.wire_records.proofs.Bodies.{size_of, same_record, tag_is, spells_none
 -- the tag of each command, from above and below
 tag_of-range : (c : Command) → IsTag (tag_of c)
 tag_of-range (AddAsset ticker) = (omega arith, omega arith)
-tag_of-range OpenAccount = (omega arith, omega arith)
-tag_of-range (DepositMoney account ticks) = (omega arith, omega arith)
-tag_of-range (DepositAsset account asset units) = (omega arith, omega arith)
-tag_of-range (WithdrawMoney account ticks) = (omega arith, omega arith)
-tag_of-range (WithdrawAsset account asset units) = (omega arith, omega arith)
-tag_of-range (PlaceOrder request) = (omega arith, omega arith)
-tag_of-range (CancelOrder account number) = (omega arith, omega arith)
-tag_of-range (RunBatch budget) = (omega arith, omega arith)
-tag_of-range (PlaceUntil last request) = (omega arith, omega arith)
-tag_of-range (SetMoneyCredit account ticks) = (omega arith, omega arith)
-tag_of-range (SetUnitCredit account asset units) = (omega arith, omega arith)
+tag_of-range command = (omega arith, omega arith)
 
 -- the record of a command is read as no fault
 no_fault : (c : Command) (r : Record) (why : BodyFault) → Spells c r → IsRead r (Err why) → ⊥
