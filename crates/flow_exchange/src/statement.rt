@@ -7,6 +7,7 @@ ghost use Rattle.flow_exchange.specs.declared.form.Form.TheVariants.{Statement};
 use crate::Status;
 use crate::ending::statement_status;
 use flow_io::{Sink, Source};
+use journal_words::Pairs;
 use statement_word::Stating;
 use std::alloc::Global;
 use word_driver::go;
@@ -25,6 +26,12 @@ pub(crate) fn statement<S: Source, K: Sink>(
     ensures does { Serves (Statement number) limit result (change S.rest S.faults source.old source.new)
         (change K.held K.faults out.old out.new) }
 {
-    let ended = go(alloc, limit, source, out, Stating::new(alloc, number));
+    let ended = go(
+        alloc,
+        limit,
+        source,
+        out,
+        Pairs::new(alloc, Stating::new(alloc, number)),
+    );
     statement_status(ended, limit)
 }

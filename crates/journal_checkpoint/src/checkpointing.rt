@@ -1,7 +1,10 @@
 //! What is written at the end of a journal.
+ghost use Rattle.std.proofs.Props.{props};
+ghost use Rattle.wire_records.specs.declared.version.Version.{Version};
+ghost use Rattle.market_rules.specs.Market.{empty_market};
 ghost use Rattle.journal_checkpoint.specs.Checkpointing.{checkpointing};
 
-use batch_audit::Audit;
+use batch_audit::{Audit, Change};
 use journal_records::PairView;
 use journal_words::OnPair;
 use market_core::Market;
@@ -19,7 +22,7 @@ pub struct Checkpointing {
 impl Checkpointing {
     /// Takes no memory before the end.
     pub fn new(alloc: Global) -> Checkpointing
-        ensures { ⟦<Checkpointing as OnPair>⟧.is_within result 0 }
+        ensures { (version : Version) → ⟦<Checkpointing as OnPair>⟧.is_within result (empty_market version) 0 }
     {
         Checkpointing { alloc }
     }
@@ -36,22 +39,25 @@ impl OnPair for Checkpointing {
 
     ghost watch = { checkpointing };
 
-    ghost seen = { λ c. tt };
+    ghost seen = { λ c market. tt };
 
-    ghost is_within = { λ c pairs. Unit {0} };
+    ghost is_within = { λ c market pairs. Unit {0} };
+
+    ghost within_is_prop = { λ state market pairs. Prim.hlevel props };
 
     fn legal(
         &mut self,
-        _audit: &Audit,
-        _pair: &PairView<'_>,
+        audit: &mut Audit,
+        pair: &PairView<'_>,
+        change: Change<'_>,
         _pairs: u64,
         _text: &mut Vec<u8>,
     ) -> Result<(), Memory> {
-        Ok(())
+        audit.make(pair, change).map_err(|_| Memory)
     }
 
     fn illegal(
-        &mut self,
+        &self,
         _audit: &mut Audit,
         _pair: &PairView<'_>,
         pairs: u64,
@@ -60,7 +66,7 @@ impl OnPair for Checkpointing {
         Ok(pairs + 1)
     }
 
-    fn end(&mut self, audit: &mut Audit, _pairs: u64, text: &mut Vec<u8>) -> Result<(), Halt<u64>> {
+    fn end(&self, audit: &mut Audit, _pairs: u64, text: &mut Vec<u8>) -> Result<(), Halt<u64>> {
         let mut market = replace(audit, Audit::new(self.alloc)).into_market();
         let written = write_market(&mut market, text);
         *audit = Audit::over(market);

@@ -1,6 +1,6 @@
 -- Words over the pairs of a journal come to one end and one text, keep a journal, and are without an end for no bytes.
-use Rattle.std.proofs.Common.{◌≡◌, ◌+◌, ◌-◌, ◌≤◌, ◌⊎◌, inl, inr, true, ℕ, List, [], ◌∷◌, ◌++◌, map, Option, Some, None, length, drop, refl, sym, ap, subst, ◌∙◌, arith}
-use Rattle.std.specs.Prelude.{All}
+use Rattle.std.proofs.Common.{◌≡◌, ◌+◌, ◌-◌, ◌≤◌, ◌⊎◌, inl, inr, true, ℕ, List, [], ◌∷◌, ◌++◌, map, Option, Some, None, Result, Ok, Err, length, drop, refl, sym, ap, subst, ◌∙◌, arith}
+use Rattle.std.specs.Prelude.{All, OnErr}
 use Rattle.std.proofs.lemmas.List.{drop_at}
 use Rattle.std.proofs.lemmas.List.Elements.{All-nil, All-cons, All-head, All-tail}
 use Rattle.wire_records.specs.Records.{Record}
@@ -261,14 +261,19 @@ room_more old new pair pairs later left taken room legal number within some = re
   counts = omega (arith, room.counts, number, within, some);
 }
 
+-- what holds anyhow holds where there is an error
+pub where_err : {A E : Type 0} (result : Result A E) (P : Type 0) → P → OnErr result P
+where_err (Ok value) P holds = tt
+where_err (Err error) P holds = holds
+
 -- a journal of this version begins
-pub opens : {S B : Type 0} (watch : Watch S B) (version : Version) (bytes body : List ℕ) (market : Market) (pairs : ℕ) (seen : S) (IsWithin : Type 0) (text : List ℕ)
-    → bytes ≡ journal_magic_of version ++ body → market ≡ empty_market version → pairs ≡ 0 → IsWithin → text ≡ []
-    → IsOpened (over_pairs watch) (λ version. record { market = empty_market version; pairs = 0; seen = seen }) bytes (record { market = market; pairs = pairs; seen = seen }) (λ left. HasRoom market pairs left × IsWithin) text true
-opens watch version bytes body market pairs seen IsWithin text e new none within empty = record {
+pub opens : {S B : Type 0} (watch : Watch S B) (version : Version) (bytes body : List ℕ) (market : Market) (pairs : ℕ) (seen : Market → S) (text : List ℕ)
+    → bytes ≡ journal_magic_of version ++ body → market ≡ empty_market version → pairs ≡ 0 → text ≡ []
+    → IsOpened (over_pairs watch) (λ version. record { market = empty_market version; pairs = 0; seen = seen (empty_market version) }) bytes (record { market = market; pairs = pairs; seen = seen market }) (λ left. HasRoom market pairs left) text true
+opens watch version bytes body market pairs seen text e new none empty = record {
   version = version;
   magic = (tt, e ∙ ap (λ xs. journal_magic_of version ++ xs) (sym (ap (drop 8) e ∙ drop_at (journal_magic_of version) body 8 (eight version))));
-  starts = same_watched watch (record { market = market; pairs = pairs; seen = seen }) (record { market = empty_market version; pairs = 0; seen = seen }) new none refl;
+  starts = same_watched watch (record { market = market; pairs = pairs; seen = seen market }) (record { market = empty_market version; pairs = 0; seen = seen (empty_market version) }) new none (ap seen new);
   opening = empty;
-  ready = λ limit fits. (record { orders = rw new (omega (arith, fits)); counts = omega (arith, fits, none) }, within);
+  ready = λ limit fits. record { orders = rw new (omega (arith, fits)); counts = omega (arith, fits, none) };
 }

@@ -1,11 +1,14 @@
 //! What an audit counts.
+ghost use Rattle.std.proofs.Props.{props};
 ghost use Rattle.std.specs.Prelude.{◌≡◌, ◌≢◌, ◌≤◌, ◌++◌, ◌+◌, vec_len, vec_capacity};
+ghost use Rattle.wire_records.specs.declared.version.Version.{Version};
+ghost use Rattle.market_rules.specs.Market.{empty_market};
 ghost use Rattle.journal_words.specs.Line.{counted_line};
 ghost use Rattle.journal_words.specs.Words.{counting};
 
 use crate::on_pair::OnPair;
 use crate::pieces::put_number;
-use batch_audit::Audit;
+use batch_audit::{Audit, Change};
 use journal_records::PairView;
 use word_driver::{Halt, Memory};
 
@@ -46,8 +49,8 @@ pub struct Counting {
 impl Counting {
     /// Nothing is counted yet.
     pub fn new() -> Counting
-        ensures within { ⟦<Counting as OnPair>⟧.is_within result 0 }
-        ensures none { ⟦<Counting as OnPair>⟧.seen result ≡ record { cleared = 0; skipped = 0 } }
+        ensures within { (version : Version) → ⟦<Counting as OnPair>⟧.is_within result (empty_market version) 0 }
+        ensures none { ⟦<Counting as OnPair>⟧.seen result ≡ (λ market. record { cleared = 0; skipped = 0 }) }
     {
         Counting {
             cleared: 0,
@@ -69,17 +72,21 @@ impl OnPair for Counting {
 
     ghost watch = { counting };
 
-    ghost seen = { λ c. record { cleared = c.cleared; skipped = c.skipped } };
+    ghost seen = { λ c market. record { cleared = c.cleared; skipped = c.skipped } };
 
-    ghost is_within = { λ c pairs. (c.cleared ≤ pairs) × (c.skipped ≤ pairs) };
+    ghost is_within = { λ c market pairs. (c.cleared ≤ pairs) × (c.skipped ≤ pairs) };
+
+    ghost within_is_prop = { λ state market pairs. Prim.hlevel props };
 
     fn legal(
         &mut self,
-        _audit: &Audit,
+        audit: &mut Audit,
         pair: &PairView<'_>,
+        change: Change<'_>,
         _pairs: u64,
         _text: &mut Vec<u8>,
     ) -> Result<(), Memory> {
+        audit.make(pair, change).map_err(|_| Memory)?;
         let tag = pair.answered().tag();
         self.cleared += count_of(tag, CLEARED);
         self.skipped += count_of(tag, SKIPPED);
@@ -87,7 +94,7 @@ impl OnPair for Counting {
     }
 
     fn illegal(
-        &mut self,
+        &self,
         _audit: &mut Audit,
         _pair: &PairView<'_>,
         pairs: u64,
@@ -96,7 +103,7 @@ impl OnPair for Counting {
         Ok(pairs + 1)
     }
 
-    fn end(&mut self, _audit: &mut Audit, pairs: u64, text: &mut Vec<u8>) -> Result<(), Halt<u64>> {
+    fn end(&self, _audit: &mut Audit, pairs: u64, text: &mut Vec<u8>) -> Result<(), Halt<u64>> {
         put_line(text, pairs, self.cleared, self.skipped);
         Ok(())
     }

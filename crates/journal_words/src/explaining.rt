@@ -1,12 +1,15 @@
 //! Why the first pair that isn't legal is none.
+ghost use Rattle.std.proofs.Props.{props};
 ghost use Rattle.std.specs.Prelude.{◌≡◌, ◌≤◌, ◌++◌, ◌+◌, vec_len, vec_capacity};
+ghost use Rattle.wire_records.specs.declared.version.Version.{Version};
+ghost use Rattle.market_rules.specs.Market.{empty_market};
 ghost use Rattle.journal_words.specs.Findings.{reply_text, part_text, finding_text, finding_line};
 ghost use Rattle.journal_words.specs.Words.{explaining};
 
 use crate::counting::Counting;
 use crate::on_pair::OnPair;
 use crate::pieces::{put, put_number};
-use batch_audit::{Audit, Finding};
+use batch_audit::{Audit, Change, Finding};
 use batch_certificate::Verdict;
 use journal_records::PairView;
 use wire_records::Reply;
@@ -101,8 +104,8 @@ impl Explaining {
 
     /// Nothing is counted yet.
     pub fn new() -> Explaining
-        ensures within { ⟦<Explaining as OnPair>⟧.is_within result 0 }
-        ensures none { ⟦<Explaining as OnPair>⟧.seen result ≡ record { cleared = 0; skipped = 0 } }
+        ensures within { (version : Version) → ⟦<Explaining as OnPair>⟧.is_within result (empty_market version) 0 }
+        ensures none { ⟦<Explaining as OnPair>⟧.seen result ≡ (λ market. record { cleared = 0; skipped = 0 }) }
     {
         Explaining {
             counting: Counting::new(),
@@ -123,22 +126,25 @@ impl OnPair for Explaining {
 
     ghost watch = { explaining };
 
-    ghost seen = { λ e. ⟦<Counting as OnPair>⟧.seen e.counting };
+    ghost seen = { λ e market. ⟦<Counting as OnPair>⟧.seen e.counting market };
 
-    ghost is_within = { λ e pairs. ⟦<Counting as OnPair>⟧.is_within e.counting pairs };
+    ghost is_within = { λ e market pairs. ⟦<Counting as OnPair>⟧.is_within e.counting market pairs };
+
+    ghost within_is_prop = { λ state market pairs. Prim.hlevel props };
 
     fn legal(
         &mut self,
-        audit: &Audit,
+        audit: &mut Audit,
         pair: &PairView<'_>,
+        change: Change<'_>,
         pairs: u64,
         text: &mut Vec<u8>,
     ) -> Result<(), Memory> {
-        self.counting.legal(audit, pair, pairs, text)
+        self.counting.legal(audit, pair, change, pairs, text)
     }
 
     fn illegal(
-        &mut self,
+        &self,
         audit: &mut Audit,
         pair: &PairView<'_>,
         pairs: u64,
@@ -149,7 +155,7 @@ impl OnPair for Explaining {
         Ok(pairs + 1)
     }
 
-    fn end(&mut self, audit: &mut Audit, pairs: u64, text: &mut Vec<u8>) -> Result<(), Halt<u64>> {
+    fn end(&self, audit: &mut Audit, pairs: u64, text: &mut Vec<u8>) -> Result<(), Halt<u64>> {
         self.counting.end(audit, pairs, text)
     }
 }

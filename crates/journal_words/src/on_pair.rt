@@ -1,11 +1,12 @@
 //! What is done with the pairs of a journal.
-ghost use Rattle.std.specs.Prelude.{◌≡◌, ◌≤◌, ◌<◌, ◌+◌, ◌^◌, ℕ, [], IfOk, OnOk, OnErr, vec_len, vec_capacity};
+ghost use Rattle.std.specs.Prelude.{◌≡◌, ◌≤◌, ◌<◌, ◌+◌, ◌^◌, ℕ, [], Some, IfOk, OnOk, OnErr, vec_len, vec_capacity};
 ghost use Rattle.market_rules.specs.Market.{Market};
-ghost use Rattle.batch_audit.specs.Legal.{IsLegalPair, IsIllegalPair};
-ghost use Rattle.journal_words.specs.Watching.{Watch, Legal, Illegal};
+ghost use Rattle.batch_audit.specs.Legal.{IsIllegalPair};
+ghost use Rattle.batch_audit.specs.Judging.{IsChangeOf};
+ghost use Rattle.journal_words.specs.Watching.{Watch, Illegal, SeesOne, WantsOne};
 ghost use Rattle.journal_words.specs.Private.{IsClosedBy};
 
-use batch_audit::Audit;
+use batch_audit::{Audit, Change};
 use journal_records::PairView;
 use word_driver::{Halt, Memory};
 
@@ -24,33 +25,44 @@ pub trait OnPair {
     // What is seen and written.
     ghost watch: { Watch Seen Self.Stop };
 
-    ghost seen: { Self → Seen };
-    // It is so after so many pairs.
-    ghost is_within: { Self → ℕ → Type 0 };
+    // What was seen, where this is the market.
+    ghost seen: { Self → Market → Seen };
+    // It is so after so many pairs, which made this market.
+    ghost is_within: { Self → Market → ℕ → Type 0 };
 
-    /// A pair that the audit has just found legal.
+    // That it is a proposition, so that a struct may hold it.
+    ghost within_is_prop: { (state : Self) (market : Market) (pairs : ℕ) → IsProp (is_within state market pairs) };
+
+    /// A pair that the audit has just judged legal: makes its change, and does with it what is to be done, before and
+    /// after.
     fn legal(
         &mut self,
-        audit: &Audit,
+        audit: &mut Audit,
         pair: &PairView<'_>,
+        change: Change<'_>,
         pairs: u64,
         text: &mut Vec<u8>,
     ) -> Result<(), Memory>
-        requires legal { (old : Market) × IsLegalPair old pair.now audit.now }
-        requires within { is_within self.old pairs }
+        requires change { IsChangeOf audit.old pair.now change }
+        requires next { audit.old.next_order + 1 < 2 ^ 63 }
+        requires within { is_within self.old audit.old pairs }
         requires few { pairs + 1 < 2 ^ 64 }
         requires empty { text.old.items ≡ [] }
         requires none { vec_len text.old ≡ 0 }
         requires room { ROOM ≤ vec_capacity text.old }
         ensures room { vec_capacity text.old ≤ vec_capacity text.new }
         ensures seen { OnOk result
-            (watch.Sees audit.now pairs pair.now (seen self.old) (seen self.new) text.new.items) }
-        ensures within { OnOk result (is_within self.new (pairs + 1)) }
-        ensures wanted { OnErr result (watch.Wants audit.now pairs (Legal pair.now) (seen self.old)) };
+            (SeesOne watch (record { market = audit.old; pairs = pairs; seen = seen self.old audit.old }) pair.now
+            (record { market = audit.new; pairs = pairs + 1; seen = seen self.new audit.new }) text.new.items) }
+        ensures within { OnOk result (is_within self.new audit.new (pairs + 1)) }
+        ensures stays { OnErr result (is_within self.new audit.new pairs) }
+        ensures next { OnErr result (audit.new.next_order ≤ audit.old.next_order + 1) }
+        ensures wanted { OnErr result
+            (WantsOne watch (record { market = audit.old; pairs = pairs; seen = seen self.old audit.old }) (Some pair.now)) };
 
     /// The first pair that isn't legal, and why it stops there. The audit is left as it is.
     fn illegal(
-        &mut self,
+        &self,
         audit: &mut Audit,
         pair: &PairView<'_>,
         pairs: u64,
@@ -65,21 +77,17 @@ pub trait OnPair {
         ensures stays { audit.new ≡ audit.old }
         ensures room { vec_capacity text.old ≤ vec_capacity text.new }
         ensures rejects { IfOk result
-            (λ why. watch.Rejects audit.old pairs pair.now (seen self.old) why text.new.items) }
-        ensures wanted { OnErr result (watch.Wants audit.old pairs (Illegal pair.now) (seen self.old)) };
+            (λ why. watch.Rejects audit.old pairs pair.now (seen self.now audit.old) why text.new.items) }
+        ensures wanted { OnErr result (watch.Wants audit.old pairs (Illegal pair.now) (seen self.now audit.old)) };
 
     /// The end of the journal, in whose market the next order gets a number below 2^63. The audit is left as it is.
-    fn end(
-        &mut self,
-        audit: &mut Audit,
-        pairs: u64,
-        text: &mut Vec<u8>,
-    ) -> Result<(), Halt<Self::Stop>>
+    fn end(&self, audit: &mut Audit, pairs: u64, text: &mut Vec<u8>) -> Result<(), Halt<Self::Stop>>
         requires next { audit.old.next_order < 2 ^ 63 }
+        requires within { is_within self.now audit.old pairs }
         requires empty { text.old.items ≡ [] }
         requires none { vec_len text.old ≡ 0 }
         requires room { ROOM ≤ vec_capacity text.old }
         ensures stays { audit.new ≡ audit.old }
         ensures room { vec_capacity text.old ≤ vec_capacity text.new }
-        ensures closed { IsClosedBy watch audit.old pairs (seen self.old) result text.new.items };
+        ensures closed { IsClosedBy watch audit.old pairs (seen self.now audit.old) result text.new.items };
 }

@@ -1,12 +1,13 @@
 //! The audit of a journal as a word, with what is done with its pairs.
 ghost use Rattle.std.specs.Prelude.{◌≡◌, ◌≤◌, ◌<◌, ◌+◌, ◌^◌, ◌↔◌, ℕ, List, [], length, IsTrue, OnOk, IfErr, Some, vec_len, vec_capacity};
+ghost use Rattle.wire_records.specs.declared.version.Version.{Version};
 ghost use Rattle.market_rules.specs.Market.{empty_market};
 ghost use Rattle.word_driver.specs.Private.{HaltsWith};
 ghost use Rattle.journal_words.specs.Watching.{SeesOne, over_pairs};
 ghost use Rattle.journal_words.specs.Private.{HasRoom};
 
 use crate::on_pair::OnPair;
-use batch_audit::{Audit, Legality};
+use batch_audit::Audit;
 use file_units::Front;
 use journal_records::{PairFramed, PairView, is_overlong, journal_version, next_pair};
 use market_core::Market;
@@ -18,21 +19,22 @@ const MOST_PAIR: usize = 263_178;
 
 /// A word over the pairs of a journal, which it audits one after the other from the empty market of the journal's version.
 #[derive(Drop)]
-pub struct Pairs<P> {
+pub struct Pairs<P: OnPair> {
     alloc: Global,
     audit: Audit,
     pairs: u64,
     on: P,
     ghost next: { audit.next_order < 2 ^ 63 },
+    ghost within: { P.is_within on audit pairs } by { P.within_is_prop on audit pairs },
 }
 
 impl<P: OnPair + Drop> Pairs<P> {
     /// An audit from the first pair on, with what is done with the pairs. Takes no memory.
     pub fn new(alloc: Global, on: P) -> Pairs<P>
-        requires { P.is_within on 0 }
+        requires { (version : Version) → P.is_within on (empty_market version) 0 }
         ensures new { ⟦<Pairs<P> as ServesWord>⟧.is_new result }
         ensures starts { ⟦<Pairs<P> as ServesWord>⟧.start result
-            ≡ (λ version. record { market = empty_market version; pairs = 0; seen = P.seen on }) }
+            ≡ (λ version. record { market = empty_market version; pairs = 0; seen = P.seen on (empty_market version) }) }
     {
         Pairs {
             alloc,
@@ -46,30 +48,31 @@ impl<P: OnPair + Drop> Pairs<P> {
     fn take_pair(&mut self, pair: &PairView<'_>, text: &mut Vec<u8>) -> Result<(), Halt<P::Stop>>
         requires next { self.old.audit.next_order + 1 < 2 ^ 63 }
         requires few { self.old.pairs + 1 < 2 ^ 64 }
-        requires within { P.is_within self.old.on self.old.pairs }
         requires empty { text.old.items ≡ [] }
         requires none { vec_len text.old ≡ 0 }
         requires room { P.ROOM ≤ vec_capacity text.old }
         ensures room { vec_capacity text.old ≤ vec_capacity text.new }
         ensures seen { OnOk result (SeesOne P.watch
-            (record { market = self.old.audit; pairs = self.old.pairs; seen = P.seen self.old.on }) pair.now
-            (record { market = self.new.audit; pairs = self.new.pairs; seen = P.seen self.new.on }) text.new.items) }
-        ensures within { OnOk result (P.is_within self.new.on self.new.pairs) }
+            (record { market = self.old.audit; pairs = self.old.pairs; seen = P.seen self.old.on self.old.audit }) pair.now
+            (record { market = self.new.audit; pairs = self.new.pairs; seen = P.seen self.new.on self.new.audit }) text.new.items) }
         ensures halted { IfErr result (λ halt. HaltsWith (over_pairs P.watch)
-            (record { market = self.old.audit; pairs = self.old.pairs; seen = P.seen self.old.on })
+            (record { market = self.old.audit; pairs = self.old.pairs; seen = P.seen self.old.on self.old.audit })
             (Some pair.now) halt text.new.items) }
     {
-        match self.audit.pair(pair) {
-            Ok(Legality::Legal) => {}
-            Ok(Legality::Illegal) => {
+        let change = match self.audit.judge(pair) {
+            Ok(Some(change)) => change,
+            Ok(None) => {
                 return match self.on.illegal(&mut self.audit, pair, self.pairs, text) {
                     Ok(why) => Err(Halt::Stopped(why)),
                     Err(_) => Err(Halt::Memory),
                 };
             }
             Err(_) => return Err(Halt::Memory),
-        }
-        match self.on.legal(&self.audit, pair, self.pairs, text) {
+        };
+        match self
+            .on
+            .legal(&mut self.audit, pair, change, self.pairs, text)
+        {
             Ok(()) => {}
             Err(_) => return Err(Halt::Memory),
         }
@@ -98,13 +101,13 @@ impl<P: OnPair + Drop> ServesWord for Pairs<P> {
 
     ghost word = { over_pairs P.watch };
 
-    ghost is_new = { λ p. (p.pairs ≡ 0) × P.is_within p.on p.pairs };
+    ghost is_new = { λ p. (p.pairs ≡ 0) × ((version : Version) → P.is_within p.on (empty_market version) 0) };
 
-    ghost start = { λ p version. record { market = empty_market version; pairs = 0; seen = P.seen p.on } };
+    ghost start = { λ p version. record { market = empty_market version; pairs = 0; seen = P.seen p.on (empty_market version) } };
 
-    ghost state = { λ p. record { market = p.audit; pairs = p.pairs; seen = P.seen p.on } };
+    ghost state = { λ p. record { market = p.audit; pairs = p.pairs; seen = P.seen p.on p.audit } };
 
-    ghost is_ready = { λ p left. HasRoom p.audit p.pairs left × P.is_within p.on p.pairs };
+    ghost is_ready = { λ p left. HasRoom p.audit p.pairs left };
 
     fn open(&mut self, bytes: &[u8], _text: &mut Vec<u8>) -> bool {
         match journal_version(bytes) {

@@ -1,8 +1,9 @@
 //! The lines of a report.
+ghost use Rattle.std.proofs.Props.{props};
 ghost use Rattle.journal_words.specs.Words.{telling};
 
 use crate::on_pair::OnPair;
-use batch_audit::Audit;
+use batch_audit::{Audit, Change};
 use batch_report::report_pair;
 use journal_records::PairView;
 use word_driver::{Halt, Memory};
@@ -22,22 +23,28 @@ impl OnPair for Telling {
 
     ghost watch = { telling };
 
-    ghost seen = { λ t. tt };
+    ghost seen = { λ t market. tt };
 
-    ghost is_within = { λ t pairs. Unit {0} };
+    ghost is_within = { λ t market pairs. Unit {0} };
+
+    ghost within_is_prop = { λ state market pairs. Prim.hlevel props };
 
     fn legal(
         &mut self,
-        audit: &Audit,
+        audit: &mut Audit,
         pair: &PairView<'_>,
+        change: Change<'_>,
         pairs: u64,
         text: &mut Vec<u8>,
     ) -> Result<(), Memory> {
-        report_pair(audit, pair, pairs + 1, text).map_err(|_| Memory)
+        match audit.make(pair, change) {
+            Ok(()) => report_pair(audit, pair, pairs + 1, text).map_err(|_| Memory),
+            Err(_) => Err(Memory),
+        }
     }
 
     fn illegal(
-        &mut self,
+        &self,
         _audit: &mut Audit,
         _pair: &PairView<'_>,
         pairs: u64,
@@ -46,12 +53,7 @@ impl OnPair for Telling {
         Ok(pairs + 1)
     }
 
-    fn end(
-        &mut self,
-        _audit: &mut Audit,
-        _pairs: u64,
-        _text: &mut Vec<u8>,
-    ) -> Result<(), Halt<u64>> {
+    fn end(&self, _audit: &mut Audit, _pairs: u64, _text: &mut Vec<u8>) -> Result<(), Halt<u64>> {
         Ok(())
     }
 }

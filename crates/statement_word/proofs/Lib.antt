@@ -1,4 +1,3 @@
 pub mod Held
 pub mod StatementLaws
 mod Telling
-mod Opening

@@ -9,7 +9,7 @@ use Rattle.flow_orders.specs.Outcomes.{IsRightOutcome}
 use Rattle.market_rules.specs.Market.{Market, IsSound}
 use Rattle.market_rules.proofs.Versions.{step_version}
 use Rattle.batch_audit.specs.Legal.{IsLegalPair}
-use Rattle.batch_audit.specs.Judging.{IsChangeOf, IsWeighed}
+use Rattle.batch_audit.specs.Judging.{IsChangeOf}
 use Rattle.batch_audit.specs.declared.change.Change.{Change}
 use Rattle.statement_rules.specs.Views.{seen, is_there}
 use Rattle.statement_rules.specs.Holdings.{IsHeld}
@@ -17,12 +17,10 @@ use Rattle.statement_rules.specs.Statements.{lines_from, end_lines}
 use Rattle.statement_rules.proofs.Told.{there_is, is_account}
 use Rattle.account_statement.specs.Telling.{Statement, holding_of, Agrees, IsTold}
 use Rattle.word_driver.specs.declared.fault.Halt.{Halt}
-use Rattle.word_driver.specs.declared.fault.Halt.TheVariants as halt
-use Rattle.word_driver.specs.Private.{IsClosed}
 use Rattle.journal_words.specs.Watching.{SeesOne}
 use Rattle.journal_words.specs.Private.{IsClosedBy}
 use Rattle.statement_word.specs.declared.no_statement.NoStatement.{NoStatement}
-use Rattle.statement_word.specs.Stating.{held_in, stating, statement}
+use Rattle.statement_word.specs.Stating.{held_in, stating}
 use Rattle.statement_word.specs.Private.{IsOf, HasTold, at_work}
 use Rattle.statement_word.proofs.Held.{lines_are, ends_are}
 use Rattle.statement_word.proofs.StatementLaws.{not_there, far_is_quiet}
@@ -84,13 +82,9 @@ pub carried : (number other : ℕ) (m n : Market) (kept later : Option Statement
 carried number other m n kept later named moved same of =
     subst (λ (k : ℕ). IsOf k n later) (sym named) (subst (λ (k : Market). IsOf number k later) (sym moved) (subst (λ (o : Option Statement). IsOf number m o) (sym same) of))
 
--- a pair that was judged over the market makes the same of an equal one, and is legal there
-pub change_at : (m at : Market) (pair : Record × Record) (found : Option Change) (change : Change) → at ≡ m → found ≡ Some change → IsWeighed m pair found → IsChangeOf at pair change
-change_at m at pair found change moved is weighed = subst (λ (k : Market). IsChangeOf k pair change) (sym moved) (subst (IsWeighed m pair) is weighed)
-
-pub legal_at : (m at : Market) (pair : Record × Record) (found : Option Change) (change : Change) → at ≡ m → found ≡ Some change → IsWeighed m pair found
-    → (next : Market) × IsLegalPair at pair next
-legal_at m at pair found change moved is weighed = let here = change_at m at pair found change moved is weighed in (here.new, here.legal)
+-- a legal pair is one in an equal market
+pub legal_at : (m at : Market) (pair : Record × Record) (change : Change) → at ≡ m → IsChangeOf m pair change → (next : Market) × IsLegalPair at pair next
+legal_at m at pair change moved is = (is.new, subst (λ (k : Market). IsLegalPair k pair is.new) (sym moved) is.legal)
 
 -- a pair that was told and done
 pub pair_done : (number other : ℕ) (m at next : Market) (pair : Record × Record) (kept : Option Statement) (text : List ℕ) (pairs : ℕ) → other ≡ number → at ≡ m
@@ -116,11 +110,7 @@ pair_done number other m at next pair kept text pairs named moved has legal =
       },
     )
 
--- what is done at the end is what the word does there
-closed_as : (number : ℕ) (m : Market) (pairs : ℕ) (result : Result (Unit {0}) (Halt NoStatement)) (text : List ℕ) → IsClosedBy stating m pairs (record { account = number; market = m }) result text → IsClosed statement (at_work number m pairs) result text
-closed_as number m pairs (Ok done) text closed = closed
-closed_as number m pairs (Err halt.Memory) text closed = closed
-closed_as number m pairs (Err (halt.Stopped why)) text closed = closed
-
-pub closes : (number : ℕ) (m at : Market) (pairs : ℕ) (result : Result (Unit {0}) (Halt NoStatement)) (text : List ℕ) → at ≡ m → IsClosedBy stating at pairs (record { account = number; market = at }) result text → IsClosed statement (at_work number m pairs) result text
-closes number m at pairs result text moved closed = closed_as number m pairs result text (subst (λ (k : Market). IsClosedBy stating k pairs (record { account = number; market = k }) result text) moved closed)
+-- what is done at the end of an equal market
+pub closed_at : (number : ℕ) (m at : Market) (pairs : ℕ) (result : Result (Unit {0}) (Halt NoStatement)) (text : List ℕ) → at ≡ m → IsClosedBy stating at pairs (record { account = number; market = at }) result text
+    → IsClosedBy stating m pairs (record { account = number; market = m }) result text
+closed_at number m at pairs result text moved = subst (λ (k : Market). IsClosedBy stating k pairs (record { account = number; market = k }) result text) moved

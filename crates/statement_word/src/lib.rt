@@ -1,8 +1,8 @@
 //! The statement of an account as a word over the pairs of a journal.
 //!
-//! [`Stating`] is the word: it audits pair after pair, and has a [`Statement`](account_statement::Statement) tell each legal one. At
-//! the end of a legal journal it writes the account's last lines, where the account is there; else it stops, for a reason of its own
-//! ([`NoStatement`]).
+//! [`Stating`] is what is done with the pairs of an audit ([`Pairs`](journal_words::Pairs)): it has a
+//! [`Statement`](account_statement::Statement) tell each legal one. At the end of a legal journal it writes the account's last lines,
+//! where the account is there; else it stops, for a reason of its own ([`NoStatement`]).
 //!
 //! # Costs
 //!

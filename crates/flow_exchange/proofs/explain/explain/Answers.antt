@@ -1,7 +1,7 @@
 use Rattle.std.proofs.Common.{◌∙◌, ap, refl, subst}
 use Rattle.flow_io.specs.Changes.{change}
 use Rattle.wire_records.specs.declared.version.Version.{Version}
-use Rattle.market_rules.specs.Market.{empty_market}
+use Rattle.market_rules.specs.Market.{Market, empty_market}
 use Rattle.word_driver.specs.Does.{task}
 use Rattle.word_driver.specs.Does as driver
 use Rattle.journal_words.specs.Watching.{Watched}
@@ -15,8 +15,8 @@ use Rattle.flow_exchange.proofs.ExplainForm.{explain_form}
 use Rattle.flow_exchange.proofs.explain.explain.Goals as goal
 
 -- what has counted so far
-abbrev counted : Counts → Version → Watched Counts
-counted seen version = record { market = empty_market version; pairs = 0; seen = seen }
+abbrev counted : (Market → Counts) → Version → Watched Counts
+counted seen version = record { market = empty_market version; pairs = 0; seen = seen (empty_market version) }
 
 pub go-ended-requires : goal.go-ended-requires
 go-ended-requires g c = record { exact = explain_is_exact; longest = refl; kept = over_pairs_is_kept explaining _ (λ version. (refl, refl)); new = c.new-2.ensures.new }

@@ -1,18 +1,19 @@
-use Rattle.std.proofs.Common.{arith}
+use Rattle.std.proofs.Common.{Some, subst, arith}
+use Rattle.market_rules.specs.Market.{Market}
+use Rattle.batch_audit.specs.Legal.{IsLegalPair}
 use Rattle.batch_audit.proofs.LawProofs.{pairs_number_one}
+use Rattle.journal_words.specs.Watching.{WantsOne}
 use Rattle.journal_words.proofs.pairs.Pairs.take_pair.Goals as goal
 
 pub illegal-requires-clause-illegal : goal.illegal-requires-clause-illegal
-illegal-requires-clause-illegal g c =
-    let judged = rw c.in-Ok-Illegal.field-0-is at c.in-Ok-Illegal.ensures.judged in
-    rw judged.1 judged.0
+illegal-requires-clause-illegal g c = rw c.judge.ensures.stays (rw c.in-Ok-None.field-0-is at c.in-Ok-None.ensures.weighed)
 
-pub invariant_of-self-in-Err-legal : goal.invariant_of-self-in-Err-legal
-invariant_of-self-in-Err-legal g c =
-    let judged = rw c.in-Ok-Legal.field-0-is at c.in-Ok-Legal.ensures.judged in
-    record { next = omega (arith, pairs_number_one c.args.self.now.audit c.args.pair.now c.pair.new.self judged, c.requires.next) }
+pub returns-in-Err-legal-clause-halted : goal.returns-in-Err-legal-clause-halted
+returns-in-Err-legal-clause-halted g c =
+    let self = c.args.self.now in
+    subst (λ (m : Market). WantsOne g.P.OnPair.watch (record { market = m; pairs = self.pairs; seen = g.P.OnPair.seen self.on m }) (Some c.args.pair.now)) c.judge.ensures.stays c.in-Err-legal.ensures.wanted
 
 pub invariant_of-self-2 : goal.invariant_of-self-2
 invariant_of-self-2 g c =
-    let judged = rw c.in-Ok-Legal.field-0-is at c.in-Ok-Legal.ensures.judged in
-    record { next = omega (arith, pairs_number_one c.args.self.now.audit c.args.pair.now c.pair.new.self judged, c.requires.next) }
+    let legal = subst (λ (m : Market). IsLegalPair m c.args.pair.now c.legal.new.audit) c.judge.ensures.stays c.in-Ok-legal.ensures.seen.legal in
+    record { next = omega (arith, pairs_number_one c.args.self.now.audit c.args.pair.now c.legal.new.audit legal, c.requires.next); within = c.in-Ok-legal.ensures.within }
