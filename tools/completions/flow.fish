@@ -10,7 +10,7 @@ complete -c flow -n 'test (count (commandline -opc)) -eq 1' -a explain -d 'a jou
 complete -c flow -n 'test (count (commandline -opc)) -eq 1' -a report -d 'a journal: show it as text'
 complete -c flow -n 'test (count (commandline -opc)) -eq 1' -a statement -d 'a journal: the statement of an account'
 complete -c flow -n 'test (count (commandline -opc)) -eq 1' -a checkpoint -d 'a journal: write its market'
-complete -c flow -n 'test (count (commandline -opc)) -eq 1' -a resume -d 'a journal or a checkpoint, and commands: write their pairs'
+complete -c flow -n 'test (count (commandline -opc)) -eq 1' -a resume -d 'a journal or a checkpoint, and commands: write their entries'
 complete -c flow -n 'test (count (commandline -opc)) -eq 1' -a keep -d 'a command file: keep its journal in a file'
 complete -c flow -n 'test (count (commandline -opc)) -eq 1' -a sample -d 'a number, and how many orders: try a large market'
 complete -c flow -n 'test (count (commandline -opc)) -eq 2; and test (commandline -opc)[2] = keep' -F

@@ -21,22 +21,22 @@ WORDS = [
          "lines of JSON: write a command file"),
     Word("run", [""],
          "COMMANDS", "a command file",
-         "JOURNAL", "its [journal](#journals), each pair before the next record is read",
+         "JOURNAL", "its [journal](#journals), each entry before the next record is read",
          "NotFlow Torn TooLong",
          "a command file: write its journal"),
     Word("audit", [""],
          "JOURNAL", "a journal",
-         "", "one line, where it is whole and [legal](#audits)",
+         "", "one line, if it is complete and [valid](#audits)",
          "NotFlow Torn Rejected TooLong",
          "a journal: is it legal?"),
     Word("explain", [""],
          "JOURNAL", "a journal",
-         "", "that line, or what is [found](#what-is-found-of-a-pair) of the first pair that isn't legal",
+         "", "that line, or what is [found](#what-is-found-of-an-entry) of the first invalid entry",
          "NotFlow Torn Rejected TooLong",
          "a journal: what is wrong with it?"),
     Word("report", [""],
          "JOURNAL", "a journal",
-         "", "the [text](#reports) of its legal pairs",
+         "", "the [text](#reports) of its valid entries",
          "NotFlow Torn Rejected TooLong",
          "a journal: show it as text"),
     Word("statement", ["NUMBER"],
@@ -46,17 +46,17 @@ WORDS = [
          "a journal: the statement of an account"),
     Word("checkpoint", [""],
          "JOURNAL", "a journal",
-         "CHECKPOINT", "the [checkpoint](#checkpoints) of its market, where it is whole and legal",
+         "CHECKPOINT", "the [checkpoint](#checkpoints) of its market, if it is complete and valid",
          "NotFlow Torn Rejected TooLong",
          "a journal: write its market"),
     Word("resume", [""],
-         "JOURNAL_OR_CHECKPOINT_AND_COMMANDS", "a journal or a checkpoint, and commands behind it",
-         "PAIRS", "the [pairs of these commands](#going-on)",
+         "JOURNAL_OR_CHECKPOINT_AND_COMMANDS", "a journal or a checkpoint, followed by commands",
+         "PAIRS", "the [entries of these commands](#resuming)",
          "NotFlow Torn Rejected TooLong BadCheckpoint",
-         "a journal or a checkpoint, and commands: write their pairs"),
+         "a journal or a checkpoint, and commands: write their entries"),
     Word("keep", ["FILE"],
-         "COMMANDS", "a command file of FILE's version, or of any where FILE is new",
-         "PAIRS", "the pair of each record, once [FILE](#kept-files), made where it isn't there, keeps it",
+         "COMMANDS", "a command file of FILE's version, or of any if FILE is new",
+         "PAIRS", "the entry of each record, once [FILE](#kept-files), made if it isn't there, keeps it",
          "NotFlow Torn Rejected TooLong DiskFault NotDisk Damaged",
          "a command file: keep its journal in a file"),
     Word("sample", ["NUMBER ORDERS"],
@@ -98,7 +98,7 @@ def row(*cells):
 
 def readme_table():
     """Each word in a line, without links."""
-    yield row("`./flow` with", "reads", "writes", "and ends, but for Done, with")
+    yield row("subcommand", "reads", "writes", "other exit statuses")
     yield "|---|---|---|---|"
     for word in WORDS:
         reads, writes = (re.sub(r"\[([^]]+)\]\([^)]+\)", r"\1", cell) for cell in (word.reads, word.writes))
@@ -106,7 +106,7 @@ def readme_table():
 
 
 def formats_table():
-    yield row("word", "reads", "writes")
+    yield row("subcommand", "reads", "writes")
     yield "|---|---|---|"
     for word in WORDS:
         yield row(", ".join(f"`{form}`" for form in called(word)), word.reads, word.writes)
