@@ -1,7 +1,7 @@
 //! A call, over a source, sinks and a disk in memory.
 use crate::asked::Asked;
 use crate::counting::Counts;
-use check_lines::put_records;
+use check_lines::Told;
 use flow_exchange::Status;
 use kept_exchange::{flow_disk, flow_disk_limited};
 use memory_disk::MemoryDisk;
@@ -38,27 +38,49 @@ fn failing(alloc: Global, call: u64) -> Option<Vec<u64>> {
     Some(calls)
 }
 
+fn source_of(alloc: Global, bytes: &[u8], fails: u64) -> Option<MemorySource> {
+    let fails = failing(alloc, fails)?;
+    Some(MemorySource::new(bytes.to_vec(alloc).ok()?, 7, fails))
+}
+
+fn sink_of(alloc: Global, most: usize, fails: u64) -> Option<MemorySink> {
+    MemorySink::new(alloc, most, failing(alloc, fails)?).ok()
+}
+
+fn disk_of(alloc: Global, bytes: &[u8], calls: u32, fails: u64) -> Option<MemoryDisk> {
+    let fails = failing(alloc, fails)?;
+    MemoryDisk::new(alloc, bytes.to_vec(alloc).ok()?, ROOM, calls, fails).ok()
+}
+
+// Makes the call with these.
+fn call(
+    alloc: Global,
+    limit: Option<u64>,
+    source: &mut MemorySource,
+    disk: &mut MemoryDisk,
+    out: &mut MemorySink,
+    notes: &mut MemorySink,
+) -> Status {
+    match limit {
+        Some(limit) => flow_disk_limited(alloc, limit.min(1 << 32), source, disk, out, notes),
+        None => flow_disk(alloc, source, disk, out, notes),
+    }
+}
+
 // Makes the call with these bytes on the disk and in the source.
 fn end_of(alloc: Global, asked: &Asked, held: &[u8], given: &[u8]) -> Option<Ended> {
-    let bytes = given.to_vec(alloc).ok()?;
-    let mut source = MemorySource::new(bytes, 7, failing(alloc, asked.read)?);
-    let mut out = MemorySink::new(alloc, MOST_OUT, failing(alloc, asked.out)?).ok()?;
-    let mut notes = MemorySink::new(alloc, MOST_NOTES, failing(alloc, asked.notes)?).ok()?;
-    let first = held.to_vec(alloc).ok()?;
-    let mut disk = MemoryDisk::new(
+    let mut source = source_of(alloc, given, asked.read)?;
+    let mut out = sink_of(alloc, MOST_OUT, asked.out)?;
+    let mut notes = sink_of(alloc, MOST_NOTES, asked.notes)?;
+    let mut disk = disk_of(alloc, held, asked.calls, asked.fail)?;
+    let status = call(
         alloc,
-        first,
-        ROOM,
-        asked.calls,
-        failing(alloc, asked.fail)?,
-    ).ok()?;
-    let status = match asked.limit {
-        Some(limit) => {
-            let limit = limit.min(1 << 32);
-            flow_disk_limited(alloc, limit, &mut source, &mut disk, &mut out, &mut notes)
-        }
-        None => flow_disk(alloc, &mut source, &mut disk, &mut out, &mut notes),
-    };
+        asked.limit,
+        &mut source,
+        &mut disk,
+        &mut out,
+        &mut notes,
+    );
     Some(Ended {
         status,
         out,
@@ -67,19 +89,49 @@ fn end_of(alloc: Global, asked: &Asked, held: &[u8], given: &[u8]) -> Option<End
     })
 }
 
-// Appends how a call ended, and what it left.
-fn put_ended(alloc: Global, ended: &Ended, rows: &mut String) -> Option<()> {
-    let (exit, written) = (ended.status.exit(), ended.out.bytes().len());
-    write!(rows, " {exit}, {written} bytes").ok()?;
-    let line = str::from_utf8(ended.notes.bytes()).ok()?;
-    if !line.is_empty() {
-        let line = line.trim_end();
-        write!(rows, ", {line}").ok()?;
+// Appends the line on notes, where there is one.
+fn put_note(notes: &[u8], told: &mut Told) {
+    match str::from_utf8(notes) {
+        Ok("") => (),
+        Ok(line) => {
+            told.put(", ");
+            told.put(line.trim_end());
+        }
+        Err(_) => told.give_up(),
     }
-    rows.push('\n').ok()?;
-    put_records(alloc, ended.out.bytes(), 64, rows)?;
-    let digits = hex::encode(alloc, ended.disk.bytes()).ok()?;
-    write!(rows, "  disk {digits}\n").ok()
+}
+
+// Appends the digits of bytes, and the end of the row.
+pub(crate) fn put_digits(alloc: Global, bytes: &[u8], told: &mut Told) {
+    match hex::encode(alloc, bytes) {
+        Ok(digits) => told.put(&digits),
+        Err(_) => told.give_up(),
+    }
+    told.put("\n");
+}
+
+// Appends how a call ended, and what it left.
+fn put_ended(alloc: Global, ended: &Ended, told: &mut Told) {
+    told.put_number(" ", i128::from(ended.status.exit()));
+    told.put_number(", ", ended.out.bytes().len() as i128);
+    told.put(" bytes");
+    put_note(ended.notes.bytes(), told);
+    told.put("\n");
+    told.put_records(ended.out.bytes(), 64);
+    told.put("  disk ");
+    put_digits(alloc, ended.disk.bytes(), told);
+}
+
+// Makes the call, and counts how it ended.
+fn count_call(
+    alloc: Global,
+    asked: &Asked,
+    held: &[u8],
+    given: &[u8],
+    counts: &mut Counts,
+) -> Option<()> {
+    let ended = end_of(alloc, asked, held, given)?;
+    counts.add(alloc, ended.status.exit(), ended.out.bytes())
 }
 
 // Makes the call once for each of the disk's first calls, which fails in it.
@@ -93,22 +145,44 @@ fn count_fails(
     for call in 1..=asked.fails {
         let mut one = *asked;
         one.fail = call;
-        let ended = end_of(alloc, &one, held, given)?;
-        counts.add(alloc, ended.status.exit(), ended.out.bytes())?;
+        count_call(alloc, &one, held, given, counts)?;
     }
     Some(())
 }
 
-// Makes the call on what a stop in a call of this number left.
+// Makes the call on what a stop behind so many calls of a disk leaves, by the part that is left of a write and what fills the rest.
 fn count_stop(
     alloc: Global,
     asked: &Asked,
-    image: &[u8],
+    disk: &MemoryDisk,
+    before: u32,
+    left: (u64, u8),
     given: &[u8],
     counts: &mut Counts,
 ) -> Option<()> {
-    let ended = end_of(alloc, asked, image, given)?;
-    counts.add(alloc, ended.status.exit(), ended.out.bytes())
+    if before >= disk.recorded() {
+        return None;
+    }
+    let image = disk.crashed(alloc, before as u64 + 1, left.0, left.1).ok()?;
+    count_call(alloc, asked, &image, given, counts)
+}
+
+// Makes the call on what a stop in each call of a disk leaves.
+fn count_stops_in(
+    alloc: Global,
+    asked: &Asked,
+    disk: &MemoryDisk,
+    given: &[u8],
+    counts: &mut Counts,
+) -> Option<()> {
+    for before in 0..disk.recorded() {
+        for part in PARTS {
+            for fill in FILLS {
+                count_stop(alloc, asked, disk, before, (part, fill), given, counts)?;
+            }
+        }
+    }
+    Some(())
 }
 
 // Makes the call, and then once more on what a stop in each call of the disk leaves.
@@ -120,39 +194,31 @@ fn count_stops(
     counts: &mut Counts,
 ) -> Option<()> {
     let first = end_of(alloc, asked, held, given)?;
-    for before in 0..first.disk.recorded() {
-        for part in PARTS {
-            for fill in FILLS {
-                let image = first
-                    .disk
-                    .crashed(alloc, before as u64 + 1, part, fill)
-                    .ok()?;
-                count_stop(alloc, asked, &image, given, counts)?;
-            }
-        }
+    count_stops_in(alloc, asked, &first.disk, given, counts)
+}
+
+// Appends how the calls of a case ended, and how often.
+fn put_counts(alloc: Global, asked: &Asked, held: &[u8], given: &[u8], told: &mut Told) {
+    let mut counts = Counts::new(alloc);
+    told.keep(count_fails(alloc, asked, held, given, &mut counts));
+    if asked.stops {
+        told.keep(count_stops(alloc, asked, held, given, &mut counts));
     }
-    Some(())
+    counts.put(alloc, told);
 }
 
 // Appends what a case comes to.
-pub(crate) fn put_case(
-    alloc: Global,
-    options: &str,
-    bytes: &[u8],
-    rows: &mut String,
-) -> Option<()> {
+pub(crate) fn put_case(alloc: Global, options: &str, bytes: &[u8], told: &mut Told) {
     let mut asked = Asked::new();
     for option in options.split_whitespace() {
-        asked.set(option)?;
+        told.keep(asked.set(option));
     }
     let (held, given) = bytes.split_at(asked.disk.min(bytes.len()));
-    if asked.fails == 0 && !asked.stops {
-        return put_ended(alloc, &end_of(alloc, &asked, held, given)?, rows);
+    if asked.fails > 0 || asked.stops {
+        return put_counts(alloc, &asked, held, given, told);
     }
-    let mut counts = Counts::new(alloc);
-    count_fails(alloc, &asked, held, given, &mut counts)?;
-    if asked.stops {
-        count_stops(alloc, &asked, held, given, &mut counts)?;
+    match end_of(alloc, &asked, held, given) {
+        Some(ended) => put_ended(alloc, &ended, told),
+        None => told.give_up(),
     }
-    counts.put(alloc, rows)
 }

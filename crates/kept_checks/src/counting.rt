@@ -1,4 +1,6 @@
 //! How often calls ended in which way.
+use crate::calling::put_digits;
+use check_lines::Told;
 use std::alloc::Global;
 
 // A number of an exit and the bytes in out, and how often they came.
@@ -42,13 +44,13 @@ impl Counts {
     }
 
     // Appends a row for each.
-    pub(crate) fn put(&self, alloc: Global, rows: &mut String) -> Option<()> {
-        rows.push('\n').ok()?;
+    pub(crate) fn put(&self, alloc: Global, told: &mut Told) {
+        told.put("\n");
         for count in &self.counts {
-            let (times, exit) = (count.times, count.exit);
-            let digits = hex::encode(alloc, &count.out).ok()?;
-            write!(rows, "  {times} times {exit}, {digits}\n").ok()?;
+            told.put_number("  ", i128::from(count.times));
+            told.put_number(" times ", i128::from(count.exit));
+            told.put(", ");
+            put_digits(alloc, &count.out, told);
         }
-        Some(())
     }
 }

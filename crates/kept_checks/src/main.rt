@@ -25,27 +25,33 @@ mod asked;
 mod calling;
 mod counting;
 
-use check_lines::{Line, Names};
+use check_lines::{Line, Names, Told};
 use std::alloc::Global;
 use std::io;
 
-// What a line comes to, or `None` where it is faulty or there is no memory.
-fn told(alloc: Global, names: &mut Names, line: &str) -> Option<String> {
-    match names.read(line)? {
-        Line::Remark => format!(in alloc; "{line}\n").ok(),
-        Line::Named => Some(String::new(alloc)),
-        Line::Case(options, bytes) => {
-            let mut rows = format!(in alloc; "{options}:").ok()?;
-            calling::put_case(alloc, options, &bytes, &mut rows)?;
-            Some(rows)
+// Appends what a line comes to.
+fn put_line(alloc: Global, names: &mut Names, line: &str, told: &mut Told) {
+    match names.read(line) {
+        Some(Line::Remark) => {
+            told.put(line);
+            told.put("\n");
         }
+        Some(Line::Named) => (),
+        Some(Line::Case(options, bytes)) => {
+            told.put(options);
+            told.put(":");
+            calling::put_case(alloc, options, &bytes, told);
+        }
+        None => told.give_up(),
     }
 }
 
 fn main(rt: HostRuntime) -> io::Result<()> {
     let mut names = Names::new(rt.alloc());
     for line in rt.lines(rt.alloc()) {
-        match told(rt.alloc(), &mut names, line?.as_str()) {
+        let mut told = Told::new(rt.alloc());
+        put_line(rt.alloc(), &mut names, line?.as_str(), &mut told);
+        match told.rows() {
             Some(rows) => print!(rt; "{rows}")?,
             None => println!(rt; "not done")?,
         }

@@ -41,7 +41,7 @@ mod samples;
 mod telling;
 mod texts;
 
-use check_lines::{Line, Names, put_records};
+use check_lines::{Line, Names, Told};
 use std::alloc::Global;
 use std::io;
 use wire_records::{Framed, MOST_BODY, RecordView, Version, next_record};
@@ -63,68 +63,81 @@ fn append(
     }
 }
 
-// Tells what a call that appends makes of the record at the front of the bytes.
-fn put_appended(alloc: Global, words: (&str, &str), bytes: &[u8], text: &mut String) -> Option<()> {
-    let Framed::Whole(record, taken) = next_record(bytes, MOST_BODY) else {
-        return None;
-    };
-    let rest = bytes.get(taken..)?;
-    let mut out = Vec::new(alloc);
-    append(alloc, words, &record, rest, &mut out)?;
-    append(alloc, words, &record, rest, &mut out)?;
-    text.push('\n').ok()?;
-    put_records(alloc, &out, out.len(), text)
-}
-
-// Tells what a call comes to, or answers `None` where it is none, or there is no memory.
-fn put_case(alloc: Global, words: (&str, &str), bytes: &[u8], text: &mut String) -> Option<()> {
-    match words.0 {
-        "front" => records::put_front(words.1.parse().ok()?, bytes, text)?,
-        "command" => records::put_read(alloc, &records::record_in(bytes)?, text)?,
-        "code" => records::put_code(words.1.parse().ok()?, text)?,
-        "magic" => records::put_magic(bytes, text)?,
-        "head" => records::put_head_of(alloc, words.1, text)?,
-        "pair" => replies::put_pair(alloc, bytes, text)?,
-        "reply" => replies::put_reply(alloc, &records::record_in(bytes)?, text)?,
-        "line" => texts::put_line(alloc, Version::One, words.1, bytes, text)?,
-        "line_2" => texts::put_line(alloc, Version::Two, words.1, bytes, text)?,
-        "line_3" => texts::put_line(alloc, Version::Three, words.1, bytes, text)?,
-        "sample" => return samples::put_sample(alloc, words.1, text),
-        "lines" => {
-            return texts::put_lines(alloc, Version::One, bytes, words.1 == "more", text);
+// The same twice, of the record at the front of the bytes.
+fn append_twice(alloc: Global, words: (&str, &str), bytes: &[u8], out: &mut Vec<u8>) -> Option<()> {
+    match next_record(bytes, MOST_BODY) {
+        Framed::Whole(record, taken) => {
+            let rest = bytes.get(taken..)?;
+            append(alloc, words, &record, rest, out)?;
+            append(alloc, words, &record, rest, out)
         }
-        "lines_2" => {
-            return texts::put_lines(alloc, Version::Two, bytes, words.1 == "more", text);
-        }
-        "lines_3" => {
-            return texts::put_lines(alloc, Version::Three, bytes, words.1 == "more", text);
-        }
-        _ => return put_appended(alloc, words, bytes, text),
+        _ => None,
     }
-    text.push('\n').ok()
 }
 
-fn told_of(alloc: Global, words: &str, bytes: &[u8]) -> Option<String> {
-    let mut text = format!(in alloc; "{words}:").ok()?;
-    let words = words.split_once(' ').unwrap_or((words, ""));
-    put_case(alloc, words, bytes, &mut text)?;
-    Some(text)
+// Tells what a call that appends makes of the record at the front of the bytes.
+fn put_appended(alloc: Global, words: (&str, &str), bytes: &[u8], told: &mut Told) {
+    let mut out = Vec::new(alloc);
+    told.keep(append_twice(alloc, words, bytes, &mut out));
+    told.put("\n");
+    told.put_records(&out, out.len());
 }
 
-// What a line comes to, in the same way.
-fn told(alloc: Global, names: &mut Names, line: &str) -> Option<String> {
-    match names.read(line)? {
-        Line::Remark => format!(in alloc; "{line}\n").ok(),
-        Line::Named => Some(String::new(alloc)),
-        Line::Case(words, bytes) => told_of(alloc, words, &bytes),
+// Tells what a call comes to that has one row, or what one comes to that appends.
+fn put_row(alloc: Global, words: (&str, &str), bytes: &[u8], told: &mut Told) {
+    match words.0 {
+        "front" => records::put_front(words.1, bytes, told),
+        "command" => records::put_read(alloc, bytes, told),
+        "code" => records::put_code(alloc, words.1, told),
+        "magic" => records::put_magic(bytes, told),
+        "head" => records::put_head_of(alloc, words.1, told),
+        "pair" => replies::put_pair(alloc, bytes, told),
+        "reply" => replies::put_reply(alloc, bytes, told),
+        "line" => texts::put_line(alloc, Version::One, words.1, bytes, told),
+        "line_2" => texts::put_line(alloc, Version::Two, words.1, bytes, told),
+        "line_3" => texts::put_line(alloc, Version::Three, words.1, bytes, told),
+        _ => return put_appended(alloc, words, bytes, told),
+    }
+    told.put("\n");
+}
+
+// Tells what a call comes to.
+fn put_case(alloc: Global, words: (&str, &str), bytes: &[u8], told: &mut Told) {
+    let more = words.1 == "more";
+    match words.0 {
+        "sample" => samples::put_sample(alloc, words.1, told),
+        "lines" => texts::put_lines(alloc, Version::One, bytes, more, told),
+        "lines_2" => texts::put_lines(alloc, Version::Two, bytes, more, told),
+        "lines_3" => texts::put_lines(alloc, Version::Three, bytes, more, told),
+        _ => put_row(alloc, words, bytes, told),
+    }
+}
+
+// Tells what a line comes to.
+fn put_line(alloc: Global, names: &mut Names, line: &str, told: &mut Told) {
+    match names.read(line) {
+        Some(Line::Remark) => {
+            told.put(line);
+            told.put("\n");
+        }
+        Some(Line::Named) => (),
+        Some(Line::Case(words, bytes)) => {
+            told.put(words);
+            told.put(":");
+            let words = words.split_once(' ').unwrap_or((words, ""));
+            put_case(alloc, words, &bytes, told);
+        }
+        None => told.give_up(),
     }
 }
 
 fn main(rt: HostRuntime) -> io::Result<()> {
     let mut names = Names::new(rt.alloc());
     for line in rt.lines(rt.alloc()) {
-        match told(rt.alloc(), &mut names, line?.as_str()) {
-            Some(text) => print!(rt; "{text}")?,
+        let mut told = Told::new(rt.alloc());
+        put_line(rt.alloc(), &mut names, line?.as_str(), &mut told);
+        match told.rows() {
+            Some(rows) => print!(rt; "{rows}")?,
             None => println!(rt; "not done")?,
         }
     }

@@ -100,6 +100,23 @@ fn write_batch(
     write_cleared(asked, batch, orders, cleared, out).ok()
 }
 
+// Writes a clearing of these orders, which are none so far, and are added by their list.
+fn append_fills(
+    alloc: Global,
+    asked: &RecordView<'_>,
+    numbers: (u32, i128),
+    lists: (&str, &str),
+    orders: &mut Vec<Order>,
+    out: &mut Vec<u8>,
+) -> Option<()> {
+    let mut rates = Vec::new(alloc);
+    if lists.1 != "-" {
+        add_fills(alloc, lists.1, orders, &mut rates)?;
+    }
+    let cleared = cleared_of(alloc, numbers.1, lists.0, rates)?;
+    write_batch(asked, numbers.0, orders, &cleared, out)
+}
+
 pub(crate) fn append_cleared(
     alloc: Global,
     asked: &RecordView<'_>,
@@ -107,17 +124,11 @@ pub(crate) fn append_cleared(
     out: &mut Vec<u8>,
 ) -> Option<()> {
     let (batch, with) = with.split_once(' ')?;
-    let batch = batch.parse().ok()?;
     let (gap, with) = with.split_once(' ')?;
-    let gap = gap.parse().ok()?;
-    let (assets, fills) = with.split_once(' ')?;
+    let lists = with.split_once(' ')?;
+    let numbers = (batch.parse().ok()?, gap.parse().ok()?);
     let mut orders = Vec::new(alloc);
-    let mut rates = Vec::new(alloc);
-    if fills != "-" {
-        add_fills(alloc, fills, &mut orders, &mut rates)?;
-    }
-    let cleared = cleared_of(alloc, gap, assets, rates)?;
-    write_batch(asked, batch, &orders, &cleared, out)
+    append_fills(alloc, asked, numbers, lists, &mut orders, out)
 }
 
 pub(crate) fn append_skipped(

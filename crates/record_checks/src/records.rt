@@ -4,6 +4,7 @@ ghost use Rattle.wire_records.specs.CommandRecords.{HasShortRow};
 ghost use Rattle.wire_records.specs.Views.{command_in};
 
 use crate::telling::{put, put_bytes, put_command, put_item};
+use check_lines::Told;
 use journal_records::{MOST_REPLY_BODY, journal_version};
 use std::alloc::Global;
 use weight_rows::RowFault;
@@ -20,33 +21,40 @@ pub(crate) fn record_in(bytes: &[u8]) -> Option<RecordView<'_>> {
     }
 }
 
-pub(crate) fn put_front(limit: u32, bytes: &[u8], text: &mut String) -> Option<()> {
-    match next_record(bytes, limit) {
+fn put_framed(framed: Framed<'_>, told: &mut Told) {
+    match framed {
         Framed::Whole(record, taken) => {
-            put("whole", &[record.tag().into(), taken as i128], text)?;
-            put_bytes(record.body(), text)?;
-            put_bytes(record.bytes(), text)
+            put("whole", &[record.tag().into(), taken as i128], told);
+            put_bytes(record.body(), told);
+            put_bytes(record.bytes(), told);
         }
-        Framed::End => put("end", &[], text),
-        Framed::TooLarge(length) => put("too_large", &[length.into()], text),
-        Framed::Short => put("short", &[], text),
+        Framed::End => put("end", &[], told),
+        Framed::TooLarge(length) => put("too_large", &[length.into()], told),
+        Framed::Short => put("short", &[], told),
+    }
+}
+
+pub(crate) fn put_front(limit: &str, bytes: &[u8], told: &mut Told) {
+    match limit.parse() {
+        Ok(limit) => put_framed(next_record(bytes, limit), told),
+        Err(_) => told.give_up(),
     }
 }
 
 // Each entry by its place, up to the first that isn't there, and why they are no row.
-fn put_row(row: &RowView<'_>, text: &mut String) -> Option<()> {
+fn put_row(row: &RowView<'_>, told: &mut Told) {
     for place in 0..=row.len() {
         match row.entry(place) {
-            Some(entry) => put_item(entry.asset.into(), entry.weight.into(), text)?,
-            None => text.push_str(" -").ok()?,
+            Some(entry) => put_item(entry.asset.into(), entry.weight.into(), told),
+            None => told.put(" -"),
         }
     }
     match row.fault() {
-        None => put("lawful", &[], text),
-        Some(RowFault::Empty) => put("empty", &[], text),
-        Some(RowFault::TooMany) => put("too_many", &[], text),
-        Some(RowFault::Unordered(place)) => put("unordered", &[place.into()], text),
-        Some(RowFault::BadWeight(place)) => put("bad_weight", &[place.into()], text),
+        None => put("lawful", &[], told),
+        Some(RowFault::Empty) => put("empty", &[], told),
+        Some(RowFault::TooMany) => put("too_many", &[], told),
+        Some(RowFault::Unordered(place)) => put("unordered", &[place.into()], told),
+        Some(RowFault::BadWeight(place)) => put("bad_weight", &[place.into()], told),
     }
 }
 
@@ -111,7 +119,14 @@ fn owned(alloc: Global, command: CommandView<'_>) -> Option<Command> {
     })
 }
 
-fn put_view(alloc: Global, command: CommandView<'_>, text: &mut String) -> Option<()> {
+fn put_owned(command: Option<Command>, told: &mut Told) {
+    match command {
+        Some(command) => put_command(command, told),
+        None => told.give_up(),
+    }
+}
+
+fn put_view(alloc: Global, command: CommandView<'_>, told: &mut Told) {
     match command {
         CommandView::PlaceOrder(place) => {
             let numbers = [
@@ -121,8 +136,8 @@ fn put_view(alloc: Global, command: CommandView<'_>, text: &mut String) -> Optio
                 place.rate().into(),
                 place.cap().into(),
             ];
-            put("place_order", &numbers, text)?;
-            put_row(&place.row(), text)
+            put("place_order", &numbers, told);
+            put_row(&place.row(), told)
         }
         CommandView::PlaceUntil { last, place } => {
             let numbers = [
@@ -133,18 +148,25 @@ fn put_view(alloc: Global, command: CommandView<'_>, text: &mut String) -> Optio
                 place.rate().into(),
                 place.cap().into(),
             ];
-            put("place_until", &numbers, text)?;
-            put_row(&place.row(), text)
+            put("place_until", &numbers, told);
+            put_row(&place.row(), told)
         }
-        plain => put_command(owned(alloc, plain)?, text),
+        plain => put_owned(owned(alloc, plain), told),
     }
 }
 
-pub(crate) fn put_read(alloc: Global, record: &RecordView<'_>, text: &mut String) -> Option<()> {
+fn put_asked(alloc: Global, record: &RecordView<'_>, told: &mut Told) {
     match record.command() {
-        Ok(command) => put_view(alloc, command, text),
-        Err(BodyFault::UnknownTag) => put("unknown_tag", &[], text),
-        Err(BodyFault::BadBody) => put("bad_body", &[], text),
+        Ok(command) => put_view(alloc, command, told),
+        Err(BodyFault::UnknownTag) => put("unknown_tag", &[], told),
+        Err(BodyFault::BadBody) => put("bad_body", &[], told),
+    }
+}
+
+pub(crate) fn put_read(alloc: Global, bytes: &[u8], told: &mut Told) {
+    match record_in(bytes) {
+        Some(record) => put_asked(alloc, &record, told),
+        None => told.give_up(),
     }
 }
 
@@ -172,27 +194,47 @@ pub(crate) fn append_again(
     write_command(&command, out).ok()
 }
 
-pub(crate) fn put_head_of(alloc: Global, with: &str, text: &mut String) -> Option<()> {
-    let (tag, length) = with.split_once(' ')?;
-    let tag = tag.parse().ok()?;
-    let length = length.parse().ok()?;
-    let mut out = Vec::with_capacity(alloc, 5).ok()?;
-    put_head(&mut out, tag, length);
-    put_bytes(&out, text)
-}
-
-pub(crate) fn put_code(code: u8, text: &mut String) -> Option<()> {
-    match Refusal::of_code(code) {
-        Some(refusal) => write!(text, " {refusal:?} {}", refusal.code()).ok(),
-        None => put("none", &[], text),
+fn put_head_bytes(alloc: Global, tag: u8, length: u32, told: &mut Told) {
+    match Vec::with_capacity(alloc, 5) {
+        Ok(mut out) => {
+            put_head(&mut out, tag, length);
+            put_bytes(&out, told);
+        }
+        Err(_) => told.give_up(),
     }
 }
 
-pub(crate) fn put_magic(bytes: &[u8], text: &mut String) -> Option<()> {
+pub(crate) fn put_head_of(alloc: Global, with: &str, told: &mut Told) {
+    let (tag, length) = with.split_once(' ').unwrap_or((with, ""));
+    match (tag.parse(), length.parse()) {
+        (Ok(tag), Ok(length)) => put_head_bytes(alloc, tag, length, told),
+        _ => told.give_up(),
+    }
+}
+
+fn put_refusal(alloc: Global, refusal: Refusal, told: &mut Told) {
+    match format!(in alloc; " {refusal:?}") {
+        Ok(name) => told.put(&name),
+        Err(_) => told.give_up(),
+    }
+    told.put_number(" ", refusal.code().into());
+}
+
+pub(crate) fn put_code(alloc: Global, code: &str, told: &mut Told) {
+    match code.parse() {
+        Ok(code) => match Refusal::of_code(code) {
+            Some(refusal) => put_refusal(alloc, refusal, told),
+            None => put("none", &[], told),
+        },
+        Err(_) => told.give_up(),
+    }
+}
+
+pub(crate) fn put_magic(bytes: &[u8], told: &mut Told) {
     match (command_version(bytes), journal_version(bytes)) {
-        (Some(version), None) => put("commands", &[i128::from(version.number())], text),
-        (None, Some(version)) => put("journal", &[i128::from(version.number())], text),
-        (None, None) => put("neither", &[], text),
-        (Some(_), Some(_)) => put("both", &[], text),
+        (Some(version), None) => put("commands", &[i128::from(version.number())], told),
+        (None, Some(version)) => put("journal", &[i128::from(version.number())], told),
+        (None, None) => put("neither", &[], told),
+        (Some(_), Some(_)) => put("both", &[], told),
     }
 }

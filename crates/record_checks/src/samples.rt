@@ -1,8 +1,7 @@
 //! The command file of a sample.
-use check_lines::put_records;
+use check_lines::Told;
 use sample_market::{MOST_ORDERS, sample_commands};
 use std::alloc::Global;
-use std::fmt::Write;
 
 // The bytes as one number, in which each byte counts by its place: FNV-1a of 64 bits.
 fn sum_of(bytes: &[u8]) -> u64 {
@@ -13,15 +12,29 @@ fn sum_of(bytes: &[u8]) -> u64 {
     sum
 }
 
-// Tells how many bytes the file of a sample has and their sum, and its last records.
-pub(crate) fn put_sample(alloc: Global, words: &str, text: &mut String) -> Option<()> {
-    let (number, orders) = words.split_once(' ')?;
-    let number = number.parse().ok()?;
-    let orders: u32 = orders.parse().ok()?;
+fn put_file(file: &[u8], told: &mut Told) {
+    told.put_number(" ", file.len() as i128);
+    told.put_number(" bytes, ", sum_of(file).into());
+    told.put("\n");
+    let (_, records) = file.split_at(file.len().min(8));
+    told.put_records(records, 7);
+}
+
+fn put_sample_of(alloc: Global, number: u64, orders: u32, told: &mut Told) {
     if orders == 0 || orders > MOST_ORDERS {
-        return None;
+        return told.give_up();
     }
-    let file = sample_commands(alloc, number, orders).ok()?;
-    write!(text, " {} bytes, {}\n", file.len(), sum_of(&file)).ok()?;
-    put_records(alloc, file.get(8..)?, 7, text)
+    match sample_commands(alloc, number, orders) {
+        Ok(file) => put_file(&file, told),
+        Err(_) => told.give_up(),
+    }
+}
+
+// Tells how many bytes the file of a sample has and their sum, and its last records.
+pub(crate) fn put_sample(alloc: Global, words: &str, told: &mut Told) {
+    let (number, orders) = words.split_once(' ').unwrap_or((words, ""));
+    match (number.parse(), orders.parse()) {
+        (Ok(number), Ok(orders)) => put_sample_of(alloc, number, orders, told),
+        _ => told.give_up(),
+    }
 }

@@ -1,51 +1,56 @@
 //! How values are told.
+use check_lines::Told;
 use weight_rows::Entry;
 use wire_records::Command;
 
+const DIGITS: [&str; 16] = [
+    "0", "1", "2", "3", "4", "5", "6", "7", "8", "9", "a", "b", "c", "d", "e", "f",
+];
+
 // A word, and numbers behind it.
-pub(crate) fn put(word: &str, numbers: &[i128], text: &mut String) -> Option<()> {
-    text.push(' ').ok()?;
-    text.push_str(word).ok()?;
+pub(crate) fn put(word: &str, numbers: &[i128], told: &mut Told) {
+    told.put(" ");
+    told.put(word);
     for number in numbers {
-        write!(text, " {number}").ok()?;
+        told.put_number(" ", *number);
     }
-    Some(())
 }
 
 // Bytes in hexadecimal digits.
-pub(crate) fn put_bytes(bytes: &[u8], text: &mut String) -> Option<()> {
-    text.push(' ').ok()?;
+pub(crate) fn put_bytes(bytes: &[u8], told: &mut Told) {
+    told.put(" ");
     if bytes.is_empty() {
-        return text.push('-').ok();
+        told.put("-");
     }
     for byte in bytes {
-        write!(text, "{byte:02x}").ok()?;
+        told.put(DIGITS[usize::from(*byte / 16)]);
+        told.put(DIGITS[usize::from(*byte % 16)]);
     }
-    Some(())
 }
 
 // An item of a list.
-pub(crate) fn put_item(first: i128, second: i128, text: &mut String) -> Option<()> {
-    write!(text, " {first}/{second}").ok()
+pub(crate) fn put_item(first: i128, second: i128, told: &mut Told) {
+    told.put_number(" ", first);
+    told.put_number("/", second);
 }
 
-fn put_entries(entries: &[Entry], text: &mut String) -> Option<()> {
+fn put_entries(entries: &[Entry], told: &mut Told) {
     for entry in entries {
-        put_item(entry.asset.into(), entry.weight.into(), text)?;
+        put_item(entry.asset.into(), entry.weight.into(), told);
     }
-    text.push_str(" -").ok()
+    told.put(" -");
 }
 
 // A command with its fields.
-pub(crate) fn put_command(command: Command, text: &mut String) -> Option<()> {
+pub(crate) fn put_command(command: Command, told: &mut Told) {
     match command {
         Command::AddAsset { ticker } => {
-            put("add_asset", &[], text)?;
-            put_bytes(&ticker, text)
+            put("add_asset", &[], told);
+            put_bytes(&ticker, told)
         }
-        Command::OpenAccount => put("open_account", &[], text),
+        Command::OpenAccount => put("open_account", &[], told),
         Command::DepositMoney { account, ticks } => {
-            put("deposit_money", &[account.into(), ticks.into()], text)
+            put("deposit_money", &[account.into(), ticks.into()], told)
         }
         Command::DepositAsset {
             account,
@@ -53,10 +58,10 @@ pub(crate) fn put_command(command: Command, text: &mut String) -> Option<()> {
             units,
         } => {
             let numbers = [account.into(), asset.into(), units.into()];
-            put("deposit_asset", &numbers, text)
+            put("deposit_asset", &numbers, told)
         }
         Command::WithdrawMoney { account, ticks } => {
-            put("withdraw_money", &[account.into(), ticks.into()], text)
+            put("withdraw_money", &[account.into(), ticks.into()], told)
         }
         Command::WithdrawAsset {
             account,
@@ -64,7 +69,7 @@ pub(crate) fn put_command(command: Command, text: &mut String) -> Option<()> {
             units,
         } => {
             let numbers = [account.into(), asset.into(), units.into()];
-            put("withdraw_asset", &numbers, text)
+            put("withdraw_asset", &numbers, told)
         }
         Command::PlaceOrder {
             account,
@@ -81,13 +86,13 @@ pub(crate) fn put_command(command: Command, text: &mut String) -> Option<()> {
                 rate.into(),
                 cap.into(),
             ];
-            put("place_order", &numbers, text)?;
-            put_entries(row.as_slice(), text)
+            put("place_order", &numbers, told);
+            put_entries(row.as_slice(), told)
         }
         Command::CancelOrder { account, order } => {
-            put("cancel_order", &[account.into(), order.into()], text)
+            put("cancel_order", &[account.into(), order.into()], told)
         }
-        Command::RunBatch { budget } => put("run_batch", &[budget.into()], text),
+        Command::RunBatch { budget } => put("run_batch", &[budget.into()], told),
         Command::PlaceUntil {
             last,
             account,
@@ -105,11 +110,11 @@ pub(crate) fn put_command(command: Command, text: &mut String) -> Option<()> {
                 rate.into(),
                 cap.into(),
             ];
-            put("place_until", &numbers, text)?;
-            put_entries(row.as_slice(), text)
+            put("place_until", &numbers, told);
+            put_entries(row.as_slice(), told)
         }
         Command::SetMoneyCredit { account, ticks } => {
-            put("set_money_credit", &[account.into(), ticks.into()], text)
+            put("set_money_credit", &[account.into(), ticks.into()], told)
         }
         Command::SetUnitCredit {
             account,
@@ -117,7 +122,7 @@ pub(crate) fn put_command(command: Command, text: &mut String) -> Option<()> {
             units,
         } => {
             let numbers = [account.into(), asset.into(), units.into()];
-            put("set_unit_credit", &numbers, text)
+            put("set_unit_credit", &numbers, told)
         }
     }
 }

@@ -1,6 +1,6 @@
 //! Lines of JSON.
 use crate::telling::{put, put_command};
-use check_lines::put_records;
+use check_lines::Told;
 use curve_ladder::CommandList;
 use line_records::{EncodeFault, encode_lines};
 use memory_streams::SteadySink;
@@ -24,33 +24,57 @@ fn padded(name: &str) -> Option<[u8; 8]> {
 }
 
 // How many commands there are, and each of them.
-fn put_many(commands: CommandList, text: &mut String) -> Option<()> {
-    put("many", &[commands.as_slice().len() as i128], text)?;
+fn put_many(commands: CommandList, told: &mut Told) {
+    put("many", &[commands.as_slice().len() as i128], told);
     for command in commands.into_vec() {
-        put_command(command, text)?;
+        put_command(command, told);
     }
+}
+
+fn add_name(tickers: &mut TickerTable, name: &str) -> Option<()> {
+    tickers.add(padded(name)?).ok()?;
     Some(())
 }
 
-pub(crate) fn put_line(
-    alloc: Global,
-    version: Version,
-    names: &str,
-    line: &[u8],
-    text: &mut String,
-) -> Option<()> {
+fn put_said(said: Result<LineRead, LineFault>, told: &mut Told) {
+    match said {
+        Ok(LineRead::Blank) => put("blank", &[], told),
+        Ok(LineRead::Asks(command)) => put_command(command, told),
+        Ok(LineRead::Many(commands)) => put_many(commands, told),
+        Err(LineFault::NoCommand) => put("no_command", &[], told),
+        Err(LineFault::Memory) => put("memory", &[], told),
+    }
+}
+
+pub(crate) fn put_line(alloc: Global, version: Version, names: &str, line: &[u8], told: &mut Told) {
     let mut tickers = TickerTable::new(alloc);
     for name in names.split_whitespace() {
-        tickers.add(padded(name)?).ok()?;
+        told.keep(add_name(&mut tickers, name));
     }
-    match read_line(alloc, line, version, &mut tickers) {
-        Ok(LineRead::Blank) => put("blank", &[], text)?,
-        Ok(LineRead::Asks(command)) => put_command(command, text)?,
-        Ok(LineRead::Many(commands)) => put_many(commands, text)?,
-        Err(LineFault::NoCommand) => put("no_command", &[], text)?,
-        Err(LineFault::Memory) => put("memory", &[], text)?,
+    put_said(read_line(alloc, line, version, &mut tickers), told);
+    put("of", &[tickers.len().into()], told);
+}
+
+fn put_encoded(encoded: Result<(), EncodeFault>, told: &mut Told) {
+    match encoded {
+        Ok(()) => put("done", &[], told),
+        Err(EncodeFault::NoCommand(line)) => put("no_command", &[line.into()], told),
+        Err(EncodeFault::Write) => put("write", &[], told),
+        Err(EncodeFault::Memory) => put("memory", &[], told),
     }
-    put("of", &[tickers.len().into()], text)
+    told.put("\n");
+}
+
+fn put_lines_in(
+    alloc: Global,
+    version: Version,
+    lines: &[u8],
+    more: bool,
+    out: &mut SteadySink,
+    told: &mut Told,
+) {
+    put_encoded(encode_lines(alloc, version, lines, more, out), told);
+    told.put_records(out.bytes(), MOST_OUT);
 }
 
 pub(crate) fn put_lines(
@@ -58,15 +82,10 @@ pub(crate) fn put_lines(
     version: Version,
     lines: &[u8],
     more: bool,
-    text: &mut String,
-) -> Option<()> {
-    let mut out = SteadySink::new(alloc, MOST_OUT).ok()?;
-    match encode_lines(alloc, version, lines, more, &mut out) {
-        Ok(()) => put("done", &[], text)?,
-        Err(EncodeFault::NoCommand(line)) => put("no_command", &[line.into()], text)?,
-        Err(EncodeFault::Write) => put("write", &[], text)?,
-        Err(EncodeFault::Memory) => put("memory", &[], text)?,
+    told: &mut Told,
+) {
+    match SteadySink::new(alloc, MOST_OUT) {
+        Ok(mut out) => put_lines_in(alloc, version, lines, more, &mut out, told),
+        Err(_) => told.give_up(),
     }
-    text.push('\n').ok()?;
-    put_records(alloc, out.bytes(), MOST_OUT, text)
 }
