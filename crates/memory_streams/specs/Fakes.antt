@@ -1,5 +1,5 @@
 -- The source and the sink in memory that fail at stated calls, and what a call makes of them.
-use Rattle.std.specs.Prelude.{ℕ, ◌+◌, ◌-◌, ◌^◌, ◌/◌, min, List, Contains, length, take, drop}
+use Rattle.std.specs.Prelude.{ℕ, ◌+◌, ◌-◌, ◌^◌, ◌/◌, min, List, Option, Contains, length, take, drop}
 use Rattle.memory_streams.specs.Memory.{Kept, keep}
 
 -- a count after one more: it stands still at the end of a u64
@@ -30,21 +30,23 @@ after_read source count = record source { left = drop count source.left; calls =
 abbrev pub after_failed_read : SourceState → SourceState
 after_failed_read source = record source { calls = one_more source.calls; faults = one_more source.faults }
 
--- a sink: what it holds, which calls fail, how many there were, and how many of them failed
+-- a sink: what it holds, which calls fail, how many there were, how many of them failed, and the bytes of each, where it tells them
 pub record SinkState : Type 0 where
   pub kept : Kept
   pub failing : List ℕ
   pub calls : ℕ
   pub faults : ℕ
+  pub handed : Option (List (List ℕ))
 
--- the sink after a call that wrote these bytes
-abbrev pub after_write : SinkState → List ℕ → SinkState
-after_write sink bytes = record sink { kept = keep sink.kept bytes; calls = one_more sink.calls }
+-- the sink after a call that wrote these bytes, and what it then tells of its calls
+abbrev pub after_write : SinkState → List ℕ → Option (List (List ℕ)) → SinkState
+after_write sink bytes handed = record sink { kept = keep sink.kept bytes; calls = one_more sink.calls; handed = handed }
 
 -- the sink after a call that failed: the first half of the bytes, rounded down, is written
-abbrev pub after_failed_write : SinkState → List ℕ → SinkState
-after_failed_write sink bytes = record sink {
+abbrev pub after_failed_write : SinkState → List ℕ → Option (List (List ℕ)) → SinkState
+after_failed_write sink bytes handed = record sink {
   kept = keep sink.kept (take (length bytes / 2) bytes);
   calls = one_more sink.calls;
   faults = one_more sink.faults;
+  handed = handed;
 }

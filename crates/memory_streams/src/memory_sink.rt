@@ -1,8 +1,9 @@
-ghost use Rattle.std.specs.Prelude.{◌≡◌, ◌↔◌, [], None, true, IfOk, OnOk, OnErr, IsErr};
+ghost use Rattle.std.specs.Prelude.{◌≡◌, ◌↔◌, [], ◌∷◌, map, Some, true, IfOk, OnOk, OnErr, IsErr, option_map};
 ghost use Rattle.memory_streams.specs.Fakes.{NextIsListed, SinkState, after_write, after_failed_write};
 ghost use Rattle.flow_io.specs.Faults.{Blames};
 ghost use Rattle.memory_streams.specs.Memory.{told};
-ghost use Rattle.flow_io.specs.Streams.{Grows, GrowsByFront};
+ghost use Rattle.memory_streams.specs.Handed.{handed_by};
+ghost use Rattle.flow_io.specs.Streams.{Grows, GrowsByFront, Called};
 
 use crate::SteadySink;
 use crate::calls::Calls;
@@ -11,15 +12,19 @@ use std::alloc::Global;
 use std::marker::Model;
 
 /// A place in memory for a stated number of bytes, with stated calls that fail. A byte past the room
-/// is let go, and a call that fails writes the first half of its bytes. For tests.
+/// is let go, and a call that fails writes the first half of its bytes. It tells the bytes of each call, as
+/// long as there is memory for them. For tests.
 #[derive(Drop)]
 pub struct MemorySink {
     sink: SteadySink,
     calls: Calls,
+    // The bytes of each call, while there was memory for all.
+    handed: Option<Vec<Vec<u8>>>,
 }
 
 impl Model for MemorySink {
     ghost use Rattle.memory_streams.specs.Fakes.{SinkState};
+    ghost use Rattle.memory_streams.specs.Handed.{handed_by};
 
     ghost Value = { SinkState };
 
@@ -28,23 +33,31 @@ impl Model for MemorySink {
       failing = sink.calls.failing.items;
       calls = sink.calls.made;
       faults = sink.calls.failed;
+      handed = handed_by sink.handed;
     } };
 }
 
 impl MemorySink {
     /// An empty sink that holds at most `room` bytes. Calls are counted from 1: a call whose number
-    /// is in `failing` fails, and no other. All its memory is taken here.
+    /// is in `failing` fails, and no other. The memory for what it holds is taken here, and that for the bytes
+    /// of each call at the call.
     pub fn new(alloc: Global, room: usize, failing: Vec<u64>) -> Result<MemorySink, Memory>
         ensures { IfOk result (λ sink. sink ≡ record {
           kept = record { bytes = []; room = room; complete = true };
           failing = failing.items;
           calls = 0;
           faults = 0;
+          handed = Some [];
         }) }
     {
         let sink = SteadySink::new(alloc, room)?;
         let calls = Calls::new(failing);
-        Ok(MemorySink { sink, calls })
+        let handed = Some(Vec::new(alloc));
+        Ok(MemorySink {
+            sink,
+            calls,
+            handed,
+        })
     }
 
     /// What it holds: all that was written, up to its room.
@@ -53,24 +66,47 @@ impl MemorySink {
     {
         self.sink.bytes()
     }
+
+    /// The bytes of each call of `write` so far, one after the other, also of those that failed; `None` once there
+    /// was no memory for one of them.
+    pub fn handed(&self) -> Option<&[Vec<u8>]>
+        ensures { self.now.handed ≡ option_map (λ calls. map (λ call. call.items) calls.now) result }
+    {
+        match &self.handed {
+            Some(calls) => Some(calls),
+            None => None,
+        }
+    }
+}
+
+// The calls and one more, where they are told and there is memory for it.
+fn with_call(handed: Option<Vec<Vec<u8>>>, bytes: &[u8]) -> Option<Vec<Vec<u8>>>
+    ensures { Called (handed_by handed) (handed_by result) (bytes.now ∷ []) }
+{
+    let mut calls = handed?;
+    let call = bytes.to_vec(*calls.allocator()).ok()?;
+    calls.push(call).ok()?;
+    Some(calls)
 }
 
 impl Sink for MemorySink {
     ghost held = { λ sink. told sink.kept };
 
-    ghost calls = { λ _. None };
+    ghost calls = { λ sink. sink.handed };
 
     ghost faults = { λ sink. sink.faults };
 
     fn write(&mut self, bytes: &[u8]) -> Result<(), WriteFailed>
         ensures written { OnOk result (Grows (told self.old.kept) (told self.new.kept) bytes.now) }
         ensures cut { OnErr result (GrowsByFront (told self.old.kept) (told self.new.kept) bytes.now) }
+        ensures called { Called self.old.handed self.new.handed (bytes.now ∷ []) }
         ensures cause { Blames (IsErr result) self.old.faults self.new.faults }
         // It fails where its number is listed, and then writes the first half.
         ensures fails { IsErr result ↔ NextIsListed self.old.failing self.old.calls }
-        ensures kept { OnOk result (self.new ≡ after_write self.old bytes.now) }
-        ensures failed { OnErr result (self.new ≡ after_failed_write self.old bytes.now) }
+        ensures kept { OnOk result (self.new ≡ after_write self.old bytes.now self.new.handed) }
+        ensures failed { OnErr result (self.new ≡ after_failed_write self.old bytes.now self.new.handed) }
     {
+        self.handed = with_call(self.handed.take(), bytes);
         if self.calls.next_fails() {
             let _ = self.sink.write(&bytes[..bytes.len() / 2]);
             return Err(WriteFailed);

@@ -123,6 +123,13 @@ fn keeps_what_fits(rt: HostRuntime) -> Result<(), Fail> {
         writes(&rt, &mut fake, bytes, fails);
         assert_eq!(rt; fake.bytes(), held);
     }
+    let handed = fake.handed().ok_or("memory")?;
+    assert!(rt;
+        handed
+            .iter()
+            .map(Vec::as_slice)
+            .eq([b"ab".as_slice(), b"cdefg", b"h", b"ijk"])
+    );
     Ok(())
 }
 
