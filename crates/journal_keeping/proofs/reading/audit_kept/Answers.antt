@@ -5,7 +5,7 @@ use Rattle.journal_disk.specs.Pairs.{RecordPair}
 use Rattle.journal_disk.specs.Entries.{Holds}
 use Rattle.journal_disk.specs.Ahead.{IsPiece}
 use Rattle.journal_disk.specs.Stepping.{HasEntryAt, StatesAt, Finds}
-use Rattle.journal_disk.proofs.GoingOn.{looks_none, looks_more, looks_hold, entry_holds}
+use Rattle.journal_disk.proofs.GoingOn.{looks_more, looks_hold, entry_holds}
 use Rattle.journal_keeping.proofs.Auditing.{by_both, none_read, one_read, stops_judged}
 use Rattle.journal_keeping.proofs.reading.audit_kept.Goals as goal
 
