@@ -1,6 +1,7 @@
 //! A real file as a disk.
 use crate::journals::keeps;
 use disk_edge::{Disk, DiskFailed, FileDisk, PathDisk};
+use std::alloc::AllocGlobal;
 use std::fs;
 use std::fs::{File, Files, OpenOptions};
 use std::os::unix::fs::symlink;
@@ -71,29 +72,51 @@ fn is_never_made<R: Files<File = File> + Abort>(rt: &R, path: &str) {
     assert_eq!(rt; none.length(), Err(DiskFailed), "{path}");
 }
 
-// A file that isn't there is an empty disk. The first write makes it, and nothing else does. A link isn't made a file, and where none can
-// be made the write fails, and each call from then on.
+// While a disk is over a file another one over it fails, as one over a folder does.
+fn fails<R: Files<File = File> + Abort>(rt: &R, path: &str) {
+    let mut disk = PathDisk::open(rt, path);
+    assert_eq!(rt; disk.length(), Err(DiskFailed), "{path}");
+}
+
+// Whether a file holds these bytes.
+fn holds<R: Files<File = File> + AllocGlobal + Abort>(rt: &R, path: &str, want: &[u8]) {
+    match fs::read(rt, path) {
+        Ok(bytes) => assert_eq!(rt; bytes.as_slice(), want),
+        Err(_) => assert!(rt; false, "{path}"),
+    }
+}
+
+// Where no file is there the disk is empty. The first write makes the file, and nothing else does.
+fn is_made_by_a_write<R: Files<File = File> + AllocGlobal + Abort>(rt: &R, path: &str) {
+    let mut disk = PathDisk::open(rt, path);
+    assert_eq!(rt; disk.sync(), Ok(()));
+    assert_eq!(rt; disk.length(), Ok(0));
+    assert_eq!(rt; fs::exists(rt, path).ok(), Some(false));
+    assert_eq!(rt; disk.write_at(0, b"abc"), Ok(()));
+    assert_eq!(rt; disk.length(), Ok(3));
+    holds(rt, path, b"abc");
+    fails(rt, path);
+}
+
+// A file that isn't there is an empty disk. The first write makes it, and nothing else does.
 #[test]
 fn file_is_made_by_a_write(rt: HostRuntime) -> Result<(), Fail> {
     fs::create_dir(&rt, "folder")?;
     let path = "folder/../folder/new.disk";
-    let mut disk = PathDisk::open(&rt, path);
-    assert_eq!(rt; disk.sync(), Ok(()));
-    assert_eq!(rt; disk.length(), Ok(0));
-    assert_eq!(rt; fs::exists(&rt, path)?, false);
-    assert_eq!(rt; disk.write_at(0, b"abc"), Ok(()));
-    assert_eq!(rt; disk.length(), Ok(3));
-    assert_eq!(rt; fs::read(&rt, path)?.as_slice(), b"abc".as_slice());
-    let mut second = PathDisk::open(&rt, path);
-    assert_eq!(rt; second.length(), Err(DiskFailed));
+    is_made_by_a_write(&rt, path);
     fs::remove_file(&rt, path)?;
     fs::remove_dir(&rt, "folder")?;
+    Ok(())
+}
+
+// A link isn't made a file, and where none can be made the write fails, and each call from then on.
+#[test]
+fn nothing_else_is_made(rt: HostRuntime) -> Result<(), Fail> {
     symlink(&rt, "nothing", "link")?;
-    is_never_made(&rt, "");
-    is_never_made(&rt, "no/such/folder");
-    is_never_made(&rt, "link");
+    for path in ["", "no/such/folder", "link"] {
+        is_never_made(&rt, path);
+    }
     fs::remove_file(&rt, "link")?;
-    let mut folder = PathDisk::open(&rt, ".");
-    assert_eq!(rt; folder.length(), Err(DiskFailed));
+    fails(&rt, ".");
     Ok(())
 }

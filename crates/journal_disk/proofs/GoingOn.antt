@@ -1,5 +1,5 @@
 -- How a reading goes on from gate to gate, on a disk of which the entries so far are known.
-use Rattle.std.proofs.Common.{◌≡◌, ℕ, List, [], ◌∷◌, ◌++◌, Option, Some, IfSome, Ok, length, drop, refl, sym, ap, subst, ◌∙◌, arith, append_assoc, length-append}
+use Rattle.std.proofs.Common.{◌≡◌, ◌+◌, ℕ, List, [], ◌∷◌, ◌++◌, Option, Some, IfSome, Ok, length, drop, refl, sym, ap, subst, ◌∙◌, arith, append_assoc, length-append}
 use Rattle.std.proofs.lemmas.List.{drop_at}
 use Rattle.disk_edge.specs.Disks.{DiskState, IsDisk}
 use Rattle.disk_edge.proofs.Moments.{weaker, then_more, no_call}
@@ -8,7 +8,7 @@ use Rattle.journal_disk.specs.declared.fault.Step.TheVariants as step
 use Rattle.journal_disk.specs.Pairs.{RecordPair, IsRecordPair, pair_bytes}
 use Rattle.journal_disk.specs.Entries.{entry, entries, Holds, EndsAt}
 use Rattle.journal_disk.specs.Looking.{OnlyLooks}
-use Rattle.journal_disk.specs.Stepping.{IsStep}
+use Rattle.journal_disk.specs.Stepping.{HasEntryAt, IsStep}
 use Rattle.journal_disk.proofs.Entries.{entries_more, each_more, length-framed}
 
 -- a disk on which a call only looked holds what it held
@@ -38,25 +38,30 @@ module _ (version : Version) (pairs : List RecordPair) (place : ℕ) (rest : Lis
   told : (Q : List ℕ → Type 0) → IfSome disk.content Q → Q (entries version pairs ++ rest)
   told Q has = subst (λ (o : Option (List ℕ)). IfSome o Q) holds.content has
 
+  -- an entry that stands next
+  over_entry : (pair : RecordPair) (left : List ℕ) (next : ℕ) → HasEntryAt place pair left (entries version pairs ++ rest) → next ≡ place + (5 + length (pair_bytes pair)) → Holds version (pairs ++ pair ∷ []) next left disk
+  over_entry pair left next has moves =
+      let after : rest ≡ entry pair ++ left = sym at_place ∙ has.spelled in
+      let whole : entries version pairs ++ rest ≡ entries version (pairs ++ pair ∷ []) ++ left =
+      ap (λ (l : List ℕ). entries version pairs ++ l) after ∙ sym (append_assoc (entries version pairs) (entry pair) left) ∙ ap (λ (l : List ℕ). l ++ left) (sym (entries_more version pairs pair)) in
+      record {
+        each = each_more IsRecordPair pairs pair holds.each has.is_pair;
+        begins = omega (arith, holds.begins, moves, ap length (entries_more version pairs pair), length-append (entries version pairs) (entry pair), length-framed (pair_bytes pair));
+        content = holds.content ∙ ap (λ (l : List ℕ). Some l) whole;
+        durable = λ image left. holds.durable image left ∙ whole;
+      }
+
+  -- going behind it
+  pub entry_holds : (pair : RecordPair) (next : ℕ) → IfSome disk.content (λ bytes. (left : List ℕ) × HasEntryAt place pair left bytes) → next ≡ place + (5 + length (pair_bytes pair)) → (left : List ℕ) × Holds version (pairs ++ pair ∷ []) next left disk
+  entry_holds pair next is moves =
+      let found = told (λ bytes. (left : List ℕ) × HasEntryAt place pair left bytes) is in
+      (found.0, over_entry pair found.0 next found.1 moves)
+
   -- a step over an entry
   pub step_holds : (next : ℕ) (found : List ℕ) → IfSome disk.content (IsStep (Ok step.Pair) place next found) → (p : RecordPair) × (left : List ℕ) × IsRecordPair p × (found ≡ pair_bytes p) × Holds version (pairs ++ p ∷ []) next left disk
   step_holds next found is =
       let found_step = told (IsStep (Ok step.Pair) place next found) is in
-      let has = found_step.2 in
-      let after : rest ≡ entry found_step.0 ++ found_step.1 = sym at_place ∙ has.spelled in
-      let whole : entries version pairs ++ rest ≡ entries version (pairs ++ found_step.0 ∷ []) ++ found_step.1 =
-      ap (λ (l : List ℕ). entries version pairs ++ l) after ∙ sym (append_assoc (entries version pairs) (entry found_step.0) found_step.1) ∙ ap (λ (l : List ℕ). l ++ found_step.1) (sym (entries_more version pairs found_step.0)) in (
-        found_step.0,
-        found_step.1,
-        has.is_pair,
-        found_step.3,
-        record {
-          each = each_more IsRecordPair pairs found_step.0 holds.each has.is_pair;
-          begins = omega (arith, holds.begins, found_step.4, ap length found_step.3, ap length (entries_more version pairs found_step.0), length-append (entries version pairs) (entry found_step.0), length-framed (pair_bytes found_step.0));
-          content = holds.content ∙ ap (λ (l : List ℕ). Some l) whole;
-          durable = λ image left. holds.durable image left ∙ whole;
-        },
-      )
+      (found_step.0, found_step.1, found_step.2.is_pair, found_step.3, over_entry found_step.0 found_step.1 next found_step.2 (omega (arith, found_step.4, ap length found_step.3)))
 
   -- a step to a gate that isn't open
   pub step_ends : (found : List ℕ) → IfSome disk.content (IsStep (Ok step.Closed) place place found) → EndsAt version pairs place disk

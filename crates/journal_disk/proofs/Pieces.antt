@@ -1,8 +1,8 @@
 -- A piece of a disk that was read ahead.
-use Rattle.std.proofs.Common.{◌≡◌, ◌+◌, ◌-◌, ◌≤◌, ℕ, List, Option, Some, None, IfSome, length, take, drop, sym, ap, subst, ◌∙◌, arith}
-use Rattle.std.proofs.lemmas.List.{drop-take}
+use Rattle.std.proofs.Common.{◌≡◌, ◌+◌, ◌-◌, ◌≤◌, ℕ, List, Option, Some, None, IfSome, length, take, drop, get_or, ap, subst, ◌∙◌, arith}
+use Rattle.std.proofs.lemmas.List.{drop-take, drop_more}
 use Rattle.std.proofs.Math.Seq.{take-take, drop-drop}
-use Rattle.journal_disk.specs.Ahead.{AheadState, IsPiece}
+use Rattle.journal_disk.specs.Ahead.{AheadState, IsPiece, HoldsPart, part_of}
 
 -- the disk's length
 pub size_known : (ahead : AheadState) (content : Option (List ℕ)) → IfSome content (IsPiece ahead) → IfSome content (λ bytes. ahead.size ≡ length bytes)
@@ -10,7 +10,7 @@ size_known ahead None is = tt
 size_known ahead (Some bytes) is = is.long
 
 -- what stands in the piece stands in the bytes
-in_piece : (ahead : AheadState) (bytes : List ℕ) (place count : ℕ) → IsPiece ahead bytes → ahead.from ≤ place → place + count ≤ ahead.from + length ahead.held → take count (drop (place - ahead.from) ahead.held) ≡ take count (drop place bytes)
+pub in_piece : (ahead : AheadState) (bytes : List ℕ) (place count : ℕ) → IsPiece ahead bytes → ahead.from ≤ place → place + count ≤ ahead.from + length ahead.held → take count (drop (place - ahead.from) ahead.held) ≡ take count (drop place bytes)
 in_piece ahead bytes place count is behind within =
     let first = place - ahead.from in
     let all = length ahead.held in
@@ -24,10 +24,20 @@ in_piece ahead bytes place count is behind within =
 pub copied : (items now : List ℕ) (first count : ℕ) → now ≡ items → take (first + count - first) (drop first now) ≡ take count (drop first items)
 copied items now first count is = ap (λ (n : ℕ). take n (drop first now)) (omega arith) ∙ ap (λ (l : List ℕ). take count (drop first l)) is
 
-pub piece_read : (ahead : AheadState) (content now : Option (List ℕ)) (place count : ℕ) (got : List ℕ) → now ≡ content → IfSome now (IsPiece ahead) → ahead.from ≤ place → place + count ≤ ahead.from + length ahead.held
-    → got ≡ take count (drop (place - ahead.from) ahead.held) → IfSome content (λ bytes. got ≡ take count (drop place bytes))
-piece_read ahead content now place count got same is behind within reads = over content (subst (λ (o : Option (List ℕ)). IfSome o (IsPiece ahead)) same is)
+-- the same where the content is told
+pub part_read : (ahead : AheadState) (content now : Option (List ℕ)) (place count : ℕ) (got : List ℕ) → now ≡ content → IfSome now (IsPiece ahead) → HoldsPart place count ahead → got ≡ part_of ahead place count → IfSome content (λ bytes. got ≡ take count (drop place bytes))
+part_read ahead content now place count got same is held lent = over content (subst (λ (o : Option (List ℕ)). IfSome o (IsPiece ahead)) same is)
   where
     over : (o : Option (List ℕ)) → IfSome o (IsPiece ahead) → IfSome o (λ bytes. got ≡ take count (drop place bytes))
     over None piece = tt
-    over (Some bytes) piece = reads ∙ in_piece ahead bytes place count piece behind within
+    over (Some bytes) piece = lent ∙ in_piece ahead bytes place count piece held.0 held.1
+
+-- and of one byte
+pub byte_read : (ahead : AheadState) (content now : Option (List ℕ)) (place : ℕ) (got : List ℕ) → now ≡ content → IfSome now (IsPiece ahead) → HoldsPart place 1 ahead → got ≡ part_of ahead place 1 → IfSome content (λ bytes. get_or got 0 0 ≡ get_or bytes place 0)
+byte_read ahead content now place got same is held lent = over content (subst (λ (o : Option (List ℕ)). IfSome o (IsPiece ahead)) same is)
+  where
+    over : (o : Option (List ℕ)) → IfSome o (IsPiece ahead) → IfSome o (λ bytes. get_or got 0 0 ≡ get_or bytes place 0)
+    over None piece = tt
+    over (Some bytes) piece =
+        ap (λ (l : List ℕ). get_or l 0 0) (lent ∙ in_piece ahead bytes place 1 piece held.0 held.1)
+        ∙ ap (λ (l : List ℕ). get_or (take 1 l) 0 0) (drop_more bytes place 0 (omega (arith, piece.inside, held.1)))

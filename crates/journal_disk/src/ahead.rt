@@ -1,8 +1,8 @@
 //! A disk that is read ahead in pieces.
-ghost use Rattle.std.specs.Prelude.{◌≡◌, ◌≤◌, ◌+◌, ◌-◌, ◌⊎◌, length, take, drop, IfSome, IfOk, IfErr, OnOk, OnErr, Err, IsErrOf};
+ghost use Rattle.std.specs.Prelude.{◌≡◌, ◌≤◌, ◌+◌, ◌⊎◌, IfSome, IfOk, IfErr, OnOk, OnErr, Err, IsErrOf};
 ghost use Rattle.flow_io.specs.Faults.{Blames};
 ghost use Rattle.journal_disk.specs.Looking.{OnlyLooks};
-ghost use Rattle.journal_disk.specs.Ahead.{IsPiece};
+ghost use Rattle.journal_disk.specs.Ahead.{IsPiece, HoldsPart, part_of};
 
 use crate::calls::{length_of, read_from};
 use crate::fault::DiskFault;
@@ -55,10 +55,15 @@ impl Ahead {
     }
 
     // Reads a piece from a place on that has so many bytes, where these aren't held.
-    fn see<D: Disk>(&mut self, disk: &mut D, place: u64, count: usize) -> Result<(), DiskFault>
+    pub(crate) fn see<D: Disk>(
+        &mut self,
+        disk: &mut D,
+        place: u64,
+        count: usize,
+    ) -> Result<(), DiskFault>
         requires inside { place + count ≤ self.old.size }
         requires piece { IfSome (D.state disk.old).content (IsPiece self.old) }
-        ensures seen { OnOk result ((self.new.from ≤ place) × (place + count ≤ self.new.from + length self.new.held)) }
+        ensures held { OnOk result (HoldsPart place count self.new) }
         ensures piece { IfSome (D.state disk.new).content (IsPiece self.new) }
         ensures size { self.new.size ≡ self.old.size }
         ensures refused { OnErr result ((result ≡ Err DiskFault.Failed) ⊎ (result ≡ Err DiskFault.Memory)) }
@@ -69,9 +74,9 @@ impl Ahead {
             return Ok(());
         }
         let most = (self.size - place).min(PIECE as u64) as usize;
-        self.held.clear();
-        self.from = place;
+        // The bytes of the piece before are written over, so nothing is filled up but where this one is longer.
         self.held.resize(most.max(count), 0)?;
+        self.from = place;
         match read_from(disk, place, &mut self.held) {
             Ok(()) => Ok(()),
             Err(failed) => {
@@ -81,26 +86,12 @@ impl Ahead {
         }
     }
 
-    // Fills `into` with the bytes at a place, all of which are inside.
-    pub(crate) fn read_at<D: Disk>(
-        &mut self,
-        disk: &mut D,
-        place: u64,
-        into: &mut [u8],
-    ) -> Result<(), DiskFault>
-        requires inside { place + length into.old ≤ self.old.size }
-        requires piece { IfSome (D.state disk.old).content (IsPiece self.old) }
-        ensures read { OnOk result (IfSome (D.state disk.old).content
-            (λ bytes. into.new ≡ take (length into.old) (drop place bytes))) }
-        ensures piece { IfSome (D.state disk.new).content (IsPiece self.new) }
-        ensures size { self.new.size ≡ self.old.size }
-        ensures refused { OnErr result ((result ≡ Err DiskFault.Failed) ⊎ (result ≡ Err DiskFault.Memory)) }
-        ensures looks { OnlyLooks (D.state disk.old) (D.state disk.new) }
-        ensures cause { Blames (IsErrOf result DiskFault.Failed) (D.state disk.old).faults (D.state disk.new).faults }
+    // The bytes at a place, which are held.
+    pub(crate) fn part(&self, place: u64, count: usize) -> &[u8]
+        requires held { HoldsPart place count self.now }
+        ensures { result.now ≡ part_of self.now place count }
     {
-        self.see(disk, place, into.len())?;
         let first = (place - self.from) as usize;
-        into.copy_from_slice(&self.held[first..first + into.len()]);
-        Ok(())
+        &self.held[first..first + count]
     }
 }

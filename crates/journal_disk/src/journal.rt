@@ -1,21 +1,23 @@
-ghost use Rattle.std.specs.Prelude.{◌≡◌, ◌≢◌, ◌⊎◌, ◌≤◌, ◌<◌, ◌+◌, ◌^◌, [], ◌∷◌, ℕ, List, length, IfSome, IsSome, ◌↔◌, IfOk, IfErr, IsErrOf, Err, OnOk};
+ghost use Rattle.std.specs.Prelude.{◌≡◌, ◌≢◌, ◌⊎◌, ◌≤◌, ◌<◌, ◌+◌, ◌^◌, [], ◌∷◌, ℕ, List, length, IfSome, IsSome, ◌↔◌, IfOk, IfErr, IsErrOf, Err, OnOk, OnErr};
 ghost use Rattle.wire_records.specs.declared.version.Version.{Version as version_value};
-ghost use Rattle.journal_disk.specs.Pairs.{RecordPair, IsWholePair};
+ghost use Rattle.journal_disk.specs.Pairs.{RecordPair, IsRecordPair, pair_bytes, IsWholePair};
 ghost use Rattle.disk_edge.specs.Disks.{AtEachMoment};
 ghost use Rattle.journal_disk.specs.Entries.{StandsFor, Holds, EndsAt, Keeps};
 ghost use Rattle.flow_io.specs.Faults.{Blames};
 ghost use Rattle.journal_disk.specs.Looking.{OnlyLooks};
 ghost use Rattle.journal_disk.specs.Lengths.{ReachesAtMost};
-ghost use Rattle.journal_disk.specs.Ahead.{IsPiece};
-ghost use Rattle.journal_disk.specs.Stepping.{IsStep};
+ghost use Rattle.journal_disk.specs.Ahead.{IsPiece, HoldsPart, part_of};
+ghost use Rattle.journal_disk.specs.Stepping.{HasEntryAt, IsDamagedAt, StatesAt, Finds, IsStep};
 ghost use Rattle.journal_disk.specs.Recovering.{IsForeign, IsFound};
 
 use crate::ahead::Ahead;
 use crate::appender::Appender;
 use crate::calls::{OPEN, cut_synced, synced_length, version_of};
 use crate::fault::{DiskFault, Step};
-use crate::reading::{byte_at, read_pair};
+use crate::pairs::whole_pair;
+use crate::reading::{byte_at, stated_at};
 use disk_edge::Disk;
+use journal_records::PairView;
 use std::alloc::Global;
 use std::marker::Model;
 use wire_records::Version;
@@ -73,6 +75,62 @@ impl DiskJournal {
         DiskJournal { place: 8 }
     }
 
+    /// Looks at the next gate, and reads ahead what stands behind it where it is open: then it answers the length of the pair of its
+    /// entry, in bytes, as it is stated there, and [`take`](DiskJournal::take) is next. `None` says that there is a gate and it isn't open.
+    /// `Damaged` has the gate's place, and comes where no byte is there, or where the gate is open and so many bytes don't stand behind it
+    /// in the first 2^60, or are more than a pair may have. `Failed` comes only where the disk's count rose, and `Memory` is free.
+    /// Changes nothing of the disk.
+    pub fn find<D: Disk>(&self, disk: &mut D, ahead: &mut Ahead) -> Result<Option<usize>, DiskFault>
+        requires piece { IfSome (D.state disk.old).content (IsPiece ahead.old) }
+        ensures piece { IfSome (D.state disk.new).content (IsPiece ahead.new) }
+        ensures found { IfSome (D.state disk.old).content (Finds result self.now) }
+        ensures held { IfOk result (λ found. IfSome found (λ count. HoldsPart (self.now + 5) count ahead.new)) }
+        ensures within { IfOk result (λ found. IfSome found (λ count. self.now + (5 + count) ≤ 2 ^ 60)) }
+        ensures gate { (place : ℕ) → result ≡ Err (DiskFault.Damaged place) → place ≡ self.now }
+        ensures known { result ≢ Err DiskFault.NotDisk }
+        ensures looks { OnlyLooks (D.state disk.old) (D.state disk.new) }
+        ensures cause { Blames (IsErrOf result DiskFault.Failed) (D.state disk.old).faults (D.state disk.new).faults }
+    {
+        let place = self.place;
+        let length = ahead.size();
+        if place >= length {
+            return Err(DiskFault::Damaged(place));
+        }
+        if byte_at(disk, ahead, place)? != OPEN {
+            return Ok(None);
+        }
+        match stated_at(disk, ahead, place + 1, length.min(MOST_BYTES))? {
+            Some(count) => Ok(Some(count)),
+            None => Err(DiskFault::Damaged(place)),
+        }
+    }
+
+    /// The pair of the entry that [`find`](DiskJournal::find) has found with this length, where it lies in the piece that was read ahead;
+    /// the place is behind the entry then. `Damaged` has the gate's place, and comes exactly where these bytes aren't those of one whole
+    /// pair. Constant cost.
+    pub fn take<'a>(&mut self, ahead: &'a Ahead, count: usize) -> Result<PairView<'a>, DiskFault>
+        requires held { HoldsPart (self.old + 5) count ahead.now }
+        requires within { self.old + (5 + count) ≤ 2 ^ 60 }
+        ensures taken { IfOk result (λ pair. (bytes : List ℕ) → IsPiece ahead.now bytes → StatesAt self.old count bytes →
+            (rest : List ℕ) × HasEntryAt self.old pair rest bytes) }
+        ensures spelled { IfOk result (λ pair. IsRecordPair pair × (part_of ahead.now (self.old + 5) count ≡ pair_bytes pair)
+            × (length (pair_bytes pair) ≡ count)) }
+        ensures moves { OnOk result (self.new ≡ self.old + (5 + count)) }
+        ensures damaged { IfErr result (λ fault. (fault ≡ DiskFault.Damaged self.old)
+            × ((bytes : List ℕ) → IsPiece ahead.now bytes → StatesAt self.old count bytes → IsDamagedAt self.old bytes)) }
+        ensures stays { OnErr result (self.new ≡ self.old) }
+        ensures near { self.new ≤ 2 ^ 60 }
+    {
+        let place = self.place;
+        match whole_pair(ahead.part(place + 5, count)) {
+            Some(pair) => {
+                self.place += 5 + count as u64;
+                Ok(pair)
+            }
+            None => Err(DiskFault::Damaged(place)),
+        }
+    }
+
     /// Reads the next pair into `pair`, which is emptied first, and goes behind its entry. `Closed` says that there is a gate and
     /// it isn't open. `Damaged` has the gate's place, and comes exactly where no byte is there, or where the gate is open and
     /// begins no entry of one whole pair in the first 2^60 bytes. `Failed` comes only where the disk's count rose, and `Memory` is
@@ -96,19 +154,16 @@ impl DiskJournal {
         ensures cause { Blames (IsErrOf result DiskFault.Failed) (D.state disk.old).faults (D.state disk.new).faults }
     {
         pair.clear();
-        let place = self.place;
-        let length = ahead.size();
-        if place >= length {
-            return Err(DiskFault::Damaged(place));
+        match self.find(disk, ahead)? {
+            Some(count) => {
+                pair.reserve(count)?;
+                let place = self.place + 5;
+                self.take(ahead, count)?;
+                pair.extend_from_slice(ahead.part(place, count)).unwrap();
+                Ok(Step::Pair)
+            }
+            None => Ok(Step::Closed),
         }
-        if byte_at(disk, ahead, place)? != OPEN {
-            return Ok(Step::Closed);
-        }
-        if !read_pair(disk, ahead, place + 1, length.min(MOST_BYTES), pair)? {
-            return Err(DiskFault::Damaged(place));
-        }
-        self.place += 5 + pair.len() as u64;
-        Ok(Step::Pair)
     }
 
     /// Ends the reading at a gate that isn't open: what is behind it is cut off, and from then on pairs can be added. A crash at

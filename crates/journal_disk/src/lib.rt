@@ -7,10 +7,10 @@
 //! stand for one list of pairs at most, of one version.
 //!
 //! [`recover`] opens a disk that a crash may have left, and says its version; [`Appender::make`] makes a new disk one of a version.
-//! [`DiskJournal::next`] reads pair by pair up to the gate
-//! that isn't open, and [`DiskJournal::begin`] cuts off what is behind that. [`Appender::append`] then adds a pair: it writes the
-//! entry behind the closed gate, with a closed gate behind it, and syncs; then it opens the gate, and syncs. So a crash at any
-//! moment leaves the pairs that were kept, with this one or without, and once the call has answered Ok, with it. What a pair's
+//! [`DiskJournal::find`] and [`DiskJournal::take`] go from pair to pair up to the gate that isn't open: each pair is lent where it lies
+//! in a piece that was read ahead, and is parsed once; [`DiskJournal::next`] does both, and copies its bytes. [`DiskJournal::begin`] cuts
+//! off what is behind that gate. [`Appender::append`] then adds a pair: it writes the entry behind the closed gate, with a closed gate
+//! behind it, and syncs; then it opens the gate, and syncs. So a crash at any moment leaves the pairs that were kept, with this one or without, and once the call has answered Ok, with it. What a pair's
 //! two records hold isn't looked at, only that they are within a journal's limits; [`is_whole_pair`] tells whether bytes are such a pair.
 //!
 //! After any fault the disk is to be opened again.
@@ -18,8 +18,8 @@
 //! # Costs
 //!
 //! Pairs are read in pieces of 65,536 bytes, so one costs its bytes and a share of such a piece, one that is added its bytes and two writes with a sync each.
-//! Reading takes memory for a piece, and for the pair in the caller's buffer, and beginning takes an appender's buffer of 263,183 bytes;
-//! opening and adding take none.
+//! Reading takes memory for a piece, which grows to the longest pair, and `next` for the pair in the caller's buffer too; beginning takes
+//! an appender's buffer of 263,183 bytes; opening and adding take none.
 #![tactic(auto)]
 
 mod ahead;

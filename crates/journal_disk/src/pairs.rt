@@ -1,19 +1,35 @@
 //! Whole pairs, as bytes.
-ghost use Rattle.std.specs.Prelude.{◌≡◌, ◌↔◌, IsTrue};
-ghost use Rattle.journal_disk.specs.Pairs.{IsWholePair};
+ghost use Rattle.std.specs.Prelude.{◌≡◌, ◌↔◌, IsTrue, IfSome, IfNone};
+ghost use Rattle.journal_disk.specs.Pairs.{IsRecordPair, pair_bytes, IsWholePair};
 
-use journal_records::{PairFramed, next_pair};
+use journal_records::{PairFramed, PairView, next_pair};
 
 // As many bytes has the longest pair: 5 and 1,024 of the command record, 5 and 262,144 of the reply's.
 pub(crate) const LONGEST_PAIR: u64 = 263_178;
+
+// The pair whose bytes these are, where they are those of one. Constant cost.
+pub(crate) fn whole_pair<'a>(bytes: &'a [u8]) -> Option<PairView<'a>>
+    ensures some { IfSome result (λ pair. IsRecordPair pair × (bytes.now ≡ pair_bytes pair)) }
+    ensures none { IfNone result (¬ IsWholePair bytes.now) }
+{
+    match next_pair(bytes) {
+        PairFramed::Whole(pair, taken) => {
+            if taken < bytes.len() {
+                return None;
+            }
+            Some(pair)
+        }
+        PairFramed::End => None,
+        PairFramed::Broken => None,
+    }
+}
 
 /// Whether the bytes are those of one whole pair, which [`Appender::append`](crate::Appender::append) asks for. Constant cost.
 pub fn is_whole_pair(bytes: &[u8]) -> bool
     ensures { IsTrue result ↔ IsWholePair bytes.now }
 {
-    match next_pair(bytes) {
-        PairFramed::Whole(_, taken) => taken >= bytes.len(),
-        PairFramed::End => false,
-        PairFramed::Broken => false,
+    match whole_pair(bytes) {
+        Some(_) => true,
+        None => false,
     }
 }

@@ -3,13 +3,13 @@ ghost use Rattle.std.specs.Prelude.{◌≡◌, ◌≤◌, ◌<◌, ◌+◌, ◌^
 ghost use Rattle.wire_fields.specs.Numbers.{unsigned};
 ghost use Rattle.flow_io.specs.Faults.{Blames};
 ghost use Rattle.journal_disk.specs.Looking.{OnlyLooks};
-ghost use Rattle.journal_disk.specs.Ahead.{IsPiece};
-ghost use Rattle.journal_disk.specs.Frames.{IsFramed};
-ghost use Rattle.journal_disk.specs.Pairs.{IsWholePair};
+ghost use Rattle.journal_disk.specs.Ahead.{IsPiece, HoldsPart};
+ghost use Rattle.journal_disk.specs.Frames.{IsStated};
+ghost use Rattle.journal_disk.specs.Pairs.{longest_pair};
 
 use crate::ahead::Ahead;
 use crate::fault::DiskFault;
-use crate::pairs::{LONGEST_PAIR, is_whole_pair};
+use crate::pairs::LONGEST_PAIR;
 use disk_edge::Disk;
 use wire_fields::Cursor;
 
@@ -24,9 +24,8 @@ pub(crate) fn byte_at<D: Disk>(disk: &mut D, ahead: &mut Ahead, place: u64) -> R
     ensures looks { OnlyLooks (D.state disk.old) (D.state disk.new) }
     ensures cause { Blames (IsErrOf result DiskFault.Failed) (D.state disk.old).faults (D.state disk.new).faults }
 {
-    let mut one = [0; 1];
-    ahead.read_at(disk, place, &mut one)?;
-    Ok(one[0])
+    ahead.see(disk, place, 1)?;
+    Ok(ahead.part(place, 1)[0])
 }
 
 // The number that four bytes spell.
@@ -57,78 +56,40 @@ pub(crate) fn number_at<D: Disk>(
     ensures looks { OnlyLooks (D.state disk.old) (D.state disk.new) }
     ensures cause { Blames (IsErrOf result DiskFault.Failed) (D.state disk.old).faults (D.state disk.new).faults }
 {
-    let mut four = [0; 4];
-    ahead.read_at(disk, place, &mut four)?;
-    Ok(number_of(&four))
+    ahead.see(disk, place, 4)?;
+    Ok(number_of(ahead.part(place, 4)))
 }
 
-// Takes the bytes at a place, where they are there, into an empty vector.
-fn load<D: Disk>(
-    disk: &mut D,
-    ahead: &mut Ahead,
-    place: u64,
-    count: usize,
-    into: &mut Vec<u8>,
-) -> Result<(), DiskFault>
-    requires there { place + count ≤ ahead.old.size }
-    requires piece { IfSome (D.state disk.old).content (IsPiece ahead.old) }
-    requires empty { into.old.items ≡ [] }
-    ensures read { OnOk result (IfSome (D.state disk.old).content (λ bytes. into.new.items ≡ take count (drop place bytes))) }
-    ensures piece { IfSome (D.state disk.new).content (IsPiece ahead.new) }
-    ensures size { ahead.new.size ≡ ahead.old.size }
-    ensures len { OnOk result (length into.new.items ≡ count) }
-    ensures empty { OnErr result (into.new.items ≡ []) }
-    ensures refused { OnErr result ((result ≡ Err DiskFault.Failed) ⊎ (result ≡ Err DiskFault.Memory)) }
-    ensures looks { OnlyLooks (D.state disk.old) (D.state disk.new) }
-    ensures cause { Blames (IsErrOf result DiskFault.Failed) (D.state disk.old).faults (D.state disk.new).faults }
-{
-    into.resize(count, 0)?;
-    match ahead.read_at(disk, place, into) {
-        Ok(()) => Ok(()),
-        Err(fault) => {
-            into.clear();
-            Err(fault)
-        }
-    }
-}
-
-// Reads the pair that is framed at a place, where a whole one is before the end, into an empty vector. Says whether
-// there is one.
-pub(crate) fn read_pair<D: Disk>(
+// How many bytes a pair has that is framed at a place, as is stated there, where these are before the end and no more than those of the
+// longest: then they are read ahead.
+pub(crate) fn stated_at<D: Disk>(
     disk: &mut D,
     ahead: &mut Ahead,
     place: u64,
     end: u64,
-    pair: &mut Vec<u8>,
-) -> Result<bool, DiskFault>
+) -> Result<Option<usize>, DiskFault>
     requires there { end ≤ ahead.old.size }
     requires piece { IfSome (D.state disk.old).content (IsPiece ahead.old) }
     requires near { place ≤ 2 ^ 61 }
-    requires empty { pair.old.items ≡ [] }
-    ensures framed { IfOk result (λ is. IfSome (D.state disk.old).content (IsFramed is place end pair.new.items)) }
+    ensures stated { IfOk result (λ found. IfSome (D.state disk.old).content (IsStated found place end)) }
+    ensures within { IfOk result (λ found. IfSome found (λ count. (count ≤ longest_pair) × (place + (4 + count) ≤ end))) }
+    ensures held { IfOk result (λ found. IfSome found (λ count. HoldsPart (place + 4) count ahead.new)) }
     ensures piece { IfSome (D.state disk.new).content (IsPiece ahead.new) }
     ensures size { ahead.new.size ≡ ahead.old.size }
-    ensures within { result ≡ Ok true → place + (4 + length pair.new.items) ≤ end }
-    ensures whole { result ≡ Ok true → IsWholePair pair.new.items }
-    ensures empty { result ≢ Ok true → pair.new.items ≡ [] }
     ensures refused { OnErr result ((result ≡ Err DiskFault.Failed) ⊎ (result ≡ Err DiskFault.Memory)) }
     ensures looks { OnlyLooks (D.state disk.old) (D.state disk.new) }
     ensures cause { Blames (IsErrOf result DiskFault.Failed) (D.state disk.old).faults (D.state disk.new).faults }
 {
     if end < place + 4 {
-        return Ok(false);
+        return Ok(None);
     }
-    let count = number_at(disk, ahead, place)? as u64;
-    if count > LONGEST_PAIR {
-        return Ok(false);
+    let count = number_at(disk, ahead, place)?;
+    if count as u64 > LONGEST_PAIR {
+        return Ok(None);
     }
-    if end - (place + 4) < count {
-        return Ok(false);
+    if end - (place + 4) < count as u64 {
+        return Ok(None);
     }
-    load(disk, ahead, place + 4, count as usize, pair)?;
-    if is_whole_pair(pair) {
-        return Ok(true);
-    }
-    pair.clear();
-    Ok(false)
+    ahead.see(disk, place + 4, count as usize)?;
+    Ok(Some(count as usize))
 }

@@ -1,42 +1,39 @@
 -- The pairs that a disk keeps, audited one after the other: none yet, one more, and one that isn't legal.
-use Rattle.std.proofs.Common.{◌≡◌, ◌⊎◌, ⊎_elim, ℕ, ◌+◌, length-append, List, [], ◌∷◌, ◌++◌, Option, Some, IfSome, Ok, Err, length, drop, map, sym, ap, subst, ◌∙◌, arith}
-use Rattle.std.proofs.lemmas.List.{map-append, append-nil}
+use Rattle.std.proofs.Common.{◌≡◌, ◌⊎◌, ⊎_elim, ℕ, ◌+◌, length-append, List, [], ◌∷◌, ◌++◌, Option, Some, None, IfSome, length, map, sym, ap, subst, ◌∙◌, arith}
+use Rattle.std.proofs.lemmas.List.{map-append}
 use Rattle.std.proofs.lemmas.List.Elements.{All-append, All-cons, All-nil}
 use Rattle.wire_records.specs.Records.{Record}
 use Rattle.wire_records.specs.Commands.{Pair}
 use Rattle.wire_records.specs.declared.version.Version.{Version}
 use Rattle.flow_orders.specs.Outcomes.{Outcome}
 use Rattle.journal_records.specs.Pairs.{IsPair}
-use Rattle.journal_records.specs.Formats.{journals, records_of}
+use Rattle.journal_records.specs.Formats.{records_of}
 use Rattle.market_rules.specs.Market.{Market, empty_market}
 use Rattle.batch_audit.specs.Legal.{IsLegalPair, IsIllegalPair}
 use Rattle.disk_edge.specs.Disks.{DiskState}
-use Rattle.journal_disk.specs.declared.fault.Step.TheVariants as step
+use Rattle.journal_disk.specs.declared.fault.DiskFault.{DiskFault}
 use Rattle.journal_disk.specs.declared.fault.DiskFault.TheVariants as disk
-use Rattle.journal_disk.specs.Pairs.{RecordPair, IsRecordPair, pair_bytes}
+use Rattle.journal_disk.specs.Pairs.{RecordPair, IsRecordPair}
 use Rattle.journal_disk.specs.Entries.{entries, Holds}
-use Rattle.journal_disk.specs.Stepping.{IsStep}
-use Rattle.journal_disk.proofs.Entries.{pair_unique}
+use Rattle.journal_disk.specs.Stepping.{HasEntryAt, IsDamagedAt, FindsNone}
 use Rattle.journal_keeping.specs.Keeping.{IsKeptJournal}
 use Rattle.journal_keeping.specs.Openings.{BeginsLegal}
-use Rattle.journal_keeping.specs.Auditing.{StopsAs, AreLegalBytes, AreIllegalBytes}
+use Rattle.journal_keeping.specs.Faults.{kept_fault}
+use Rattle.journal_keeping.specs.Auditing.{StopsAs}
 use Rattle.journal_keeping.specs.declared.fault.KeepFault.TheVariants.{Damaged, Rejected, Memory}
 use Rattle.journal_keeping.specs.declared.fault.KeepFault.{KeepFault}
 use Rattle.journal_keeping.proofs.Serving.{right_more}
 
--- bytes that begin with one pair and are those of another: it is the same
-same_pair : (bytes : List ℕ) (view p : RecordPair) (taken : ℕ) → IsRecordPair view → bytes ≡ journals.units.spell view ++ drop taken bytes → IsRecordPair p → bytes ≡ pair_bytes p → view ≡ p
-unfolding pair_bytes
-same_pair bytes view p taken lawful front is spelled = (pair_unique view p (drop taken bytes) [] lawful is (sym front ∙ spelled ∙ sym (append-nil (pair_bytes p)))).0
-
-pub judged_legal : (bytes : List ℕ) (view : RecordPair) (taken : ℕ) (old new : Market) → IsRecordPair view → bytes ≡ journals.units.spell view ++ drop taken bytes → IsLegalPair old view new → AreLegalBytes old bytes new
-judged_legal bytes view taken old new lawful front legal = λ p is spelled. subst (λ (q : RecordPair). IsLegalPair old q new) (same_pair bytes view p taken lawful front is spelled) legal
-
-pub judged_illegal : (bytes : List ℕ) (view : RecordPair) (taken : ℕ) (old : Market) → IsRecordPair view → bytes ≡ journals.units.spell view ++ drop taken bytes → IsIllegalPair old view → AreIllegalBytes old bytes
-judged_illegal bytes view taken old lawful front illegal = λ p is spelled. subst (λ (q : RecordPair). IsIllegalPair old q) (same_pair bytes view p taken lawful front is spelled) illegal
-
 abbrev Pairs : Type 0
 Pairs = List (Pair Record Outcome)
+
+-- what two facts of the bytes say of them, where they are told
+pub by_both : (content now : Option (List ℕ)) (P Q R : List ℕ → Type 0) → now ≡ content → IfSome content P → IfSome now Q → ((bytes : List ℕ) → Q bytes → P bytes → R bytes) → IfSome content R
+by_both content now P Q R same first second both = over content first (subst (λ (o : Option (List ℕ)). IfSome o Q) same second)
+  where
+    over : (o : Option (List ℕ)) → IfSome o P → IfSome o Q → IfSome o R
+    over None p q = tt
+    over (Some bytes) p q = both bytes q p
 
 module _ (version : Version) where
   pub none_read : (market : Market) → market ≡ empty_market version → IsKeptJournal version [] market
@@ -63,22 +60,28 @@ module _ (version : Version) where
         let both : Some bytes ≡ Some (entries version (map records_of legal) ++ left) = sym told ∙ holds.content in
         record { journal = is; rest = left; spelled = cc; begins = holds.begins }
 
-    -- a step that finds damage
-    pub stops_damaged : (at next : ℕ) (found : List ℕ) → IfSome now.content (IsStep (Err (disk.Damaged at)) place next found) → StopsAs version (Damaged at) bytes
-    stops_damaged at next found finds =
-        let damage = subst (λ (o : Option (List ℕ)). IfSome o (IsStep (Err (disk.Damaged at)) place next found)) told finds in
+    there : (Q : List ℕ → Type 0) → IfSome now.content Q → Q bytes
+    there Q has = subst (λ (o : Option (List ℕ)). IfSome o Q) told has
+
+    -- damage at the place
+    pub stops_damaged : IfSome now.content (IsDamagedAt place) → StopsAs version (Damaged place) bytes
+    stops_damaged damage = (legal, market, begins, there (IsDamagedAt place) damage)
+
+    -- a fault of looking there
+    pub stops_finding : (fault : DiskFault) → IfSome now.content (FindsNone fault place) → StopsAs version (kept_fault fault) bytes
+    stops_finding disk.Failed finds = tt
+    stops_finding disk.Memory finds = tt
+    stops_finding disk.NotDisk finds = there (FindsNone disk.NotDisk place) finds
+    stops_finding (disk.Damaged at) finds =
+        let damage = there (FindsNone (disk.Damaged at) place) finds in
         (legal, market, subst (λ (n : ℕ). BeginsLegal version bytes legal market n) (sym damage.0) begins, rw damage.0 damage.1)
 
-    -- and one that finds a pair that isn't legal
-    pub stops_rejected : (number next : ℕ) (found : List ℕ) → number ≡ length legal + 1 → IfSome now.content (IsStep (Ok step.Pair) place next found) → AreIllegalBytes market found → StopsAs version (Rejected number) bytes
-    stops_rejected number next found counted finds illegal =
-        let one = subst (λ (o : Option (List ℕ)). IfSome o (IsStep (Ok step.Pair) place next found)) told finds in
-        (legal, market, place, begins, one.0, one.1, one.2, illegal one.0 one.2.is_pair one.3, counted)
-
     -- a pair that isn't legal, or one whose audit wanted memory
-    pub stops_judged : (fault : KeepFault) (number next : ℕ) (found : List ℕ) → number ≡ length legal + 1 → IfSome now.content (IsStep (Ok step.Pair) place next found)
-        → (fault ≡ Rejected number) ⊎ (fault ≡ Memory) → (fault ≡ Rejected number → AreIllegalBytes market found) → StopsAs version fault bytes
-    stops_judged fault number next found counted finds refused illegal = ⊎_elim
-        (λ (is_rejected : fault ≡ Rejected number). subst (λ (f : KeepFault). StopsAs version f bytes) (sym is_rejected) (stops_rejected number next found counted finds (illegal is_rejected)))
+    pub stops_judged : (fault : KeepFault) (number : ℕ) (pair : RecordPair) → number ≡ length legal + 1 → IfSome now.content (λ l. (rest : List ℕ) × HasEntryAt place pair rest l)
+        → (fault ≡ Rejected number) ⊎ (fault ≡ Memory) → (fault ≡ Rejected number → IsIllegalPair market pair) → StopsAs version fault bytes
+    stops_judged fault number pair counted stands refused illegal =
+        let one = there (λ l. (rest : List ℕ) × HasEntryAt place pair rest l) stands in
+        ⊎_elim
+        (λ (is_rejected : fault ≡ Rejected number). subst (λ (f : KeepFault). StopsAs version f bytes) (sym is_rejected) (legal, market, place, begins, pair, one.0, one.1, illegal is_rejected, counted))
         (λ (wanted : fault ≡ Memory). subst (λ (f : KeepFault). StopsAs version f bytes) (sym wanted) tt)
         refused

@@ -1,7 +1,8 @@
 -- The record at the front is served: its pair is one that may be kept.
-use Rattle.std.proofs.Common.{◌≡◌, ◌⊎◌, ⊎_elim, ◌+◌, ◌-◌, ◌*◌, ◌<◌, ◌≤◌, ◌^◌, ℕ, List, [], ◌∷◌, ◌++◌, Option, IsSome, length, drop, refl, sym, ap, subst, ◌∙◌, arith}
+use Rattle.std.proofs.Common.{◌≡◌, ◌⊎◌, ⊎_elim, ◌+◌, ◌-◌, ◌*◌, ◌<◌, ◌≤◌, ◌^◌, ℕ, List, [], ◌∷◌, ◌++◌, Option, IsSome, length, length-append, drop, refl, sym, ap, subst, ◌∙◌, arith}
 use Rattle.flow_io.specs.Streams.{Grows, GrowsByFront}
-use Rattle.wire_records.specs.Records.{Record}
+use Rattle.wire_records.specs.Records.{Record, spelling}
+use Rattle.wire_records.proofs.Spelled.{length-spelling}
 use Rattle.wire_records.specs.Commands.{Pair}
 use Rattle.wire_records.specs.Formats.{commands}
 use Rattle.wire_records.specs.declared.version.Version.{Version}
@@ -11,6 +12,7 @@ use Rattle.journal_records.specs.Formats.{records_of}
 use Rattle.market_rules.specs.Market.{Market}
 use Rattle.own_journals.proofs.LawProofs.{steps_number_one}
 use Rattle.file_units.specs.Units.{TakesOne}
+use Rattle.exchange_session.specs.Serving.{Puts, HasNumbers, WantsNext}
 use Rattle.disk_edge.specs.Disks.{DiskState, AtEachMoment}
 use Rattle.journal_disk.specs.Pairs.{RecordPair, IsRecordPair, pair_bytes, IsWholePair}
 use Rattle.journal_disk.specs.Entries.{WithOrWithout}
@@ -20,11 +22,18 @@ use Rattle.journal_disk.proofs.Entries.{pair_short}
 use Rattle.journal_disk.proofs.Lengths.{reach_wider}
 use Rattle.journal_keeping.specs.declared.fault.KeepFault.{KeepFault}
 use Rattle.journal_keeping.specs.declared.fault.KeepFault.TheVariants.{Disk, Write}
-use Rattle.journal_keeping.specs.Private.{Answers, KeepsOneMore, IsServed, TakesNext, BreaksNext}
-use Rattle.journal_keeping.proofs.Frames.{record_within}
+use Rattle.journal_keeping.specs.Private.{KeepsOneMore, IsServed, TakesNext, BreaksNext, HasWanting}
 use Rattle.journal_keeping.proofs.Turns.{is_record_pair, same_bytes, is_whole}
 
-module _ (n : ℕ) (bytes : List ℕ) (old new : Market) (text : List ℕ) (one : TakesOne commands Answers n bytes old new [] text) (left : ℕ) (inside : length bytes ≤ left) (ready : old.next_order + left < 2 ^ 64) where
+-- a record at the front of bytes leaves as many fewer, and takes five at least
+record_within : (bytes : List ℕ) (r : Record) (taken : ℕ) → taken ≡ length (spelling r) → bytes ≡ spelling r ++ drop taken bytes → (taken ≤ length bytes) × (5 ≤ taken)
+record_within bytes r taken size front = (omega (arith, size, ap length front, length-append (spelling r) (drop taken bytes)), omega (arith, size, length-spelling r))
+
+-- want of memory where the buffer has the room of the longest plain pair: the record may want it
+pub has_wanting : (old : Market) (bytes : List ℕ) (room : ℕ) → 1042 ≤ room → WantsNext old bytes room → HasWanting old bytes
+has_wanting old bytes room enough next = (next.asked, next.rest, (next.lawful, next.front), ⊎_elim (λ (small : room < 1042). absurd (omega (arith, small, enough))) (λ wants. wants) next.wants)
+
+module _ (n : ℕ) (bytes : List ℕ) (old new : Market) (text : List ℕ) (one : TakesOne commands Puts n bytes old new [] text) (left : ℕ) (inside : length bytes ≤ left) (ready : HasNumbers old left) where
   abbrev pub pair_of : Pair Record Outcome
   pair_of = record { asked = one.unit; answer = one.step.answer }
 

@@ -5,8 +5,8 @@ use Rattle.wire_records.specs.Commands.{Pair}
 use Rattle.wire_records.specs.declared.version.Version.{Version}
 use Rattle.flow_orders.specs.Outcomes.{Outcome}
 use Rattle.market_rules.specs.Market.{Market}
-use Rattle.batch_audit.specs.Legal.{IsLegalPair, IsIllegalPair}
-use Rattle.journal_disk.specs.Pairs.{RecordPair, IsRecordPair, pair_bytes}
+use Rattle.batch_audit.specs.Legal.{IsIllegalPair}
+use Rattle.journal_disk.specs.Pairs.{RecordPair}
 use Rattle.journal_disk.specs.Stepping.{HasEntryAt, IsDamagedAt}
 use Rattle.journal_keeping.specs.Openings.{BeginsLegal}
 use Rattle.journal_keeping.specs.declared.fault.KeepFault.{KeepFault}
@@ -27,11 +27,3 @@ StopsAs version Write bytes = ⊥
 StopsAs version NotFlow bytes = ⊥
 StopsAs version (Torn place) bytes = ⊥
 StopsAs version TooLong bytes = ⊥
-
--- the bytes of a pair are legal in a market, and make another of it
-abbrev pub AreLegalBytes : Market → List ℕ → Market → Type 0
-AreLegalBytes old bytes new = (pair : RecordPair) → IsRecordPair pair → bytes ≡ pair_bytes pair → IsLegalPair old pair new
-
--- they aren't
-abbrev pub AreIllegalBytes : Market → List ℕ → Type 0
-AreIllegalBytes old bytes = (pair : RecordPair) → IsRecordPair pair → bytes ≡ pair_bytes pair → IsIllegalPair old pair

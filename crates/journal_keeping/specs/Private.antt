@@ -23,7 +23,7 @@ use Rattle.file_units.specs.declared.units.Ending.TheVariants as ending
 use Rattle.file_units.specs.declared.input.TakeFault.{TakeFault}
 use Rattle.file_units.specs.declared.input.TakeFault.TheVariants as fault
 use Rattle.file_units.specs.Inputs.{GoesFrom}
-use Rattle.exchange_session.specs.Serving.{AnswersOne}
+use Rattle.exchange_session.specs.Serving.{HasNumbers}
 use Rattle.disk_edge.specs.Disks.{DiskState, AtEachMoment}
 use Rattle.journal_disk.specs.Pairs.{RecordPair}
 use Rattle.journal_disk.specs.Entries.{WithOrWithout}
@@ -34,13 +34,9 @@ use Rattle.journal_keeping.specs.Pacing.{asked_of}
 use Rattle.journal_keeping.specs.declared.fault.KeepFault.{KeepFault}
 use Rattle.journal_keeping.specs.declared.fault.KeepFault.TheVariants.{Read, Write, Disk, Memory, NotDisk, Damaged, Rejected, NotFlow, Torn, TooLong}
 
--- a record was answered, and its pair put into an empty buffer
-abbrev pub Answers : Market → Record → Market → List ℕ → List ℕ → Type 0
-Answers old asked new before text = AnswersOne old asked new text
-
 -- Records can be served and kept while so many bytes of them are left: their orders get numbers, and their pairs a place.
 abbrev pub IsReady : Market → ℕ → ℕ → Type 0
-IsReady market place left = (market.next_order + left < 2 ^ 64) × (place + 263183 * left ≤ 2 ^ 61)
+IsReady market place left = HasNumbers market left × (place + 263183 * left ≤ 2 ^ 61)
 
 -- a disk that kept pairs keeps one more, and at each moment since left them with it or without
 pub record KeepsOneMore (pair : Pair Record Outcome) (from to : ℕ) (old new : DiskState) : Type 0 where

@@ -7,37 +7,32 @@ ghost use Rattle.wire_records.specs.declared.version.Version.{Version};
 ghost use Rattle.flow_orders.specs.Outcomes.{Outcome};
 ghost use Rattle.journal_records.specs.Formats.{records_of};
 ghost use Rattle.market_rules.specs.Market.{empty_market};
-ghost use Rattle.journal_disk.specs.Pairs.{IsWholePair};
+ghost use Rattle.batch_audit.specs.Legal.{IsLegalPair, IsIllegalPair};
 ghost use Rattle.journal_disk.specs.Entries.{Holds, EndsAt};
 ghost use Rattle.journal_disk.specs.Looking.{OnlyLooks};
 ghost use Rattle.journal_keeping.specs.Keeping.{IsKeptJournal};
-ghost use Rattle.journal_keeping.specs.Auditing.{StopsAs, AreLegalBytes, AreIllegalBytes};
+ghost use Rattle.journal_keeping.specs.Auditing.{StopsAs};
 ghost use Rattle.journal_keeping.specs.Beginning.{IsOfDisk};
 
 use crate::fault::KeepFault;
 use batch_audit::{Audit, Legality};
 use disk_edge::Disk;
-use journal_disk::{Ahead, DiskJournal, Step};
-use journal_records::{PairFramed, next_pair};
+use journal_disk::{Ahead, DiskJournal};
+use journal_records::PairView;
 use std::alloc::Global;
 
-// Audits the bytes of a pair that is kept, the one of this number.
-fn judge(audit: &mut Audit, pair: &[u8], number: u64) -> Result<(), KeepFault>
-    requires whole { IsWholePair pair.now }
+// Audits a pair that is kept, the one of this number.
+fn judge(audit: &mut Audit, pair: &PairView<'_>, number: u64) -> Result<(), KeepFault>
     requires next { audit.old.next_order + 1 < 2 ^ 64 }
-    ensures legal { OnOk result (AreLegalBytes audit.old pair.now audit.new) }
+    ensures legal { OnOk result (IsLegalPair audit.old pair.now audit.new) }
     ensures next { OnOk result (audit.new.next_order ≤ audit.old.next_order + 1) }
-    ensures illegal { result ≡ Err (KeepFault.Rejected number) → AreIllegalBytes audit.old pair.now }
+    ensures illegal { result ≡ Err (KeepFault.Rejected number) → IsIllegalPair audit.old pair.now }
     ensures refused { IfErr result (λ fault. (fault ≡ KeepFault.Rejected number) ⊎ (fault ≡ KeepFault.Memory)) }
 {
-    match next_pair(pair) {
-        PairFramed::Whole(view, _) => match audit.pair(&view) {
-            Ok(Legality::Legal) => Ok(()),
-            Ok(Legality::Illegal) => Err(KeepFault::Rejected(number)),
-            Err(_) => Err(KeepFault::Memory),
-        },
-        PairFramed::End => unreachable!(),
-        PairFramed::Broken => unreachable!(),
+    match audit.pair(pair) {
+        Ok(Legality::Legal) => Ok(()),
+        Ok(Legality::Illegal) => Err(KeepFault::Rejected(number)),
+        Err(_) => Err(KeepFault::Memory),
     }
 }
 
@@ -46,7 +41,8 @@ fn judge(audit: &mut Audit, pair: &[u8], number: u64) -> Result<(), KeepFault>
 ///
 /// `Damaged` has the place of the first gate that isn't one, and `Rejected` the number of the first pair that isn't legal, counted
 /// from 1; `Disk` comes only where the disk's count rose, and `Memory` is free. Nothing of the disk is changed. The disk is read in pieces
-/// of 65,536 bytes. It costs the audit of the pairs, and the memory of a piece and of one pair.
+/// of 65,536 bytes, and each pair is audited where it lies there. It costs the audit of the pairs, and the memory of a piece, which has
+/// room for the longest of them.
 pub fn audit_kept<D: Disk>(
     alloc: Global,
     journal: &mut DiskJournal,
@@ -67,15 +63,17 @@ pub fn audit_kept<D: Disk>(
         Ok(ahead) => ahead,
         Err(fault) => return Err(KeepFault::from(fault)),
     };
-    let mut pair = Vec::new(alloc);
     let mut number: u64 = 0;
     'pairs: loop {
-        match journal.next(disk, &mut ahead, &mut pair) {
-            Ok(Step::Closed) => return Ok(()),
-            Ok(Step::Pair) => {
-                number = number.saturating_add(1);
-                judge(audit, &pair, number)?;
-            }
+        match journal.find(disk, &mut ahead) {
+            Ok(None) => return Ok(()),
+            Ok(Some(count)) => match journal.take(&ahead, count) {
+                Ok(pair) => {
+                    number = number.saturating_add(1);
+                    judge(audit, &pair, number)?;
+                }
+                Err(fault) => return Err(KeepFault::from(fault)),
+            },
             Err(fault) => return Err(KeepFault::from(fault)),
         }
     }

@@ -1,4 +1,7 @@
 //! Records that are served onto a disk, one after the other.
+//!
+//! The loop is this module's own, since that of `file_units` hands in what is done with a unit as a trait whose ghost states are in
+//! `Type 0`, and the state of a disk is in `Type 1`, with the sets of images that a crash may leave.
 ghost use Rattle.std.specs.Prelude.{◌≡◌, ◌≢◌, ◌≤◌, ◌<◌, ◌+◌, ◌-◌, ◌*◌, ◌^◌, ◌⊎◌, ◌++◌, ℕ, List, [], ◌∷◌, length, map, Some, None, Err, IsErr, IfSome, IsSome, IfOk, IfErr, OnOk, OnErr, vec_capacity};
 ghost use Rattle.flow_io.specs.Faults.{Blames};
 ghost use Rattle.flow_io.specs.Streams.{Grows, GrowsByFront};
@@ -10,7 +13,7 @@ ghost use Rattle.wire_records.specs.Formats.{commands};
 ghost use Rattle.wire_records.specs.declared.version.Version.{Version};
 ghost use Rattle.flow_orders.specs.Outcomes.{Outcome};
 ghost use Rattle.journal_records.specs.Formats.{records_of};
-ghost use Rattle.file_units.specs.Units.{IsTaken, StaysReady};
+ghost use Rattle.file_units.specs.Units.{StaysReady};
 ghost use Rattle.file_units.specs.Inputs.{HasLongest};
 ghost use Rattle.disk_edge.specs.Disks.{AtEachMoment};
 ghost use Rattle.journal_disk.specs.Pairs.{RecordPair, IsRecordPair, pair_bytes, IsWholePair};
@@ -18,7 +21,7 @@ ghost use Rattle.journal_disk.specs.Entries.{WithOrWithout, Keeps};
 ghost use Rattle.journal_disk.specs.Lengths.{ReachesAtMost};
 ghost use Rattle.journal_keeping.specs.Keeping.{IsKeptJournal};
 ghost use Rattle.journal_keeping.specs.Lengths.{HasYetAtMost};
-ghost use Rattle.journal_keeping.specs.Private.{Answers, IsReady, IsTakenNext, IsStill, HasWanting, BreaksNext, ServesOn};
+ghost use Rattle.journal_keeping.specs.Private.{IsReady, IsTakenNext, IsStill, BreaksNext, ServesOn};
 
 use crate::fault::KeepFault;
 use disk_edge::Disk;
@@ -26,7 +29,6 @@ use exchange_session::Session;
 use file_units::Front;
 use flow_io::{Filled, ReadFailed, Sink, Source, Window};
 use journal_disk::Appender;
-use wire_records::{Framed, MOST_BODY, Memory, next_record};
 
 // A session and an appender, by which records are served and their pairs kept. One buffer is used for all pairs.
 #[derive(Drop)]
@@ -34,28 +36,6 @@ pub(crate) struct Keeper {
     pub(crate) session: Session,
     pub(crate) appender: Appender,
     pub(crate) pair: Vec<u8>,
-}
-
-// Serves the record at the front of the bytes, if a whole one stands there, and puts its pair into an empty buffer.
-fn serve_next(session: &mut Session, bytes: &[u8], text: &mut Vec<u8>) -> Result<Front, Memory>
-    requires ready { (left : ℕ) × (length bytes.now ≤ left) × (session.old.next_order + left < 2 ^ 64) }
-    requires empty { text.old.items ≡ [] }
-    requires room { 1042 ≤ vec_capacity text.old }
-    ensures taken { IfOk result (λ front. IsTaken commands Answers front bytes.now session.old session.new [] text.new.items) }
-    ensures stays { IfOk result (λ front. (left : ℕ) → length bytes.now ≤ left → session.old.next_order + left < 2 ^ 64 →
-        StaysReady (λ left. session.new.next_order + left < 2 ^ 64) front left) }
-    ensures room { vec_capacity text.old ≤ vec_capacity text.new }
-    ensures wanted { OnErr result (HasWanting session.old bytes.now) }
-{
-    match next_record(bytes, MOST_BODY) {
-        Framed::Whole(asked, taken) => match session.serve(&asked, text) {
-            Ok(()) => Ok(Front::Taken(taken)),
-            Err(_) => Err(Memory),
-        },
-        Framed::End => Ok(Front::NoBytes),
-        Framed::TooLarge(_) => Ok(Front::Overlong),
-        Framed::Short => Ok(Front::Short),
-    }
 }
 
 // Keeps a pair, and once it is kept writes it.
@@ -122,7 +102,7 @@ fn keep_next<D: Disk, K: Sink>(
     ensures out_cause { Blames (result ≡ Err KeepFault.Write) (K.faults out.old) (K.faults out.new) }
 {
     keeper.pair.clear();
-    match serve_next(&mut keeper.session, bytes, &mut keeper.pair) {
+    match keeper.session.serve_next(bytes, &mut keeper.pair) {
         Ok(Front::Taken(taken)) => match put_pair(&mut keeper.appender, &keeper.pair, disk, out) {
             Ok(()) => Ok(Front::Taken(taken)),
             Err(fault) => Err(fault),
