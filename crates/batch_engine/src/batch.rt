@@ -16,30 +16,9 @@ use coordinate_search::{Found, search, settle_single};
 use dual_value::dual_floor;
 use excess_bounds::{Quoted, Workspace};
 use flow_orders::Order;
+use out_of_memory::Memory;
 use rate_rounding::choose_rates;
-use std::alloc::{AllocError, Global};
-
-/// There is no memory for the outcome.
-#[derive(Clone, Copy, Debug, PartialEq, Eq)]
-pub struct Memory;
-
-impl From<AllocError> for Memory {
-    fn from(_error: AllocError) -> Memory {
-        Memory
-    }
-}
-
-impl From<excess_bounds::Memory> for Memory {
-    fn from(_error: excess_bounds::Memory) -> Memory {
-        Memory
-    }
-}
-
-impl From<rate_rounding::Memory> for Memory {
-    fn from(_error: rate_rounding::Memory) -> Memory {
-        Memory
-    }
-}
+use std::alloc::Global;
 
 /// The outcome of a batch of these orders, from these start prices, in grains by the assets' numbers, with this budget of
 /// moves: the program's own one.

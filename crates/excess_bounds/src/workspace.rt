@@ -16,18 +16,9 @@ use crate::parts::{Excess, excess_after, excess_of};
 use crate::quotes::{Quote, quotes_of, requote};
 use crate::steps::Step;
 use flow_orders::Order;
-use std::alloc::{AllocError, Global};
+use out_of_memory::Memory;
+use std::alloc::Global;
 use std::marker::Model;
-
-/// There is no memory for the workspace.
-#[derive(Clone, Copy, Debug, PartialEq, Eq)]
-pub struct Memory;
-
-impl From<AllocError> for Memory {
-    fn from(_error: AllocError) -> Memory {
-        Memory
-    }
-}
 
 /// The orders of a batch, at most 16,384, and one price for each asset, in grains, within 2^62 of 0. Each asset that an
 /// order names has a price, and there are at most 64.

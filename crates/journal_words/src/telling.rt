@@ -33,7 +33,7 @@ impl OnPair for Telling {
         pairs: u64,
         text: &mut Vec<u8>,
     ) -> Result<(), Memory> {
-        report_pair(audit, pair, pairs + 1, text).map_err(|_| Memory)
+        report_pair(audit, pair, pairs + 1, text)
     }
 
     fn illegal(
