@@ -10,13 +10,10 @@ use crate::no_statement::NoStatement;
 use crate::own::Own;
 use batch_audit::Audit;
 use file_units::Front;
-use journal_records::{PairFramed, PairView, is_overlong, journal_version, next_pair};
+use journal_records::{MOST_PAIR, PairFramed, PairView, is_overlong, journal_version, next_pair};
 use market_core::Market;
 use std::alloc::Global;
 use word_driver::{Halt, ServesWord};
-
-// As many bytes has the longest pair: 5 and 1,024 of the command record, 5 and 262,144 of the reply's.
-const MOST_PAIR: usize = 263_178;
 
 /// The word `statement`: it audits the pairs of a journal one after the other, from the empty market of the journal's version, and
 /// tells of each legal one what the account of a number sees of it.
@@ -85,6 +82,7 @@ impl ServesWord for Stating {
     ghost use Rattle.wire_records.specs.Records.{Record};
     ghost use Rattle.wire_records.specs.declared.version.Version.{Version};
     ghost use Rattle.market_rules.specs.Market.{empty_market};
+    ghost use Rattle.journal_records.specs.Pairs.{longest_pair};
     ghost use Rattle.journal_words.specs.Watching.{Watched};
     ghost use Rattle.statement_word.specs.Stating.{Stated};
 
@@ -96,7 +94,7 @@ impl ServesWord for Stating {
 
     const LONGEST: usize = MOST_PAIR;
 
-    ghost LONGEST = { 263178 };
+    ghost LONGEST = { longest_pair };
 
     ghost Unit = { Record × Record };
 

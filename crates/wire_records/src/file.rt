@@ -19,6 +19,9 @@ pub const COMMAND_MAGIC_3: [u8; 8] = *b"FLOWCMD3";
 /// The longest body of a command record, in bytes.
 pub const MOST_BODY: u32 = 1024;
 
+/// The longest command record, in bytes: the 5 of its head, and the longest body.
+pub const MOST_RECORD: usize = 5 + MOST_BODY as usize;
+
 /// The most entries of a row whose record has no longer body.
 pub const MOST_ROW: usize = 165;
 

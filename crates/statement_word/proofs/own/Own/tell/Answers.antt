@@ -9,7 +9,7 @@ pair-requires-clause-agrees c = (c.requires.is_of.0 c.in-Some.statement c.in-Som
 pub returns-in-Some-clause-told : goal.returns-in-Some-clause-told
 returns-in-Some-clause-told c = on_ok_weaker c.pair.result
     (λ told. λ next legal. told_pair c.args.self.now.number c.args.market.now c.args.pair.now c.in-Some.statement c.pair.new.self c.args.text.now.items c.pair.new.out.items next legal
-        (rw c.in-Some.is at c.requires.is_of) c.pair.ensures.account c.requires.empty (told next legal))
+    (rw c.in-Some.is at c.requires.is_of) c.pair.ensures.account c.requires.empty (told next legal))
     c.pair.ensures.told
 
 pub returns-in-None-clause-told : goal.returns-in-None-clause-told
