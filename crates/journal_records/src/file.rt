@@ -47,12 +47,9 @@ pub fn journal_version(bytes: &[u8]) -> Option<Version>
         ↔ ((body : List ℕ) × BeginsWith journals.magics bytes.now version body) }
     ensures none { IfNone result (BeginsWithNone journals.magics bytes.now) }
 {
-    if bytes.starts_with(&JOURNAL_MAGIC) {
-        Some(Version::One)
-    } else if bytes.starts_with(&JOURNAL_MAGIC_2) {
-        Some(Version::Two)
-    } else if bytes.starts_with(&JOURNAL_MAGIC_3) {
-        Some(Version::Three)
+    let version = Version::of_magic(bytes)?;
+    if bytes.starts_with(&journal_magic(version)) {
+        Some(version)
     } else {
         None
     }

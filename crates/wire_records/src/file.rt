@@ -53,12 +53,9 @@ pub fn command_version(bytes: &[u8]) -> Option<Version>
         ↔ ((body : List ℕ) × BeginsWith commands.magics bytes.now version body) }
     ensures none { IfNone result (BeginsWithNone commands.magics bytes.now) }
 {
-    if bytes.starts_with(&COMMAND_MAGIC) {
-        Some(Version::One)
-    } else if bytes.starts_with(&COMMAND_MAGIC_2) {
-        Some(Version::Two)
-    } else if bytes.starts_with(&COMMAND_MAGIC_3) {
-        Some(Version::Three)
+    let version = Version::of_magic(bytes)?;
+    if bytes.starts_with(&command_magic(version)) {
+        Some(version)
     } else {
         None
     }
