@@ -136,10 +136,7 @@ impl Statement {
         ensures after { OnOk result (self.new ≡ record (self.old) { orders = self.old.orders ++ ordered number 0 place.now ∷ [] }) }
         ensures stays { OnErr result (self.new ≡ self.old) }
     {
-        match self.book.reserve_one() {
-            Ok(()) => {}
-            Err(_) => return Err(Memory),
-        }
+        self.book.reserve_one()?;
         let row = WeightRow::new(place.row().to_list(self.alloc)?);
         self.book.add(Order::new(
             number,
@@ -160,10 +157,7 @@ impl Statement {
         ensures after { OnOk result (self.new ≡ record (self.old) { orders = self.old.orders ++ ordered number last place.now ∷ [] }) }
         ensures stays { OnErr result (self.new ≡ self.old) }
     {
-        match self.book.reserve_one() {
-            Ok(()) => {}
-            Err(_) => return Err(Memory),
-        }
+        self.book.reserve_one()?;
         let row = WeightRow::new(place.row().to_list(self.alloc)?);
         self.book.add(Order::until(
             number,

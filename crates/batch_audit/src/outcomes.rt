@@ -173,10 +173,8 @@ pub(crate) fn skip_finding(
     if view.trace().len() != budget as usize {
         return Ok(Finding::TraceLength);
     }
-    match Workspace::new(alloc, orders, start.as_slice()) {
-        Ok(mut work) => Ok(walk_finding(parts, orders, &mut work, view)),
-        Err(_) => Err(Memory),
-    }
+    let mut work = Workspace::new(alloc, orders, start.as_slice())?;
+    Ok(walk_finding(parts, orders, &mut work, view))
 }
 
 // Whether some order names two assets or more.

@@ -19,17 +19,8 @@ ghost use Rattle.batch_certificate.specs.Residuals.{cost_at};
 use batch_outcome::{Cleared, PriceList, RateList, ResidualList};
 use excess_bounds::{Quote, quotes_of};
 use flow_orders::{Order, add_residuals};
-use std::alloc::{AllocError, Global};
-
-/// There is no memory for the residuals.
-#[derive(Clone, Copy, Debug, PartialEq, Eq)]
-pub struct Memory;
-
-impl From<AllocError> for Memory {
-    fn from(_error: AllocError) -> Memory {
-        Memory
-    }
-}
+use out_of_memory::Memory;
+use std::alloc::Global;
 
 /// The certificate of a batch that cleared: adds to its prices and rates what the rates leave over of each asset, bought
 /// less sold, in units, and the gap, in grains.

@@ -25,6 +25,7 @@ mod trade;
 mod verdict;
 mod weights;
 
-pub use certificate::{Memory, certify, certify_quoted};
+pub use certificate::{certify, certify_quoted};
 pub use check::check_cleared;
+pub use out_of_memory::Memory;
 pub use verdict::Verdict;

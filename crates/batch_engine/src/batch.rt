@@ -4,8 +4,9 @@ ghost use Rattle.weight_rows.specs.Rows.{IsPricedBy};
 ghost use Rattle.demand_curve.specs.Demand.{IsWithin};
 ghost use Rattle.flow_orders.specs.Orders.{IsFrom1To, most_orders};
 ghost use Rattle.flow_orders.specs.Outcomes.{most_budget, IsRightOutcome, are_single, ClearsNear};
+ghost use Rattle.flow_orders.specs.Residuals.{most_prices};
 ghost use Rattle.own_rule.specs.Own.{IsOwnOutcome};
-ghost use Rattle.excess_bounds.specs.Workspace.{most_prices, AreQuoted};
+ghost use Rattle.excess_bounds.specs.Workspace.{AreQuoted};
 ghost use Rattle.batch_outcome.specs.Published.{outcome_of, HasOneRateEach};
 ghost use Rattle.batch_engine.specs.Certified.{IsCertified};
 ghost use Rattle.batch_engine.specs.Private.{IsClearedAt, IsClearedFrom, IsOutcomeFrom};
@@ -16,30 +17,9 @@ use coordinate_search::{Found, search, settle_single};
 use dual_value::dual_floor;
 use excess_bounds::{Quoted, Workspace};
 use flow_orders::Order;
+use out_of_memory::Memory;
 use rate_rounding::choose_rates;
-use std::alloc::{AllocError, Global};
-
-/// There is no memory for the outcome.
-#[derive(Clone, Copy, Debug, PartialEq, Eq)]
-pub struct Memory;
-
-impl From<AllocError> for Memory {
-    fn from(_error: AllocError) -> Memory {
-        Memory
-    }
-}
-
-impl From<excess_bounds::Memory> for Memory {
-    fn from(_error: excess_bounds::Memory) -> Memory {
-        Memory
-    }
-}
-
-impl From<rate_rounding::Memory> for Memory {
-    fn from(_error: rate_rounding::Memory) -> Memory {
-        Memory
-    }
-}
+use std::alloc::Global;
 
 /// The outcome of a batch of these orders, from these start prices, in grains by the assets' numbers, with this budget of
 /// moves: the program's own one.

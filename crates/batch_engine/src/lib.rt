@@ -16,4 +16,5 @@
 
 mod batch;
 
-pub use batch::{Memory, clear};
+pub use batch::clear;
+pub use out_of_memory::Memory;

@@ -8,7 +8,7 @@ ghost use Rattle.flow_orders.specs.Duals.{movement_of};
 ghost use Rattle.flow_orders.specs.Walks.{first_that};
 ghost use Rattle.own_rule.specs.Turns.{visits, IsInTurn};
 ghost use Rattle.flow_orders.specs.Outcomes.{most_budget, step_of, end_of, IsLegalFrom};
-ghost use Rattle.excess_bounds.specs.Workspace.{most_prices};
+ghost use Rattle.flow_orders.specs.Residuals.{most_prices};
 ghost use Rattle.coordinate_search.specs.Search.{IsFound};
 ghost use Rattle.price_moves.specs.Retracing.{IsLowered};
 

@@ -6,7 +6,7 @@ ghost use Rattle.curve_ladder.specs.Values.{grains_at, span_between};
 use std::marker::Model;
 
 // One tick in grains.
-const GRAINS_PER_TICK: i128 = 1 << 32;
+const GRAINS_PER_TICK: i128 = flow_orders::GRAINS_PER_TICK as i128;
 
 /// A point of a ladder: at this price of a portfolio this rate is asked for.
 #[derive(Clone, Copy, PartialEq, Eq)]

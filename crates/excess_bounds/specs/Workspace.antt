@@ -1,17 +1,14 @@
 -- What contracts see of the state of a search for prices, and what holds of every one.
-use Rattle.std.specs.Prelude.{◌≡◌, ℕ, ℤ, ◌≤◌, List, length, All}
+use Rattle.std.specs.Prelude.{◌≡◌, ℤ, ◌≤◌, List, length, All}
 use Rattle.weight_rows.specs.Rows.{IsPrice, IsPricedBy}
 use Rattle.flow_orders.specs.Orders.{Order, IsOrder, most_orders}
+use Rattle.flow_orders.specs.Residuals.{most_prices}
 use Rattle.excess_bounds.specs.Quotes.{Quote, quotes_at}
 
 -- the orders of a batch, and one price for each asset
 pub record Workspace : Type 0 where
   pub orders : List Order
   pub prices : List ℤ
-
--- no more assets have a price
-abbrev pub most_prices : ℕ
-most_prices = 64
 
 -- not too many orders and prices, each order within its limits, prices within their range, and one for each asset that an order names
 pub record ArePriced (orders : List Order) (prices : List ℤ) : Type 0 where

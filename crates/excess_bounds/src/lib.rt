@@ -30,6 +30,7 @@ mod workspace;
 
 pub use columns::Cell;
 pub use narrowing::Bracket;
+pub use out_of_memory::Memory;
 pub use parts::Excess;
 pub use quotes::{Quote, quotes_of};
-pub use workspace::{Memory, Quoted, Workspace};
+pub use workspace::{Quoted, Workspace};

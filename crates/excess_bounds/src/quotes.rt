@@ -4,9 +4,10 @@ ghost use Rattle.weight_rows.specs.Rows.{most_weight, IsPrice, IsPricedBy};
 ghost use Rattle.demand_curve.specs.Demand.{floor_rate, ceil_rate, floor_in, ceil_in, most_rate};
 ghost use Rattle.demand_curve.specs.Curve.{terms};
 ghost use Rattle.flow_orders.specs.Orders.{IsOrder, most_orders};
+ghost use Rattle.flow_orders.specs.Residuals.{most_prices};
 ghost use Rattle.excess_bounds.specs.Parts.{part_by_sign};
 ghost use Rattle.excess_bounds.specs.Quotes.{quote_at};
-ghost use Rattle.excess_bounds.specs.Workspace.{most_prices, AreQuoted};
+ghost use Rattle.excess_bounds.specs.Workspace.{AreQuoted};
 ghost use Rattle.excess_bounds.specs.Private.{quote_in, requoted, CanRequote};
 ghost use Rattle.excess_bounds.specs.Steps.{IsSmall};
 

@@ -4,7 +4,7 @@ ghost use Rattle.std.specs.List.{range_with_len};
 ghost use Rattle.weight_rows.specs.Rows.{IsPrice, IsPricedBy, price_of};
 ghost use Rattle.flow_orders.specs.Orders.{IsOrder, most_orders};
 ghost use Rattle.flow_orders.specs.Excess.{low_excess, high_excess, low_excess_in, high_excess_in, spread, steepness, is_unsettled};
-ghost use Rattle.excess_bounds.specs.Workspace.{most_prices};
+ghost use Rattle.flow_orders.specs.Residuals.{most_prices};
 ghost use Rattle.flow_orders.specs.Moves.{risen, fallen};
 ghost use Rattle.excess_bounds.specs.Brackets.{IsBracket};
 ghost use Rattle.excess_bounds.specs.Columns.{column_of};
@@ -16,18 +16,9 @@ use crate::parts::{Excess, excess_after, excess_of};
 use crate::quotes::{Quote, quotes_of, requote};
 use crate::steps::Step;
 use flow_orders::Order;
-use std::alloc::{AllocError, Global};
+use out_of_memory::Memory;
+use std::alloc::Global;
 use std::marker::Model;
-
-/// There is no memory for the workspace.
-#[derive(Clone, Copy, Debug, PartialEq, Eq)]
-pub struct Memory;
-
-impl From<AllocError> for Memory {
-    fn from(_error: AllocError) -> Memory {
-        Memory
-    }
-}
 
 /// The orders of a batch, at most 16,384, and one price for each asset, in grains, within 2^62 of 0. Each asset that an
 /// order names has a price, and there are at most 64.

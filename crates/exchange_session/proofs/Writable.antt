@@ -1,5 +1,5 @@
 -- What a batch comes to can be written.
-use Rattle.std.proofs.Common.{ℕ, ◌≤◌, ℤ, List, length, ap, sym, ◌∙◌, arith}
+use Rattle.std.proofs.Common.{ℕ, ◌≤◌, ℤ, List, length, Result, Ok, Err, IfOk, ap, sym, ◌∙◌, tt, arith}
 use Rattle.std.specs.List.{range_with_len}
 use Rattle.std.proofs.lemmas.List.{length-map}
 use Rattle.std.proofs.lemmas.List.FromFn.{length-range_with_len}
@@ -22,3 +22,8 @@ writable_is parts orders start budget (variants.Cleared c) few moves one right =
     let residuals = ap length right.residual_each ∙ length-map (range_with_len 0 (length start)) _ ∙ length-range_with_len 0 (length start) in
     (one, residuals ∙ sym right.one_price_each, omega (arith, right.one_price_each, few))
 writable_is parts orders start budget (variants.Skipped s) few moves one right = omega (arith, right.whole, moves)
+
+pub writable_if_ok : {E : Type 0} (parts : ℕ) (orders : List Order) (start : List ℤ) (budget : ℕ) (result : Result Outcome E) → length start ≤ 64 → budget ≤ most_budget
+    → IfOk result (HasOneRateEach orders) → IfOk result (λ o. IsRightOutcome parts orders start budget (outcome_of orders o)) → IfOk result (IsWritable orders)
+writable_if_ok parts orders start budget (Ok o) few moves one right = writable_is parts orders start budget o few moves one right
+writable_if_ok parts orders start budget (Err e) few moves one right = tt

@@ -1,6 +1,6 @@
 -- `flow run`: a command file in, a journal out.
 use Rattle.std.specs.Prelude.{◌≡◌, ◌++◌, [], Option, Some, None}
-use Rattle.wire_records.specs.Records.{Record}
+use Rattle.wire_records.specs.Records.{Record, longest_record}
 use Rattle.wire_records.specs.Formats.{commands}
 use Rattle.journal_records.specs.Formats.{journal_magic_of}
 use Rattle.market_rules.specs.Market.{Market}
@@ -20,7 +20,7 @@ RunWants market None = ⊥
 abbrev pub run : Word Record Market Never
 run = record {
   format = commands;
-  longest = 1029;
+  longest = longest_record;
   opens = journal_magic_of;
   Steps = AnswersOne;
   Stops = λ market at why text. ⊥;

@@ -4,7 +4,7 @@ use Rattle.wire_records.specs.Records.{Record}
 use Rattle.wire_records.specs.Formats.{commands}
 use Rattle.wire_records.specs.Commands.{Answer}
 use Rattle.wire_records.specs.Versions.{IsReadAs}
-use Rattle.journal_records.specs.Pairs.{IsPair, pair_spelling}
+use Rattle.journal_records.specs.Pairs.{IsPair, pair_spelling, longest_plain_pair}
 use Rattle.flow_orders.specs.Outcomes.{Outcome}
 use Rattle.own_rule.specs.Own.{IsOwnOutcome}
 use Rattle.market_rules.specs.Market.{Market}
@@ -33,4 +33,4 @@ pub record WantsNext (old : Market) (bytes : List ℕ) (room : ℕ) : Type 0 whe
   pub rest : List ℕ
   pub lawful : commands.units.IsLawful asked
   pub front : bytes ≡ commands.units.spell asked ++ rest
-  pub wants : (room < 1042) ⊎ RecordMayWant old asked
+  pub wants : (room < longest_plain_pair) ⊎ RecordMayWant old asked

@@ -32,10 +32,7 @@ fn outcome_for(alloc: Global, market: &mut Market, budget: u32) -> Result<Outcom
 {
     let parts = market.parts();
     let start = market.start_prices(alloc)?;
-    match clear(alloc, parts, market.orders(), start.as_slice(), budget) {
-        Ok(outcome) => Ok(outcome),
-        Err(_) => Err(Memory),
-    }
+    clear(alloc, parts, market.orders(), start.as_slice(), budget)
 }
 
 // Appends the pair of a batch.

@@ -7,17 +7,11 @@ ghost use Rattle.exchange_session.specs.Running.{run};
 
 use crate::Session;
 use file_units::Front;
-use journal_records::journal_magic;
+use journal_records::{MOST_PLAIN_PAIR, journal_magic};
 use market_core::Market;
 use std::alloc::Global;
-use wire_records::command_version;
+use wire_records::{MOST_RECORD, command_version};
 use word_driver::{Halt, Never, ServesWord};
-
-// As many bytes has the longest record: 5, and 1,024 of its body.
-const MOST_RECORD: usize = 1029;
-
-// As many bytes has the longest pair with a plain reply: 5 and 1,024 of the record, and 13 of the reply's.
-const MOST_PLAIN_PAIR: usize = 1042;
 
 /// A run: it serves the records of a command file, one after the other, over a session of its own, whose market is of the
 /// file's version. Only the pair of a batch makes the buffer grow.
@@ -40,18 +34,19 @@ impl Run {
 }
 
 impl ServesWord for Run {
-    ghost use Rattle.wire_records.specs.Records.{Record};
+    ghost use Rattle.wire_records.specs.Records.{Record, longest_record};
+    ghost use Rattle.journal_records.specs.Pairs.{longest_plain_pair};
     ghost use Rattle.market_rules.specs.Market.{Market};
 
     type Stop = Never;
 
     const ROOM: usize = MOST_PLAIN_PAIR;
 
-    ghost ROOM = { 1042 };
+    ghost ROOM = { longest_plain_pair };
 
     const LONGEST: usize = MOST_RECORD;
 
-    ghost LONGEST = { 1029 };
+    ghost LONGEST = { longest_record };
 
     ghost Unit = { Record };
 

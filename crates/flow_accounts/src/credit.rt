@@ -161,6 +161,7 @@ impl Accounts {
         ensures given { self.new ≡ set_money_credit self.old account ticks }
         ensures lawful { AreLawful self.new }
     {
+        // Taken for its contract: the balance and the new credit cover what is reserved.
         let _reserved = reserved;
         let holding = &mut self.accounts[account as usize - 1];
         holding.money_credit = ticks;
@@ -172,6 +173,7 @@ impl Accounts {
         ensures given { self.new ≡ set_unit_credit self.old account asset units }
         ensures lawful { AreLawful self.new }
     {
+        // Taken for its contract: the balance and the new credit cover what is reserved.
         let _reserved = reserved;
         let holding = &mut self.accounts[account as usize - 1];
         holding.unit_credits[asset as usize] = units;

@@ -43,9 +43,9 @@ mod settlement;
 mod withdrawals;
 
 pub use fault::AccountFault;
+pub use out_of_memory::Memory;
 pub use parts::AccountParts;
 pub use places::grains_of;
-pub use restore::Memory;
 use std::alloc::Global;
 use std::marker::Model;
 use std::mem::size_of;

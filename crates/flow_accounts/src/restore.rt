@@ -6,17 +6,8 @@ ghost use Rattle.flow_accounts.specs.Parts.{IsHoldingOf, AreHoldingsOf, ArePlace
 
 use crate::places::{no_credits, no_units};
 use crate::{AccountParts, Accounts, Holding, PLACES};
+use out_of_memory::Memory;
 use std::alloc::{AllocError, Global};
-
-/// There is no memory for the accounts.
-#[derive(Clone, Copy, Debug, PartialEq, Eq)]
-pub struct Memory;
-
-impl From<AllocError> for Memory {
-    fn from(_error: AllocError) -> Memory {
-        Memory
-    }
-}
 
 impl Accounts {
     /// Accounts with all balances, credits and totals that are read of `parts`, which are within the limits: no account

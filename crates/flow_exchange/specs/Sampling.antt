@@ -1,5 +1,6 @@
 -- `flow sample NUMBER ORDERS`: which words ask for it, and what it comes to.
 use Rattle.std.specs.Prelude.{◌≡◌, ◌<◌, ◌≤◌, ◌^◌, ℕ, List, [], ◌∷◌, codes, decimal}
+use Rattle.flow_orders.specs.Orders.{most_orders}
 use Rattle.flow_exchange.specs.declared.status.Status.{Status}
 use Rattle.flow_exchange.specs.declared.status.Status.TheVariants.{Done}
 use Rattle.sample_summary.specs.Summary.{Summarizes}
@@ -9,7 +10,7 @@ pub record AskSample (words : List (List ℕ)) (number orders : ℕ) : Type 0 wh
   pub are : words ≡ codes "sample" ∷ decimal number ∷ decimal orders ∷ []
   pub number_fits : number < 2 ^ 64
   pub some : 1 ≤ orders
-  pub few : orders ≤ 16384
+  pub few : orders ≤ most_orders
 
 -- the line on the sample is written, and all is done, whatever the source has
 abbrev pub SamplesTo : ℕ → ℕ → Status → List ℕ → Type 0

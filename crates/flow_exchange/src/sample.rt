@@ -1,6 +1,7 @@
 //! `flow sample NUMBER ORDERS`: a sample of a large market, and a line out.
 ghost use Rattle.std.specs.Prelude.{◌≡◌, ◌≢◌, ◌≤◌, ℕ, List, Option};
 ghost use Rattle.flow_io.specs.Changes.{change};
+ghost use Rattle.flow_orders.specs.Orders.{most_orders};
 ghost use Rattle.flow_exchange.specs.Private.{Serves};
 ghost use Rattle.flow_exchange.specs.declared.form.Form.TheVariants.{Sample};
 
@@ -13,7 +14,7 @@ use std::alloc::Global;
 /// read. The file, the markets of session and audit, and one pair are held.
 pub(crate) fn sample<K: Sink>(alloc: Global, number: u64, orders: u32, out: &mut K) -> Status
     requires some { 1 ≤ orders }
-    requires few { orders ≤ 16384 }
+    requires few { orders ≤ most_orders }
     ensures asked { result ≢ Status.Usage }
     // Whatever the source has left, and whatever its count of faults is, they stay.
     ensures does { (limit : ℕ) (rest : Option (List ℕ)) (faults : ℕ) → Serves (Sample number orders) limit result

@@ -1,12 +1,13 @@
 //! The words `sample NUMBER ORDERS`.
 ghost use Rattle.std.specs.Prelude.{◌≡◌, ◌≢◌, ◌<◌, ◌≤◌, ◌^◌, ◌↔◌, ◌∷◌, [], ℕ, IsTrue, IfSome, IfNone, decimal, map, string_bytes};
+ghost use Rattle.flow_orders.specs.Orders.{most_orders};
 ghost use Rattle.flow_exchange.specs.Sampling.{AskSample};
 ghost use Rattle.flow_exchange.specs.Private.{AreThree};
 
 use itoa::Buffer;
 
 // The most orders of a sample.
-const MOST_ORDERS: u64 = 16_384;
+const MOST_ORDERS: u64 = sample_summary::MOST_ORDERS as u64;
 
 // Whether the word is the number in plain decimal digits.
 fn is_decimal(word: &str, number: u64) -> bool
@@ -30,8 +31,8 @@ pub(crate) fn number_of(word: &str) -> Option<u64>
 
 // How many orders a word asks for.
 fn orders_of(word: &str) -> Option<u32>
-    ensures orders { IfSome result (λ orders. (word.now ≡ decimal orders) × (1 ≤ orders) × (orders ≤ 16384)) }
-    ensures none { IfNone result ((orders : ℕ) → 1 ≤ orders → orders ≤ 16384 → word.now ≢ decimal orders) }
+    ensures orders { IfSome result (λ orders. (word.now ≡ decimal orders) × (1 ≤ orders) × (orders ≤ most_orders)) }
+    ensures none { IfNone result ((orders : ℕ) → 1 ≤ orders → orders ≤ most_orders → word.now ≢ decimal orders) }
 {
     match number_of(word) {
         Some(orders) if 1 <= orders && orders <= MOST_ORDERS => Some(orders as u32),

@@ -3,7 +3,7 @@
 ghost use Rattle.std.specs.Prelude.{◌≡◌, ◌↔◌, IsTrue};
 ghost use Rattle.flow_io.specs.declared.sink.WriteFailed.{WriteFailed};
 ghost use Rattle.flow_io.specs.declared.source.ReadFailed.{ReadFailed};
-ghost use Rattle.flow_io.specs.declared.window.Memory.{Memory};
+ghost use Rattle.out_of_memory.specs.declared.Memory.{Memory};
 ghost use Rattle.flow_io.specs.declared.whole.ReadAllFault.{ReadAllFault};
 
 use crate::{Memory, ReadAllFault, ReadFailed, WriteFailed};

@@ -21,8 +21,9 @@ mod standard;
 mod whole;
 mod window;
 
+pub use out_of_memory::Memory;
 pub use sink::{Sink, WriteFailed};
 pub use source::{ReadFailed, Source};
 pub use standard::{StdSink, StdSource};
 pub use whole::{ReadAllFault, WholeInput, read_all};
-pub use window::{Filled, InputEnd, Memory, Window};
+pub use window::{Filled, InputEnd, Window};

@@ -4,18 +4,9 @@ ghost use Rattle.flow_io.specs.Windows.{Fills, IsWithin, empty_window};
 
 use crate::block::Block;
 use crate::{ReadFailed, Source};
-use std::alloc::{AllocError, Global};
+use out_of_memory::Memory;
+use std::alloc::Global;
 use std::marker::Model;
-
-/// There is no memory for what was asked. Nothing was changed.
-#[derive(Clone, Copy, Debug, PartialEq, Eq)]
-pub struct Memory;
-
-impl From<AllocError> for Memory {
-    fn from(_error: AllocError) -> Memory {
-        Memory
-    }
-}
 
 /// What filling a window came to.
 #[derive(Clone, Copy, PartialEq, Eq)]

@@ -25,4 +25,4 @@ pub use bounds::{spread, steepness};
 pub use fault::{OrderFault, order_fault};
 pub use left_over::add_residuals;
 pub use needs::{money_need, unit_need};
-pub use order::Order;
+pub use order::{GRAINS_PER_TICK, Order};

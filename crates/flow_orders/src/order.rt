@@ -9,8 +9,8 @@ use std::marker::Model;
 use std::mem::size_of;
 use weight_rows::WeightRow;
 
-// One tick in grains.
-pub(crate) const GRAINS_PER_TICK: i64 = 1 << 32;
+/// One tick in grains.
+pub const GRAINS_PER_TICK: i64 = 1 << 32;
 
 /// An order that isn't filled to its cap: its number and account, its limit prices, the rate that it asks for at most
 /// in a batch, its cap, how much of the cap is filled, the row of its portfolio, and the number of the last batch in

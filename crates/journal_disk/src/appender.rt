@@ -1,6 +1,7 @@
 ghost use Rattle.std.specs.Prelude.{◌≡◌, ◌≢◌, ◌≤◌, ◌+◌, ◌^◌, ◌++◌, [], ◌∷◌, List, length, IfSome, IsSome, ◌↔◌, IfOk, IfErr, OnOk, OnErr, Err, IsErrOf, ◌⊎◌, ℕ, Some, vec_capacity};
 ghost use Rattle.wire_records.specs.declared.version.Version.{Version};
-ghost use Rattle.journal_disk.specs.Pairs.{RecordPair, IsRecordPair, pair_bytes, IsWholePair, longest_pair};
+ghost use Rattle.journal_records.specs.Pairs.{longest_pair};
+ghost use Rattle.journal_disk.specs.Pairs.{RecordPair, IsRecordPair, pair_bytes, IsWholePair};
 ghost use Rattle.disk_edge.specs.Disks.{AtEachMoment};
 ghost use Rattle.disk_edge.specs.Images.{LeavesOnly};
 ghost use Rattle.journal_disk.specs.Entries.{framed, WithOrWithout, Keeps};
@@ -24,7 +25,7 @@ pub struct Appender {
 
 impl Model for Appender {
     ghost use Rattle.std.specs.Prelude.{◌≤◌, ◌+◌, ℕ, vec_capacity};
-    ghost use Rattle.journal_disk.specs.Pairs.{longest_pair};
+    ghost use Rattle.journal_records.specs.Pairs.{longest_pair};
 
     ghost Value = { ℕ };
 

@@ -2,10 +2,10 @@
 ghost use Rattle.std.specs.Prelude.{◌≡◌, ◌↔◌, IsTrue, IfSome, IfNone};
 ghost use Rattle.journal_disk.specs.Pairs.{IsRecordPair, pair_bytes, IsWholePair};
 
-use journal_records::{PairFramed, PairView, next_pair};
+use journal_records::{MOST_PAIR, PairFramed, PairView, next_pair};
 
-// As many bytes has the longest pair: 5 and 1,024 of the command record, 5 and 262,144 of the reply's.
-pub(crate) const LONGEST_PAIR: u64 = 263_178;
+// The longest pair, in bytes.
+pub(crate) const LONGEST_PAIR: u64 = MOST_PAIR as u64;
 
 // The pair whose bytes these are, where they are those of one. Constant cost.
 pub(crate) fn whole_pair<'a>(bytes: &'a [u8]) -> Option<PairView<'a>>

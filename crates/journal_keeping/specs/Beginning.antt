@@ -2,7 +2,7 @@
 use Rattle.std.specs.Prelude.{◌≡◌, ◌≤◌, ◌<◌, ℕ, List, length, take, map, Option, None, Some, IfSome, ⊤}
 use Rattle.flow_io.specs.Streams.{Takes}
 use Rattle.flow_io.specs.Windows.{WindowState}
-use Rattle.wire_records.specs.Records.{Record}
+use Rattle.wire_records.specs.Records.{Record, longest_record}
 use Rattle.wire_records.specs.Commands.{Pair}
 use Rattle.wire_records.specs.Grammars.{BeginsWith, BeginsWithNone}
 use Rattle.wire_records.specs.Formats.{commands}
@@ -58,13 +58,13 @@ IsOfDisk TooLong = ⊥
 pub record IsBehindMagic (limit : ℕ) (version : Version) (window : WindowState) (before after : Option (List ℕ)) : Type 0 where
   pub limited : window.limit ≡ limit
   pub place : window.place ≡ 8
-  pub room : window.room ≡ 1029
+  pub room : window.room ≡ longest_record
   pub over : window.over ≡ None
   pub first : List ℕ
   pub takes : Takes before after first
   pub magic : BeginsWith commands.magics first version window.held
   pub few : length first ≤ limit
-  pub held : length first ≤ 1029
+  pub held : length first ≤ longest_record
 
 -- a version is the one that is wanted, where one is
 abbrev pub IsWanted : Option Version → Version → Type 0

@@ -65,24 +65,13 @@ impl From<DiskFault> for KeepFault {
     }
 }
 
-impl From<wire_records::Memory> for KeepFault {
+impl From<out_of_memory::Memory> for KeepFault {
     ghost use Rattle.std.specs.Prelude.{◌≡◌};
     ghost use Rattle.journal_keeping.specs.declared.fault.KeepFault.TheVariants.{Memory};
 
     ghost from_gives = { λ _ fault. fault ≡ Memory };
 
-    fn from(_memory: wire_records::Memory) -> KeepFault {
-        KeepFault::Memory
-    }
-}
-
-impl From<flow_io::Memory> for KeepFault {
-    ghost use Rattle.std.specs.Prelude.{◌≡◌};
-    ghost use Rattle.journal_keeping.specs.declared.fault.KeepFault.TheVariants.{Memory};
-
-    ghost from_gives = { λ _ fault. fault ≡ Memory };
-
-    fn from(_memory: flow_io::Memory) -> KeepFault {
+    fn from(_memory: out_of_memory::Memory) -> KeepFault {
         KeepFault::Memory
     }
 }

@@ -26,18 +26,13 @@ use disk_edge::Disk;
 use exchange_session::Session;
 use flow_io::{Filled, Source, Window};
 use journal_disk::{Appender, DiskJournal, recover};
+use journal_records::MOST_PLAIN_PAIR;
 use market_core::Market;
 use std::alloc::Global;
-use wire_records::{Version, command_version};
+use wire_records::{MOST_RECORD, Version, command_version};
 
 // As many bytes has the magic of a command file.
 const MAGIC: usize = 8;
-
-// As many bytes has the longest command record.
-const MOST_RECORD: usize = 1029;
-
-// As many bytes has the longest pair with a plain reply.
-const MOST_PLAIN_PAIR: usize = 1042;
 
 // A source that is opened: behind its magic, with its version.
 #[derive(Drop)]

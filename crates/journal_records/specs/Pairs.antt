@@ -32,6 +32,14 @@ journal_magic_3 = codes "FLOWJNL3"
 abbrev pub journal : List (Pair Record Outcome) → List ℕ
 journal pairs = journal_magic ++ flat_map pair_spelling pairs
 
+-- the longest pair has as many bytes: two heads of 5 bytes, and both bodies at their limits
+abbrev pub longest_pair : ℕ
+longest_pair = 263178
+
+-- and the longest with a plain reply: the longest command record, and 13 bytes of the reply's
+abbrev pub longest_plain_pair : ℕ
+longest_plain_pair = 1042
+
 -- how many bytes a pair with any plain reply takes at most
 abbrev pub plain_room : Record → ℕ
 plain_room asked = length (spelling asked) + 13

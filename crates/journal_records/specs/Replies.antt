@@ -7,6 +7,8 @@ use Rattle.wire_records.specs.declared.reply.Reply.TheVariants.{Done, Asset, Acc
 use Rattle.wire_records.specs.Records.{Record, AreBytes}
 use Rattle.wire_records.specs.Commands.{Answer, Plain, Batch}
 use Rattle.wire_records.specs.Refusals.{code_of}
+use Rattle.flow_orders.specs.Orders.{most_orders}
+use Rattle.flow_orders.specs.Residuals.{most_prices}
 use Rattle.flow_orders.specs.Outcomes.{Fill, Clearing, Skipping, Outcome, Cleared, Skipped, most_budget}
 
 -- the tag of each plain reply
@@ -104,5 +106,5 @@ most_reply_body = 262144
 
 -- an outcome of at most 64 assets and 16,384 orders, or of at most as many moves as a budget may have
 abbrev pub IsWithinLimits : Outcome → Type 0
-IsWithinLimits (Cleared c) = (length c.prices ≤ 64) × (length c.fills ≤ 16384)
+IsWithinLimits (Cleared c) = (length c.prices ≤ most_prices) × (length c.fills ≤ most_orders)
 IsWithinLimits (Skipped s) = length s.trace ≤ most_budget

@@ -5,7 +5,7 @@ ghost use Rattle.wire_records.specs.declared.version.Version.{Version};
 ghost use Rattle.wire_records.specs.declared.version.Version.TheVariants.{One};
 ghost use Rattle.journal_records.specs.Formats.{journals, journal_magic_of};
 
-use wire_records::Version;
+use wire_records::{MOST_RECORD, Version};
 
 /// The first 8 bytes of a journal of version One.
 pub const JOURNAL_MAGIC: [u8; 8] = *b"FLOWJNL1";
@@ -18,6 +18,9 @@ pub const JOURNAL_MAGIC_3: [u8; 8] = *b"FLOWJNL3";
 
 /// The longest body of a reply's record in a journal, in bytes.
 pub const MOST_REPLY_BODY: u32 = 262_144;
+
+/// The longest pair, in bytes: the longest command record, the 5 of the reply's head, and its longest body.
+pub const MOST_PAIR: usize = MOST_RECORD + 5 + MOST_REPLY_BODY as usize;
 
 /// The first 8 bytes of a journal of a version.
 pub fn journal_magic(version: Version) -> [u8; 8]
@@ -44,12 +47,9 @@ pub fn journal_version(bytes: &[u8]) -> Option<Version>
         ↔ ((body : List ℕ) × BeginsWith journals.magics bytes.now version body) }
     ensures none { IfNone result (BeginsWithNone journals.magics bytes.now) }
 {
-    if bytes.starts_with(&JOURNAL_MAGIC) {
-        Some(Version::One)
-    } else if bytes.starts_with(&JOURNAL_MAGIC_2) {
-        Some(Version::Two)
-    } else if bytes.starts_with(&JOURNAL_MAGIC_3) {
-        Some(Version::Three)
+    let version = Version::of_magic(bytes)?;
+    if bytes.starts_with(&journal_magic(version)) {
+        Some(version)
     } else {
         None
     }

@@ -6,10 +6,13 @@ ghost use Rattle.journal_records.specs.Replies.{answer_record, IsAnswer};
 ghost use Rattle.journal_records.specs.Pairs.{pair_spelling, plain_room};
 
 use wire_fields::{put_bytes, put_u8, put_u16, put_u32, put_u64};
-use wire_records::{Memory, RecordView, Reply, put_head};
+use wire_records::{MOST_RECORD, Memory, RecordView, Reply, put_head};
 
 // The longest record of a plain reply takes as many bytes.
 const LONGEST_REPLY: usize = 13;
+
+/// The longest pair with a plain reply, in bytes: the longest command record, and the longest record of such a reply.
+pub const MOST_PLAIN_PAIR: usize = MOST_RECORD + LONGEST_REPLY;
 
 /// Takes the room of a pair with any plain reply: as many bytes as the command record has, and 13 more, so
 /// that [`write_plain`] can follow. The bytes that are there stay. `Memory` comes only where that room wasn't

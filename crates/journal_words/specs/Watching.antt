@@ -5,6 +5,7 @@ use Rattle.wire_records.specs.Commands.{Pair}
 use Rattle.wire_records.specs.Versions.{IsReadAs}
 use Rattle.flow_orders.specs.Outcomes.{Outcome}
 use Rattle.journal_records.specs.Formats.{journals, records_of}
+use Rattle.journal_records.specs.Pairs.{longest_pair}
 use Rattle.market_rules.specs.Market.{Market, empty_market}
 use Rattle.market_rules.specs.Journal.{HoldsDeposits}
 use Rattle.market_rules.specs.Promises.{KeepsPromises}
@@ -68,7 +69,7 @@ module _ {S B : Type 0} (watch : Watch S B) where
   abbrev pub over_pairs : Word (Record × Record) (Watched S) B
   over_pairs = record {
     format = journals;
-    longest = 263178;
+    longest = longest_pair;
     opens = λ version. [];
     Steps = SeesOne;
     Stops = StopsOne;

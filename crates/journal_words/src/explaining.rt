@@ -150,7 +150,7 @@ impl OnPair for Explaining {
         pairs: u64,
         text: &mut Vec<u8>,
     ) -> Result<u64, Memory> {
-        let finding = audit.explain(pair).map_err(|_| Memory)?;
+        let finding = audit.explain(pair)?;
         put_line(text, pairs + 1, finding);
         Ok(pairs + 1)
     }

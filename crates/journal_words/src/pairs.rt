@@ -9,13 +9,10 @@ ghost use Rattle.journal_words.specs.Private.{HasRoom};
 use crate::on_pair::OnPair;
 use batch_audit::Audit;
 use file_units::Front;
-use journal_records::{PairFramed, PairView, is_overlong, journal_version, next_pair};
+use journal_records::{MOST_PAIR, PairFramed, PairView, is_overlong, journal_version, next_pair};
 use market_core::Market;
 use std::alloc::Global;
 use word_driver::{Halt, ServesWord};
-
-// As many bytes has the longest pair: 5 and 1,024 of the command record, 5 and 262,144 of the reply's.
-const MOST_PAIR: usize = 263_178;
 
 /// A word over the pairs of a journal, which it audits one after the other from the empty market of the journal's version.
 #[derive(Drop)]
@@ -83,6 +80,7 @@ impl<P: OnPair + Drop> Pairs<P> {
 
 impl<P: OnPair + Drop> ServesWord for Pairs<P> {
     ghost use Rattle.wire_records.specs.Records.{Record};
+    ghost use Rattle.journal_records.specs.Pairs.{longest_pair};
     ghost use Rattle.journal_words.specs.Watching.{Watched};
 
     type Stop = P::Stop;
@@ -93,7 +91,7 @@ impl<P: OnPair + Drop> ServesWord for Pairs<P> {
 
     const LONGEST: usize = MOST_PAIR;
 
-    ghost LONGEST = { 263178 };
+    ghost LONGEST = { longest_pair };
 
     ghost Unit = { Record × Record };
 

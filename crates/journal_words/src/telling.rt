@@ -38,7 +38,7 @@ impl OnPair for Telling {
         text: &mut Vec<u8>,
     ) -> Result<(), Memory> {
         match audit.make(pair, change) {
-            Ok(()) => report_pair(audit, pair, pairs + 1, text).map_err(|_| Memory),
+            Ok(()) => report_pair(audit, pair, pairs + 1, text),
             Err(_) => Err(Memory),
         }
     }

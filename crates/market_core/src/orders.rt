@@ -55,10 +55,7 @@ impl Market {
         ensures stays { OnErr result (self.new ≡ self.old) }
         ensures wanted { OnErr result (MayWant self.old (PlaceOrder place.now)) }
     {
-        match self.book.reserve_one() {
-            Ok(()) => {}
-            Err(_) => return Err(Memory),
-        }
+        self.book.reserve_one()?;
         let row = WeightRow::new(place.row().to_list(self.alloc)?);
         let number = self.next_order;
         self.next_order = number + 1;
@@ -98,10 +95,7 @@ impl Market {
         ensures stays { OnErr result (self.new ≡ self.old) }
         ensures wanted { OnErr result (MayWant self.old (PlaceUntil last place.now)) }
     {
-        match self.book.reserve_one() {
-            Ok(()) => {}
-            Err(_) => return Err(Memory),
-        }
+        self.book.reserve_one()?;
         let row = WeightRow::new(place.row().to_list(self.alloc)?);
         let next = self.next_order;
         self.next_order = next + 1;

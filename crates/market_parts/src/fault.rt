@@ -2,8 +2,6 @@
 ghost use Rattle.std.specs.Prelude.{◌≡◌};
 ghost use Rattle.market_parts.specs.declared.fault.RestoreFault.TheVariants.{Memory};
 
-use flow_accounts::Memory as NoAccounts;
-use order_book::Memory as NoOrder;
 use std::alloc::AllocError;
 
 /// Why no market is made of its parts.
@@ -23,18 +21,10 @@ impl From<AllocError> for RestoreFault {
     }
 }
 
-impl From<NoAccounts> for RestoreFault {
+impl From<out_of_memory::Memory> for RestoreFault {
     ghost from_gives = { λ _ fault. fault ≡ Memory };
 
-    fn from(_error: NoAccounts) -> RestoreFault {
-        RestoreFault::Memory
-    }
-}
-
-impl From<NoOrder> for RestoreFault {
-    ghost from_gives = { λ _ fault. fault ≡ Memory };
-
-    fn from(_error: NoOrder) -> RestoreFault {
+    fn from(_error: out_of_memory::Memory) -> RestoreFault {
         RestoreFault::Memory
     }
 }

@@ -4,8 +4,8 @@ ghost use Rattle.market_snapshot.specs.Layout.{IsLayout, BeginsWithNoParts};
 
 use byte_places::{u16_at, u32_at};
 
-/// What each checkpoint begins with.
-pub(crate) const MAGIC: &[u8; 8] = b"FLOWSNP1";
+/// The first 8 bytes of a checkpoint.
+pub const CHECKPOINT_MAGIC: [u8; 8] = *b"FLOWSNP1";
 
 // An account takes so many bytes beside those for assets.
 const ACCOUNT: usize = 24;
@@ -45,7 +45,7 @@ pub(crate) fn layout_of(bytes: &[u8]) -> Option<Layout>
     if bytes.len() < 11 {
         return None;
     }
-    if !bytes.starts_with(MAGIC) {
+    if !bytes.starts_with(&CHECKPOINT_MAGIC) {
         return None;
     }
     let assets = u16_at(bytes, 9);

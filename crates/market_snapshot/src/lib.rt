@@ -21,5 +21,6 @@ mod reading;
 mod view;
 mod writing;
 
+pub use layout::CHECKPOINT_MAGIC;
 pub use reading::{SnapshotFault, read_market};
 pub use writing::write_market;

@@ -9,7 +9,7 @@ ghost use Rattle.market_rules.specs.Market.{IsSound};
 ghost use Rattle.flow_accounts.specs.Balances.{account_count};
 
 use crate::balances::{put_accounts, put_exchange, put_totals};
-use crate::layout::{MAGIC, account_size};
+use crate::layout::{CHECKPOINT_MAGIC, account_size};
 use crate::orders::{orders_size, put_orders};
 use market_core::Market;
 use ticker_table::TickerTable;
@@ -23,7 +23,7 @@ fn put_tickers(out: &mut Vec<u8>, version: Version, tickers: &TickerTable)
     ensures len { vec_len out.new ≡ vec_len out.old + (11 + 8 * length tickers.now) }
     ensures capacity { vec_capacity out.new ≡ vec_capacity out.old }
 {
-    put_bytes(out, MAGIC);
+    put_bytes(out, &CHECKPOINT_MAGIC);
     put_u8(out, version.number());
     put_u16(out, tickers.len());
     for asset in 0..tickers.len() {

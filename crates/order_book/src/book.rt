@@ -12,21 +12,12 @@ use crate::gaps::{close_above, close_gaps, leave_gap};
 use crate::sums::{Need, NeedSums};
 use flow_orders::Order;
 use indexmap::IndexSet;
-use std::alloc::{AllocError, Global};
+use out_of_memory::Memory;
+use std::alloc::Global;
 use std::marker::Model;
 
 // As many sums an order may raise: one of money, and one for each of 16 entries.
 const PLACES_PER_ORDER: usize = 17;
-
-/// There is no memory for one more order. No order was changed.
-#[derive(Clone, Copy, Debug, PartialEq, Eq)]
-pub struct Memory;
-
-impl From<AllocError> for Memory {
-    fn from(_error: AllocError) -> Memory {
-        Memory
-    }
-}
 
 /// The live orders, by ascending numbers, with the sums of what they need of each account.
 ///

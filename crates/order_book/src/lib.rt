@@ -26,4 +26,5 @@ mod gaps;
 pub mod laws;
 mod sums;
 
-pub use book::{Book, Memory};
+pub use book::Book;
+pub use out_of_memory::Memory;

@@ -1,6 +1,6 @@
 -- What was appended piece by piece.
 use Rattle.std.proofs.Common.{◌≡◌, ◌+◌, ◌<◌, ◌≤◌, ℕ, get_or, List, [], ◌∷◌, ◌++◌, length, take, Result, Ok, Err, OnOk, arith, sym, ap, ◌∙◌}
-use Rattle.wire_records.specs.declared.write.Memory.{Memory}
+use Rattle.out_of_memory.specs.declared.Memory.{Memory}
 use Rattle.std.specs.List.{flat_map, range_with_len}
 use Rattle.std.proofs.lemmas.List.{append_assoc, flat_map_more, take_more, take_all, map-id}
 use Rattle.std.proofs.lemmas.List.FromFn.{map-range_with_len_more}

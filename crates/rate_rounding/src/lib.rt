@@ -26,17 +26,8 @@ pub mod laws;
 
 pub use choice::{Chosen, choose_rates, chosen_rates};
 use flow_orders::Order;
-use std::alloc::{AllocError, Global};
-
-/// There is no memory for the rates.
-#[derive(Clone, Copy, Debug, PartialEq, Eq)]
-pub struct Memory;
-
-impl From<AllocError> for Memory {
-    fn from(_error: AllocError) -> Memory {
-        Memory
-    }
-}
+pub use out_of_memory::Memory;
+use std::alloc::Global;
 
 /// Each order's demand at these prices, rounded down: one rate for each order, in their order.
 ///

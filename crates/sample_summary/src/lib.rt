@@ -10,4 +10,5 @@ pub mod laws;
 mod line;
 mod sampling;
 
+pub use sample_market::MOST_ORDERS;
 pub use sampling::sample_line;

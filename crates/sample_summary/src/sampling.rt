@@ -2,6 +2,7 @@
 ghost use Rattle.std.specs.Prelude.{◌≡◌, ◌≤◌, ◌<◌, ◌+◌, ◌^◌, OnOk, IfOk};
 ghost use Rattle.wire_records.specs.Records.{Record};
 ghost use Rattle.wire_records.specs.Formats.{commands};
+ghost use Rattle.flow_orders.specs.Orders.{most_orders};
 ghost use Rattle.market_rules.specs.Market.{Market};
 ghost use Rattle.batch_audit.specs.Legal.{IsLegalPair};
 ghost use Rattle.sample_summary.specs.Summary.{Summarizes};
@@ -138,7 +139,7 @@ impl TakesUnits<()> for Sampling {
 /// its journal cost, and holds the file, the market of either, and one pair.
 pub fn sample_line(alloc: Global, number: u64, orders: u32) -> Result<Vec<u8>, Memory>
     requires some { 1 ≤ orders }
-    requires few { orders ≤ 16384 }
+    requires few { orders ≤ most_orders }
     ensures { IfOk result (λ line. Summarizes number orders line.items) }
 {
     let file = sample_commands(alloc, number, orders)?;

@@ -10,12 +10,9 @@ use file_units::Ending;
 use journal_records::{JOURNAL_MAGIC, journal_version};
 use journal_replay::{PairFault, audit_pairs};
 use market_core::Market;
-use market_snapshot::{SnapshotFault, read_market};
+use market_snapshot::{CHECKPOINT_MAGIC, SnapshotFault, read_market};
 use std::alloc::Global;
 use wire_records::Version;
-
-// The first 8 bytes of a checkpoint.
-const CHECKPOINT_MAGIC: [u8; 8] = *b"FLOWSNP1";
 
 /// What is gone on from.
 #[derive(Clone, Copy, PartialEq, Eq)]

@@ -11,11 +11,11 @@ ghost use Rattle.session_resume.specs.Tasks.{resuming};
 ghost use Rattle.session_resume.specs.Private.{Ends, WritesInto, WritesShort, IntoBehind, ShortBehind};
 
 use crate::first::{FirstFault, FirstPart, Origin, Unfit, first_part};
-use crate::serving::{MOST_PLAIN_PAIR, ServeFault, Serving};
+use crate::serving::{ServeFault, Serving};
 use exchange_session::Session;
 use file_units::{Ending, take_units};
 use flow_io::{ReadAllFault, Sink, Source, read_all};
-use journal_records::is_overlong;
+use journal_records::{MOST_PLAIN_PAIR, is_overlong};
 use std::alloc::Global;
 use wire_records::{COMMAND_MAGIC, Version, command_magic};
 use word_driver::Fault;

@@ -16,9 +16,6 @@ pub(crate) enum ServeFault {
     Memory,
 }
 
-// As many bytes has the longest pair with a plain reply: 5 and 1,024 of the record, and 13 of the reply's.
-pub(crate) const MOST_PLAIN_PAIR: usize = 1042;
-
 // A session, and the buffer of a pair, in which any with a plain reply has room.
 #[derive(Drop)]
 pub(crate) struct Serving {

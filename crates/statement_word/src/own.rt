@@ -53,10 +53,7 @@ impl Own {
         ensures room { vec_capacity text.old ≤ vec_capacity text.new }
     {
         match &mut self.statement {
-            Some(statement) => match statement.pair(market, pair, text) {
-                Ok(()) => Ok(()),
-                Err(_) => Err(Memory),
-            },
+            Some(statement) => statement.pair(market, pair, text),
             None => {
                 // Called for its contract: the market is sound.
                 let _sound = market.version();

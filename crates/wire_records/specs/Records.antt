@@ -47,3 +47,7 @@ command_magic_3 = codes "FLOWCMD3"
 -- the longest body of a command record, in bytes
 abbrev pub most_body : ℕ
 most_body = 1024
+
+-- the longest command record has as many bytes: 5 of its head, and a body at its limit
+abbrev pub longest_record : ℕ
+longest_record = 1029

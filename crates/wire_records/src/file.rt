@@ -19,6 +19,9 @@ pub const COMMAND_MAGIC_3: [u8; 8] = *b"FLOWCMD3";
 /// The longest body of a command record, in bytes.
 pub const MOST_BODY: u32 = 1024;
 
+/// The longest command record, in bytes: the 5 of its head, and the longest body.
+pub const MOST_RECORD: usize = 5 + MOST_BODY as usize;
+
 /// The most entries of a row whose record has no longer body.
 pub const MOST_ROW: usize = 165;
 
@@ -50,12 +53,9 @@ pub fn command_version(bytes: &[u8]) -> Option<Version>
         ↔ ((body : List ℕ) × BeginsWith commands.magics bytes.now version body) }
     ensures none { IfNone result (BeginsWithNone commands.magics bytes.now) }
 {
-    if bytes.starts_with(&COMMAND_MAGIC) {
-        Some(Version::One)
-    } else if bytes.starts_with(&COMMAND_MAGIC_2) {
-        Some(Version::Two)
-    } else if bytes.starts_with(&COMMAND_MAGIC_3) {
-        Some(Version::Three)
+    let version = Version::of_magic(bytes)?;
+    if bytes.starts_with(&command_magic(version)) {
+        Some(version)
     } else {
         None
     }

@@ -1,5 +1,5 @@
 //! The versions of command files and journals.
-ghost use Rattle.std.specs.Prelude.{◌≢◌, ◌↔◌, IsTrue, MatchOption};
+ghost use Rattle.std.specs.Prelude.{◌≢◌, ◌↔◌, ◌+◌, get_or, IsTrue, MatchOption};
 
 /// A version of the formats. Each has all commands of those before it.
 #[derive(Clone, Copy, PartialEq, Eq)]
@@ -37,6 +37,16 @@ impl Version {
             3 => Some(Version::Three),
             _ => None,
         }
+    }
+
+    /// The version whose number is the digit that ends the eight bytes of a magic; `None` exactly where none of its numbers
+    /// stands there. Constant cost.
+    pub fn of_magic(bytes: &[u8]) -> Option<Version>
+        ensures { MatchOption result ((version : Version) → get_or bytes.now 7 0 ≢ 48 + number_of version)
+            (λ version. get_or bytes.now 7 0 ≡ 48 + number_of version) }
+    {
+        let digit = bytes.get(7)?;
+        Version::of_number(digit.checked_sub(b'0')?)
     }
 
     /// The highest tag of one of its commands.

@@ -8,19 +8,9 @@ ghost use Rattle.wire_records.specs.Private.{room_of};
 ghost use Rattle.wire_records.specs.Views.{command_in};
 
 use crate::Command;
-use std::alloc::AllocError;
+use out_of_memory::Memory;
 use weight_rows::Entry;
 use wire_fields::{put_bytes, put_i32, put_i64, put_u8, put_u16, put_u32, put_u64};
-
-/// There is no memory for what was asked. Nothing was changed.
-#[derive(Clone, Copy, Debug, PartialEq, Eq)]
-pub struct Memory;
-
-impl From<AllocError> for Memory {
-    fn from(_error: AllocError) -> Memory {
-        Memory
-    }
-}
 
 // The longest record of a command without a row takes as many bytes.
 const LONGEST: usize = 19;

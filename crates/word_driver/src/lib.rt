@@ -13,4 +13,5 @@ mod writing;
 
 pub use driver::go;
 pub use fault::{Fault, Halt, Never};
-pub use serves::{Memory, ServesWord};
+pub use out_of_memory::Memory;
+pub use serves::ServesWord;

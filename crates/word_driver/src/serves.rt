@@ -7,17 +7,6 @@ ghost use Rattle.word_driver.specs.Private.{IsOpened, IsTakenBy, HaltsAt, IsClos
 
 use crate::fault::Halt;
 use file_units::Front;
-use std::alloc::AllocError;
-
-/// There is no memory for what was asked.
-#[derive(Clone, Copy, PartialEq, Eq)]
-pub struct Memory;
-
-impl From<AllocError> for Memory {
-    fn from(_error: AllocError) -> Memory {
-        Memory
-    }
-}
 
 /// A word at work: it knows its state, and puts what is to be written into a buffer that the driver empties.
 pub trait ServesWord {

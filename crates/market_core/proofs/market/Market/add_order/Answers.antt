@@ -13,7 +13,7 @@ pub add-requires-clause-few : goal.add-requires-clause-few
 add-requires-clause-few c =
     let m = market_in c.self.inside in
     let first : FirstRefusal m (PlaceOrder c.args.place.now) None = rw (← c.self.view_is) at c.requires.accepted in
-    rw c.in-Ok.ensures.orders (accepted_is_few m c.args.place.now first)
+    rw c.in_ok-reserve_one.ensures.orders (accepted_is_few m c.args.place.now first)
 
 served : (c : goal.After-add) → ServesPlain (market_in c.self.inside) (PlaceOrder c.args.place.now) (Plain (OrderPlaced c.self.inside.next_order)) (record (market_in c.self.inside) { orders = c.add.new.self.orders; next_order = c.self.inside.next_order + 1 })
 served c =
@@ -23,7 +23,7 @@ served c =
     let high = to_z-of_z w64 c.high.result (record { sfits = c.high.type_inv }) in
     let row : c.new-row.result ≡ c.args.place.now.row = c.new-row.ensures ∙ c.in_ok-to_list.ensures ∙ c.row.ensures in
     let is : c.new.result ≡ placed m 0 c.args.place.now = c.new.ensures.value ∙ rw (low, high, c.account.ensures, c.low.ensures, c.high.ensures, c.rate.ensures, c.cap.ensures, row) refl in
-    serves-place NoOutcome m c.args.place.now c.new.result c.add.new.self.orders first is (c.add.ensures.orders ∙ ap (λ os. os ++ c.new.result ∷ []) c.in-Ok.ensures.orders)
+    serves-place NoOutcome m c.args.place.now c.new.result c.add.new.self.orders first is (c.add.ensures.orders ∙ ap (λ os. os ++ c.new.result ∷ []) c.in_ok-reserve_one.ensures.orders)
 
 pub invariant_of-self-2 : goal.invariant_of-self-2
 invariant_of-self-2 c = sound-served (market_in c.self.inside) _ _ _ (of_each c.self.inside.version (PlaceOrder c.args.place.now) (omega arith) (omega arith)) c.self.invariant (served c)

@@ -13,7 +13,7 @@ pub add-requires-clause-few : goal.add-requires-clause-few
 add-requires-clause-few c =
     let m = market_in c.self.inside in
     let first : FirstRefusal m (PlaceUntil c.args.last c.args.place.now) None = rw (← c.self.view_is) at c.requires.accepted in
-    rw c.in-Ok.ensures.orders (until_is_few m c.args.last c.args.place.now first)
+    rw c.in_ok-reserve_one.ensures.orders (until_is_few m c.args.last c.args.place.now first)
 
 served : (c : goal.After-add) → ServesPlain (market_in c.self.inside) (PlaceUntil c.args.last c.args.place.now) (Plain (OrderPlaced c.self.inside.next_order)) (record (market_in c.self.inside) { orders = c.add.new.self.orders; next_order = c.self.inside.next_order + 1 })
 served c =
@@ -23,7 +23,7 @@ served c =
     let high = to_z-of_z w64 c.high.result (record { sfits = c.high.type_inv }) in
     let row : c.new-row.result ≡ c.args.place.now.row = c.new-row.ensures ∙ c.in_ok-to_list.ensures ∙ c.row.ensures in
     let is : c.until.result ≡ placed m c.args.last c.args.place.now = c.until.ensures.value ∙ rw (low, high, c.account.ensures, c.low.ensures, c.high.ensures, c.rate.ensures, c.cap.ensures, row) refl in
-    serves-place_until NoOutcome m c.args.last c.args.place.now c.until.result c.add.new.self.orders first is (c.add.ensures.orders ∙ ap (λ os. os ++ c.until.result ∷ []) c.in-Ok.ensures.orders)
+    serves-place_until NoOutcome m c.args.last c.args.place.now c.until.result c.add.new.self.orders first is (c.add.ensures.orders ∙ ap (λ os. os ++ c.until.result ∷ []) c.in_ok-reserve_one.ensures.orders)
 
 pub invariant_of-self-2 : goal.invariant_of-self-2
 invariant_of-self-2 c = sound-served (market_in c.self.inside) _ _ _ (rw (← c.self.view_is) at c.requires.version) c.self.invariant (served c)

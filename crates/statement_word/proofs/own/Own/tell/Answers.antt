@@ -1,14 +1,16 @@
 use Rattle.std.proofs.Common.{refl}
+use Rattle.std.proofs.lemmas.Result.{on_ok_weaker}
 use Rattle.statement_word.proofs.Telling.{told_pair, untold_pair}
 use Rattle.statement_word.proofs.own.Own.tell.Goals as goal
 
 pub pair-requires-clause-agrees : goal.pair-requires-clause-agrees
 pair-requires-clause-agrees c = (c.requires.is_of.0 c.in-Some.statement c.in-Some.is).1
 
-pub returns-in-Ok-clause-told : goal.returns-in-Ok-clause-told
-returns-in-Ok-clause-told c = λ next legal.
-    told_pair c.args.self.now.number c.args.market.now c.args.pair.now c.in-Some.statement c.pair.new.self c.args.text.now.items c.pair.new.out.items next legal
-    (rw c.in-Some.is at c.requires.is_of) c.in-Ok.ensures.account c.requires.empty (c.in-Ok.ensures.told next legal)
+pub returns-in-Some-clause-told : goal.returns-in-Some-clause-told
+returns-in-Some-clause-told c = on_ok_weaker c.pair.result
+    (λ told. λ next legal. told_pair c.args.self.now.number c.args.market.now c.args.pair.now c.in-Some.statement c.pair.new.self c.args.text.now.items c.pair.new.out.items next legal
+    (rw c.in-Some.is at c.requires.is_of) c.pair.ensures.account c.requires.empty (told next legal))
+    c.pair.ensures.told
 
 pub returns-in-None-clause-told : goal.returns-in-None-clause-told
 returns-in-None-clause-told c = λ next legal.
