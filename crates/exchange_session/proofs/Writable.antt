@@ -1,5 +1,5 @@
 -- What a batch comes to can be written.
-use Rattle.std.proofs.Common.{ℕ, ◌≤◌, ℤ, List, length, Result, Ok, Err, IfOk, ap, sym, ◌∙◌, tt, arith}
+use Rattle.std.proofs.Common.{ℕ, ◌≤◌, ℤ, List, length, Result, Ok, Err, IfOk, ap, sym, ◌∙◌, arith}
 use Rattle.std.specs.List.{range_with_len}
 use Rattle.std.proofs.lemmas.List.{length-map}
 use Rattle.std.proofs.lemmas.List.FromFn.{length-range_with_len}
