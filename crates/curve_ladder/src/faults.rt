@@ -7,6 +7,7 @@ ghost use Rattle.curve_ladder.specs.Ladders.{IsLadder, HasLawfulCount, HasSoundP
 ghost use Rattle.curve_ladder.specs.Faults.{FailsFirstAt, IsFaultOf};
 
 use crate::points::Point;
+use flow_orders::{MOST_RATE, MOST_TICKS};
 
 /// The fewest points of a ladder.
 const LEAST_POINTS: usize = 2;
@@ -16,12 +17,6 @@ pub const MOST_POINTS: usize = 33;
 
 /// The most turns of a ladder.
 pub const MOST_TURNS: u32 = 65_536;
-
-// No price is more ticks away from 0.
-const MOST_TICKS: i64 = 1 << 28;
-
-// The highest rate, in units per batch.
-const MOST_RATE: u32 = 1 << 24;
 
 /// Why points and turns are no ladder. Places are counted from 0, and are the first that breaks the rule.
 #[derive(Clone, Copy, PartialEq, Eq)]

@@ -27,4 +27,4 @@ mod top;
 
 pub use form::Form;
 pub use status::Status;
-pub use top::{flow, flow_limited};
+pub use top::{INPUT_LIMIT, flow, flow_limited};

@@ -22,8 +22,8 @@ use crate::statement::statement;
 use flow_io::{Sink, Source};
 use std::alloc::Global;
 
-// The most bytes of input that the program considers.
-const INPUT_LIMIT: u64 = 1 << 32;
+/// The most bytes of input that the program considers.
+pub const INPUT_LIMIT: u64 = 1 << 32;
 
 // What a form does.
 fn do_form<S: Source, K: Sink>(

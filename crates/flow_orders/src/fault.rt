@@ -3,11 +3,11 @@ ghost use Rattle.std.specs.Prelude.{◌≡◌, ◌↔◌, IsTrue, IsNone};
 ghost use Rattle.demand_curve.specs.Demand.{most_rate};
 ghost use Rattle.flow_orders.specs.Orders.{AreLimits, IsFrom1To, most_cap};
 
-// No limit price is more ticks away from 0.
-const MOST_TICKS: i64 = 1 << 28;
+/// No limit price is more ticks away from 0.
+pub const MOST_TICKS: i64 = 1 << 28;
 
-// The highest rate, in units per batch.
-const MOST_RATE: u32 = 1 << 24;
+/// The highest rate, in units per batch.
+pub const MOST_RATE: u32 = 1 << 24;
 
 // The highest cap, in units.
 const MOST_CAP: u64 = 1 << 40;

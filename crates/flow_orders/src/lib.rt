@@ -22,7 +22,7 @@ mod needs;
 mod order;
 
 pub use bounds::{spread, steepness};
-pub use fault::{OrderFault, order_fault};
+pub use fault::{MOST_RATE, MOST_TICKS, OrderFault, order_fault};
 pub use left_over::add_residuals;
 pub use needs::{money_need, unit_need};
 pub use order::{GRAINS_PER_TICK, Order};

@@ -6,12 +6,16 @@ ghost use Rattle.journal_disk.specs.Entries.{disk_magic_of, disk_magics};
 
 use wire_records::Version;
 
-// The magic of a disk of each version.
-const MAGIC: [u8; 8] = *b"FLOWDSK1";
-
-const MAGIC_2: [u8; 8] = *b"FLOWDSK2";
-
-const MAGIC_3: [u8; 8] = *b"FLOWDSK3";
+// The magic of a disk of a version.
+fn disk_magic(version: Version) -> [u8; 8]
+    ensures { result ≡ disk_magic_of version }
+{
+    match version {
+        Version::One => *b"FLOWDSK1",
+        Version::Two => *b"FLOWDSK2",
+        Version::Three => *b"FLOWDSK3",
+    }
+}
 
 // The version of which the bytes begin as a disk. Constant cost.
 pub(crate) fn disk_version(bytes: &[u8]) -> Option<Version>
@@ -19,12 +23,9 @@ pub(crate) fn disk_version(bytes: &[u8]) -> Option<Version>
         ↔ ((body : List ℕ) × BeginsWith disk_magics bytes.now version body) }
     ensures none { IfNone result (BeginsWithNone disk_magics bytes.now) }
 {
-    if bytes.starts_with(&MAGIC) {
-        Some(Version::One)
-    } else if bytes.starts_with(&MAGIC_2) {
-        Some(Version::Two)
-    } else if bytes.starts_with(&MAGIC_3) {
-        Some(Version::Three)
+    let version = Version::of_magic(bytes)?;
+    if bytes.starts_with(&disk_magic(version)) {
+        Some(version)
     } else {
         None
     }
@@ -34,9 +35,7 @@ pub(crate) fn disk_version(bytes: &[u8]) -> Option<Version>
 pub(crate) fn new_disk(version: Version) -> [u8; 9]
     ensures { result ≡ disk_magic_of version ++ 0 ∷ [] }
 {
-    match version {
-        Version::One => *b"FLOWDSK1\0",
-        Version::Two => *b"FLOWDSK2\0",
-        Version::Three => *b"FLOWDSK3\0",
-    }
+    let mut disk = [0; 9];
+    disk[..8].copy_from_slice(&disk_magic(version));
+    disk
 }

@@ -5,13 +5,10 @@ ghost use Rattle.kept_exchange.specs.Keeping.{IsRefusal, ServesKeep};
 
 use crate::ending::status_of;
 use disk_edge::Disk;
-use flow_exchange::Status;
+use flow_exchange::{INPUT_LIMIT, Status};
 use flow_io::{Sink, Source};
 use journal_keeping::keep;
 use std::alloc::Global;
-
-// The most bytes of input that the program considers.
-const INPUT_LIMIT: u64 = 1 << 32;
 
 /// The call with the input limit handed in, which is at most 2^32: [`flow_disk`] has it at 2^32.
 pub fn flow_disk_limited<S: Source, D: Disk, K: Sink, N: Sink>(
