@@ -9,7 +9,7 @@ use Rattle.std.proofs.lemmas.List.Filters.{length-filter_both}
 use Rattle.list_sums.specs.Sums.{int_sum_by}
 use Rattle.weight_rows.specs.Rows.{IsPricedBy}
 use Rattle.demand_curve.proofs.RoundingLaws.{rounding_is_within_room}
-use Rattle.wire_records.specs.Commands.{Command, AddAsset, DepositMoney, DepositAsset, WithdrawMoney, WithdrawAsset, PlaceOrder, CancelOrder, PlaceUntil, Answer, Plain, Batch}
+use Rattle.wire_records.specs.Commands.{Command, AddAsset, DepositMoney, DepositAsset, WithdrawMoney, WithdrawAsset, Place, CancelOrder, Answer, Plain, Batch}
 use Rattle.wire_records.specs.declared.reply.Reply.{Reply}
 use Rattle.wire_records.specs.declared.reply.Reply.TheVariants as reply
 use Rattle.wire_records.specs.declared.reply.Refusal.{Refusal}
@@ -137,12 +137,12 @@ module _ (account : ℕ) (m n : Market) (h : Holding) (sound : IsSound m) (sound
   few_orders few = omega (arith, few, few_pass (λ (o : Order). o.account == account) m.orders, ap length held.orders)
 
   may_order : (c : Command) (number : ℕ) → Names account c → FirstRefusal m c None → Accepts IsRightOutcome m c (Plain (reply.Order number)) n → MayOrder account h number c
-  may_order (PlaceOrder r) number names none accepts =
+  may_order (Place last r) number names none accepts =
       let one = past_unless none in
       let two = past_unless one.1 in
       let three = past_unless two.1 in
       let four = past_unless three.1 in
-      let five = past_unless four.1 in
+      let five = past_unless (past_unless four.1).1 in
       let six = past_unless five.1 in
       let seven = past_when six.1 in
       record {
@@ -154,27 +154,6 @@ module _ (account : ℕ) (m n : Market) (h : Holding) (sound : IsSound m) (sound
         few = few_orders (not_least most_orders (length m.orders) seven.0);
         above = above_all number (same_order number m.next_order accepts.0);
       }
-  may_order (PlaceUntil last r) number names none accepts =
-      let one = past_unless none in
-      let two = past_unless one.1 in
-      let three = past_unless two.1 in
-      let four = past_unless three.1 in
-      let later = past_when four.1 in
-      let five = past_unless later.1 in
-      let six = past_unless five.1 in
-      let seven = past_when six.1 in (
-        record {
-          own = sym names;
-          limits = two.0;
-          rate = three.0;
-          cap = four.0;
-          row = five.0;
-          few = few_orders (not_least most_orders (length m.orders) seven.0);
-          above = above_all number (same_order number m.next_order accepts.0);
-        },
-        let more = not_least last m.batches later.0 in omega (arith, more),
-      )
-  may_order (AddAsset ticker) number names none accepts = tt
   may_order command number names none accepts = tt
 
   -- the account is there

@@ -4,7 +4,7 @@ use Rattle.list_sums.specs.Sums.{int_sum_by}
 use Rattle.weight_rows.specs.Rows.{IsLawfulRow, IsPrice, IsPricedBy}
 use Rattle.demand_curve.specs.Demand.{most_rate}
 use Rattle.ticker_table.specs.Adding.{IsAddable}
-use Rattle.wire_records.specs.Commands.{Request, Command, AddAsset, OpenAccount, DepositMoney, DepositAsset, WithdrawMoney, WithdrawAsset, PlaceOrder, CancelOrder, RunBatch, PlaceUntil, SetMoneyCredit, SetUnitCredit, Answer, Plain, Batch}
+use Rattle.wire_records.specs.Commands.{Request, Command, AddAsset, OpenAccount, DepositMoney, DepositAsset, WithdrawMoney, WithdrawAsset, Place, CancelOrder, RunBatch, SetMoneyCredit, SetUnitCredit, Answer, Plain, Batch}
 use Rattle.wire_records.specs.declared.reply.Reply.{Reply}
 use Rattle.wire_records.specs.declared.reply.Reply.TheVariants as reply
 use Rattle.flow_accounts.specs.Balances.{grains}
@@ -38,10 +38,9 @@ Names named (DepositMoney account ticks) = named ≡ account
 Names named (DepositAsset account asset units) = named ≡ account
 Names named (WithdrawMoney account ticks) = named ≡ account
 Names named (WithdrawAsset account asset units) = named ≡ account
-Names named (PlaceOrder request) = named ≡ request.account
+Names named (Place last request) = named ≡ request.account
 Names named (CancelOrder account number) = named ≡ account
 Names named (RunBatch budget) = ⊥
-Names named (PlaceUntil last request) = named ≡ request.account
 Names named (SetMoneyCredit account ticks) = named ≡ account
 Names named (SetUnitCredit account asset units) = named ≡ account
 
@@ -53,10 +52,9 @@ NamesNone (DepositMoney account ticks) = ⊥
 NamesNone (DepositAsset account asset units) = ⊥
 NamesNone (WithdrawMoney account ticks) = ⊥
 NamesNone (WithdrawAsset account asset units) = ⊥
-NamesNone (PlaceOrder request) = ⊥
+NamesNone (Place last request) = ⊥
 NamesNone (CancelOrder account number) = ⊥
 NamesNone (RunBatch budget) = ⊤
-NamesNone (PlaceUntil last request) = ⊥
 NamesNone (SetMoneyCredit account ticks) = ⊥
 NamesNone (SetUnitCredit account asset units) = ⊥
 
@@ -139,16 +137,14 @@ MayDo h (WithdrawAsset account asset units) = (asset < length h.tickers) × IsUn
 MayDo h (CancelOrder account number) = HasOrder h.orders account number
 MayDo h (AddAsset ticker) = ⊤
 MayDo h OpenAccount = ⊤
-MayDo h (PlaceOrder request) = ⊤
+MayDo h (Place last request) = ⊤
 MayDo h (RunBatch budget) = ⊤
-MayDo h (PlaceUntil last request) = ⊤
 MayDo h (SetMoneyCredit account ticks) = ⊤
 MayDo h (SetUnitCredit account asset units) = ⊤
 
 -- the order of a command is like a new one
 abbrev pub MayOrder : ℕ → Holding → ℕ → Command → Type 0
-MayOrder account h number (PlaceOrder r) = MayPlace account h number r
-MayOrder account h number (PlaceUntil last r) = MayPlace account h number r × (1 ≤ last)
+MayOrder account h number (Place last r) = MayPlace account h number r
 MayOrder account h number (AddAsset ticker) = ⊤
 MayOrder account h number OpenAccount = ⊤
 MayOrder account h number (DepositMoney named ticks) = ⊤

@@ -115,8 +115,8 @@ impl Statement {
         ensures stays { OnErr result (self.new ≡ self.old) }
     {
         match *command {
-            CommandView::PlaceOrder(ref place) => self.place(number, place),
-            CommandView::PlaceUntil { last, ref place } => self.place_until(number, last, place),
+            CommandView::PlaceOrder(ref place) => self.place(number, None, place),
+            CommandView::PlaceUntil { last, ref place } => self.place(number, Some(last), place),
             CommandView::AddAsset(_) => Ok(()),
             CommandView::OpenAccount => Ok(()),
             CommandView::DepositMoney { .. } => Ok(()),
@@ -131,42 +131,22 @@ impl Statement {
     }
 
     // Adds the order that was placed under a number.
-    fn place(&mut self, number: u64, place: &PlaceView<'_>) -> Result<(), Memory>
+    fn place(&mut self, number: u64, last: Option<u32>, place: &PlaceView<'_>) -> Result<(), Memory>
         requires { MayPlace self.old.account (holding_of self.old) number place.now }
-        ensures after { OnOk result (self.new ≡ record (self.old) { orders = self.old.orders ++ ordered number 0 place.now ∷ [] }) }
-        ensures stays { OnErr result (self.new ≡ self.old) }
-    {
-        self.book.reserve_one()?;
-        let row = WeightRow::new(place.row().to_list(self.alloc)?);
-        self.book.add(Order::new(
-            number,
-            place.account(),
-            place.low(),
-            place.high(),
-            place.rate(),
-            place.cap(),
-            row,
-        ));
-        Ok(())
-    }
-
-    // The same of one with a last batch.
-    fn place_until(&mut self, number: u64, last: u32, place: &PlaceView<'_>) -> Result<(), Memory>
-        requires may { MayPlace self.old.account (holding_of self.old) number place.now }
-        requires last { 1 ≤ last }
         ensures after { OnOk result (self.new ≡ record (self.old) { orders = self.old.orders ++ ordered number last place.now ∷ [] }) }
         ensures stays { OnErr result (self.new ≡ self.old) }
     {
         self.book.reserve_one()?;
         let row = WeightRow::new(place.row().to_list(self.alloc)?);
-        self.book.add(Order::until(
+        self.book.add(Order::restore(
             number,
             place.account(),
             place.low(),
             place.high(),
             place.rate(),
             place.cap(),
-            last,
+            0,
+            last.unwrap_or(0),
             row,
         ));
         Ok(())

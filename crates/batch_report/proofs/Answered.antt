@@ -1,7 +1,7 @@
 -- Which commands are answered by Done, and which by the number of an order.
 use Rattle.std.proofs.Common.{◌≡◌, ◌++◌, ℕ, List, codes, decimal, refl, Result, Ok, Err, Option, Some, None, sym, subst, ◌∙◌}
 use Rattle.wire_records.specs.Records.{Record}
-use Rattle.wire_records.specs.Commands.{Command, AddAsset, OpenAccount, PlaceOrder, RunBatch, PlaceUntil, Answer, Plain, Batch}
+use Rattle.wire_records.specs.Commands.{Command, AddAsset, OpenAccount, Place, RunBatch, Answer, Plain, Batch}
 use Rattle.wire_records.specs.Versions.{IsReadAs}
 use Rattle.wire_records.specs.declared.command.BodyFault.{BodyFault}
 use Rattle.wire_records.specs.declared.reply.Reply.TheVariants.{Done, Asset, Account, Order, Refused}
@@ -42,16 +42,14 @@ done_answers : (m : Market) (c : Command) (first : Option Refusal) (a : Answer O
 done_answers m c (Some refusal) a n says answers = absurd (subst says_done answers.0 says)
 done_answers m (AddAsset ticker) None a n says answers = absurd (subst says_done answers.0 says)
 done_answers m OpenAccount None a n says answers = absurd (subst says_done answers.0 says)
-done_answers m (PlaceOrder request) None a n says answers = absurd (subst says_done answers.0 says)
 done_answers m (RunBatch budget) None a n says answers = absurd (subst says_done answers.2.0 says)
-done_answers m (PlaceUntil last request) None a n says answers = absurd (subst says_done answers.0 says)
+done_answers m (Place last request) None a n says answers = absurd (subst says_done answers.0 says)
 done_answers m command None a n says answers = tt
 
 order_answers : (m : Market) (c : Command) (first : Option Refusal) (a : Answer Outcome) (n : Market) → says_order a → Answers IsRightOutcome m c first a n → IsPlacing c
 order_answers m c (Some refusal) a n says answers = absurd (subst says_order answers.0 says)
-order_answers m (PlaceOrder request) None a n says answers = tt
 order_answers m (RunBatch budget) None a n says answers = absurd (subst says_order answers.2.0 says)
-order_answers m (PlaceUntil last request) None a n says answers = tt
+order_answers m (Place last request) None a n says answers = tt
 order_answers m command None a n says answers = absurd (subst says_order answers.0 says)
 
 -- the command that a record is read as is the one that is served

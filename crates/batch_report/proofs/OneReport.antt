@@ -1,7 +1,7 @@
 -- A pair has one text.
 use Rattle.std.proofs.Common.{◌≡◌, ℕ, List, ◌++◌, codes, decimal, Ok, sym, ap, subst, ◌∙◌}
 use Rattle.wire_records.specs.Records.{Record}
-use Rattle.wire_records.specs.Commands.{Command, AddAsset, OpenAccount, PlaceOrder, RunBatch, PlaceUntil, Answer, Plain, Batch}
+use Rattle.wire_records.specs.Commands.{Command, AddAsset, OpenAccount, Place, RunBatch, Answer, Plain, Batch}
 use Rattle.wire_records.specs.Versions.{IsReadAs}
 use Rattle.wire_records.specs.declared.version.Version.{Version}
 use Rattle.wire_records.specs.declared.reply.Reply.TheVariants.{Done, Asset, Account, Order, Refused}
@@ -16,15 +16,13 @@ use Rattle.batch_report.specs.Laws.{OneReport}
 one_done : (tickers : List (List ℕ)) (command : Command) (x y : List ℕ) → TellsDone tickers command x → TellsDone tickers command y → x ≡ y
 one_done tickers (AddAsset ticker) x y a b = absurd a
 one_done tickers OpenAccount x y a b = absurd a
-one_done tickers (PlaceOrder request) x y a b = absurd a
 one_done tickers (RunBatch budget) x y a b = absurd a
-one_done tickers (PlaceUntil last request) x y a b = absurd a
+one_done tickers (Place last request) x y a b = absurd a
 one_done tickers command x y a b = a ∙ sym b
 
 -- one line is told of a command that placed an order
 one_placing : (tickers : List (List ℕ)) (order : ℕ) (command : Command) (x y : List ℕ) → TellsPlacing tickers order command x → TellsPlacing tickers order command y → x ≡ y
-one_placing tickers order (PlaceOrder request) x y a b = a ∙ sym b
-one_placing tickers order (PlaceUntil last request) x y a b = a ∙ sym b
+one_placing tickers order (Place last request) x y a b = a ∙ sym b
 one_placing tickers order command x y a b = absurd a
 
 -- a record asks for one command

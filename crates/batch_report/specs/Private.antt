@@ -1,7 +1,7 @@
 -- Words that only private functions of the report use.
 use Rattle.std.specs.Prelude.{ℕ, List, slice_index_or, ⊤}
 use Rattle.wire_records.specs.Records.{Record}
-use Rattle.wire_records.specs.Commands.{Command, AddAsset, OpenAccount, DepositMoney, DepositAsset, WithdrawMoney, WithdrawAsset, PlaceOrder, CancelOrder, RunBatch, PlaceUntil, SetMoneyCredit, SetUnitCredit, Answer}
+use Rattle.wire_records.specs.Commands.{Command, AddAsset, OpenAccount, DepositMoney, DepositAsset, WithdrawMoney, WithdrawAsset, Place, CancelOrder, RunBatch, SetMoneyCredit, SetUnitCredit, Answer}
 use Rattle.wire_records.specs.Versions.{IsReadAs}
 use Rattle.flow_orders.specs.Outcomes.{Fill, Outcome, IsRightOutcome}
 use Rattle.market_rules.specs.Market.{Market}
@@ -23,10 +23,9 @@ IsDone (DepositMoney account ticks) = ⊤
 IsDone (DepositAsset account asset units) = ⊤
 IsDone (WithdrawMoney account ticks) = ⊤
 IsDone (WithdrawAsset account asset units) = ⊤
-IsDone (PlaceOrder request) = ⊥
+IsDone (Place last request) = ⊥
 IsDone (CancelOrder account number) = ⊤
 IsDone (RunBatch budget) = ⊥
-IsDone (PlaceUntil last request) = ⊥
 IsDone (SetMoneyCredit account ticks) = ⊤
 IsDone (SetUnitCredit account asset units) = ⊤
 
@@ -38,9 +37,8 @@ IsPlacing (DepositMoney account ticks) = ⊥
 IsPlacing (DepositAsset account asset units) = ⊥
 IsPlacing (WithdrawMoney account ticks) = ⊥
 IsPlacing (WithdrawAsset account asset units) = ⊥
-IsPlacing (PlaceOrder request) = ⊤
+IsPlacing (Place last request) = ⊤
 IsPlacing (CancelOrder account number) = ⊥
 IsPlacing (RunBatch budget) = ⊥
-IsPlacing (PlaceUntil last request) = ⊤
 IsPlacing (SetMoneyCredit account ticks) = ⊥
 IsPlacing (SetUnitCredit account asset units) = ⊥

@@ -1,9 +1,9 @@
 -- The text of a pair of a journal. Numbers are plain decimal; prices, gaps and duals are in grains, limits in ticks.
-use Rattle.std.specs.Prelude.{◌≡◌, ℕ, List, length, codes, decimal, Ok}
+use Rattle.std.specs.Prelude.{◌≡◌, ℕ, List, length, codes, decimal, Option, Ok}
 use Rattle.std.specs.Fmt.{signed_decimal}
 use Rattle.std.specs.List.{flat_map, range_with_len}
 use Rattle.wire_records.specs.Records.{Record}
-use Rattle.wire_records.specs.Commands.{Request, Command, AddAsset, OpenAccount, DepositMoney, DepositAsset, WithdrawMoney, WithdrawAsset, PlaceOrder, CancelOrder, RunBatch, PlaceUntil, SetMoneyCredit, SetUnitCredit, Answer, Plain, Batch}
+use Rattle.wire_records.specs.Commands.{Request, Command, AddAsset, OpenAccount, DepositMoney, DepositAsset, WithdrawMoney, WithdrawAsset, Place, CancelOrder, RunBatch, SetMoneyCredit, SetUnitCredit, Answer, Plain, Batch}
 use Rattle.wire_records.specs.Versions.{IsReadAs}
 use Rattle.wire_records.specs.Refusals.{code_of}
 use Rattle.wire_records.specs.declared.reply.Reply.TheVariants.{Done, Asset, Account, Order, Refused}
@@ -12,7 +12,7 @@ use Rattle.weight_rows.specs.Rows.{price_of}
 use Rattle.flow_orders.specs.Residuals.{residual_in}
 use Rattle.journal_records.specs.Replies.{SpellsAnswer}
 use Rattle.market_rules.specs.Market.{Market}
-use Rattle.pair_text.specs.Texts.{◌then◌, asset_name, entry_text}
+use Rattle.pair_text.specs.Texts.{◌then◌, asset_name, entry_text, last_text}
 
 -- a deposit, a withdrawal or a credit in money
 abbrev pub money_text : List ℕ → ℕ → ℕ → List ℕ
@@ -30,12 +30,8 @@ numbers_text order r =
     then codes " high " then signed_decimal r.high then codes " rate " then decimal r.rate then codes " cap " then decimal r.cap
 
 -- an order under its number
-abbrev pub order_text : List (List ℕ) → ℕ → Request → List ℕ
-order_text tickers order r = numbers_text order r then flat_map (entry_text tickers) r.row
-
--- the same of one with a last batch
-abbrev pub until_text : List (List ℕ) → ℕ → ℕ → Request → List ℕ
-until_text tickers order last r = numbers_text order r then codes " last " then decimal last then flat_map (entry_text tickers) r.row
+abbrev pub order_text : List (List ℕ) → ℕ → Option ℕ → Request → List ℕ
+order_text tickers order last r = numbers_text order r then last_text last then flat_map (entry_text tickers) r.row
 
 -- the line of an asset in a batch that cleared
 abbrev pub price_line : List (List ℕ) → Clearing → ℕ → List ℕ
@@ -68,16 +64,14 @@ TellsDone tickers (WithdrawAsset account asset units) text = text ≡ units_text
 TellsDone tickers (CancelOrder account number) text = text ≡ codes "cancel order " then decimal number
 TellsDone tickers (AddAsset ticker) text = ⊥
 TellsDone tickers OpenAccount text = ⊥
-TellsDone tickers (PlaceOrder request) text = ⊥
+TellsDone tickers (Place last request) text = ⊥
 TellsDone tickers (RunBatch budget) text = ⊥
-TellsDone tickers (PlaceUntil last request) text = ⊥
 TellsDone tickers (SetMoneyCredit account ticks) text = text ≡ money_text (codes "credit") account ticks
 TellsDone tickers (SetUnitCredit account asset units) text = text ≡ units_text (codes "credit") tickers account asset units
 
 -- what is told of a command that placed the order of a number
 abbrev pub TellsPlacing : List (List ℕ) → ℕ → Command → List ℕ → Type 0
-TellsPlacing tickers order (PlaceOrder request) text = text ≡ order_text tickers order request
-TellsPlacing tickers order (PlaceUntil last request) text = text ≡ until_text tickers order last request
+TellsPlacing tickers order (Place last request) text = text ≡ order_text tickers order last request
 TellsPlacing tickers order (AddAsset ticker) text = ⊥
 TellsPlacing tickers order OpenAccount text = ⊥
 TellsPlacing tickers order (DepositMoney account ticks) text = ⊥

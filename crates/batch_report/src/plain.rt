@@ -6,7 +6,7 @@ ghost use Rattle.wire_records.specs.declared.reply.Reply.TheVariants as reply;
 ghost use Rattle.wire_records.specs.Versions.{IsReadAs};
 ghost use Rattle.wire_records.specs.Views.{command_of};
 ghost use Rattle.pair_text.specs.Texts.{◌then◌, asset_name};
-ghost use Rattle.batch_report.specs.Reports.{money_text, units_text, numbers_text, order_text, until_text, TellsDone, TellsPlacing, Tells};
+ghost use Rattle.batch_report.specs.Reports.{money_text, units_text, numbers_text, order_text, TellsDone, TellsPlacing, Tells};
 ghost use Rattle.batch_report.specs.Private.{IsAnswered, IsDone, IsPlacing};
 
 use market_core::Market;
@@ -134,30 +134,16 @@ fn put_numbers(place: &PlaceView<'_>, order: u64, out: &mut Text) -> Result<(), 
 // An order under its number.
 fn put_order(
     tickers: &TickerTable,
+    last: Option<u32>,
     place: &PlaceView<'_>,
     order: u64,
     out: &mut Text,
 ) -> Result<(), Memory>
     ensures before { out.new.before ≡ out.old.before }
-    ensures put { OnOk result (out.new.text ≡ out.old.text ++ order_text tickers.now order place.now) }
+    ensures put { OnOk result (out.new.text ≡ out.old.text ++ order_text tickers.now order last place.now) }
 {
     put_numbers(place, order, out)?;
-    out.put_entries(tickers, &place.row())
-}
-
-// An order with a last batch under its number.
-fn put_until(
-    tickers: &TickerTable,
-    place: &PlaceView<'_>,
-    last: u32,
-    order: u64,
-    out: &mut Text,
-) -> Result<(), Memory>
-    ensures before { out.new.before ≡ out.old.before }
-    ensures put { OnOk result (out.new.text ≡ out.old.text ++ until_text tickers.now order last place.now) }
-{
-    put_numbers(place, order, out)?;
-    out.put_number(b" last ", last)?;
+    out.put_last(last)?;
     out.put_entries(tickers, &place.row())
 }
 
@@ -174,9 +160,9 @@ fn put_placing(
         × (out.new.text ≡ out.old.text ++ line)) }
 {
     match *command {
-        CommandView::PlaceOrder(ref place) => put_order(tickers, place, order, out),
+        CommandView::PlaceOrder(ref place) => put_order(tickers, None, place, order, out),
         CommandView::PlaceUntil { last, ref place } => {
-            put_until(tickers, place, last, order, out)
+            put_order(tickers, Some(last), place, order, out)
         }
         CommandView::AddAsset(_) => unreachable!(),
         CommandView::OpenAccount => unreachable!(),

@@ -1,7 +1,7 @@
 //! A lawful ladder.
 ghost use Rattle.std.specs.Prelude.{◌≡◌, ◌+◌, ◌∷◌, ◌++◌, ◌≤◌, ◌^◌, ◌↔◌, length, map, slice_get, IsNone, OnOk, IfOk, All, vec_len, vec_capacity};
 ghost use Rattle.demand_curve.specs.Demand.{IsWithin};
-ghost use Rattle.wire_records.specs.Commands.{PlaceOrder};
+ghost use Rattle.wire_records.specs.Commands.{Place};
 ghost use Rattle.wire_records.specs.CommandRecords.{most_row, HasShortRow};
 ghost use Rattle.wire_records.specs.Views.{command_in};
 
@@ -132,7 +132,7 @@ impl Ladder {
     ) -> Result<CommandList, Memory>
         requires { length row.now ≤ most_row }
         ensures value { IfOk result (λ list.
-            map command_in list ≡ map PlaceOrder (requests_of self.now account row.now)) }
+            map command_in list ≡ map (Place None) (requests_of self.now account row.now)) }
         ensures together { AskTogether self.now (map curve_asked (requests_of self.now account row.now)) }
         ensures short { IfOk result (All (λ command. HasShortRow (command_in command))) }
         ensures ladder { IsLadder self.now }
@@ -168,7 +168,7 @@ impl Ladder {
     ) -> Result<(), Memory>
         requires { vec_len commands.old + length (segments_of self.now) ≤ vec_capacity commands.old }
         ensures { OnOk result (map command_in commands.new.items
-            ≡ map command_in commands.old.items ++ map PlaceOrder (requests_of self.now account row.now)) }
+            ≡ map command_in commands.old.items ++ map (Place None) (requests_of self.now account row.now)) }
     {
         let (mut point, rest) = self.parts();
         for next in rest {

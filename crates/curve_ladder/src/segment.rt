@@ -1,6 +1,6 @@
 //! One segment of a ladder: the order that a drop of the rate becomes.
 ghost use Rattle.std.specs.Prelude.{◌≡◌, true, false, MatchOption, IfOk};
-ghost use Rattle.wire_records.specs.Commands.{PlaceOrder};
+ghost use Rattle.wire_records.specs.Commands.{Place};
 ghost use Rattle.wire_records.specs.Views.{command_in};
 ghost use Rattle.curve_ladder.specs.Segments.{segment_between, is_drop, request_of};
 
@@ -31,7 +31,7 @@ impl Segment {
         account: u32,
         row: &EntryList,
     ) -> Result<Command, Memory>
-        ensures { IfOk result (λ command. command_in command ≡ PlaceOrder (request_of account row.now self.now)) }
+        ensures { IfOk result (λ command. command_in command ≡ Place None (request_of account row.now self.now)) }
     {
         let row = EntryList::new(Vec::from_slice(alloc, row.as_slice())?);
         Ok(Command::PlaceOrder {

@@ -4,7 +4,7 @@ use Rattle.std.specs.Prelude.{All, unsigned_abs, slice_index_or}
 use Rattle.std.proofs.lemmas.Int.{ints}
 use Rattle.std.proofs.lemmas.List.Elements.{All-nil, All-cons, All-head, All-tail}
 use Rattle.wire_records.specs.Records.{Record, IsRecord, most_body}
-use Rattle.wire_records.specs.Commands.{Pair, Command, AddAsset, OpenAccount, PlaceOrder, RunBatch, PlaceUntil, Answer, Plain, Batch}
+use Rattle.wire_records.specs.Commands.{Pair, Command, AddAsset, OpenAccount, Place, RunBatch, Answer, Plain, Batch}
 use Rattle.wire_records.specs.Versions.{IsReadAs}
 use Rattle.wire_records.specs.declared.reply.Reply.{Reply}
 use Rattle.wire_records.specs.declared.reply.Reply.TheVariants as reply
@@ -64,8 +64,7 @@ accepted_rise m command a n accepts = omega (arith, ap (λ (x : Market). x.next_
 accepted_fits : (m : Market) (c : Command) (a : Answer Outcome) (n : Market) → IsSound m → FirstRefusal m c None → Accepts IsRightOutcome m c a n → n.next_order < 2 ^ 64 → Fits a
 accepted_fits m (AddAsset ticker) a n sound none accepts next = rw accepts.0 (plain_fits (reply.Asset (length m.tickers)) (omega (arith, sound.tickers.few)))
 accepted_fits m OpenAccount a n sound none accepts next = rw accepts.0 (plain_fits (reply.Account _) (omega (arith, sound.few_accounts)))
-accepted_fits m (PlaceOrder r) a n sound none accepts next = rw accepts.0 (plain_fits (reply.Order m.next_order) (omega (arith, ap (λ (x : Market). x.next_order) accepts.1, next)))
-accepted_fits m (PlaceUntil last r) a n sound none accepts next = rw accepts.0 (plain_fits (reply.Order m.next_order) (omega (arith, ap (λ (x : Market). x.next_order) accepts.1, next)))
+accepted_fits m (Place last r) a n sound none accepts next = rw accepts.0 (plain_fits (reply.Order m.next_order) (omega (arith, ap (λ (x : Market). x.next_order) accepts.1, next)))
 accepted_fits m (RunBatch budget) a n sound none accepts next =
     let outcome = accepts.0 in
     let before : m.next_order < 2 ^ 64 = omega (arith, ap (λ (x : Market). x.next_order) accepts.2.1, batch_numbers_none m outcome, next) in

@@ -4,7 +4,7 @@ use Rattle.std.specs.Prelude.{All, not, ◌==◌}
 use Rattle.std.specs.List.{flat_map}
 use Rattle.std.proofs.lemmas.List.Elements.{All-nil, All-push, All-map, All-filter}
 use Rattle.wire_records.specs.Records.{Record}
-use Rattle.wire_records.specs.Commands.{Command, PlaceOrder, CancelOrder, RunBatch, PlaceUntil, Answer, Pair}
+use Rattle.wire_records.specs.Commands.{Command, Place, CancelOrder, RunBatch, Answer, Pair}
 use Rattle.wire_records.specs.CommandRecords.{IsCommand}
 use Rattle.wire_records.specs.Versions.{IsReadAs}
 use Rattle.wire_records.specs.Reading.{Ending, End, Torn, TooLong}
@@ -93,13 +93,13 @@ lasts_by : {made : Market} (n : Market) → n ≡ made → LastsFit made.orders 
 lasts_by n is fits = subst (λ (k : Market). LastsFit k.orders) (sym is) fits
 
 lasts_accepted : (m : Market) (c : Command) (a : Answer Outcome) (n : Market) → IsCommand c → LastsFit m.orders → Accepts IsRightOutcome m c a n → LastsFit n.orders
-lasts_accepted m (PlaceOrder r) a n is fits accepts =
-    lasts_by n accepts.1 (All-push (λ (o : Order). o.last < 2 ^ 32) m.orders (placed m 0 r) fits (omega arith))
+lasts_accepted m (Place None r) a n is fits accepts =
+    lasts_by n accepts.1 (All-push (λ (o : Order). o.last < 2 ^ 32) m.orders (placed m None r) fits (omega arith))
 lasts_accepted m (CancelOrder account number) a n is fits accepts =
     lasts_by n accepts.1 (All-filter (λ (o : Order). not (o.number == number)) (λ (o : Order). o.last < 2 ^ 32) m.orders fits)
 lasts_accepted m (RunBatch budget) a n is fits accepts = lasts_by n accepts.2.1 (lasts_after m accepts.0 fits)
-lasts_accepted m (PlaceUntil last r) a n is fits accepts =
-    lasts_by n accepts.1 (All-push (λ (o : Order). o.last < 2 ^ 32) m.orders (placed m last r) fits is.0)
+lasts_accepted m (Place (Some last) r) a n is fits accepts =
+    lasts_by n accepts.1 (All-push (λ (o : Order). o.last < 2 ^ 32) m.orders (placed m (Some last) r) fits is.0)
 lasts_accepted m command a n is fits accepts = lasts_by n accepts.1 fits
 
 lasts_answered : (m : Market) (c : Command) (first : Option Refusal) (a : Answer Outcome) (n : Market) → IsCommand c → LastsFit m.orders → Answers IsRightOutcome m c first a n → LastsFit n.orders

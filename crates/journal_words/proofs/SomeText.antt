@@ -1,7 +1,7 @@
 -- Each legal pair has its text.
 use Rattle.std.proofs.Common.{ℕ, List, ◌++◌, codes, decimal, Result, Ok, Err, refl, sym, subst}
 use Rattle.wire_records.specs.Records.{Record}
-use Rattle.wire_records.specs.Commands.{Command, AddAsset, OpenAccount, PlaceOrder, RunBatch, PlaceUntil, Answer, Plain, Batch}
+use Rattle.wire_records.specs.Commands.{Command, AddAsset, OpenAccount, Place, RunBatch, Answer, Plain, Batch}
 use Rattle.wire_records.specs.Versions.{IsReadAs}
 use Rattle.wire_records.specs.declared.reply.Reply.TheVariants as reply
 use Rattle.wire_records.specs.declared.command.BodyFault.{BodyFault}
@@ -18,15 +18,13 @@ use Rattle.batch_report.proofs.Answered.{done_command, placing_command, done_pla
 told_done : (old new : Market) (asked : Record) (command : Command) → IsReadAs new.version asked (Ok command) → Step IsReadAs IsRightOutcome old asked (Plain reply.Done) new → (line : List ℕ) × TellsDone new.tickers command line
 told_done old new asked (AddAsset ticker) read step = absurd (done_command new asked (AddAsset ticker) read (old, step))
 told_done old new asked OpenAccount read step = absurd (done_command new asked OpenAccount read (old, step))
-told_done old new asked (PlaceOrder request) read step = absurd (done_command new asked (PlaceOrder request) read (old, step))
 told_done old new asked (RunBatch budget) read step = absurd (done_command new asked (RunBatch budget) read (old, step))
-told_done old new asked (PlaceUntil last request) read step = absurd (done_command new asked (PlaceUntil last request) read (old, step))
+told_done old new asked (Place last request) read step = absurd (done_command new asked (Place last request) read (old, step))
 told_done old new asked command read step = (_, refl)
 
 -- a command that is answered by the number of an order places one
 told_order : (number : ℕ) (old new : Market) (asked : Record) (command : Command) → IsReadAs new.version asked (Ok command) → Step IsReadAs IsRightOutcome old asked (Plain (reply.Order number)) new → (line : List ℕ) × TellsPlacing new.tickers number command line
-told_order number old new asked (PlaceOrder request) read step = (_, refl)
-told_order number old new asked (PlaceUntil last request) read step = (_, refl)
+told_order number old new asked (Place last request) read step = (_, refl)
 told_order number old new asked command read step = absurd (placing_command new asked command number read (old, step))
 
 -- what a record is read as in the version of the market before it, it is read as in that of the one after it

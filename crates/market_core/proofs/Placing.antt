@@ -1,6 +1,6 @@
 -- What an order that is asked for needs of its account, entry by entry; and a cancelled one.
 use Rattle.std.proofs.Common.{◌≡◌, ℕ, ◌+◌, ◌-◌, ◌*◌, ◌<◌, ◌≤◌, ◌↔◌, inl, inr, Bool, true, false, List, [], ◌∷◌, ◌++◌, ℤ, pos, negsuc, ◌≤ℤ◌, Option, Some, None, IsTrue, IsFalse, length, ⊎_elim, refl, sym, ap, ◌∙◌, subst, arith}
-use Rattle.std.specs.Prelude.{slice_get, slice_index_or, All}
+use Rattle.std.specs.Prelude.{slice_get, slice_index_or, All, IfSome}
 use Rattle.std.proofs.lemmas.Int.{ints}
 use Rattle.std.proofs.lemmas.Bool.{cases_lt, false≢true}
 use Rattle.std.proofs.lemmas.List.{length-map, get_or-map}
@@ -9,7 +9,7 @@ use Rattle.weight_rows.specs.declared.entries.Entry.{Entry}
 use Rattle.weight_rows.specs.Rows.{IsLawfulRow, assets_of, weight_in}
 use Rattle.weight_rows.proofs.RowLawProofs.{entries_give_weights, named_assets_weigh}
 use Rattle.flow_accounts.specs.Balances.{IsAccount, IsAsset}
-use Rattle.wire_records.specs.Commands.{Request, PlaceOrder, PlaceUntil, CancelOrder, Plain}
+use Rattle.wire_records.specs.Commands.{Request, Place, CancelOrder, Plain}
 use Rattle.wire_records.specs.declared.reply.Reply.TheVariants.{Refused, Order as OrderPlaced}
 use Rattle.wire_records.specs.declared.reply.Refusal.{Refusal}
 use Rattle.wire_records.specs.declared.reply.Refusal.TheVariants.{NoAccount, NoOrder, BadLast}
@@ -18,7 +18,7 @@ use Rattle.flow_orders.specs.Orders.{Order, most_orders, price_of_ticks, sold}
 use Rattle.flow_orders.specs.Outcomes.{BatchRule}
 use Rattle.order_book.specs.Book.{Book, HasOrder, without}
 use Rattle.market_rules.specs.Market.{Market, IsSound, usable_money, usable_units}
-use Rattle.market_rules.specs.Step.{◌when◌else◌, FirstRefusal, RefusesRow, Serves, placed, IsAffordable}
+use Rattle.market_rules.specs.Step.{◌unless◌else◌, FirstRefusal, RefusesRow, Serves, placed, IsAffordable}
 use Rattle.market_core.specs.Private.{cancel_reply, RefusesNumbers, HasRightNumbers, no_other, IsFreeFor}
 use Rattle.market_rules.proofs.Accepted.{past_when, past_unless, not_least}
 
@@ -101,10 +101,10 @@ affordable_is m r free sound account lawful assets money is =
     )
 
 -- whatever its last batch is
-pub free_until : (m : Market) (last : ℕ) (r : Request) → IsFreeFor m r → IsAffordable m (placed m last r)
+pub free_until : (m : Market) (last : Option ℕ) (r : Request) → IsFreeFor m r → IsAffordable m (placed m last r)
 free_until m last r free = record { money = free.money; units = free.units }
 
-pub free_from : (m : Market) (last : ℕ) (r : Request) → IsAffordable m (placed m last r) → IsFreeFor m r
+pub free_from : (m : Market) (last : Option ℕ) (r : Request) → IsAffordable m (placed m last r) → IsFreeFor m r
 free_from m last r free = record { money = free.money; units = free.units }
 
 -- ---- refusals in parts
@@ -122,22 +122,23 @@ pub passes_numbers : (m : Market) (r : Request) (others : Option Refusal → Typ
 passes_numbers m r others first right other = inr (right.account, inr (right.limits, inr (right.rate, inr (right.cap, other))))
 
 -- a refusal for the row doesn't depend on the last batch
-pub refuses_row_until : (m : Market) (last : ℕ) (r : Request) (first : Option Refusal) → RefusesRow m (placed m 0 r) first → RefusesRow m (placed m last r) first
-refuses_row_until m last r first (inl here) = inl here
-refuses_row_until m last r first (inr (row, inl here)) = inr (row, inl here)
-refuses_row_until m last r first (inr (row, inr (assets, inl here))) = inr (row, inr (assets, inl here))
-refuses_row_until m last r first (inr (row, inr (assets, inr (few, inl (dear, is))))) = inr (row, inr (assets, inr (few, inl ((λ free. dear (free_from m last r free)), is))))
-refuses_row_until m last r first (inr (row, inr (assets, inr (few, inr (free, none))))) = inr (row, inr (assets, inr (few, inr (free_until m last r free, none))))
+refuses_row : (m : Market) (last : Option ℕ) (r : Request) (first : Option Refusal) → RefusesRow m (placed m None r) first → RefusesRow m (placed m last r) first
+refuses_row m last r first (inl here) = inl here
+refuses_row m last r first (inr (row, inl here)) = inr (row, inl here)
+refuses_row m last r first (inr (row, inr (assets, inl here))) = inr (row, inr (assets, inl here))
+refuses_row m last r first (inr (row, inr (assets, inr (few, inl (dear, is))))) = inr (row, inr (assets, inr (few, inl ((λ free. dear (free_from m last r free)), is))))
+refuses_row m last r first (inr (row, inr (assets, inr (few, inr (free, none))))) = inr (row, inr (assets, inr (few, inr (free_until m last r free, none))))
 
--- so the first refusal of either command, by its parts
-pub first_of_place : (m : Market) (r : Request) (first : Option Refusal) → HasRightNumbers m r → RefusesRow m (placed m 0 r) first → FirstRefusal m (PlaceOrder r) first
-first_of_place m r first right row = passes_numbers m r (RefusesRow m (placed m 0 r)) first right row
+-- what decides where the numbers are right
+abbrev pub BehindNumbers : Market → Option ℕ → Request → Option Refusal → Type 0
+BehindNumbers m last r = BadLast unless IfSome last (λ batch. m.batches < batch) else RefusesRow m (placed m last r)
 
-pub first_of_until : (m : Market) (last : ℕ) (r : Request) (first : Option Refusal) → HasRightNumbers m r → (last ≤ m.batches → ⊥) → RefusesRow m (placed m 0 r) first → FirstRefusal m (PlaceUntil last r) first
-first_of_until m last r first right later row = passes_numbers m r (BadLast when last ≤ m.batches else RefusesRow m (placed m last r)) first right (inr (later, refuses_row_until m last r first row))
+-- so the first refusal of an order, by its parts
+pub first_of_place : (m : Market) (last : Option ℕ) (r : Request) (first : Option Refusal) → HasRightNumbers m r → IfSome last (λ batch. m.batches < batch) → RefusesRow m (placed m None r) first → FirstRefusal m (Place last r) first
+first_of_place m last r first right later row = passes_numbers m r (BehindNumbers m last r) first right (inr (later, refuses_row m last r first row))
 
-pub too_late : (m : Market) (last : ℕ) (r : Request) → HasRightNumbers m r → last ≤ m.batches → FirstRefusal m (PlaceUntil last r) (Some BadLast)
-too_late m last r right over = passes_numbers m r (BadLast when last ≤ m.batches else RefusesRow m (placed m last r)) (Some BadLast) right (inl (over, refl))
+pub too_late : (m : Market) (last : Option ℕ) (r : Request) → HasRightNumbers m r → ¬ IfSome last (λ batch. m.batches < batch) → FirstRefusal m (Place last r) (Some BadLast)
+too_late m last r right over = passes_numbers m r (BehindNumbers m last r) (Some BadLast) right (inl (over, refl))
 
 -- where no refusal holds, there is place for one order more
 row_is_few : (m : Market) (o : Order) → RefusesRow m o None → length m.orders < most_orders
@@ -146,33 +147,18 @@ row_is_few m o first =
     let assets = past_unless row.1 in
     not_least most_orders (length m.orders) (past_when assets.1).0
 
-pub accepted_is_few : (m : Market) (r : Request) → FirstRefusal m (PlaceOrder r) None → length m.orders < most_orders
-accepted_is_few m r first =
-    let account = past_unless first in
-    let limits = past_unless account.1 in
-    let rate = past_unless limits.1 in
-    row_is_few m (placed m 0 r) (past_unless rate.1).1
-
-pub until_is_few : (m : Market) (last : ℕ) (r : Request) → FirstRefusal m (PlaceUntil last r) None → length m.orders < most_orders
-until_is_few m last r first =
+pub accepted_is_few : (m : Market) (last : Option ℕ) (r : Request) → FirstRefusal m (Place last r) None → length m.orders < most_orders
+accepted_is_few m last r first =
     let account = past_unless first in
     let limits = past_unless account.1 in
     let rate = past_unless limits.1 in
     let cap = past_unless rate.1 in
-    row_is_few m (placed m last r) (past_when cap.1).1
+    row_is_few m (placed m last r) (past_unless cap.1).1
 
 -- the order is added
-pub serves-place : (Rule : BatchRule) (m : Market) (r : Request) (o : Order) (orders : List Order) → FirstRefusal m (PlaceOrder r) None → o ≡ placed m 0 r → orders ≡ m.orders ++ o ∷ []
-    → Serves Rule m (PlaceOrder r) (Plain (OrderPlaced m.next_order)) (record m { orders = orders; next_order = m.next_order + 1 })
-serves-place Rule m r o orders first is made = record {
-  first = None;
-  refused = first;
-  answered = (refl, ap (λ os. record m { orders = os; next_order = m.next_order + 1 }) (made ∙ ap (λ x. m.orders ++ x ∷ []) is));
-}
-
-pub serves-place_until : (Rule : BatchRule) (m : Market) (last : ℕ) (r : Request) (o : Order) (orders : List Order) → FirstRefusal m (PlaceUntil last r) None → o ≡ placed m last r → orders ≡ m.orders ++ o ∷ []
-    → Serves Rule m (PlaceUntil last r) (Plain (OrderPlaced m.next_order)) (record m { orders = orders; next_order = m.next_order + 1 })
-serves-place_until Rule m last r o orders first is made = record {
+pub serves-place : (Rule : BatchRule) (m : Market) (last : Option ℕ) (r : Request) (o : Order) (orders : List Order) → FirstRefusal m (Place last r) None → o ≡ placed m last r → orders ≡ m.orders ++ o ∷ []
+    → Serves Rule m (Place last r) (Plain (OrderPlaced m.next_order)) (record m { orders = orders; next_order = m.next_order + 1 })
+serves-place Rule m last r o orders first is made = record {
   first = None;
   refused = first;
   answered = (refl, ap (λ os. record m { orders = os; next_order = m.next_order + 1 }) (made ∙ ap (λ x. m.orders ++ x ∷ []) is));

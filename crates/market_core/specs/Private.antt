@@ -1,5 +1,5 @@
 -- Words that only private functions of the market use.
-use Rattle.std.specs.Prelude.{Bool, true, false, Option}
+use Rattle.std.specs.Prelude.{Bool, true, false, Option, None}
 use Rattle.demand_curve.specs.Demand.{most_rate}
 use Rattle.flow_accounts.specs.Balances.{IsAccount}
 use Rattle.flow_orders.specs.Orders.{most_cap, AreLimits, IsFrom1To}
@@ -72,4 +72,4 @@ no_other first = ⊥
 
 -- what an order on a request needs is free, whatever its last batch
 abbrev pub IsFreeFor : Market → Request → Type 0
-IsFreeFor m r = IsAffordable m (placed m 0 r)
+IsFreeFor m r = IsAffordable m (placed m None r)

@@ -1,6 +1,6 @@
 //! What would be answered: the command that a record spells, and the reply that a command gets. Nothing is changed.
 ghost use Rattle.std.specs.Prelude.{◌≡◌, ℕ, ◌+◌, ◌<◌, ◌^◌, Ok, Err, IfOk, IfErr, length};
-ghost use Rattle.wire_records.specs.Commands.{AddAsset, OpenAccount, DepositMoney, DepositAsset, WithdrawMoney, WithdrawAsset, PlaceOrder, CancelOrder, RunBatch, PlaceUntil, SetMoneyCredit, SetUnitCredit};
+ghost use Rattle.wire_records.specs.Commands.{AddAsset, OpenAccount, DepositMoney, DepositAsset, WithdrawMoney, WithdrawAsset, Place, CancelOrder, RunBatch, SetMoneyCredit, SetUnitCredit};
 ghost use Rattle.wire_records.specs.CommandRecords.{IsCommand};
 ghost use Rattle.wire_records.specs.Versions.{IsOfVersion, IsReadAs};
 ghost use Rattle.wire_records.specs.Views.{command_of};
@@ -73,10 +73,10 @@ impl Market {
                 asset,
                 units,
             } => self.expected_unit_withdrawal(account, asset, units),
-            CommandView::PlaceOrder(ref place) => self.expected_order(place),
+            CommandView::PlaceOrder(ref place) => self.expected_order(None, place),
             CommandView::CancelOrder { account, order } => self.expected_cancel(account, order),
             CommandView::RunBatch { .. } => unreachable!(),
-            CommandView::PlaceUntil { last, ref place } => self.expected_until(last, place),
+            CommandView::PlaceUntil { last, ref place } => self.expected_order(Some(last), place),
             CommandView::SetMoneyCredit { account, ticks } => {
                 self.expected_money_credit(account, ticks)
             }
@@ -138,22 +138,13 @@ impl Market {
         )
     }
 
-    fn expected_order(&self, place: &PlaceView<'_>) -> Reply
-        ensures { IsExpected self.now (PlaceOrder place.now) result }
+    fn expected_order(&self, last: Option<u32>, place: &PlaceView<'_>) -> Reply
+        ensures { IsExpected self.now (Place last place.now) result }
     {
-        match self.place_refusal(place) {
+        match self.place_refusal(last, place) {
             Some(refusal) => Reply::Refused(refusal),
             None => Reply::Order(self.next_order),
         }
-    }
-
-    fn expected_until(&self, last: u32, place: &PlaceView<'_>) -> Reply
-        ensures { IsExpected self.now (PlaceUntil last place.now) result }
-    {
-        if let Some(first) = self.until_refusal(last, place) {
-            return Reply::Refused(first);
-        }
-        Reply::Order(self.next_order)
     }
 
     fn expected_money_credit(&self, account: u32, ticks: u64) -> Reply

@@ -2,7 +2,7 @@
 ghost use Rattle.std.specs.Prelude.{◌≡◌, ℕ, ◌+◌, ◌<◌, ◌≤◌, ◌^◌, IfOk, OnErr, MatchResult, None, SomeIff, length};
 ghost use Rattle.std.specs.Borrow.{sem};
 ghost use Rattle.std.specs.Result.{ForErr};
-ghost use Rattle.wire_records.specs.Commands.{AddAsset, OpenAccount, DepositMoney, DepositAsset, WithdrawMoney, WithdrawAsset, PlaceOrder, CancelOrder, RunBatch, SetMoneyCredit, SetUnitCredit, Plain};
+ghost use Rattle.wire_records.specs.Commands.{AddAsset, OpenAccount, DepositMoney, DepositAsset, WithdrawMoney, WithdrawAsset, CancelOrder, RunBatch, SetMoneyCredit, SetUnitCredit, Plain};
 ghost use Rattle.wire_records.specs.CommandRecords.{IsCommand};
 ghost use Rattle.wire_records.specs.Views.{command_of};
 ghost use Rattle.wire_records.specs.Versions.{IsOfVersion};
@@ -155,10 +155,10 @@ impl Market {
                 asset,
                 units,
             } => Ok(self.withdraw_units(account, asset, units)),
-            CommandView::PlaceOrder(ref place) => self.place_order(place),
+            CommandView::PlaceOrder(ref place) => self.place_order(None, place),
             CommandView::CancelOrder { account, order } => Ok(self.cancel_order(account, order)),
             CommandView::RunBatch { .. } => unreachable!(),
-            CommandView::PlaceUntil { last, ref place } => self.place_until(last, place),
+            CommandView::PlaceUntil { last, ref place } => self.place_order(Some(last), place),
             CommandView::SetMoneyCredit { account, ticks } => {
                 Ok(self.set_money_credit(account, ticks))
             }
@@ -183,8 +183,8 @@ impl Market {
         ensures wanted { OnErr result (MayWant self.old (command_of command.now)) }
     {
         match *command {
-            CommandView::PlaceOrder(ref place) => self.add_order(place),
-            CommandView::PlaceUntil { last, ref place } => self.add_until(last, place),
+            CommandView::PlaceOrder(ref place) => self.add_order(None, place),
+            CommandView::PlaceUntil { last, ref place } => self.add_order(Some(last), place),
             _ => self.apply(command),
         }
     }

@@ -4,7 +4,7 @@ ghost use Rattle.demand_curve.specs.Numbers.{or_zero};
 ghost use Rattle.weight_rows.specs.Rows.{IsLawfulRow, IsLawfulWeight};
 ghost use Rattle.flow_accounts.specs.Balances.{IsAccount, IsAsset, money_with_credit, units_with_credit};
 ghost use Rattle.flow_orders.specs.Orders.{AreLimits, IsFrom1To, most_cap, price_of_ticks, sold};
-ghost use Rattle.wire_records.specs.Commands.{PlaceOrder, PlaceUntil, CancelOrder, Plain};
+ghost use Rattle.wire_records.specs.Commands.{Place, CancelOrder, Plain};
 ghost use Rattle.wire_records.specs.Versions.{IsOfVersion};
 ghost use Rattle.wire_records.specs.CommandRecords.{IsCommand};
 ghost use Rattle.market_rules.specs.Market.{IsSound, usable_money, usable_units};
@@ -33,83 +33,54 @@ pub(crate) fn cancel_reply(there: bool) -> Reply
 }
 
 impl Market {
-    pub(crate) fn place_order(&mut self, place: &PlaceView<'_>) -> Result<Reply, Memory>
-        requires command { IsCommand (PlaceOrder place.now) }
+    pub(crate) fn place_order(
+        &mut self,
+        last: Option<u32>,
+        place: &PlaceView<'_>,
+    ) -> Result<Reply, Memory>
+        requires command { IsCommand (Place last place.now) }
+        requires version { IsOfVersion self.old.version (Place last place.now) }
         requires next { self.old.next_order + 1 < 2 ^ 64 }
-        ensures served { IfOk result (λ reply. ServesPlain self.old (PlaceOrder place.now) (Plain reply) self.new) }
+        ensures served { IfOk result (λ reply. ServesPlain self.old (Place last place.now) (Plain reply) self.new) }
         ensures stays { OnErr result (self.new ≡ self.old) }
-        ensures wanted { OnErr result (MayWant self.old (PlaceOrder place.now)) }
+        ensures wanted { OnErr result (MayWant self.old (Place last place.now)) }
     {
-        if let Some(refusal) = self.place_refusal(place) {
+        if let Some(refusal) = self.place_refusal(last, place) {
             return Ok(Reply::Refused(refusal));
         }
-        self.add_order(place)
+        self.add_order(last, place)
     }
 
     // Adds an order that no refusal stops.
-    pub(crate) fn add_order(&mut self, place: &PlaceView<'_>) -> Result<Reply, Memory>
-        requires command { IsCommand (PlaceOrder place.now) }
+    pub(crate) fn add_order(
+        &mut self,
+        last: Option<u32>,
+        place: &PlaceView<'_>,
+    ) -> Result<Reply, Memory>
+        requires command { IsCommand (Place last place.now) }
+        requires version { IsOfVersion self.old.version (Place last place.now) }
         requires next { self.old.next_order + 1 < 2 ^ 64 }
-        requires accepted { FirstRefusal self.old (PlaceOrder place.now) None }
-        ensures served { IfOk result (λ reply. ServesPlain self.old (PlaceOrder place.now) (Plain reply) self.new) }
+        requires accepted { FirstRefusal self.old (Place last place.now) None }
+        ensures served { IfOk result (λ reply. ServesPlain self.old (Place last place.now) (Plain reply) self.new) }
         ensures stays { OnErr result (self.new ≡ self.old) }
-        ensures wanted { OnErr result (MayWant self.old (PlaceOrder place.now)) }
+        ensures wanted { OnErr result (MayWant self.old (Place last place.now)) }
     {
         self.book.reserve_one()?;
         let row = WeightRow::new(place.row().to_list(self.alloc)?);
         let number = self.next_order;
         self.next_order = number + 1;
-        self.book.add(Order::new(
+        self.book.add(Order::restore(
             number,
             place.account(),
             place.low(),
             place.high(),
             place.rate(),
             place.cap(),
+            0,
+            last.unwrap_or(0),
             row,
         ));
         Ok(Reply::Order(number))
-    }
-
-    pub(crate) fn place_until(&mut self, last: u32, place: &PlaceView<'_>) -> Result<Reply, Memory>
-        requires command { IsCommand (PlaceUntil last place.now) }
-        requires version { IsOfVersion self.old.version (PlaceUntil last place.now) }
-        requires next { self.old.next_order + 1 < 2 ^ 64 }
-        ensures served { IfOk result (λ reply. ServesPlain self.old (PlaceUntil last place.now) (Plain reply) self.new) }
-        ensures stays { OnErr result (self.new ≡ self.old) }
-        ensures wanted { OnErr result (MayWant self.old (PlaceUntil last place.now)) }
-    {
-        if let Some(first) = self.until_refusal(last, place) {
-            return Ok(Reply::Refused(first));
-        }
-        self.add_until(last, place)
-    }
-
-    // Adds an order with a last batch that no refusal stops.
-    pub(crate) fn add_until(&mut self, last: u32, place: &PlaceView<'_>) -> Result<Reply, Memory>
-        requires command { IsCommand (PlaceUntil last place.now) }
-        requires version { IsOfVersion self.old.version (PlaceUntil last place.now) }
-        requires next { self.old.next_order + 1 < 2 ^ 64 }
-        requires accepted { FirstRefusal self.old (PlaceUntil last place.now) None }
-        ensures served { IfOk result (λ reply. ServesPlain self.old (PlaceUntil last place.now) (Plain reply) self.new) }
-        ensures stays { OnErr result (self.new ≡ self.old) }
-        ensures wanted { OnErr result (MayWant self.old (PlaceUntil last place.now)) }
-    {
-        self.book.reserve_one()?;
-        let row = WeightRow::new(place.row().to_list(self.alloc)?);
-        let next = self.next_order;
-        self.next_order = next + 1;
-        self.book.add(Order::until(
-            next,
-            place.account(),
-            place.low(),
-            place.high(),
-            place.rate(),
-            place.cap(),
-            last,
-            row,
-        ));
-        Ok(Reply::Order(next))
     }
 
     pub(crate) fn cancel_order(&mut self, account: u32, number: u64) -> Reply
@@ -122,27 +93,27 @@ impl Market {
     }
 
     // The first refusal of an order that is asked for, if any holds.
-    pub(crate) fn place_refusal(&self, place: &PlaceView<'_>) -> Option<Refusal>
-        ensures { FirstRefusal self.now (PlaceOrder place.now) result }
-    {
-        match self.numbers_refusal(place) {
-            Some(refusal) => Some(refusal),
-            None => self.row_refusal(place),
-        }
-    }
-
-    // The first refusal of an order that is asked for up to a last batch, if any holds.
-    pub(crate) fn until_refusal(&self, last: u32, place: &PlaceView<'_>) -> Option<Refusal>
-        ensures { FirstRefusal self.now (PlaceUntil last place.now) result }
+    pub(crate) fn place_refusal(&self, last: Option<u32>, place: &PlaceView<'_>) -> Option<Refusal>
+        ensures { FirstRefusal self.now (Place last place.now) result }
     {
         match self.numbers_refusal(place) {
             Some(refusal) => return Some(refusal),
             None => {}
         }
-        if last <= self.batches {
+        if !self.is_to_come(last) {
             return Some(Refusal::BadLast);
         }
         self.row_refusal(place)
+    }
+
+    // Whether the last batch of an order, if it has one, is still to come.
+    fn is_to_come(&self, last: Option<u32>) -> bool
+        ensures { IsTrue result ↔ IfSome last (λ batch. self.now.batches < batch) }
+    {
+        match last {
+            None => true,
+            Some(last) => self.batches < last,
+        }
     }
 
     // The first refusal of an order for its account and its numbers.
@@ -165,7 +136,7 @@ impl Market {
     // what it needs.
     fn row_refusal(&self, place: &PlaceView<'_>) -> Option<Refusal>
         requires { HasRightNumbers self.now place.now }
-        ensures { RefusesRow self.now (placed self.now 0 place.now) result }
+        ensures { RefusesRow self.now (placed self.now None place.now) result }
     {
         let row = place.row();
         if row.fault().is_some() {

@@ -1,8 +1,9 @@
 -- Every command has a first refusal or none, and is served without a batch where no batch is due.
-use Rattle.std.proofs.Common.{ℕ, ◌⊎◌, ◌≡◌, inl, inr, Option, Some, None, refl, ⊎_elim}
+use Rattle.std.proofs.Common.{ℕ, ◌<◌, ◌⊎◌, ◌≡◌, inl, inr, Option, Some, None, refl, ⊎_elim}
+use Rattle.std.specs.Prelude.{IfSome}
 use Rattle.flow_orders.specs.Orders.{most_cap}
 use Rattle.flow_orders.specs.Outcomes.{Outcome, most_budget}
-use Rattle.wire_records.specs.Commands.{Command, AddAsset, OpenAccount, DepositMoney, DepositAsset, WithdrawMoney, WithdrawAsset, PlaceOrder, CancelOrder, RunBatch, PlaceUntil, SetMoneyCredit, SetUnitCredit, Answer, Plain}
+use Rattle.wire_records.specs.Commands.{Command, AddAsset, OpenAccount, DepositMoney, DepositAsset, WithdrawMoney, WithdrawAsset, Place, CancelOrder, RunBatch, SetMoneyCredit, SetUnitCredit, Answer, Plain}
 use Rattle.wire_records.specs.declared.reply.Refusal.{Refusal}
 use Rattle.wire_records.specs.declared.reply.Reply.TheVariants.{Refused}
 use Rattle.market_rules.specs.Market.{Market}
@@ -25,6 +26,11 @@ has_when r C others either rest = ⊎_elim (λ it. (Some r, inl (it, refl))) (λ
 has_unless : (r : Refusal) (C : Type 0) (others : Option Refusal → Type 0) → Either C → Has others → Has (r unless C else others)
 has_unless r C others either rest = ⊎_elim (λ it. (rest.0, inr (it, rest.1))) (λ not. (Some r, inl (not, refl))) either
 
+-- a last batch is still to come, or not
+either_later : (m : Market) (last : Option ℕ) → Either (IfSome last (λ batch. m.batches < batch))
+either_later m None = inl tt
+either_later m (Some last) = either_le _ _
+
 pub first_is_there : (m : Market) (c : Command) → Has (FirstRefusal m c)
 first_is_there m (AddAsset ticker) = has_unless _ _ _ (either_ticker ticker) (has_when _ _ _ (either_taken m.tickers ticker) (has_when _ _ _ (either_le _ _) has_accept))
 first_is_there m OpenAccount = has_when _ _ _ (either_le _ _) has_accept
@@ -34,15 +40,11 @@ first_is_there m (DepositAsset account asset units) =
 first_is_there m (WithdrawMoney account ticks) = has_unless _ _ _ (either_account m.balances account) (has_when _ _ _ (either_eq ticks 0) (has_when _ _ _ (either_lt_z _ _) has_accept))
 first_is_there m (WithdrawAsset account asset units) =
     has_unless _ _ _ (either_account m.balances account) (has_unless _ _ _ (either_le _ _) (has_when _ _ _ (either_eq units 0) (has_when _ _ _ (either_lt_z _ _) has_accept)))
-first_is_there m (PlaceOrder r) =
-    has_unless _ _ _ (either_account m.balances r.account) (has_unless _ _ _ (either_limits r.low r.high) (has_unless _ _ _ (either_from_1 most_rate r.rate)
-    (has_unless _ _ _ (either_from_1 most_cap r.cap) (has_unless _ _ _ (either_row r.row) (has_unless _ _ _ (either_assets m.balances r.row)
-    (has_when _ _ _ (either_le _ _) (has_unless _ _ _ (either_affordable m (placed m 0 r)) has_accept)))))))
 first_is_there m (CancelOrder account number) = has_unless _ _ _ (either_account m.balances account) (has_unless _ _ _ (either_order m account number) has_accept)
 first_is_there m (RunBatch budget) = has_unless _ _ _ (either_from_1 most_budget budget) (has_when _ _ _ (either_le _ _) has_accept)
-first_is_there m (PlaceUntil last r) =
+first_is_there m (Place last r) =
     has_unless _ _ _ (either_account m.balances r.account) (has_unless _ _ _ (either_limits r.low r.high) (has_unless _ _ _ (either_from_1 most_rate r.rate)
-    (has_unless _ _ _ (either_from_1 most_cap r.cap) (has_when _ _ _ (either_le last m.batches) (has_unless _ _ _ (either_row r.row) (has_unless _ _ _ (either_assets m.balances r.row)
+    (has_unless _ _ _ (either_from_1 most_cap r.cap) (has_unless _ _ _ (either_later m last) (has_unless _ _ _ (either_row r.row) (has_unless _ _ _ (either_assets m.balances r.row)
     (has_when _ _ _ (either_le _ _) (has_unless _ _ _ (either_affordable m (placed m last r)) has_accept))))))))
 first_is_there m (SetMoneyCredit account ticks) = has_unless _ _ _ (either_account m.balances account) (has_when _ _ _ (either_le _ _) (has_when _ _ _ (either_lt_z _ _) has_accept))
 first_is_there m (SetUnitCredit account asset units) =

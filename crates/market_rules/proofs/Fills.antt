@@ -9,7 +9,7 @@ use Rattle.std.proofs.lemmas.Bool.Decides.{eqb_tells}
 use Rattle.flow_orders.specs.Orders.{Order}
 use Rattle.flow_orders.specs.Outcomes.{Clearing, Fill, Outcome, Cleared, Skipped, trades_of, IsRightOutcome, IsRightClearing}
 use Rattle.flow_orders.specs.Trades.{Trade, after_fill, is_live, staying}
-use Rattle.wire_records.specs.Commands.{Request, Command, PlaceOrder, CancelOrder, RunBatch, PlaceUntil, Answer, Plain, Batch, Pair}
+use Rattle.wire_records.specs.Commands.{Request, Command, Place, CancelOrder, RunBatch, Answer, Plain, Batch, Pair}
 use Rattle.wire_records.specs.declared.reply.Refusal.{Refusal}
 use Rattle.wire_records.specs.declared.reply.Reply.TheVariants.{Order as OrderPlaced, Refused}
 use Rattle.std.proofs.lemmas.Bool.{cases_lt}
@@ -22,7 +22,6 @@ use Rattle.flow_orders.proofs.TradeFacts.{before_fills, after_fills}
 use Rattle.market_rules.proofs.SoundBatch.{orders_before, allowed}
 use Rattle.market_rules.proofs.Soundness.{ReadsOwn, sound_step, sound_follows}
 use Rattle.market_rules.proofs.Versions.{follows_version}
-use Rattle.market_rules.proofs.Made.{with_order}
 use Rattle.market_rules.proofs.OneJournal.{follows-parts}
 
 -- ---- one number in a list of trades
@@ -153,19 +152,12 @@ filled_same m n number cap filled now is orders next none =
 
 -- a command that is no batch fills nothing
 filled_accepted : (m : Market) (c : Command) (a : Answer Outcome) (n : Market) (number cap filled : ℕ) → IsSound m → Accepts IsRightOutcome m c a n → IsFilled m number cap filled → IsFilled n number cap (filled + filled_by number a)
-filled_accepted m (PlaceUntil last r) a n number cap filled sound accepts is =
+filled_accepted m (Place last r) a n number cap filled sound accepts is =
     let none : filled + 0 ≡ filled = omega arith in
     rw (accepts.0, accepts.1) (record {
       most = omega (arith, is.most);
       used = omega (arith, is.used);
       live = rw none (All-push (λ (o : Order). o.number ≡ number → (o.cap ≡ cap) × (o.filled ≡ filled)) m.orders (placed m last r) is.live (λ same. absurd (omega (arith, same, is.used))));
-    })
-filled_accepted m (PlaceOrder r) a n number cap filled sound accepts is =
-    let none : filled + 0 ≡ filled = omega arith in
-    rw (accepts.0, accepts.1) (record {
-      most = omega (arith, is.most);
-      used = omega (arith, is.used);
-      live = rw none (All-push (λ (o : Order). o.number ≡ number → (o.cap ≡ cap) × (o.filled ≡ filled)) m.orders (placed m 0 r) is.live (λ same. absurd (omega (arith, same, is.used))));
     })
 filled_accepted m (CancelOrder account other) a n number cap filled sound accepts is =
     let none : filled + 0 ≡ filled = omega arith in
@@ -207,19 +199,9 @@ unused_accepted m (RunBatch budget) a n number sound accepts = rw (accepts.2.0, 
     by_outcome (Skipped s) right = record { later = omega arith; none = λ _. refl }
 unused_accepted m command a n number sound accepts = rw (accepts.0, accepts.1) (record { later = omega arith; none = λ _. refl })
 
--- an accepted command that places an order on a request
-abbrev IsPlacing : Market → Request → Command → Type 0
-IsPlacing m r c = (a : Answer Outcome) (n : Market) → Accepts IsRightOutcome m c a n → (last : ℕ) × (a ≡ Plain (OrderPlaced m.next_order)) × (n ≡ with_order m (placed m last r))
-
-placing_once : (m : Market) (r : Request) → IsPlacing m r (PlaceOrder r)
-placing_once m r a n accepts = (0, accepts.0, accepts.1)
-
-placing_until : (m : Market) (last : ℕ) (r : Request) → IsPlacing m r (PlaceUntil last r)
-placing_until m last r a n accepts = (last, accepts.0, accepts.1)
-
 -- what is placed by an answer that names an order
-placed_by : (m : Market) (r : Request) (c : Command) (a : Answer Outcome) (n : Market) (number : ℕ) → IsPlacing m r c → IsSound m → Serves IsRightOutcome m c a n → a ≡ Plain (OrderPlaced number) → (number ≡ m.next_order) × IsFilled n number r.cap 0
-placed_by m r c a n number placing sound serves named = by_first serves.first serves.answered
+placed_by : (m : Market) (last : Option ℕ) (r : Request) (a : Answer Outcome) (n : Market) (number : ℕ) → IsSound m → Serves IsRightOutcome m (Place last r) a n → a ≡ Plain (OrderPlaced number) → (number ≡ m.next_order) × IsFilled n number r.cap 0
+placed_by m last r a n number sound serves named = by_first serves.first serves.answered
   where
     number_of : (x y : ℕ) → ◌≡◌ {A = Answer Outcome} (Plain (OrderPlaced x)) (Plain (OrderPlaced y)) → x ≡ y
     number_of x y e = cc
@@ -227,16 +209,15 @@ placed_by m r c a n number placing sound serves named = by_first serves.first se
     no_refusal : (x : ℕ) (f : Refusal) → ◌≡◌ {A = Answer Outcome} (Plain (OrderPlaced x)) (Plain (Refused f)) → ⊥
     no_refusal x f e = cc
 
-    by_first : (first : Option Refusal) → Answers IsRightOutcome m c first a n → (number ≡ m.next_order) × IsFilled n number r.cap 0
+    by_first : (first : Option Refusal) → Answers IsRightOutcome m (Place last r) first a n → (number ≡ m.next_order) × IsFilled n number r.cap 0
     by_first (Some f) answers = absurd (no_refusal number f (sym named ∙ answers.0))
     by_first None answers =
-        let made = placing a n answers in
-        let is : number ≡ m.next_order = number_of number m.next_order (sym named ∙ made.1) in (
+        let is : number ≡ m.next_order = number_of number m.next_order (sym named ∙ answers.0) in (
           is,
-          rw (made.2, is) (record {
+          rw (answers.1, is) (record {
             most = omega arith;
             used = omega arith;
-            live = All-push (λ (o : Order). o.number ≡ m.next_order → (o.cap ≡ r.cap) × (o.filled ≡ 0)) m.orders (placed m made.0 r)
+            live = All-push (λ (o : Order). o.number ≡ m.next_order → (o.cap ≡ r.cap) × (o.filled ≡ 0)) m.orders (placed m last r)
                 (λ k d inside same. let less = (sound.live k d inside).numbered.1 in absurd (omega (arith, same, less)))
                 (λ _. (refl, refl));
           }),
@@ -294,13 +275,11 @@ module _ {R : Type 0} (Reads : Version → R → Result Command BodyFault → Ty
       let next = parts.2.0 in
       let step = parts.2.1 in
       let version : mid.version ≡ old.version = follows_version IsRightOutcome Reads old before mid parts.1 in
-      let served_as : (c : Command) → Reads old.version pair.asked (Ok c) → Serves IsRightOutcome mid c pair.answer next = λ c spelled.
-      subst (λ r. ServesRead IsRightOutcome mid r pair.answer next) (one_reading mid.version pair.asked step.read (Ok c) step.spelled (subst (λ v. Reads v pair.asked (Ok c)) (sym version) spelled)) step.served in
-      let placing : (number ≡ mid.next_order) × IsFilled next number places.request.cap 0 =
-      ⊎_elim
-      (λ once. placed_by mid places.request (PlaceOrder places.request) pair.answer next number (placing_once mid places.request) sound (served_as (PlaceOrder places.request) once) places.answered)
-      (λ until. placed_by mid places.request (PlaceUntil until.0 places.request) pair.answer next number (placing_until mid until.0 places.request) sound (served_as (PlaceUntil until.0 places.request) until.1) places.answered)
-      places.asks in
+      let last = places.asks.0 in
+      let command = Place last places.request in
+      let served = subst (λ r. ServesRead IsRightOutcome mid r pair.answer next)
+      (one_reading mid.version pair.asked step.read (Ok command) step.spelled (subst (λ v. Reads v pair.asked (Ok command)) (sym version) places.asks.1)) step.served in
+      let placing : (number ≡ mid.next_order) × IsFilled next number places.request.cap 0 = placed_by mid last places.request pair.answer next number sound served places.answered in
       let none = (unused_follows old before mid number start parts.1 (omega (arith, placing.0))).0 in
       let here : filled_by number pair.answer ≡ 0 = ap (filled_by number) places.answered in
       let rest = filled_follows next after m number places.request.cap 0 (sound_step Reads own mid pair.asked pair.answer next sound step) parts.2.2 placing.1 in

@@ -13,7 +13,7 @@ use Rattle.market_rules.proofs.Lawful.{sound_is_lawful}
 use Rattle.market_rules.proofs.OwnNeeds.{needs-filter}
 use Rattle.flow_orders.specs.Duals.{movement_of}
 use Rattle.flow_orders.specs.Outcomes.{Fill, Skipping, Outcome, BatchRule, Cleared, Skipped, IsRightOutcome}
-use Rattle.wire_records.specs.Commands.{Command, AddAsset, OpenAccount, PlaceOrder, RunBatch, PlaceUntil, Answer, Plain, Batch}
+use Rattle.wire_records.specs.Commands.{Command, AddAsset, OpenAccount, Place, RunBatch, Answer, Plain, Batch}
 use Rattle.wire_records.specs.declared.reply.Refusal.{Refusal}
 use Rattle.wire_records.specs.declared.reply.Reply.{Reply}
 use Rattle.wire_records.specs.declared.reply.Reply.TheVariants.{Done, Asset as AssetAdded, Account as AccountOpened, Order as OrderPlaced, Refused}
@@ -97,8 +97,7 @@ module _ (Rule : BatchRule) where
   never_refuses : (m : Market) (c : Command) (r : Refusal) (n : Market) → Accepts Rule m c (Plain (Refused r)) n → ⊥
   never_refuses m (AddAsset ticker) r n accepts = no_asset r _ accepts.0
   never_refuses m OpenAccount r n accepts = no_account r _ accepts.0
-  never_refuses m (PlaceOrder q) r n accepts = no_order r _ accepts.0
-  never_refuses m (PlaceUntil last request) r n accepts = no_order r _ accepts.0
+  never_refuses m (Place last request) r n accepts = no_order r _ accepts.0
   never_refuses m (RunBatch budget) r n accepts = no_plain (m.batches + 1) accepts.0 (Refused r) (sym accepts.2.0)
   never_refuses m command r n accepts = no_done r accepts.0
 

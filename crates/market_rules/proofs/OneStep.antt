@@ -1,7 +1,7 @@
 -- A step has one outcome: old market, command and answer determine the new market, and a command that is no batch gets one answer.
 use Rattle.std.proofs.Common.{◌≡◌, ◌+◌, ℕ, Option, Some, None, inl, inr, sym, ap, ◌∙◌}
 use Rattle.flow_orders.specs.Outcomes.{Outcome, BatchRule}
-use Rattle.wire_records.specs.Commands.{Command, OpenAccount, DepositAsset, WithdrawAsset, PlaceOrder, CancelOrder, RunBatch, PlaceUntil, SetUnitCredit, Answer, Batch}
+use Rattle.wire_records.specs.Commands.{Command, OpenAccount, DepositAsset, WithdrawAsset, Place, CancelOrder, RunBatch, SetUnitCredit, Answer, Batch}
 use Rattle.wire_records.specs.declared.reply.Refusal.{Refusal}
 use Rattle.market_rules.specs.Market.{Market, parts_of, start_prices}
 use Rattle.market_rules.specs.Step.{◌when◌else◌, ◌unless◌else◌, accept, FirstRefusal, Accepts, Answers, Serves, after_batch}
@@ -31,10 +31,9 @@ pub one_first : (m : Market) (c : Command) → IsOne (FirstRefusal m c)
 one_first m OpenAccount = one_when _ _ _ one_accept
 one_first m (DepositAsset account asset units) = one_unless _ _ _ (one_unless _ _ _ (one_when _ _ _ (one_when _ _ _ one_accept)))
 one_first m (WithdrawAsset account asset units) = one_unless _ _ _ (one_unless _ _ _ (one_when _ _ _ (one_when _ _ _ one_accept)))
-one_first m (PlaceOrder r) = one_unless _ _ _ (one_unless _ _ _ (one_unless _ _ _ (one_unless _ _ _ (one_unless _ _ _ (one_unless _ _ _ (one_when _ _ _ (one_unless _ _ _ one_accept)))))))
 one_first m (CancelOrder account number) = one_unless _ _ _ (one_unless _ _ _ one_accept)
 one_first m (RunBatch budget) = one_unless _ _ _ (one_when _ _ _ one_accept)
-one_first m (PlaceUntil last r) = one_unless _ _ _ (one_unless _ _ _ (one_unless _ _ _ (one_unless _ _ _ (one_when _ _ _ (one_unless _ _ _ (one_unless _ _ _ (one_when _ _ _ (one_unless _ _ _ one_accept))))))))
+one_first m (Place last r) = one_unless _ _ _ (one_unless _ _ _ (one_unless _ _ _ (one_unless _ _ _ (one_unless _ _ _ (one_unless _ _ _ (one_unless _ _ _ (one_when _ _ _ (one_unless _ _ _ one_accept))))))))
 one_first m (SetUnitCredit account asset units) = one_unless _ _ _ (one_unless _ _ _ (one_when _ _ _ (one_when _ _ _ one_accept)))
 one_first m command = one_unless _ _ _ (one_when _ _ _ (one_when _ _ _ one_accept))
 

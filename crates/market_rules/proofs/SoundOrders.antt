@@ -1,5 +1,5 @@
 -- New assets, and orders that are placed and cancelled, keep a market sound.
-use Rattle.std.proofs.Common.{◌≡◌, ◌≢◌, Bool, inl, inr, ℕ, ◌+◌, ◌*◌, ◌^◌, ◌≤◌, ◌<◌, ℤ, pos, ◌≤ℤ◌, List, [], ◌∷◌, length, refl, ap, sym, subst, ⊎_elim, ◌∙◌, arith}
+use Rattle.std.proofs.Common.{◌≡◌, ◌≢◌, Bool, inl, inr, ℕ, ◌+◌, ◌*◌, ◌^◌, ◌≤◌, ◌<◌, ℤ, pos, ◌≤ℤ◌, List, [], ◌∷◌, Option, length, refl, ap, sym, subst, ⊎_elim, ◌∙◌, arith}
 use Rattle.std.specs.Prelude.{All, Contains, slice_index_or, unsigned_abs, not, ◌==◌}
 use Rattle.std.specs.List.{filter}
 use Rattle.std.proofs.lemmas.Int.{ints}
@@ -121,7 +121,7 @@ filter_few p [] = omega arith
 filter_few p (x ∷ xs) = elim (cases_Bool (p x)) [ inl kept ↦ rw kept (omega (arith, filter_few p xs)) | inr dropped ↦ rw dropped (omega (arith, filter_few p xs)) ]
 
 -- an order is placed on a request whose conditions hold
-pub placed_is_order : (m : Market) (last : ℕ) (r : Request) → AreLimits r.low r.high → IsFrom1To most_rate r.rate → IsFrom1To most_cap r.cap → IsLawfulRow r.row → IsOrder (placed m last r)
+pub placed_is_order : (m : Market) (last : Option ℕ) (r : Request) → AreLimits r.low r.high → IsFrom1To most_rate r.rate → IsFrom1To most_cap r.cap → IsLawfulRow r.row → IsOrder (placed m last r)
 placed_is_order m last r limits rate cap row = record {
   terms = record {
     low_in_range = in_grains r.low limits.0;

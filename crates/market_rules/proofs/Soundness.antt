@@ -1,6 +1,6 @@
 -- Every step keeps soundness.
 use Rattle.std.proofs.Common.{ℕ, ◌*◌, ◌^◌, ℤ, pos, ◌+ℤ◌, ◌-ℤ◌, ◌≤ℤ◌, List, [], ◌∷◌, length, inl, inr, Option, Some, None, Result, Ok, Err, refl, sym, subst, arith}
-use Rattle.std.specs.Prelude.{neg_ℤ}
+use Rattle.std.specs.Prelude.{◌<◌, neg_ℤ, IfSome}
 use Rattle.std.proofs.lemmas.Int.{ints}
 use Rattle.std.proofs.lemmas.List.Elements.{All-nil}
 use Rattle.ticker_table.specs.Tickers.{IsTicker}
@@ -8,9 +8,9 @@ use Rattle.flow_accounts.specs.Balances.{grains, money_of, units_of, money_credi
 use Rattle.flow_accounts.specs.Lawful.{unit_limit, most_credit}
 use Rattle.flow_orders.specs.Orders.{needed_money, needed_units}
 use Rattle.flow_orders.specs.Outcomes.{IsRightOutcome, Outcome}
-use Rattle.wire_records.specs.Commands.{Command, AddAsset, OpenAccount, DepositMoney, DepositAsset, WithdrawMoney, WithdrawAsset, PlaceOrder, CancelOrder, RunBatch, PlaceUntil, SetMoneyCredit, SetUnitCredit, Answer, Pair}
+use Rattle.wire_records.specs.Commands.{Request, Command, AddAsset, OpenAccount, DepositMoney, DepositAsset, WithdrawMoney, WithdrawAsset, Place, CancelOrder, RunBatch, SetMoneyCredit, SetUnitCredit, Answer, Pair}
 use Rattle.wire_records.specs.declared.reply.Refusal.{Refusal}
-use Rattle.market_rules.specs.Market.{Market, IsSound, empty_market}
+use Rattle.market_rules.specs.Market.{Market, IsSound, IsInTime, empty_market}
 use Rattle.market_rules.specs.Step.{FirstRefusal, Accepts, Answers, Serves, placed, ServesRead}
 use Rattle.wire_records.specs.declared.command.BodyFault.{BodyFault}
 use Rattle.wire_records.specs.declared.version.Version.{Version}
@@ -21,6 +21,11 @@ use Rattle.market_rules.proofs.SoundBalances.{sound-money, sound-units, sound-mo
 use Rattle.market_rules.proofs.Versions.{not_one}
 use Rattle.market_rules.proofs.SoundOrders.{sound-ticker, sound-order, sound-without, placed_is_order}
 use Rattle.market_rules.proofs.SoundBatch.{sound-batch}
+
+-- the last batch of an order is still to come
+in_time : (m : Market) (last : Option ℕ) (r : Request) → IsOfVersion m.version (Place last r) → IfSome last (λ batch. m.batches < batch) → IsInTime m (placed m last r)
+in_time m None r of later = inl refl
+in_time m (Some last) r of later = inr (not_one m.version of.1, later)
 
 -- an accepted command
 sound-accepted : (m : Market) (c : Command) (a : Answer Outcome) (n : Market) → IsOfVersion m.version c → IsSound m → FirstRefusal m c None → Accepts IsRightOutcome m c a n → IsSound n
@@ -67,33 +72,23 @@ sound-accepted m (WithdrawAsset account asset units) a n of sound none accepts =
     let free : pos units ≤ℤ (units_of m.balances account asset -ℤ needed_units m.orders account asset) = not_below _ _ four.0 in
     let limit : total_units_of m.balances asset ≤ℤ unit_limit = sound.widths.total_units asset (pos 0) two.0 in
     subst IsSound (sym accepts.1) (sound-units m account asset (neg_ℤ (pos units)) sound one.0 two.0 (omega (arith, ints, free)) (omega (arith, ints, limit)))
-sound-accepted m (PlaceOrder r) a n of sound none accepts =
-    let one = past_unless none in
-    let two = past_unless one.1 in
-    let three = past_unless two.1 in
-    let four = past_unless three.1 in
-    let five = past_unless four.1 in
-    let six = past_unless five.1 in
-    let seven = past_when six.1 in
-    let eight = past_unless seven.1 in
-    subst IsSound (sym accepts.1) (sound-order m (placed m 0 r) sound (placed_is_order m 0 r two.0 three.0 four.0 five.0) refl one.0 six.0 (not_least 16384 (length m.orders) seven.0) eight.0 (inl refl))
 sound-accepted m (CancelOrder account number) a n of sound none accepts = subst IsSound (sym accepts.1) (sound-without m number sound)
 sound-accepted m (RunBatch budget) a n of sound none accepts =
     let one = past_unless none in
     let two = past_when one.1 in
     subst IsSound (sym accepts.2.1) (sound-batch m accepts.0 budget sound (not_least (2 ^ 24) m.batches two.0) accepts.1)
-sound-accepted m (PlaceUntil last r) a n of sound none accepts =
+sound-accepted m (Place last r) a n of sound none accepts =
     let one = past_unless none in
     let two = past_unless one.1 in
     let three = past_unless two.1 in
     let four = past_unless three.1 in
-    let time = past_when four.1 in
+    let time = past_unless four.1 in
     let five = past_unless time.1 in
     let six = past_unless five.1 in
     let seven = past_when six.1 in
     let eight = past_unless seven.1 in
     subst IsSound (sym accepts.1) (sound-order m (placed m last r) sound (placed_is_order m last r two.0 three.0 four.0 five.0) refl one.0 six.0 (not_least 16384 (length m.orders) seven.0) eight.0
-    (inr (not_one m.version of.1, not_least last m.batches time.0)))
+    (in_time m last r of time.0))
 sound-accepted m (SetMoneyCredit account ticks) a n of sound none accepts =
     let one = past_unless none in
     let two = past_when one.1 in

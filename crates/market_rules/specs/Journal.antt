@@ -1,8 +1,8 @@
 -- Sequences of steps, legal journals, totals and fills.
-use Rattle.std.specs.Prelude.{◌≡◌, ◌⊎◌, ℕ, ◌==◌, if◌then◌else◌, ℤ, pos, neg_ℤ, ◌+ℤ◌, ◌-ℤ◌, List, [], ◌∷◌, map, Option, Some, None, Result, Ok, Err}
+use Rattle.std.specs.Prelude.{◌≡◌, ℕ, ◌==◌, if◌then◌else◌, ℤ, pos, neg_ℤ, ◌+ℤ◌, ◌-ℤ◌, List, [], ◌∷◌, map, Option, Some, None, Result, Ok, Err}
 use Rattle.std.specs.List.{sum_by}
 use Rattle.list_sums.specs.Sums.{int_sum_by}
-use Rattle.wire_records.specs.Commands.{Request, Command, AddAsset, OpenAccount, DepositMoney, DepositAsset, WithdrawMoney, WithdrawAsset, PlaceOrder, CancelOrder, RunBatch, PlaceUntil, SetMoneyCredit, SetUnitCredit, Answer, Plain, Batch, Pair}
+use Rattle.wire_records.specs.Commands.{Request, Command, AddAsset, OpenAccount, DepositMoney, DepositAsset, WithdrawMoney, WithdrawAsset, Place, CancelOrder, RunBatch, SetMoneyCredit, SetUnitCredit, Answer, Plain, Batch, Pair}
 use Rattle.wire_records.specs.declared.version.Version.{Version}
 use Rattle.wire_records.specs.declared.reply.Reply.TheVariants.{Done, Refused}
 use Rattle.wire_records.specs.declared.reply.Reply.TheVariants as reply
@@ -42,10 +42,9 @@ brings (WithdrawMoney account ticks) = (None, neg_ℤ (grains ticks)) ∷ []
 brings (WithdrawAsset account asset units) = (Some asset, neg_ℤ (pos units)) ∷ []
 brings (AddAsset ticker) = []
 brings OpenAccount = []
-brings (PlaceOrder request) = []
+brings (Place last request) = []
 brings (CancelOrder account number) = []
 brings (RunBatch budget) = []
-brings (PlaceUntil last request) = []
 brings (SetMoneyCredit account ticks) = []
 brings (SetUnitCredit account asset units) = []
 
@@ -106,7 +105,7 @@ module _ {R : Type 0} (Reads : R → Result Command BodyFault → Type 0) where
 
   -- a record asks for an order on this request, with a last batch or without one
   abbrev pub AsksFor : Request → R → Type 0
-  AsksFor request asked = Reads asked (Ok (PlaceOrder request)) ⊎ ((last : ℕ) × Reads asked (Ok (PlaceUntil last request)))
+  AsksFor request asked = (last : Option ℕ) × Reads asked (Ok (Place last request))
 
   -- a pair places the order of a number, with this cap
   pub record Places (number cap : ℕ) (pair : Pair R Outcome) : Type 0 where

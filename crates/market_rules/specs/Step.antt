@@ -1,8 +1,8 @@
 -- One step of the market: the first refusal of a command, or what the accepted command is answered and makes of the market.
 --     How a batch may end is a rule of its own, which is handed in: any right outcome, or the program's own one.
-use Rattle.std.specs.Prelude.{◌≡◌, ℕ, ◌+◌, ◌<◌, ◌≤◌, pos, neg_ℤ, ◌+ℤ◌, ◌≤ℤ◌, ◌<ℤ◌, [], ◌∷◌, ◌++◌, length, ◌⊎◌, Option, Some, None, Result, Ok, Err, All, Contains}
+use Rattle.std.specs.Prelude.{◌≡◌, ℕ, ◌+◌, ◌<◌, ◌≤◌, pos, neg_ℤ, ◌+ℤ◌, ◌≤ℤ◌, ◌<ℤ◌, [], ◌∷◌, ◌++◌, length, ◌⊎◌, Option, Some, None, unwrap_or, IfSome, Result, Ok, Err, All, Contains}
 use Rattle.weight_rows.specs.Rows.{IsLawfulRow}
-use Rattle.wire_records.specs.Commands.{Request, Command, AddAsset, OpenAccount, DepositMoney, DepositAsset, WithdrawMoney, WithdrawAsset, PlaceOrder, CancelOrder, RunBatch, PlaceUntil, SetMoneyCredit, SetUnitCredit, Answer, Plain, Batch}
+use Rattle.wire_records.specs.Commands.{Request, Command, AddAsset, OpenAccount, DepositMoney, DepositAsset, WithdrawMoney, WithdrawAsset, Place, CancelOrder, RunBatch, SetMoneyCredit, SetUnitCredit, Answer, Plain, Batch}
 use Rattle.wire_records.specs.declared.reply.Reply.TheVariants as reply
 use Rattle.wire_records.specs.declared.reply.Refusal.{Refusal}
 use Rattle.wire_records.specs.declared.reply.Refusal.TheVariants.{AssetLimit, TickerTaken, BadTicker, AccountLimit, NoAccount, NoAsset, ZeroAmount, TotalLimit, NotFree, BadLimits, BadRate, BadCap, BadRow, OrderLimit, NoOrder, BadBudget, BatchLimit, BadLast, CreditInUse, CreditLimit}
@@ -36,7 +36,7 @@ abbrev pub accept : Option Refusal → Type 0
 accept first = first ≡ None
 
 -- the order that is placed on a request, with its last batch, or 0 where it has none
-abbrev pub placed : Market → ℕ → Request → Order
+abbrev pub placed : Market → Option ℕ → Request → Order
 placed market last r = record {
   number = market.next_order;
   account = r.account;
@@ -46,7 +46,7 @@ placed market last r = record {
   cap = r.cap;
   filled = 0;
   row = r.row;
-  last = last;
+  last = unwrap_or last 0;
 }
 
 -- what an order needs is free in its account, its credit included
@@ -88,17 +88,12 @@ FirstRefusal m (WithdrawAsset account asset units) =
     NoAsset unless IsAsset m.balances asset else
     ZeroAmount when units ≡ 0 else
     NotFree when free_units m account asset <ℤ pos units else accept
-FirstRefusal m (PlaceOrder r) =
-    NoAccount unless IsAccount m.balances r.account else
-    BadLimits unless AreLimits r.low r.high else
-    BadRate unless IsFrom1To most_rate r.rate else
-    BadCap unless IsFrom1To most_cap r.cap else RefusesRow m (placed m 0 r)
-FirstRefusal m (PlaceUntil last r) =
+FirstRefusal m (Place last r) =
     NoAccount unless IsAccount m.balances r.account else
     BadLimits unless AreLimits r.low r.high else
     BadRate unless IsFrom1To most_rate r.rate else
     BadCap unless IsFrom1To most_cap r.cap else
-    BadLast when last ≤ m.batches else RefusesRow m (placed m last r)
+    BadLast unless IfSome last (λ batch. m.batches < batch) else RefusesRow m (placed m last r)
 FirstRefusal m (CancelOrder account number) =
     NoAccount unless IsAccount m.balances account else
     NoOrder unless HasOrder m.orders account number else accept
@@ -151,8 +146,7 @@ Accepts Rule m (DepositMoney account ticks) = gives (Plain reply.Done) (record m
 Accepts Rule m (DepositAsset account asset units) = gives (Plain reply.Done) (record m { balances = change_units m.balances account asset (pos units) })
 Accepts Rule m (WithdrawMoney account ticks) = gives (Plain reply.Done) (record m { balances = change_money m.balances account (neg_ℤ (grains ticks)) })
 Accepts Rule m (WithdrawAsset account asset units) = gives (Plain reply.Done) (record m { balances = change_units m.balances account asset (neg_ℤ (pos units)) })
-Accepts Rule m (PlaceOrder r) = gives (Plain (reply.Order m.next_order)) (record m { orders = m.orders ++ placed m 0 r ∷ []; next_order = m.next_order + 1 })
-Accepts Rule m (PlaceUntil last r) = gives (Plain (reply.Order m.next_order)) (record m { orders = m.orders ++ placed m last r ∷ []; next_order = m.next_order + 1 })
+Accepts Rule m (Place last r) = gives (Plain (reply.Order m.next_order)) (record m { orders = m.orders ++ placed m last r ∷ []; next_order = m.next_order + 1 })
 Accepts Rule m (CancelOrder account number) = gives (Plain reply.Done) (record m { orders = without m.orders number })
 Accepts Rule m (RunBatch budget) = holds_batch Rule m budget
 Accepts Rule m (SetMoneyCredit account ticks) = gives (Plain reply.Done) (record m { balances = set_money_credit m.balances account ticks })

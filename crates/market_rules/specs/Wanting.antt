@@ -1,7 +1,7 @@
 -- Where want of memory may be answered: at a command that adds something or holds a batch, and that no refusal stops.
 use Rattle.std.specs.Prelude.{None, Ok}
 use Rattle.wire_records.specs.Records.{Record}
-use Rattle.wire_records.specs.Commands.{Command, AddAsset, OpenAccount, DepositMoney, DepositAsset, WithdrawMoney, WithdrawAsset, PlaceOrder, CancelOrder, RunBatch, PlaceUntil, SetMoneyCredit, SetUnitCredit}
+use Rattle.wire_records.specs.Commands.{Command, AddAsset, OpenAccount, DepositMoney, DepositAsset, WithdrawMoney, WithdrawAsset, Place, CancelOrder, RunBatch, SetMoneyCredit, SetUnitCredit}
 use Rattle.wire_records.specs.Versions.{IsReadAs}
 use Rattle.market_rules.specs.Market.{Market}
 use Rattle.market_rules.specs.Step.{FirstRefusal}
@@ -14,10 +14,9 @@ TakesMemory (DepositMoney account ticks) = ⊥
 TakesMemory (DepositAsset account asset units) = ⊥
 TakesMemory (WithdrawMoney account ticks) = ⊥
 TakesMemory (WithdrawAsset account asset units) = ⊥
-TakesMemory (PlaceOrder request) = Unit {0}
+TakesMemory (Place last request) = Unit {0}
 TakesMemory (CancelOrder account number) = ⊥
 TakesMemory (RunBatch budget) = Unit {0}
-TakesMemory (PlaceUntil last request) = Unit {0}
 TakesMemory (SetMoneyCredit account ticks) = ⊥
 TakesMemory (SetUnitCredit account asset units) = ⊥
 

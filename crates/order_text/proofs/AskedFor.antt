@@ -4,7 +4,7 @@ use Rattle.std.specs.Prelude.{codes, unwrap_or, option_and_then}
 use Rattle.weight_rows.specs.declared.entries.Entry.{Entry}
 use Rattle.serde_json.specs.Data.{Data}
 use Rattle.serde_json.specs.Find.{get, as_str}
-use Rattle.wire_records.specs.Commands.{Request, Command, AddAsset, DepositMoney, DepositAsset, WithdrawMoney, WithdrawAsset, PlaceOrder, CancelOrder, RunBatch, PlaceUntil, SetMoneyCredit, SetUnitCredit}
+use Rattle.wire_records.specs.Commands.{Request, Command, AddAsset, DepositMoney, DepositAsset, WithdrawMoney, WithdrawAsset, Place, CancelOrder, RunBatch, SetMoneyCredit, SetUnitCredit}
 use Rattle.wire_records.specs.declared.command.Command as owned
 use Rattle.wire_records.specs.Versions.{most_tag, HasLastBatches, HasCredit, IsOfVersion}
 use Rattle.wire_records.specs.Views.{command_in}
@@ -52,8 +52,8 @@ cancel_is = search (rules, refl)
 batch_is : (command : Command) → word_of command ≡ codes "batch" → (budget : ℕ) × (command ≡ RunBatch budget)
 batch_is = search (rules, refl)
 
-place_is : (command : Command) → word_of command ≡ codes "place" → ((request : Request) × (command ≡ PlaceOrder request)) ⊎ ((last : ℕ) × (request : Request) × (command ≡ PlaceUntil last request))
-place_is = search (rules, refl, inl, inr)
+place_is : (command : Command) → word_of command ≡ codes "place" → (last : Option ℕ) × (request : Request) × (command ≡ Place last request)
+place_is = search (rules, refl)
 
 -- the text at a key, both ways
 pub text_of : (tickers : List (List ℕ)) (d : Data) (key text : List ℕ) → HasAt tickers d key (Text text) → text_at key d ≡ Some text
@@ -68,7 +68,7 @@ text_where tickers d key text is = by (get key d) refl is
 
 -- an object's members begin with the word at `do`
 word_first : (command : Command) → members_of command ≡ (codes "do", Text (word_of command)) ∷ drop 1 (members_of command)
-word_first (AddAsset ticker) = refl
+word_first (Place None request) = refl
 word_first command = refl
 
 -- the members behind the first
@@ -141,14 +141,14 @@ module _ (tickers : List (List ℕ)) (d : Data) where
 
   -- an object without the fields of an order, with a last batch or without one, asks for none
   no_order : (version : Version) → ((request : Request) → HasOrder tickers d request → HasKeys 7 d → ⊥)
-      → ((last : ℕ) (request : Request) → IsOfVersion version (PlaceUntil last request) → HasAt tickers d (codes "last") (Small last) → HasOrder tickers d request → HasKeys 8 d → ⊥)
+      → ((last : ℕ) (request : Request) → IsOfVersion version (Place (Some last) request) → HasAt tickers d (codes "last") (Small last) → HasOrder tickers d request → HasKeys 8 d → ⊥)
       → (command : Command) → word_of command ≡ codes "place" → IsOfVersion version command → Fits tickers d command → ⊥
-  no_order version none no_until command word of fits = elim (place_is command word) [
-    | inl is ↦ let has = subst (Fits tickers d) is.1 fits in none is.0 has.0 has.1
-    | inr is ↦
-        let has = subst (Fits tickers d) is.2 fits in
-        no_until is.0 is.1 (subst (IsOfVersion version) is.2 of) has.0.0 (rest_of tickers d (codes "last", Small is.0) (order_members is.1) has.0) has.1
-  ]
+  no_order version none no_until command word of fits =
+      let is = place_is command word in by_last is.0 is.1 (subst (IsOfVersion version) is.2 of) (subst (Fits tickers d) is.2 fits)
+    where
+      by_last : (last : Option ℕ) (request : Request) → IsOfVersion version (Place last request) → Fits tickers d (Place last request) → ⊥
+      by_last None request of has = none request has.0 has.1
+      by_last (Some last) request of has = no_until last request of has.0.0 (rest_of tickers d (codes "last", Small last) (order_members request) has.0) has.1
 
   -- it doesn't have both seven keys and eight
   one_count : HasKeys 7 d → HasKeys 8 d → ⊥

@@ -2,7 +2,7 @@
 use Rattle.std.proofs.Common.{◌≡◌, ℕ, ◌≤◌, List, [], Option, Some, None, Result, Ok, Err, refl, sym, ap, ◌∙◌, arith}
 use Rattle.std.specs.Prelude.{codes, unwrap_or}
 use Rattle.serde_json.specs.Data.{Data}
-use Rattle.wire_records.specs.Commands.{Command, AddAsset, OpenAccount, DepositMoney, DepositAsset, WithdrawMoney, WithdrawAsset, PlaceOrder, CancelOrder, RunBatch, PlaceUntil, SetMoneyCredit, SetUnitCredit}
+use Rattle.wire_records.specs.Commands.{Command, AddAsset, OpenAccount, DepositMoney, DepositAsset, WithdrawMoney, WithdrawAsset, Place, CancelOrder, RunBatch, SetMoneyCredit, SetUnitCredit}
 use Rattle.wire_records.specs.declared.command.Command as owned
 use Rattle.wire_records.specs.Versions.{HasCredit}
 use Rattle.wire_records.specs.Views.{command_in}
@@ -27,10 +27,9 @@ word_for (DepositMoney account ticks) = (words.Deposit, refl)
 word_for (DepositAsset account asset units) = (words.Deposit, refl)
 word_for (WithdrawMoney account ticks) = (words.Withdraw, refl)
 word_for (WithdrawAsset account asset units) = (words.Withdraw, refl)
-word_for (PlaceOrder request) = (words.Place, refl)
+word_for (Place last request) = (words.Place, refl)
 word_for (CancelOrder account order) = (words.Cancel, refl)
 word_for (RunBatch budget) = (words.Batch, refl)
-word_for (PlaceUntil last request) = (words.Place, refl)
 word_for (SetMoneyCredit account ticks) = (words.Credit, refl)
 word_for (SetUnitCredit account asset units) = (words.Credit, refl)
 

@@ -12,7 +12,7 @@ use Rattle.serde_json.specs.Data.{Num, unsigned, negative, float, Data, null, bo
 use Rattle.serde_json.specs.Find.{get, get_member, as_number, as_u64, as_i64}
 use Rattle.wire_fields.specs.Numbers.{IsUnsigned, IsSigned}
 use Rattle.wire_records.specs.Records.{AreBytes}
-use Rattle.wire_records.specs.Commands.{Request, Command, AddAsset, OpenAccount, DepositMoney, DepositAsset, WithdrawMoney, WithdrawAsset, PlaceOrder, CancelOrder, RunBatch, PlaceUntil, SetMoneyCredit, SetUnitCredit}
+use Rattle.wire_records.specs.Commands.{Request, Command, AddAsset, OpenAccount, DepositMoney, DepositAsset, WithdrawMoney, WithdrawAsset, Place, CancelOrder, RunBatch, SetMoneyCredit, SetUnitCredit}
 use Rattle.wire_records.specs.CommandRecords.{IsCommand, IsRequest, IsEntry}
 use Rattle.ticker_table.specs.Tickers.{AreTickers}
 use Rattle.wire_records.specs.Versions.{IsOfVersion}
@@ -166,14 +166,14 @@ module _ (tickers : List (List ℕ)) (d : Data) (are : AreTickers tickers) (all 
   command_fits version (DepositAsset account asset units) asks = units_fit account asset units _ (fits_asked version tickers d (DepositAsset account asset units) asks).0
   command_fits version (WithdrawMoney account ticks) asks = money_fits account ticks _ (fits_asked version tickers d (WithdrawMoney account ticks) asks).0
   command_fits version (WithdrawAsset account asset units) asks = units_fit account asset units _ (fits_asked version tickers d (WithdrawAsset account asset units) asks).0
-  command_fits version (PlaceOrder r) asks = request_fits r (omega (arith, row_is_short version tickers d (PlaceOrder r) are asks)) (fits_asked version tickers d (PlaceOrder r) asks).0
+  command_fits version (Place None r) asks = request_fits r (omega (arith, row_is_short version tickers d (Place None r) are asks)) (fits_asked version tickers d (Place None r) asks).0
   command_fits version (CancelOrder account order) asks =
       let f = (fits_asked version tickers d (CancelOrder account order) asks).0 in
       (f.0.2.1, number_at_fits (codes "order") order f.1.0)
   command_fits version (RunBatch budget) asks = (fits_asked version tickers d (RunBatch budget) asks).0.0.2.1
-  command_fits version (PlaceUntil last r) asks =
-      let f = (fits_asked version tickers d (PlaceUntil last r) asks).0 in
-      (f.0.2.1, request_fits r (omega (arith, row_is_short version tickers d (PlaceUntil last r) are asks)) (rest_of tickers d (codes "last", Small last) (order_members r) f))
+  command_fits version (Place (Some last) r) asks =
+      let f = (fits_asked version tickers d (Place (Some last) r) asks).0 in
+      (f.0.2.1, request_fits r (omega (arith, row_is_short version tickers d (Place (Some last) r) are asks)) (rest_of tickers d (codes "last", Small last) (order_members r) f))
   command_fits version (SetMoneyCredit account ticks) asks = money_fits account ticks _ (fits_asked version tickers d (SetMoneyCredit account ticks) asks).0
   command_fits version (SetUnitCredit account asset units) asks = units_fit account asset units _ (fits_asked version tickers d (SetUnitCredit account asset units) asks).0
 
@@ -190,11 +190,11 @@ module _ (tickers : List (List ℕ)) (d : Data) (are : AreTickers tickers) (all 
   }
 
   segments_fit : (version : Version) (account : ℕ) (row : List Entry) (segments : List Segment) → IsUnsigned 4 account → length row ≤ 165 → All IsEntry row → AllByRecursion HasOrderNumbers segments
-      → All IsCommand (map PlaceOrder (map (request_of account row) segments)) × All (IsOfVersion version) (map PlaceOrder (map (request_of account row) segments))
+      → All IsCommand (map (Place None) (map (request_of account row) segments)) × All (IsOfVersion version) (map (Place None) (map (request_of account row) segments))
   segments_fit version account row [] named few entries numbers = (All-nil IsCommand, All-nil (IsOfVersion version))
   segments_fit version account row (s ∷ segments) named few entries numbers =
-      let place = PlaceOrder (request_of account row s) in
-      let behind = map PlaceOrder (map (request_of account row) segments) in
+      let place = Place None (request_of account row s) in
+      let behind = map (Place None) (map (request_of account row) segments) in
       let rest = segments_fit version account row segments named few entries numbers.1 in (
         All-cons IsCommand place behind (segment_fits account row s named few entries numbers.0) rest.0,
         All-cons (IsOfVersion version) place behind (of_each version place (omega arith, omega arith)) rest.1,

@@ -10,7 +10,7 @@ use Rattle.serde_json.specs.Find.{get, as_array}
 use Rattle.serde_json.specs.Events.{items_len}
 use Rattle.serde_json.specs.View.{view, items_view}
 use Rattle.serde_json.specs.declared.value.Value.{Value as json_value}
-use Rattle.wire_records.specs.Commands.{Request, Command, PlaceOrder}
+use Rattle.wire_records.specs.Commands.{Request, Command, Place}
 use Rattle.wire_records.specs.declared.command.Command as owned
 use Rattle.wire_records.specs.Views.{command_in}
 use Rattle.wire_records.specs.declared.version.Version.{Version}
@@ -247,7 +247,7 @@ module _ (tickers : List (List ℕ)) (d : Data) where
   ladder_refused version word Memory none = tt
 
 -- what is asked for leaves the tickers that are told
-leaves_none : (tickers : List (List ℕ)) (l : Ladder) (account : ℕ) (row : List Entry) (segments : List Segment) → Leave tickers (map PlaceOrder (map (request_of account row) segments)) tickers
+leaves_none : (tickers : List (List ℕ)) (l : Ladder) (account : ℕ) (row : List Entry) (segments : List Segment) → Leave tickers (map (Place None) (map (request_of account row) segments)) tickers
 leaves_none tickers l account row [] = refl
 leaves_none tickers l account row (s ∷ segments) = (tickers, inr ((λ ticker adds. absurd (let same = adds.0 in cc)), refl), leaves_none tickers l account row segments)
 
@@ -269,13 +269,13 @@ line_is_short version tickers d (line_is.Asks command) asked = asked.1
 line_is_short version tickers d (line_is.Many commands) asked = asked.1
 
 -- what places orders is told by its commands
-requests_are : (a b : List Request) → map PlaceOrder a ≡ map PlaceOrder b → a ≡ b
+requests_are : (a b : List Request) → map (Place None) a ≡ map (Place None) b → a ≡ b
 requests_are [] [] same = refl
 requests_are [] (y ∷ b) same = absurd (cc)
 requests_are (x ∷ a) [] same = absurd (cc)
 requests_are (x ∷ a) (y ∷ b) same =
     let first : x ≡ y = cc in
-    let rest : map PlaceOrder a ≡ map PlaceOrder b = cc in
+    let rest : map (Place None) a ≡ map (Place None) b = cc in
     rw (first, requests_are a b rest) refl
 
 pub ladder_asks_together : LadderAsksTogether

@@ -6,7 +6,7 @@ use Rattle.std.proofs.lemmas.List.Quantifiers.{position-Some}
 use Rattle.weight_rows.specs.declared.entries.Entry.{Entry}
 use Rattle.serde_json.specs.Data.{Data, Members, no_members, member}
 use Rattle.ticker_table.specs.Tickers.{AreTickers}
-use Rattle.wire_records.specs.Commands.{Command, PlaceOrder, PlaceUntil}
+use Rattle.wire_records.specs.Commands.{Command, Place}
 use Rattle.wire_records.specs.CommandRecords.{HasShortRow}
 use Rattle.wire_records.specs.declared.version.Version.{Version}
 use Rattle.curve_ladder.specs.declared.segment.Segment.{Segment}
@@ -43,18 +43,18 @@ few_entries tickers members row are =
 
 -- by the command
 pub row_is_short : (version : Version) (tickers : List (List ℕ)) (d : Data) (command : Command) → AreTickers tickers → Asks version tickers d command → HasShortRow command
-row_is_short version tickers d (PlaceOrder request) are asks =
-    let weights = (weights_of tickers d request (fits_asked version tickers d (PlaceOrder request) asks).0).2 in
+row_is_short version tickers d (Place None request) are asks =
+    let weights = (weights_of tickers d request (fits_asked version tickers d (Place None request) asks).0).2 in
     omega (arith, are.few, few_entries tickers weights.0 request.row weights.2)
-row_is_short version tickers d (PlaceUntil last request) are asks =
-    let weights = (weights_of tickers d request (rest_of tickers d (codes "last", Small last) (order_members request) (fits_asked version tickers d (PlaceUntil last request) asks).0)).2 in
+row_is_short version tickers d (Place (Some last) request) are asks =
+    let weights = (weights_of tickers d request (rest_of tickers d (codes "last", Small last) (order_members request) (fits_asked version tickers d (Place (Some last) request) asks).0)).2 in
     omega (arith, are.few, few_entries tickers weights.0 request.row weights.2)
 row_is_short version tickers d command are asks = tt
 
 -- all that a ladder's line asks for
-requests_short : (account : ℕ) (row : List Entry) (segments : List Segment) → length row ≤ 165 → All HasShortRow (map PlaceOrder (map (request_of account row) segments))
+requests_short : (account : ℕ) (row : List Entry) (segments : List Segment) → length row ≤ 165 → All HasShortRow (map (Place None) (map (request_of account row) segments))
 requests_short account row [] short = All-nil HasShortRow
-requests_short account row (s ∷ segments) short = All-cons HasShortRow (PlaceOrder (request_of account row s)) (map PlaceOrder (map (request_of account row) segments)) short (requests_short account row segments short)
+requests_short account row (s ∷ segments) short = All-cons HasShortRow (Place None (request_of account row s)) (map (Place None) (map (request_of account row) segments)) short (requests_short account row segments short)
 
 -- its row
 pub ladder_row : (tickers : List (List ℕ)) (d : Data) (commands : List Command) → (asks : AsksLadder tickers d commands) → HasAt tickers d (codes "weights") (Weights asks.row)

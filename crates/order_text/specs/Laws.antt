@@ -1,7 +1,7 @@
 -- What holds of lines. The module `laws` has a function for each of these.
-use Rattle.std.specs.Prelude.{◌≡◌, ◌≢◌, ℕ, List, map, All, Result}
+use Rattle.std.specs.Prelude.{◌≡◌, ◌≢◌, ℕ, List, map, All, Result, None}
 use Rattle.serde_json.specs.Data.{Data}
-use Rattle.wire_records.specs.Commands.{Request, Command, PlaceOrder}
+use Rattle.wire_records.specs.Commands.{Request, Command, Place}
 use Rattle.wire_records.specs.declared.version.Version.{Version}
 use Rattle.ticker_table.specs.Tickers.{AreTickers}
 use Rattle.wire_records.specs.CommandRecords.{IsCommand, HasShortRow}
@@ -50,4 +50,4 @@ NoneIsUnanswered =
 -- their demands add up to its value, and at most one of them isn't whole
 abbrev pub LadderAsksTogether : Type 0
 LadderAsksTogether =
-    (tickers : List (List ℕ)) (d : Data) (requests : List Request) → (asks : AsksLadder tickers d (map PlaceOrder requests)) → AskTogether asks.ladder (map curve_asked requests)
+    (tickers : List (List ℕ)) (d : Data) (requests : List Request) → (asks : AsksLadder tickers d (map (Place None) requests)) → AskTogether asks.ladder (map curve_asked requests)

@@ -8,7 +8,7 @@ use Rattle.serde_json.specs.Data.{Data, Items, no_items, item, Members, no_membe
 use Rattle.serde_json.specs.Read.{read}
 use Rattle.serde_json.specs.Events.{members_len}
 use Rattle.serde_json.specs.Find.{get, as_str, as_number, as_u64, as_i64, as_array, as_object}
-use Rattle.wire_records.specs.Commands.{Request, Command, AddAsset, OpenAccount, DepositMoney, DepositAsset, WithdrawMoney, WithdrawAsset, PlaceOrder, CancelOrder, RunBatch, PlaceUntil, SetMoneyCredit, SetUnitCredit}
+use Rattle.wire_records.specs.Commands.{Request, Command, AddAsset, OpenAccount, DepositMoney, DepositAsset, WithdrawMoney, WithdrawAsset, Place, CancelOrder, RunBatch, SetMoneyCredit, SetUnitCredit}
 use Rattle.wire_records.specs.Versions.{IsOfVersion}
 use Rattle.wire_records.specs.declared.version.Version.{Version}
 use Rattle.ticker_table.specs.Adding.{IsAddable}
@@ -119,10 +119,10 @@ members_of (DepositAsset account asset units) =
 members_of (WithdrawMoney account ticks) = (codes "do", Text (codes "withdraw")) ∷ (codes "account", Small account) ∷ (codes "ticks", Number ticks) ∷ []
 members_of (WithdrawAsset account asset units) =
     (codes "do", Text (codes "withdraw")) ∷ (codes "account", Small account) ∷ (codes "asset", Asset asset) ∷ (codes "units", Number units) ∷ []
-members_of (PlaceOrder request) = (codes "do", Text (codes "place")) ∷ order_members request
+members_of (Place None request) = (codes "do", Text (codes "place")) ∷ order_members request
 members_of (CancelOrder account order) = (codes "do", Text (codes "cancel")) ∷ (codes "account", Small account) ∷ (codes "order", Number order) ∷ []
 members_of (RunBatch budget) = (codes "do", Text (codes "batch")) ∷ (codes "budget", Small budget) ∷ []
-members_of (PlaceUntil last request) = (codes "do", Text (codes "place")) ∷ (codes "last", Small last) ∷ order_members request
+members_of (Place (Some last) request) = (codes "do", Text (codes "place")) ∷ (codes "last", Small last) ∷ order_members request
 members_of (SetMoneyCredit account ticks) = (codes "do", Text (codes "credit")) ∷ (codes "account", Small account) ∷ (codes "ticks", Number ticks) ∷ []
 members_of (SetUnitCredit account asset units) =
     (codes "do", Text (codes "credit")) ∷ (codes "account", Small account) ∷ (codes "asset", Asset asset) ∷ (codes "units", Number units) ∷ []
@@ -147,7 +147,7 @@ pub record AsksLadder (tickers : List (List ℕ)) (d : Data) (commands : List Co
   pub members : All (λ m. HasAt tickers d m.0 m.1) (ladder_members ladder account row)
   pub keys : HasKeys (length (ladder_members ladder account row)) d
   pub lawful : IsLadder ladder
-  pub commands_are : commands ≡ map PlaceOrder (requests_of ladder account row)
+  pub commands_are : commands ≡ map (Place None) (requests_of ladder account row)
 
 -- what may be asked for: one command, or those of a ladder, which may be one too
 pub data Asked : Type 0 where

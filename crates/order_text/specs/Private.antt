@@ -5,7 +5,7 @@ use Rattle.weight_rows.specs.declared.entries.Entry.{Entry}
 use Rattle.serde_json.specs.Data.{Data, Items, no_items, item, Members, no_members, member}
 use Rattle.serde_json.specs.Find.{get, as_str, as_array, as_object}
 use Rattle.ticker_table.specs.Adding.{IsAddable}
-use Rattle.wire_records.specs.Commands.{Request, Command, AddAsset, OpenAccount, DepositMoney, DepositAsset, WithdrawMoney, WithdrawAsset, PlaceOrder, CancelOrder, RunBatch, PlaceUntil, SetMoneyCredit, SetUnitCredit}
+use Rattle.wire_records.specs.Commands.{Request, Command, AddAsset, OpenAccount, DepositMoney, DepositAsset, WithdrawMoney, WithdrawAsset, Place, CancelOrder, RunBatch, SetMoneyCredit, SetUnitCredit}
 use Rattle.wire_records.specs.CommandRecords.{HasShortRow}
 use Rattle.wire_records.specs.Versions.{IsOfVersion}
 use Rattle.wire_records.specs.Views.{command_in}
@@ -56,10 +56,9 @@ word_of (DepositMoney account ticks) = codes "deposit"
 word_of (DepositAsset account asset units) = codes "deposit"
 word_of (WithdrawMoney account ticks) = codes "withdraw"
 word_of (WithdrawAsset account asset units) = codes "withdraw"
-word_of (PlaceOrder request) = codes "place"
+word_of (Place last request) = codes "place"
 word_of (CancelOrder account order) = codes "cancel"
 word_of (RunBatch budget) = codes "batch"
-word_of (PlaceUntil last request) = codes "place"
 word_of (SetMoneyCredit account ticks) = codes "credit"
 word_of (SetUnitCredit account asset units) = codes "credit"
 
@@ -130,7 +129,7 @@ HasLadder tickers d l account row = Has tickers d (drop 1 (ladder_members l acco
 -- the commands of the ladder that an object with the word of one asks for
 abbrev pub IsLaddered : List (List ℕ) → Data → Result (List owned.Command) LineFault → Type 0
 IsLaddered tickers d (Ok commands) =
-    ((l : Ladder) × (account : ℕ) × (row : List Entry) × HasLadder tickers d l account row × HasKeys 5 d × IsLadder l × (map command_in commands ≡ map PlaceOrder (requests_of l account row)))
+    ((l : Ladder) × (account : ℕ) × (row : List Entry) × HasLadder tickers d l account row × HasKeys 5 d × IsLadder l × (map command_in commands ≡ map (Place None) (requests_of l account row)))
     × All (λ command. HasShortRow (command_in command)) commands
 IsLaddered tickers d (Err NoCommand) = (l : Ladder) (account : ℕ) (row : List Entry) → HasLadder tickers d l account row → HasKeys 5 d → ¬ IsLadder l
 IsLaddered tickers d (Err Memory) = Unit {0}

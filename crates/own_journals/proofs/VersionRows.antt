@@ -10,7 +10,7 @@ use Rattle.weight_rows.specs.Rows.{IsLawfulRow, IsLawfulWeight, IsPrice, price_o
 use Rattle.demand_curve.specs.Demand.{IsRounding, most_rate, scaled_demand, line, span, loss, dual_floor, scaled_dual, floor_rate, ceil_rate, floor_in, ceil_in}
 use Rattle.demand_curve.specs.Numbers.{distance}
 use Rattle.wire_records.specs.declared.version.Version.TheVariants.{Two}
-use Rattle.wire_records.specs.Commands.{Request, PlaceOrder, PlaceUntil, SetMoneyCredit, SetUnitCredit, WithdrawMoney, WithdrawAsset, CancelOrder, RunBatch, Plain, Batch}
+use Rattle.wire_records.specs.Commands.{Request, Place, SetMoneyCredit, SetUnitCredit, WithdrawMoney, WithdrawAsset, CancelOrder, RunBatch, Plain, Batch}
 use Rattle.wire_records.specs.declared.reply.Refusal.{Refusal}
 use Rattle.wire_records.specs.declared.reply.Refusal.TheVariants.{NotFree, NoOrder, BadLast, CreditInUse, CreditLimit}
 use Rattle.wire_records.specs.declared.reply.Reply.TheVariants as reply
@@ -65,16 +65,16 @@ two_accounts one other credit_one credit_other money units = record {
 -- ---- the refusals of an order, one after the other
 
 place_until : (m : Market) (last : ℕ) (r : Request) (first : Option Refusal) → IsAccount m.balances r.account → AreLimits r.low r.high → IsFrom1To most_rate r.rate → IsFrom1To most_cap r.cap
-    → (last ≤ m.batches → ⊥) → RefusesRow m (placed m last r) first → FirstRefusal m (PlaceUntil last r) first
+    → m.batches < last → RefusesRow m (placed m (Some last) r) first → FirstRefusal m (Place (Some last) r) first
 place_until m last r first account limits rate cap later row = inr (account, inr (limits, inr (rate, inr (cap, inr (later, row)))))
 
 place_too_late : (m : Market) (last : ℕ) (r : Request) → IsAccount m.balances r.account → AreLimits r.low r.high → IsFrom1To most_rate r.rate → IsFrom1To most_cap r.cap
-    → last ≤ m.batches → FirstRefusal m (PlaceUntil last r) (Some BadLast)
-place_too_late m last r account limits rate cap held = inr (account, inr (limits, inr (rate, inr (cap, inl (held, refl)))))
+    → last ≤ m.batches → FirstRefusal m (Place (Some last) r) (Some BadLast)
+place_too_late m last r account limits rate cap held = inr (account, inr (limits, inr (rate, inr (cap, inl ((λ later. omega (arith, later, held)), refl)))))
 
 place : (m : Market) (r : Request) (first : Option Refusal) → IsAccount m.balances r.account → AreLimits r.low r.high → IsFrom1To most_rate r.rate → IsFrom1To most_cap r.cap
-    → RefusesRow m (placed m 0 r) first → FirstRefusal m (PlaceOrder r) first
-place m r first account limits rate cap row = inr (account, inr (limits, inr (rate, inr (cap, row))))
+    → RefusesRow m (placed m None r) first → FirstRefusal m (Place None r) first
+place m r first account limits rate cap row = inr (account, inr (limits, inr (rate, inr (cap, inr (tt, row)))))
 
 row_accepts : (m : Market) (o : Order) → IsLawfulRow o.row → All (λ e. IsAsset m.balances e.asset) o.row → length m.orders < 16384 → IsAffordable m o → RefusesRow m o None
 row_accepts m o row assets few affordable = inr (row, inr (assets, inr ((λ full. omega (arith, full, few)), inr (affordable, refl))))
@@ -105,34 +105,34 @@ abbrev enough : Market
 enough = two_accounts (holds (pos 4724464025600000) (pos 0)) (holds (pos 0) (pos 10000)) (credit 0 0) (credit 0 0) (pos 4724464025600000) (pos 10000)
 
 abbrev with_buyer : Market
-with_buyer = record enough { orders = placed enough 1 buys ∷ []; next_order = 2 }
+with_buyer = record enough { orders = placed enough (Some 1) buys ∷ []; next_order = 2 }
 
 abbrev with_seller : Market
-with_seller = record with_buyer { orders = placed enough 1 buys ∷ placed with_buyer 0 sells ∷ []; next_order = 3 }
+with_seller = record with_buyer { orders = placed enough (Some 1) buys ∷ placed with_buyer None sells ∷ []; next_order = 3 }
 
-serves_buyer : Serves IsRightOutcome enough (PlaceUntil 1 buys) (Plain (reply.Order 1)) with_buyer
+serves_buyer : Serves IsRightOutcome enough (Place (Some 1) buys) (Plain (reply.Order 1)) with_buyer
 unfolding weight_in
 serves_buyer = record {
   first = None;
-  refused = place_until enough 1 buys None (omega arith, omega arith) buy_limits (omega arith, omega arith) (omega arith, omega arith) (λ held. omega (arith, held))
-      (row_accepts enough (placed enough 1 buys) (row_of_one 0 (pos 1) (omega arith, omega arith)) (first_asset enough.balances (pos 1) (omega arith)) (omega arith) (record { money = omega (arith, ints); units = units }));
+  refused = place_until enough 1 buys None (omega arith, omega arith) buy_limits (omega arith, omega arith) (omega arith, omega arith) (omega arith)
+      (row_accepts enough (placed enough (Some 1) buys) (row_of_one 0 (pos 1) (omega arith, omega arith)) (first_asset enough.balances (pos 1) (omega arith)) (omega arith) (record { money = omega (arith, ints); units = units }));
   answered = (refl, refl);
 }
   where
-    units : (asset : ℕ) → asset < 1 → pos (unit_need asset (placed enough 1 buys)) ≤ℤ usable_units enough 1 asset
+    units : (asset : ℕ) → asset < 1 → pos (unit_need asset (placed enough (Some 1) buys)) ≤ℤ usable_units enough 1 asset
     units zero inside = omega (arith, ints)
     units (suc asset) inside = absurd (omega (arith, inside))
 
-serves_seller : Serves IsRightOutcome with_buyer (PlaceOrder sells) (Plain (reply.Order 2)) with_seller
+serves_seller : Serves IsRightOutcome with_buyer (Place None sells) (Plain (reply.Order 2)) with_seller
 unfolding weight_in
 serves_seller = record {
   first = None;
   refused = place with_buyer sells None (omega arith, omega arith) sell_limits (omega arith, omega arith) (omega arith, omega arith)
-      (row_accepts with_buyer (placed with_buyer 0 sells) (row_of_one 0 (neg_ℤ (pos 1)) (omega arith, omega arith)) (first_asset with_buyer.balances (neg_ℤ (pos 1)) (omega arith)) (omega arith) (record { money = omega (arith, ints); units = units }));
+      (row_accepts with_buyer (placed with_buyer None sells) (row_of_one 0 (neg_ℤ (pos 1)) (omega arith, omega arith)) (first_asset with_buyer.balances (neg_ℤ (pos 1)) (omega arith)) (omega arith) (record { money = omega (arith, ints); units = units }));
   answered = (refl, refl);
 }
   where
-    units : (asset : ℕ) → asset < 1 → pos (unit_need asset (placed with_buyer 0 sells)) ≤ℤ usable_units with_buyer 2 asset
+    units : (asset : ℕ) → asset < 1 → pos (unit_need asset (placed with_buyer None sells)) ≤ℤ usable_units with_buyer 2 asset
     units zero inside = omega (arith, ints)
     units (suc asset) inside = absurd (omega (arith, inside))
 
@@ -141,7 +141,7 @@ abbrev even_clearing : Clearing
 even_clearing = record { prices = pos 429410830255 ∷ []; fills = record { order = 1; rate = 500 } ∷ record { order = 2; rate = 500 } ∷ []; residuals = pos 0 ∷ []; gap = pos 85899346 }
 
 abbrev pair_until : ℕ → List Order
-pair_until last = placed enough last buys ∷ placed with_buyer 0 sells ∷ []
+pair_until last = record (placed enough None buys) { last = last } ∷ placed with_buyer None sells ∷ []
 
 pair_clears : (last : ℕ) → IsRightClearing (pair_until last) (pos 0 ∷ []) even_clearing
 unfolding steepness weight_in portfolio_price scaled_demand loss line span distance
@@ -157,7 +157,7 @@ pair_clears last = record {
 }
   where
     nothing_unnamed : (asset : ℕ) → asset < 1 → IsUnnamed (pair_until last) asset → price_of even_clearing.prices asset ≡ price_of (pos 0 ∷ []) asset
-    nothing_unnamed zero inside unnamed = absurd (unnamed 0 (placed enough last buys) (omega arith) (0, omega arith, refl))
+    nothing_unnamed zero inside unnamed = absurd (unnamed 0 (record (placed enough None buys) { last = last }) (omega arith) (0, omega arith, refl))
     nothing_unnamed (suc asset) inside unnamed = absurd (omega (arith, inside))
 
     within : (asset : ℕ) → asset < 1 → unsigned_abs (residual (trades_of (pair_until last) even_clearing.fills) asset) ≤ residual_bound (pair_until last) asset
@@ -201,7 +201,7 @@ after_first = record {
     total_units = pos 10000 ∷ [];
   };
   exchange = holds (pos 0) (pos 0);
-  orders = record (placed with_buyer 0 sells) { filled = 500 } ∷ [];
+  orders = record (placed with_buyer None sells) { filled = 500 } ∷ [];
   next_order = 3;
   batches = 1;
   last_prices = pos 429410830255 ∷ [];
@@ -227,7 +227,7 @@ it_has_left = inr ((omega arith, omega arith), inl (none, refl))
 
 -- the seller alone
 abbrev seller_left : Order
-seller_left = record (placed with_buyer 0 sells) { filled = 500 }
+seller_left = record (placed with_buyer None sells) { filled = 500 }
 
 abbrev lone_clearing : Clearing
 lone_clearing = record { prices = pos 386718855331 ∷ []; fills = record { order = 2; rate = 1 } ∷ []; residuals = neg_ℤ (pos 1) ∷ []; gap = pos 386761805004 }
@@ -281,7 +281,7 @@ after_second = record after_first {
     total_units = pos 10000 ∷ [];
   };
   exchange = holds (neg_ℤ (pos 386718855331)) (pos 1);
-  orders = record (placed with_buyer 0 sells) { filled = 501 } ∷ [];
+  orders = record (placed with_buyer None sells) { filled = 501 } ∷ [];
   batches = 2;
   last_prices = pos 386718855331 ∷ [];
 }
@@ -298,25 +298,25 @@ serves_second = record {
 abbrev buys_less : Request
 buys_less = record buys { cap = 1000 }
 
-too_late : (last : ℕ) → last ≤ 2 → FirstRefusal after_second (PlaceUntil last buys_less) (Some BadLast)
+too_late : (last : ℕ) → last ≤ 2 → FirstRefusal after_second (Place (Some last) buys_less) (Some BadLast)
 too_late last over = place_too_late after_second last buys_less (omega arith, omega arith) buy_limits (omega arith, omega arith) (omega arith, omega arith) over
 
-too_dear : FirstRefusal after_second (PlaceUntil 3 buys) (Some NotFree)
+too_dear : FirstRefusal after_second (Place (Some 3) buys) (Some NotFree)
 unfolding weight_in
 too_dear =
-    place_until after_second 3 buys (Some NotFree) (omega arith, omega arith) buy_limits (omega arith, omega arith) (omega arith, omega arith) (λ held. omega (arith, held))
-    (row_is_too_dear after_second (placed after_second 3 buys) (row_of_one 0 (pos 1) (omega arith, omega arith)) (first_asset after_second.balances (pos 1) (omega arith)) (omega arith) (λ affordable. let money = affordable.money in omega (arith, ints, money)))
+    place_until after_second 3 buys (Some NotFree) (omega arith, omega arith) buy_limits (omega arith, omega arith) (omega arith, omega arith) (omega arith)
+    (row_is_too_dear after_second (placed after_second (Some 3) buys) (row_of_one 0 (pos 1) (omega arith, omega arith)) (first_asset after_second.balances (pos 1) (omega arith)) (omega arith) (λ affordable. let money = affordable.money in omega (arith, ints, money)))
 
-serves_third : Serves IsRightOutcome after_second (PlaceUntil 3 buys_less) (Plain (reply.Order 3)) (record after_second { orders = record (placed with_buyer 0 sells) { filled = 501 } ∷ placed after_second 3 buys_less ∷ []; next_order = 4 })
+serves_third : Serves IsRightOutcome after_second (Place (Some 3) buys_less) (Plain (reply.Order 3)) (record after_second { orders = record (placed with_buyer None sells) { filled = 501 } ∷ placed after_second (Some 3) buys_less ∷ []; next_order = 4 })
 unfolding weight_in
 serves_third = record {
   first = None;
-  refused = place_until after_second 3 buys_less None (omega arith, omega arith) buy_limits (omega arith, omega arith) (omega arith, omega arith) (λ held. omega (arith, held))
-      (row_accepts after_second (placed after_second 3 buys_less) (row_of_one 0 (pos 1) (omega arith, omega arith)) (first_asset after_second.balances (pos 1) (omega arith)) (omega arith) (record { money = omega (arith, ints); units = units }));
+  refused = place_until after_second 3 buys_less None (omega arith, omega arith) buy_limits (omega arith, omega arith) (omega arith, omega arith) (omega arith)
+      (row_accepts after_second (placed after_second (Some 3) buys_less) (row_of_one 0 (pos 1) (omega arith, omega arith)) (first_asset after_second.balances (pos 1) (omega arith)) (omega arith) (record { money = omega (arith, ints); units = units }));
   answered = (refl, refl);
 }
   where
-    units : (asset : ℕ) → asset < 1 → pos (unit_need asset (placed after_second 3 buys_less)) ≤ℤ usable_units after_second 1 asset
+    units : (asset : ℕ) → asset < 1 → pos (unit_need asset (placed after_second (Some 3) buys_less)) ≤ℤ usable_units after_second 1 asset
     units zero inside = omega (arith, ints)
     units (suc asset) inside = absurd (omega (arith, inside))
 
@@ -346,34 +346,34 @@ serves_unit_credit = record {
 }
 
 abbrev lent_buyer : Market
-lent_buyer = record on_credit { orders = placed on_credit 0 buys ∷ []; next_order = 2 }
+lent_buyer = record on_credit { orders = placed on_credit None buys ∷ []; next_order = 2 }
 
 abbrev lent_pair : Market
-lent_pair = record on_credit { orders = placed on_credit 0 buys ∷ placed lent_buyer 0 sells ∷ []; next_order = 3 }
+lent_pair = record on_credit { orders = placed on_credit None buys ∷ placed lent_buyer None sells ∷ []; next_order = 3 }
 
-serves_lent_buyer : Serves IsRightOutcome on_credit (PlaceOrder buys) (Plain (reply.Order 1)) lent_buyer
+serves_lent_buyer : Serves IsRightOutcome on_credit (Place None buys) (Plain (reply.Order 1)) lent_buyer
 unfolding weight_in
 serves_lent_buyer = record {
   first = None;
   refused = place on_credit buys None (omega arith, omega arith) buy_limits (omega arith, omega arith) (omega arith, omega arith)
-      (row_accepts on_credit (placed on_credit 0 buys) (row_of_one 0 (pos 1) (omega arith, omega arith)) (first_asset on_credit.balances (pos 1) (omega arith)) (omega arith) (record { money = omega (arith, ints); units = units }));
+      (row_accepts on_credit (placed on_credit None buys) (row_of_one 0 (pos 1) (omega arith, omega arith)) (first_asset on_credit.balances (pos 1) (omega arith)) (omega arith) (record { money = omega (arith, ints); units = units }));
   answered = (refl, refl);
 }
   where
-    units : (asset : ℕ) → asset < 1 → pos (unit_need asset (placed on_credit 0 buys)) ≤ℤ usable_units on_credit 1 asset
+    units : (asset : ℕ) → asset < 1 → pos (unit_need asset (placed on_credit None buys)) ≤ℤ usable_units on_credit 1 asset
     units zero inside = omega (arith, ints)
     units (suc asset) inside = absurd (omega (arith, inside))
 
-serves_lent_seller : Serves IsRightOutcome lent_buyer (PlaceOrder sells) (Plain (reply.Order 2)) lent_pair
+serves_lent_seller : Serves IsRightOutcome lent_buyer (Place None sells) (Plain (reply.Order 2)) lent_pair
 unfolding weight_in
 serves_lent_seller = record {
   first = None;
   refused = place lent_buyer sells None (omega arith, omega arith) sell_limits (omega arith, omega arith) (omega arith, omega arith)
-      (row_accepts lent_buyer (placed lent_buyer 0 sells) (row_of_one 0 (neg_ℤ (pos 1)) (omega arith, omega arith)) (first_asset lent_buyer.balances (neg_ℤ (pos 1)) (omega arith)) (omega arith) (record { money = omega (arith, ints); units = units }));
+      (row_accepts lent_buyer (placed lent_buyer None sells) (row_of_one 0 (neg_ℤ (pos 1)) (omega arith, omega arith)) (first_asset lent_buyer.balances (neg_ℤ (pos 1)) (omega arith)) (omega arith) (record { money = omega (arith, ints); units = units }));
   answered = (refl, refl);
 }
   where
-    units : (asset : ℕ) → asset < 1 → pos (unit_need asset (placed lent_buyer 0 sells)) ≤ℤ usable_units lent_buyer 2 asset
+    units : (asset : ℕ) → asset < 1 → pos (unit_need asset (placed lent_buyer None sells)) ≤ℤ usable_units lent_buyer 2 asset
     units zero inside = omega (arith, ints)
     units (suc asset) inside = absurd (omega (arith, inside))
 
@@ -387,7 +387,7 @@ owing = record lent_pair {
     total_units = pos 0 ∷ [];
   };
   exchange = holds (pos 0) (pos 0);
-  orders = record (placed on_credit 0 buys) { filled = 500 } ∷ record (placed lent_buyer 0 sells) { filled = 500 } ∷ [];
+  orders = record (placed on_credit None buys) { filled = 500 } ∷ record (placed lent_buyer None sells) { filled = 500 } ∷ [];
   batches = 1;
   last_prices = pos 429410830255 ∷ [];
 }
@@ -453,7 +453,7 @@ nobody = record {
 }
 
 abbrev order_of : ℕ → ℕ → Request → Order
-order_of number last r = record (placed nobody last r) { number = number }
+order_of number last r = record (placed nobody None r) { number = number; last = last }
 
 abbrev wide_until : List Order
 wide_until = order_of 1 0 basket_bought ∷ order_of 2 1 (sold 0) ∷ order_of 3 0 (sold 1) ∷ []

@@ -6,7 +6,7 @@ use Rattle.std.proofs.lemmas.List.Elements.{All-from_recursion}
 use Rattle.weight_rows.specs.declared.entries.Entry.{Entry}
 use Rattle.weight_rows.specs.Rows.{IsLawfulRow, IsLawfulWeight, weight_in, portfolio_price}
 use Rattle.ticker_table.specs.Tickers.{IsNameCharacter, IsTicker}
-use Rattle.wire_records.specs.Commands.{Request, Command, AddAsset, OpenAccount, DepositMoney, DepositAsset, WithdrawMoney, WithdrawAsset, PlaceOrder, CancelOrder, RunBatch, Answer, Plain, Batch, Pair}
+use Rattle.wire_records.specs.Commands.{Request, Command, AddAsset, OpenAccount, DepositMoney, DepositAsset, WithdrawMoney, WithdrawAsset, Place, CancelOrder, RunBatch, Answer, Plain, Batch, Pair}
 use Rattle.wire_records.specs.declared.command.BodyFault.{BodyFault}
 use Rattle.wire_records.specs.declared.version.Version.{Version}
 use Rattle.wire_records.specs.declared.version.Version.TheVariants.{One}
@@ -80,15 +80,15 @@ first_asset : (b : Balances) (weight : ℤ) → 0 < length b.total_units → All
 first_asset b weight there = All-from_recursion (λ (e : Entry). IsAsset b e.asset) (entry 0 weight ∷ []) (there, tt)
 
 -- what the buyer needs is what there is
-buyer_affords : IsAffordable enough (placed enough 0 buys)
+buyer_affords : IsAffordable enough (placed enough None buys)
 unfolding weight_in
 buyer_affords = record { money = omega (arith, ints); units = units }
   where
-    units : (asset : ℕ) → asset < 1 → pos (unit_need asset (placed enough 0 buys)) ≤ℤ usable_units enough 1 asset
+    units : (asset : ℕ) → asset < 1 → pos (unit_need asset (placed enough None buys)) ≤ℤ usable_units enough 1 asset
     units zero inside = omega (arith, ints)
     units (suc asset) inside = absurd (omega (arith, inside))
 
-buyer_is_accepted : FirstRefusal enough (PlaceOrder buys) None
+buyer_is_accepted : FirstRefusal enough (Place None buys) None
 buyer_is_accepted =
     inr (
       (omega arith, omega arith),
@@ -99,12 +99,15 @@ buyer_is_accepted =
           inr (
             (omega arith, omega arith),
             inr (
-              row_of_one 0 (pos 1) (omega arith, omega arith),
+              tt,
               inr (
-                first_asset enough.balances (pos 1) (omega arith),
+                row_of_one 0 (pos 1) (omega arith, omega arith),
                 inr (
-                  (λ full. omega (arith, full)),
-                  inr (buyer_affords, refl),
+                  first_asset enough.balances (pos 1) (omega arith),
+                  inr (
+                    (λ full. omega (arith, full)),
+                    inr (buyer_affords, refl),
+                  ),
                 ),
               ),
             ),
@@ -113,7 +116,7 @@ buyer_is_accepted =
       ),
     )
 
-buyer_is_refused : FirstRefusal a_tick_less (PlaceOrder buys) (Some NotFree)
+buyer_is_refused : FirstRefusal a_tick_less (Place None buys) (Some NotFree)
 buyer_is_refused =
     inr (
       (omega arith, omega arith),
@@ -124,12 +127,15 @@ buyer_is_refused =
           inr (
             (omega arith, omega arith),
             inr (
-              row_of_one 0 (pos 1) (omega arith, omega arith),
+              tt,
               inr (
-                first_asset a_tick_less.balances (pos 1) (omega arith),
+                row_of_one 0 (pos 1) (omega arith, omega arith),
                 inr (
-                  (λ full. omega (arith, full)),
-                  inl ((λ affordable. let money = affordable.money in omega (arith, ints, money)), refl),
+                  first_asset a_tick_less.balances (pos 1) (omega arith),
+                  inr (
+                    (λ full. omega (arith, full)),
+                    inl ((λ affordable. let money = affordable.money in omega (arith, ints, money)), refl),
+                  ),
                 ),
               ),
             ),
@@ -159,8 +165,8 @@ opened =
 
 abbrev traded : List (Pair Command Outcome)
 traded =
-    says (PlaceOrder buys) (Plain (reply.Order 1))
-    ∷ says (PlaceOrder sells) (Plain (reply.Order 2))
+    says (Place None buys) (Plain (reply.Order 1))
+    ∷ says (Place None sells) (Plain (reply.Order 2))
     ∷ says (RunBatch 10) (Batch 1 (Cleared batches.chosen_published))
     ∷ []
 
@@ -178,10 +184,10 @@ abbrev with_money : Market
 with_money = record with_asset_0 { balances = record { accounts = holds (pos 4724464025600000) (pos 0) ∷ holds (pos 0) (pos 0) ∷ []; credits = no_credit ∷ no_credit ∷ []; total_money = pos 4724464025600000; total_units = pos 0 ∷ [] } }
 
 abbrev with_buyer : Market
-with_buyer = record enough { orders = placed enough 0 buys ∷ []; next_order = 2 }
+with_buyer = record enough { orders = placed enough None buys ∷ []; next_order = 2 }
 
 abbrev with_seller : Market
-with_seller = record enough { orders = placed enough 0 buys ∷ placed with_buyer 0 sells ∷ []; next_order = 3 }
+with_seller = record enough { orders = placed enough None buys ∷ placed with_buyer None sells ∷ []; next_order = 3 }
 
 -- after the batch: the buyer paid for 500 units, the seller was paid for as many, and the exchange holds nothing
 abbrev after_trade : Market
@@ -190,7 +196,7 @@ after_trade = record {
   tickers = aapl ∷ [];
   balances = record { accounts = holds (pos 4509758610472500) (pos 500) ∷ holds (pos 214705415127500) (pos 9500) ∷ []; credits = no_credit ∷ no_credit ∷ []; total_money = pos 4724464025600000; total_units = pos 10000 ∷ [] };
   exchange = holds (pos 0) (pos 0);
-  orders = record (placed enough 0 buys) { filled = 500 } ∷ record (placed with_buyer 0 sells) { filled = 500 } ∷ [];
+  orders = record (placed enough None buys) { filled = 500 } ∷ record (placed with_buyer None sells) { filled = 500 } ∷ [];
   next_order = 3;
   batches = 1;
   last_prices = pos 429410830255 ∷ [];
@@ -233,19 +239,19 @@ serves_units = record {
   answered = (refl, refl);
 }
 
-serves_buyer : Serves IsOwnOutcome enough (PlaceOrder buys) (Plain (reply.Order 1)) with_buyer
+serves_buyer : Serves IsOwnOutcome enough (Place None buys) (Plain (reply.Order 1)) with_buyer
 serves_buyer = record { first = None; refused = buyer_is_accepted; answered = (refl, refl) }
 
 -- what the seller needs is what there is, and no money
-seller_affords : IsAffordable with_buyer (placed with_buyer 0 sells)
+seller_affords : IsAffordable with_buyer (placed with_buyer None sells)
 unfolding weight_in
 seller_affords = record { money = omega (arith, ints); units = units }
   where
-    units : (asset : ℕ) → asset < 1 → pos (unit_need asset (placed with_buyer 0 sells)) ≤ℤ usable_units with_buyer 2 asset
+    units : (asset : ℕ) → asset < 1 → pos (unit_need asset (placed with_buyer None sells)) ≤ℤ usable_units with_buyer 2 asset
     units zero inside = omega (arith, ints)
     units (suc asset) inside = absurd (omega (arith, inside))
 
-serves_seller : Serves IsOwnOutcome with_buyer (PlaceOrder sells) (Plain (reply.Order 2)) with_seller
+serves_seller : Serves IsOwnOutcome with_buyer (Place None sells) (Plain (reply.Order 2)) with_seller
 serves_seller = record {
   first = None;
   refused =
@@ -258,12 +264,15 @@ serves_seller = record {
             inr (
               (omega arith, omega arith),
               inr (
-                row_of_one 0 (neg_ℤ (pos 1)) (omega arith, omega arith),
+                tt,
                 inr (
-                  first_asset with_buyer.balances (neg_ℤ (pos 1)) (omega arith),
+                  row_of_one 0 (neg_ℤ (pos 1)) (omega arith, omega arith),
                   inr (
-                    (λ full. omega (arith, full)),
-                    inr (seller_affords, refl),
+                    first_asset with_buyer.balances (neg_ℤ (pos 1)) (omega arith),
+                    inr (
+                      (λ full. omega (arith, full)),
+                      inr (seller_affords, refl),
+                    ),
                   ),
                 ),
               ),
@@ -286,7 +295,7 @@ step : {old new : Market} {command : Command} {answer : Answer Outcome} → Serv
 step {old} {new} {command} {answer} served = record { read = Ok command; spelled = refl; served = served }
 
 abbrev eight : List Command
-eight = AddAsset aapl ∷ OpenAccount ∷ OpenAccount ∷ DepositMoney 1 1100000 ∷ DepositAsset 2 0 10000 ∷ PlaceOrder buys ∷ PlaceOrder sells ∷ RunBatch 10 ∷ []
+eight = AddAsset aapl ∷ OpenAccount ∷ OpenAccount ∷ DepositMoney 1 1100000 ∷ DepositAsset 2 0 10000 ∷ Place None buys ∷ Place None sells ∷ RunBatch 10 ∷ []
 
 -- the journal of the eight commands
 the_journal : IsJournal Itself IsOwnOutcome One eight (opened ++ traded) after_trade
@@ -339,7 +348,7 @@ deposited = (
         Ok (DepositMoney 1 1100000),
         pos 0,
         refl,
-        (Ok (DepositAsset 2 0 10000), pos 0, refl, (Ok (PlaceOrder buys), pos 0, refl, (Ok (PlaceOrder sells), pos 0, refl, (Ok (RunBatch 10), pos 0, refl, refl, refl), refl), refl), refl),
+        (Ok (DepositAsset 2 0 10000), pos 0, refl, (Ok (Place None buys), pos 0, refl, (Ok (Place None sells), pos 0, refl, (Ok (RunBatch 10), pos 0, refl, refl, refl), refl), refl), refl),
         refl,
       ),
       refl,
@@ -350,8 +359,8 @@ deposited = (
 )
 
 -- the journal says what the cap of the first order is
-places_is : Places (Itself One) 1 10000 (says (PlaceOrder buys) (Plain (reply.Order 1)))
-places_is = record { request = buys; asks = inl refl; answered = refl; cap_is = refl }
+places_is : Places (Itself One) 1 10000 (says (Place None buys) (Plain (reply.Order 1)))
+places_is = record { request = buys; asks = (None, refl); answered = refl; cap_is = refl }
 
 -- ---- money is refused that a live order needs
 
@@ -367,7 +376,7 @@ not_too_much = inr ((omega arith, omega arith), inr ((λ nothing. omega (arith, 
 
 -- ---- an order that sells needs no money, but all units that it may sell
 
-seller_needs : (money_need (placed with_buyer 0 sells) ≡ 0) × (unit_need 0 (placed with_buyer 0 sells) ≡ 10000)
+seller_needs : (money_need (placed with_buyer None sells) ≡ 0) × (unit_need 0 (placed with_buyer None sells) ≡ 10000)
 unfolding weight_in
 seller_needs = (refl, refl)
 
@@ -377,10 +386,10 @@ one_unit_too_many = inr ((omega arith, omega arith), inr (omega arith, inr ((λ 
 
 -- ---- a tick less: the buyer is refused, and the seller gets the number 1
 
-refused_serves : Serves IsOwnOutcome a_tick_less (PlaceOrder buys) (Plain (reply.Refused NotFree)) a_tick_less
+refused_serves : Serves IsOwnOutcome a_tick_less (Place None buys) (Plain (reply.Refused NotFree)) a_tick_less
 refused_serves = record { first = Some NotFree; refused = buyer_is_refused; answered = (refl, refl) }
 
-seller_alone : Serves IsOwnOutcome a_tick_less (PlaceOrder sells) (Plain (reply.Order 1)) (record a_tick_less { orders = placed a_tick_less 0 sells ∷ []; next_order = 2 })
+seller_alone : Serves IsOwnOutcome a_tick_less (Place None sells) (Plain (reply.Order 1)) (record a_tick_less { orders = placed a_tick_less None sells ∷ []; next_order = 2 })
 unfolding weight_in
 seller_alone = record {
   first = None;
@@ -394,12 +403,15 @@ seller_alone = record {
             inr (
               (omega arith, omega arith),
               inr (
-                row_of_one 0 (neg_ℤ (pos 1)) (omega arith, omega arith),
+                tt,
                 inr (
-                  first_asset a_tick_less.balances (neg_ℤ (pos 1)) (omega arith),
+                  row_of_one 0 (neg_ℤ (pos 1)) (omega arith, omega arith),
                   inr (
-                    (λ full. omega (arith, full)),
-                    inr (record { money = omega (arith, ints); units = units }, refl),
+                    first_asset a_tick_less.balances (neg_ℤ (pos 1)) (omega arith),
+                    inr (
+                      (λ full. omega (arith, full)),
+                      inr (record { money = omega (arith, ints); units = units }, refl),
+                    ),
                   ),
                 ),
               ),
@@ -410,7 +422,7 @@ seller_alone = record {
   answered = (refl, refl);
 }
   where
-    units : (asset : ℕ) → asset < 1 → pos (unit_need asset (placed a_tick_less 0 sells)) ≤ℤ usable_units a_tick_less 2 asset
+    units : (asset : ℕ) → asset < 1 → pos (unit_need asset (placed a_tick_less None sells)) ≤ℤ usable_units a_tick_less 2 asset
     units zero inside = omega (arith, ints)
     units (suc asset) inside = absurd (omega (arith, inside))
 
@@ -428,12 +440,12 @@ not_its_order = inr ((omega arith, omega arith), inl (none, refl))
     none has = at has.live.0 has.order has.live.1 has.live.2 has.account_is has.number_is
 
 abbrev without_buyer : Market
-without_buyer = record with_seller { orders = placed with_buyer 0 sells ∷ [] }
+without_buyer = record with_seller { orders = placed with_buyer None sells ∷ [] }
 
 its_order : Serves IsOwnOutcome with_seller (CancelOrder 1 1) (Plain reply.Done) without_buyer
 its_order = record {
   first = None;
-  refused = inr ((omega arith, omega arith), inr (record { order = placed enough 0 buys; live = (0, omega arith, refl); account_is = refl; number_is = refl }, refl));
+  refused = inr ((omega arith, omega arith), inr (record { order = placed enough None buys; live = (0, omega arith, refl); account_is = refl; number_is = refl }, refl));
   answered = (refl, refl);
 }
 
@@ -455,25 +467,25 @@ no_account = inl ((λ there. omega (arith, there.1)), refl)
 limits_are : AreLimits (pos 90) (pos 110)
 limits_are = ((omega (arith, ints), omega (arith, ints)), (omega (arith, ints), omega (arith, ints)), omega (arith, ints))
 
-bad_row : (row : List Entry) → ¬ IsLawfulRow row → FirstRefusal enough (PlaceOrder (record buys { row = row })) (Some BadRow)
-bad_row row bad = inr ((omega arith, omega arith), inr (limits_are, inr ((omega arith, omega arith), inr ((omega arith, omega arith), inl (bad, refl)))))
+bad_row : (row : List Entry) → ¬ IsLawfulRow row → FirstRefusal enough (Place None (record buys { row = row })) (Some BadRow)
+bad_row row bad = inr ((omega arith, omega arith), inr (limits_are, inr ((omega arith, omega arith), inr ((omega arith, omega arith), inr (tt, inl (bad, refl))))))
 
-same_asset_twice : FirstRefusal enough (PlaceOrder (record buys { row = entry 0 (pos 1) ∷ entry 0 (pos 1) ∷ [] })) (Some BadRow)
+same_asset_twice : FirstRefusal enough (Place None (record buys { row = entry 0 (pos 1) ∷ entry 0 (pos 1) ∷ [] })) (Some BadRow)
 same_asset_twice = bad_row (entry 0 (pos 1) ∷ entry 0 (pos 1) ∷ []) (λ lawful. let above = lawful.ascending 0 (omega arith) in omega (arith, above))
 
-weight_0 : FirstRefusal enough (PlaceOrder (record buys { row = entry 0 (pos 0) ∷ [] })) (Some BadRow)
+weight_0 : FirstRefusal enough (Place None (record buys { row = entry 0 (pos 0) ∷ [] })) (Some BadRow)
 weight_0 = bad_row (entry 0 (pos 0) ∷ []) (λ lawful. let weight = lawful.weights 0 (entry 0 (pos 0)) (omega arith) in omega (arith, weight.0))
 
-weight_4097 : FirstRefusal enough (PlaceOrder (record buys { row = entry 0 (pos 4097) ∷ [] })) (Some BadRow)
+weight_4097 : FirstRefusal enough (Place None (record buys { row = entry 0 (pos 4097) ∷ [] })) (Some BadRow)
 weight_4097 = bad_row (entry 0 (pos 4097) ∷ []) (λ lawful. let weight = lawful.weights 0 (entry 0 (pos 0)) (omega arith) in omega (arith, weight.1))
 
-entries_17 : FirstRefusal enough (PlaceOrder (record buys { row = replicate 17 (entry 0 (pos 1)) })) (Some BadRow)
+entries_17 : FirstRefusal enough (Place None (record buys { row = replicate 17 (entry 0 (pos 1)) })) (Some BadRow)
 entries_17 = bad_row (replicate 17 (entry 0 (pos 1))) (λ lawful. let few = lawful.few in omega (arith, few))
 
-no_entry : FirstRefusal enough (PlaceOrder (record buys { row = [] })) (Some BadRow)
+no_entry : FirstRefusal enough (Place None (record buys { row = [] })) (Some BadRow)
 no_entry = bad_row [] (λ lawful. let some = lawful.some in omega (arith, some))
 
-no_asset : FirstRefusal enough (PlaceOrder (record buys { row = entry 1 (pos 1) ∷ [] })) (Some NoAsset)
+no_asset : FirstRefusal enough (Place None (record buys { row = entry 1 (pos 1) ∷ [] })) (Some NoAsset)
 no_asset =
     inr (
       (omega arith, omega arith),
@@ -484,25 +496,28 @@ no_asset =
           inr (
             (omega arith, omega arith),
             inr (
-              row_of_one 1 (pos 1) (omega arith, omega arith),
-              inl ((λ there. let asset = there 0 (entry 0 (pos 1)) (omega arith) in omega (arith, asset)), refl),
+              tt,
+              inr (
+                row_of_one 1 (pos 1) (omega arith, omega arith),
+                inl ((λ there. let asset = there 0 (entry 0 (pos 1)) (omega arith) in omega (arith, asset)), refl),
+              ),
             ),
           ),
         ),
       ),
     )
 
-equal_limits : FirstRefusal enough (PlaceOrder (record buys { low = pos 110 })) (Some BadLimits)
+equal_limits : FirstRefusal enough (Place None (record buys { low = pos 110 })) (Some BadLimits)
 equal_limits = inr ((omega arith, omega arith), inl ((λ limits. let below = limits.2 in omega (arith, ints, below)), refl))
 
-rate_0 : FirstRefusal enough (PlaceOrder (record buys { rate = 0 })) (Some BadRate)
+rate_0 : FirstRefusal enough (Place None (record buys { rate = 0 })) (Some BadRate)
 rate_0 = inr ((omega arith, omega arith), inr (limits_are, inl ((λ rate. omega (arith, rate.0)), refl)))
 
-cap_0 : FirstRefusal enough (PlaceOrder (record buys { cap = 0 })) (Some BadCap)
+cap_0 : FirstRefusal enough (Place None (record buys { cap = 0 })) (Some BadCap)
 cap_0 = inr ((omega arith, omega arith), inr (limits_are, inr ((omega arith, omega arith), inl ((λ cap. omega (arith, cap.0)), refl))))
 
 -- where all is wrong with an order, its account comes first
-all_wrong : FirstRefusal enough (PlaceOrder (record { account = 0; low = pos 1; high = pos 0; rate = 0; cap = 0; row = [] })) (Some NoAccount)
+all_wrong : FirstRefusal enough (Place None (record { account = 0; low = pos 1; high = pos 0; rate = 0; cap = 0; row = [] })) (Some NoAccount)
 all_wrong = inl ((λ there. omega (arith, there.0)), refl)
 
 -- ---- budgets and batches
@@ -583,7 +598,7 @@ account_65537 : (m : Market) → account_count m.balances ≡ 65536 → FirstRef
 account_65537 m count = inl (omega (arith, count), refl)
 
 -- with 16,384 live orders an order that is otherwise accepted is refused, also where it isn't covered
-order_16385 : (orders : List Order) → length orders ≡ 16384 → FirstRefusal (record a_tick_less { orders = orders }) (PlaceOrder buys) (Some OrderLimit)
+order_16385 : (orders : List Order) → length orders ≡ 16384 → FirstRefusal (record a_tick_less { orders = orders }) (Place None buys) (Some OrderLimit)
 order_16385 orders count =
     inr (
       (omega arith, omega arith),
@@ -594,8 +609,11 @@ order_16385 orders count =
           inr (
             (omega arith, omega arith),
             inr (
-              row_of_one 0 (pos 1) (omega arith, omega arith),
-              inr (first_asset a_tick_less.balances (pos 1) (omega arith), inl (omega (arith, count), refl)),
+              tt,
+              inr (
+                row_of_one 0 (pos 1) (omega arith, omega arith),
+                inr (first_asset a_tick_less.balances (pos 1) (omega arith), inl (omega (arith, count), refl)),
+              ),
             ),
           ),
         ),
@@ -640,7 +658,7 @@ cut = refl
 
 -- ---- a journal that isn't: a wrong number, or another reply
 
-no_order_5 : (new : Market) → ¬ Serves IsOwnOutcome enough (PlaceOrder buys) (Plain (reply.Order 5)) new
+no_order_5 : (new : Market) → ¬ Serves IsOwnOutcome enough (Place None buys) (Plain (reply.Order 5)) new
 no_order_5 new serves = by serves.first serves.refused serves.answered
   where
     number : Answer Outcome → ℕ
@@ -651,6 +669,6 @@ no_order_5 new serves = by serves.first serves.refused serves.answered
     number (Plain (reply.Refused r)) = 0
     number (Batch n outcome) = 0
 
-    by : (first : Option Refusal) → FirstRefusal enough (PlaceOrder buys) first → Answers IsOwnOutcome enough (PlaceOrder buys) first (Plain (reply.Order 5)) new → ⊥
+    by : (first : Option Refusal) → FirstRefusal enough (Place None buys) first → Answers IsOwnOutcome enough (Place None buys) first (Plain (reply.Order 5)) new → ⊥
     by None first answered = let five = ap number answered.0 in omega (arith, five)
     by (Some r) first answered = let five = ap number answered.0 in omega (arith, five)

@@ -1,5 +1,5 @@
 -- The words that texts of pairs are made of.
-use Rattle.std.specs.Prelude.{ℕ, List, [], ◌∷◌, ◌++◌, codes, get_or, ◌==◌, if◌then◌else◌}
+use Rattle.std.specs.Prelude.{ℕ, List, [], ◌∷◌, ◌++◌, codes, decimal, get_or, ◌==◌, if◌then◌else◌, Option, Some, None}
 use Rattle.std.specs.Fmt.{signed_decimal}
 use Rattle.weight_rows.specs.declared.entries.Entry.{Entry}
 
@@ -20,3 +20,8 @@ asset_name tickers asset = name_of (get_or tickers asset [])
 -- an entry of an order: its asset's ticker and its weight
 abbrev pub entry_text : List (List ℕ) → Entry → List ℕ
 entry_text tickers e = codes " " then asset_name tickers e.asset then codes ":" then signed_decimal e.weight
+
+-- the last batch of an order, where it has one
+abbrev pub last_text : Option ℕ → List ℕ
+last_text None = []
+last_text (Some last) = codes " last " then decimal last

@@ -1,7 +1,7 @@
-//! The entries of orders.
+//! The last batches and the entries of orders.
 ghost use Rattle.std.specs.Prelude.{◌≡◌, ◌<◌, ◌++◌, length, slice_index_or, OnOk};
 ghost use Rattle.std.specs.List.{flat_map};
-ghost use Rattle.pair_text.specs.Texts.{entry_text};
+ghost use Rattle.pair_text.specs.Texts.{entry_text, last_text};
 ghost use Rattle.pair_text.specs.Private.{no_entry};
 
 use crate::text::Text;
@@ -18,6 +18,17 @@ fn entry_at(row: &RowView<'_>, place: usize) -> Entry
 }
 
 impl Text {
+    /// Appends the last batch of an order, where it has one: ` last ` and its number.
+    pub fn put_last(&mut self, last: Option<u32>) -> Result<(), Memory>
+        ensures before { self.new.before ≡ self.old.before }
+        ensures put { OnOk result (self.new.text ≡ self.old.text ++ last_text last) }
+    {
+        match last {
+            Some(last) => self.put_number(b" last ", last),
+            None => Ok(()),
+        }
+    }
+
     /// Appends the entries of an order, each with a space before it: the name of its asset, `:`, and its weight.
     pub fn put_entries(&mut self, tickers: &TickerTable, row: &RowView<'_>) -> Result<(), Memory>
         ensures before { self.new.before ≡ self.old.before }

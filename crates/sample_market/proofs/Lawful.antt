@@ -1,5 +1,5 @@
 -- The commands of a sample are lawful, and their records short.
-use Rattle.std.proofs.Common.{◌≡◌, ℕ, zero, suc, ◌+◌, ◌-◌, ◌*◌, ◌^◌, ◌<◌, ◌≤◌, ℤ, pos, neg_ℤ, ◌+ℤ◌, ◌-ℤ◌, ◌*ℤ◌, Bool, true, false, eqb, List, ◌∷◌, ◌++◌, length, get_or, codes, refl, w32, w64, arith}
+use Rattle.std.proofs.Common.{◌≡◌, ℕ, zero, suc, ◌+◌, ◌-◌, ◌*◌, ◌^◌, ◌<◌, ◌≤◌, ℤ, pos, neg_ℤ, ◌+ℤ◌, ◌-ℤ◌, ◌*ℤ◌, Bool, true, false, eqb, List, ◌∷◌, ◌++◌, length, get_or, codes, refl, w32, w64, arith, None}
 use Rattle.std.specs.Prelude.{if◌then◌else◌, unsigned_abs, All}
 use Rattle.std.specs.List.{flat_map, range_with_len}
 use Rattle.std.proofs.Math.Nat.{mod-lt, mul-le-mul}
@@ -12,7 +12,7 @@ use Rattle.wire_fields.specs.Numbers.{IsSigned}
 use Rattle.wire_fields.proofs.Spelling.{IsSigned-from_fits}
 use Rattle.weight_rows.specs.declared.entries.Entry.{Entry}
 use Rattle.wire_records.specs.Records.{AreBytes}
-use Rattle.wire_records.specs.Commands.{OpenAccount, DepositMoney, PlaceOrder, RunBatch}
+use Rattle.wire_records.specs.Commands.{OpenAccount, DepositMoney, Place, RunBatch}
 use Rattle.wire_records.specs.CommandRecords.{IsEntry}
 use Rattle.sample_market.specs.Draws.{next_state, drawn, state_after}
 use Rattle.sample_market.specs.Orders.{drawn_weight, drawn_entries, drawn_count, drawn_first, drawn_row, behind_row, usual_price, drawn_middle, drawn_half, drawn_rate, drawn_turns, drawn_order, drawn_orders, behind_order}
@@ -83,7 +83,7 @@ signed_small z small = IsSigned-from_fits 8 w64 refl z (fits_signed_from_abs w64
 entry_fits : (e : Entry) → IsSmall e → IsEntry e
 entry_fits e small = (omega (arith, small.asset), IsSigned-from_fits 4 w32 refl e.weight (fits_signed_from_abs w32 e.weight (omega (arith, small.weight))))
 
-order_lawful : (place x : ℕ) → IsLawful (PlaceOrder (drawn_order place x))
+order_lawful : (place x : ℕ) → IsLawful (Place None (drawn_order place x))
 order_lawful place x =
     let row = row_small x in
     let middle = middle_small x in

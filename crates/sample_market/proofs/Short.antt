@@ -1,5 +1,5 @@
 -- How many bytes a sample's file has.
-use Rattle.std.proofs.Common.{ℕ, zero, suc, ◌^◌, ◌+◌, ◌*◌, ◌≤◌, List, [], ◌∷◌, ◌++◌, map, length, replicate, ap, length-append, arith}
+use Rattle.std.proofs.Common.{ℕ, zero, suc, ◌^◌, ◌+◌, ◌*◌, ◌≤◌, List, [], ◌∷◌, ◌++◌, map, length, replicate, ap, length-append, arith, None}
 use Rattle.std.specs.Prelude.{All}
 use Rattle.std.specs.List.{flat_map, range_with_len}
 use Rattle.std.proofs.lemmas.List.{length-replicate}
@@ -8,7 +8,7 @@ use Rattle.std.proofs.lemmas.List.Elements.{All-head, All-tail, All-map, All-rep
 use Rattle.wire_fields.specs.Numbers.{unsigned}
 use Rattle.wire_fields.proofs.Spelling.{length-unsigned}
 use Rattle.wire_records.specs.Records.{spelling, command_magic}
-use Rattle.wire_records.specs.Commands.{Command, OpenAccount, DepositMoney, RunBatch, PlaceOrder}
+use Rattle.wire_records.specs.Commands.{Command, OpenAccount, DepositMoney, RunBatch, Place}
 use Rattle.wire_records.specs.CommandRecords.{record_of, body_of}
 use Rattle.wire_records.proofs.Spelled.{length-spelling}
 use Rattle.wire_records.proofs.Requests.{request_size}
@@ -49,9 +49,9 @@ batch_size : size_of (RunBatch 1000) ≤ 9
 unfolding body_of
 batch_size = omega (arith, length-spelling (record_of (RunBatch 1000)), length-unsigned 4 1000)
 
-order_size : (place x : ℕ) → size_of (PlaceOrder (drawn_order place x)) ≤ 56
+order_size : (place x : ℕ) → size_of (Place None (drawn_order place x)) ≤ 56
 unfolding body_of
-order_size place x = omega (arith, length-spelling (record_of (PlaceOrder (drawn_order place x))), request_size (drawn_order place x), (row_small x).1)
+order_size place x = omega (arith, length-spelling (record_of (Place None (drawn_order place x))), request_size (drawn_order place x), (row_small x).1)
 
 -- ---- all of them
 assets_few : length (spell_commands new_assets) ≤ 104
@@ -88,7 +88,7 @@ all_deposits_few = each_few 1 64
 orders_few : (n place x : ℕ) → length (spell_commands (drawn_orders n place x)) ≤ 56 * n
 orders_few zero place x = omega arith
 orders_few (suc n) place x =
-    omega (arith, length-append (spelling (record_of (PlaceOrder (drawn_order place x)))) (spell_commands (drawn_orders n (place + 1) (behind_order x))), order_size place x, orders_few n (place + 1) (behind_order x))
+    omega (arith, length-append (spelling (record_of (Place None (drawn_order place x)))) (spell_commands (drawn_orders n (place + 1) (behind_order x))), order_size place x, orders_few n (place + 1) (behind_order x))
 
 pub samples_are_short : SamplesAreShort
 unfolding sample_file sample

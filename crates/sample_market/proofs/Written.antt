@@ -1,11 +1,11 @@
 -- Records of commands that are written one after the other.
-use Rattle.std.proofs.Common.{◌≡◌, ℕ, ◌+◌, ◌^◌, suc, List, [], ◌∷◌, ◌++◌, map, map-id, replicate, append_assoc, append-nil, refl, sym, ap, ◌∙◌}
+use Rattle.std.proofs.Common.{◌≡◌, ℕ, ◌+◌, ◌^◌, suc, List, [], ◌∷◌, ◌++◌, map, map-id, replicate, append_assoc, append-nil, refl, sym, ap, ◌∙◌, None}
 use Rattle.std.specs.List.{flat_map, range_with_len}
 use Rattle.std.proofs.lemmas.List.{flat_map_more, replicate_more}
 use Rattle.std.proofs.lemmas.Grind.{flat_map-append}
 use Rattle.std.proofs.lemmas.List.FromFn.{map-range_with_len_more}
 use Rattle.wire_records.specs.Records.{spelling, command_magic}
-use Rattle.wire_records.specs.Commands.{Command, OpenAccount, DepositMoney, RunBatch, PlaceOrder}
+use Rattle.wire_records.specs.Commands.{Command, OpenAccount, DepositMoney, RunBatch, Place}
 use Rattle.wire_records.specs.CommandRecords.{record_of}
 use Rattle.sample_market.specs.Orders.{drawn_order, drawn_orders, behind_order}
 use Rattle.sample_market.specs.Files.{new_asset, new_assets, new_accounts, unit_deposit, unit_deposits, deposits_of, all_deposits, batches, sample, spell_commands, sample_file}
@@ -35,10 +35,10 @@ pub spell_both : (first second : List Command) → spell_commands (first ++ seco
 spell_both first second = flat_map-append bytes_of first second
 
 -- the next order of those that are still drawn
-pub order_more : (whole now after : List ℕ) (command : Command) (left rest place state : ℕ) → whole ≡ now ++ spell_commands (drawn_orders left place state) → left ≡ suc rest → after ≡ now ++ bytes_of command → command ≡ PlaceOrder (drawn_order place state)
+pub order_more : (whole now after : List ℕ) (command : Command) (left rest place state : ℕ) → whole ≡ now ++ spell_commands (drawn_orders left place state) → left ≡ suc rest → after ≡ now ++ bytes_of command → command ≡ Place None (drawn_order place state)
     → whole ≡ after ++ spell_commands (drawn_orders rest (place + 1) (behind_order state))
 order_more whole now after command left rest place state before more one is =
-    before ∙ ap (λ n. now ++ spell_commands (drawn_orders n place state)) more ∙ sym (append_assoc now (bytes_of (PlaceOrder (drawn_order place state))) (spell_commands (drawn_orders rest (place + 1) (behind_order state))))
+    before ∙ ap (λ n. now ++ spell_commands (drawn_orders n place state)) more ∙ sym (append_assoc now (bytes_of (Place None (drawn_order place state))) (spell_commands (drawn_orders rest (place + 1) (behind_order state))))
     ∙ ap (λ (c : Command). (now ++ bytes_of c) ++ spell_commands (drawn_orders rest (place + 1) (behind_order state))) (sym is)
     ∙ ap (λ xs. xs ++ spell_commands (drawn_orders rest (place + 1) (behind_order state))) (sym one)
 

@@ -1,8 +1,8 @@
 -- The orders that are drawn, one after the other. Each is drawn at the state that the one before it leaves.
-use Rattle.std.specs.Prelude.{ℕ, zero, suc, ◌+◌, ◌-◌, ◌*◌, ◌%◌, ◌==◌, if◌then◌else◌, ℤ, pos, neg_ℤ, ◌+ℤ◌, ◌-ℤ◌, ◌*ℤ◌, List, [], ◌∷◌}
+use Rattle.std.specs.Prelude.{ℕ, zero, suc, ◌+◌, ◌-◌, ◌*◌, ◌%◌, ◌==◌, if◌then◌else◌, ℤ, pos, neg_ℤ, ◌+ℤ◌, ◌-ℤ◌, ◌*ℤ◌, List, [], ◌∷◌, None}
 use Rattle.list_sums.specs.Sums.{int_sum_by}
 use Rattle.weight_rows.specs.declared.entries.Entry.{Entry}
-use Rattle.wire_records.specs.Commands.{Request, Command, PlaceOrder}
+use Rattle.wire_records.specs.Commands.{Request, Command, Place}
 use Rattle.sample_market.specs.Draws.{next_state, drawn, state_after}
 
 -- a weight, by two draws: an absolute weight of 1 to 4, which is bought, or sold where the second draw is 1
@@ -68,4 +68,4 @@ behind_order x = state_after 4 (behind_row x)
 -- so many orders from a place on
 abbrev pub drawn_orders : ℕ → ℕ → ℕ → List Command
 drawn_orders zero place x = []
-drawn_orders (suc n) place x = PlaceOrder (drawn_order place x) ∷ drawn_orders n (place + 1) (behind_order x)
+drawn_orders (suc n) place x = Place None (drawn_order place x) ∷ drawn_orders n (place + 1) (behind_order x)

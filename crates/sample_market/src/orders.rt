@@ -1,6 +1,6 @@
 //! The orders, one after the other.
 ghost use Rattle.std.specs.Prelude.{◌≡◌, ◌≤◌, ◌^◌, ◌+◌, ◌*◌, if◌then◌else◌, pos, neg_ℤ, ◌+ℤ◌, ◌-ℤ◌, ◌*ℤ◌, unsigned_abs, length, IfOk, OnOk};
-ghost use Rattle.wire_records.specs.Commands.{PlaceOrder};
+ghost use Rattle.wire_records.specs.Commands.{Place};
 ghost use Rattle.wire_records.specs.Views.{command_in};
 ghost use Rattle.wire_records.specs.CommandRecords.{HasShortRow};
 ghost use Rattle.sample_market.specs.Draws.{next_state, drawn, state_after};
@@ -88,7 +88,7 @@ fn limits(middle: i64, half: u32) -> (i64, i64)
 
 /// The order at this place, counted from 0. One list of at most three entries is taken for its row.
 pub(crate) fn order(alloc: Global, draws: &mut Draws, place: u32) -> Result<Command, Memory>
-    ensures order { IfOk result (λ command. command_in command ≡ PlaceOrder (drawn_order place draws.old)) }
+    ensures order { IfOk result (λ command. command_in command ≡ Place None (drawn_order place draws.old)) }
     ensures short { IfOk result (λ command. HasShortRow (command_in command)) }
     ensures behind { OnOk result (draws.new ≡ behind_order draws.old) }
 {

@@ -1,6 +1,6 @@
 //! The lines of orders that were placed.
 ghost use Rattle.std.specs.Prelude.{◌≡◌, ◌++◌, OnOk};
-ghost use Rattle.wire_records.specs.Commands.{PlaceOrder, PlaceUntil};
+ghost use Rattle.wire_records.specs.Commands.{Place};
 ghost use Rattle.wire_records.specs.Views.{command_of};
 ghost use Rattle.statement_rules.specs.Statements.{order_numbers, placing_line};
 
@@ -24,30 +24,15 @@ fn put_numbers(place: &PlaceView<'_>, number: u64, out: &mut Text) -> Result<(),
 fn put_order(
     tickers: &TickerTable,
     number: u64,
+    last: Option<u32>,
     place: &PlaceView<'_>,
     out: &mut Text,
 ) -> Result<(), Memory>
     ensures before { out.new.before ≡ out.old.before }
-    ensures put { OnOk result (out.new.text ≡ out.old.text ++ placing_line tickers.now number (PlaceOrder place.now)) }
+    ensures put { OnOk result (out.new.text ≡ out.old.text ++ placing_line tickers.now number (Place last place.now)) }
 {
     put_numbers(place, number, out)?;
-    out.put_entries(tickers, &place.row())?;
-    out.put(b"\n")
-}
-
-// The same of one with a last batch.
-fn put_until(
-    tickers: &TickerTable,
-    number: u64,
-    last: u32,
-    place: &PlaceView<'_>,
-    out: &mut Text,
-) -> Result<(), Memory>
-    ensures before { out.new.before ≡ out.old.before }
-    ensures put { OnOk result (out.new.text ≡ out.old.text ++ placing_line tickers.now number (PlaceUntil last place.now)) }
-{
-    put_numbers(place, number, out)?;
-    out.put_number(b" last ", last)?;
+    out.put_last(last)?;
     out.put_entries(tickers, &place.row())?;
     out.put(b"\n")
 }
@@ -63,9 +48,9 @@ pub(crate) fn put_placing(
     ensures put { OnOk result (out.new.text ≡ out.old.text ++ placing_line tickers.now number (command_of command.now)) }
 {
     match *command {
-        CommandView::PlaceOrder(ref place) => put_order(tickers, number, place, out),
+        CommandView::PlaceOrder(ref place) => put_order(tickers, number, None, place, out),
         CommandView::PlaceUntil { last, ref place } => {
-            put_until(tickers, number, last, place, out)
+            put_order(tickers, number, Some(last), place, out)
         }
         CommandView::AddAsset(_) => Ok(()),
         CommandView::OpenAccount => Ok(()),

@@ -3,7 +3,7 @@ use Rattle.std.proofs.Common.{◌≡◌, ℕ, zero, suc, ◌+◌, ◌<◌, List,
 use Rattle.std.specs.List.{flat_map, range_with_len, sum_by}
 use Rattle.std.specs.Prelude.{codes, decimal}
 use Rattle.std.specs.Fmt.{signed_decimal}
-use Rattle.wire_records.specs.Commands.{Command, PlaceOrder, CancelOrder, PlaceUntil}
+use Rattle.wire_records.specs.Commands.{Command, Place, CancelOrder}
 use Rattle.wire_records.specs.declared.reply.Reply.{Reply}
 use Rattle.wire_records.specs.declared.reply.Reply.TheVariants.{Done, Asset, Account, Order, Refused}
 use Rattle.flow_orders.specs.Orders.{money_need, unit_need}
@@ -28,8 +28,7 @@ like_done h g (CancelOrder named number) like = record { tickers = like.tickers;
 like_done h g command like = record { tickers = like.tickers; orders = like.orders }
 
 like_placing : (h g : Holding) (n : ℕ) (c : Command) → IsLike h g → IsLike (after_placing h n c) (after_placing g n c)
-like_placing h g n (PlaceOrder r) like = record { tickers = like.tickers; orders = ap (λ l. l ++ ordered n 0 r ∷ []) like.orders }
-like_placing h g n (PlaceUntil last r) like = record { tickers = like.tickers; orders = ap (λ l. l ++ ordered n last r ∷ []) like.orders }
+like_placing h g n (Place last r) like = record { tickers = like.tickers; orders = ap (λ l. l ++ ordered n last r ∷ []) like.orders }
 like_placing h g n command like = record { tickers = like.tickers; orders = like.orders }
 
 like_asked : (h g : Holding) (c : Command) (answer : Reply) → IsLike h g → IsLike (after_asked h c answer) (after_asked g c answer)

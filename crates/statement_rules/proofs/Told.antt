@@ -6,7 +6,7 @@ use Rattle.std.proofs.lemmas.Bool.Decides.{eqb_tells}
 use Rattle.std.proofs.lemmas.List.{length-map, length_push, append-nil}
 use Rattle.std.proofs.lemmas.List.Elements.{filter-append}
 use Rattle.list_sums.specs.Sums.{int_sum_by}
-use Rattle.wire_records.specs.Commands.{Command, AddAsset, OpenAccount, DepositMoney, DepositAsset, WithdrawMoney, WithdrawAsset, PlaceOrder, CancelOrder, RunBatch, PlaceUntil, SetMoneyCredit, SetUnitCredit, Answer, Plain, Batch}
+use Rattle.wire_records.specs.Commands.{Command, AddAsset, OpenAccount, DepositMoney, DepositAsset, WithdrawMoney, WithdrawAsset, Place, CancelOrder, RunBatch, SetMoneyCredit, SetUnitCredit, Answer, Plain, Batch}
 use Rattle.wire_records.specs.declared.command.BodyFault.{BodyFault}
 use Rattle.wire_records.specs.declared.reply.Refusal.{Refusal}
 use Rattle.wire_records.specs.declared.reply.Reply.TheVariants as reply
@@ -357,10 +357,8 @@ module _ (account : ℕ) (m : Market) (h : Holding) (sound : IsSound m) (held : 
   told_accepted (WithdrawAsset named asset units) a n none accepts =
       let one = past_unless none in
       answered_so (WithdrawAsset named asset units) a _ n _ accepts.0 accepts.1 (told_units named asset (neg_ℤ (pos units)) (Asks (WithdrawAsset named asset units) reply.Done) one.0 (past_unless one.1).0 refl)
-  told_accepted (PlaceOrder r) a n none accepts =
-      answered_so (PlaceOrder r) a _ n _ accepts.0 accepts.1 (told_order (placed m 0 r) (Asks (PlaceOrder r) (reply.Order m.next_order)) (past_unless none).0 refl)
-  told_accepted (PlaceUntil last r) a n none accepts =
-      answered_so (PlaceUntil last r) a _ n _ accepts.0 accepts.1 (told_order (placed m last r) (Asks (PlaceUntil last r) (reply.Order m.next_order)) (past_unless none).0 refl)
+  told_accepted (Place last r) a n none accepts =
+      answered_so (Place last r) a _ n _ accepts.0 accepts.1 (told_order (placed m last r) (Asks (Place last r) (reply.Order m.next_order)) (past_unless none).0 refl)
   told_accepted (CancelOrder named number) a n none accepts =
       answered_so (CancelOrder named number) a _ n _ accepts.0 accepts.1 (told_cancel named number (Asks (CancelOrder named number) reply.Done) none refl)
   told_accepted (RunBatch budget) a n none accepts = answered_so (RunBatch budget) a _ n _ accepts.2.0 accepts.2.1 (told_batch accepts.0)

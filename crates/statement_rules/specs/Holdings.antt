@@ -1,8 +1,8 @@
 -- What an account has, as its view alone tells it.
-use Rattle.std.specs.Prelude.{◌≡◌, ℕ, ◌<◌, ◌==◌, Bool, true, false, if◌then◌else◌, ℤ, pos, neg_ℤ, ◌+ℤ◌, ◌-ℤ◌, List, [], ◌∷◌, ◌++◌, length}
+use Rattle.std.specs.Prelude.{◌≡◌, ℕ, ◌<◌, ◌==◌, Bool, true, false, if◌then◌else◌, ℤ, pos, neg_ℤ, ◌+ℤ◌, ◌-ℤ◌, List, [], ◌∷◌, ◌++◌, length, Option, unwrap_or}
 use Rattle.std.specs.List.{filter}
 use Rattle.list_sums.specs.Sums.{int_sum_by}
-use Rattle.wire_records.specs.Commands.{Request, Command, AddAsset, OpenAccount, DepositMoney, DepositAsset, WithdrawMoney, WithdrawAsset, PlaceOrder, CancelOrder, RunBatch, PlaceUntil, SetMoneyCredit, SetUnitCredit}
+use Rattle.wire_records.specs.Commands.{Request, Command, AddAsset, OpenAccount, DepositMoney, DepositAsset, WithdrawMoney, WithdrawAsset, Place, CancelOrder, RunBatch, SetMoneyCredit, SetUnitCredit}
 use Rattle.wire_records.specs.declared.reply.Reply.{Reply}
 use Rattle.wire_records.specs.declared.reply.Reply.TheVariants as reply
 use Rattle.flow_accounts.specs.Balances.{IsAsset, grains, money_of, units_of}
@@ -30,7 +30,7 @@ abbrev pub units_changed : (ℕ → ℤ) → ℕ → ℤ → ℕ → ℤ
 units_changed units changed amount asset = if asset == changed then units asset +ℤ amount else units asset
 
 -- the order that was placed on a request under a number, with its last batch, or 0 where it has none
-abbrev pub ordered : ℕ → ℕ → Request → Order
+abbrev pub ordered : ℕ → Option ℕ → Request → Order
 ordered number last r = record {
   number = number;
   account = r.account;
@@ -40,7 +40,7 @@ ordered number last r = record {
   cap = r.cap;
   filled = 0;
   row = r.row;
-  last = last;
+  last = unwrap_or last 0;
 }
 
 -- after a command of its own that was done
@@ -52,16 +52,14 @@ after_done h (WithdrawAsset account asset units) = record h { units = units_chan
 after_done h (CancelOrder account number) = record h { orders = without h.orders number }
 after_done h (AddAsset ticker) = h
 after_done h OpenAccount = h
-after_done h (PlaceOrder request) = h
+after_done h (Place last request) = h
 after_done h (RunBatch budget) = h
-after_done h (PlaceUntil last request) = h
 after_done h (SetMoneyCredit account ticks) = h
 after_done h (SetUnitCredit account asset units) = h
 
 -- after a command of its own that placed the order of a number
 abbrev pub after_placing : Holding → ℕ → Command → Holding
-after_placing h number (PlaceOrder r) = record h { orders = h.orders ++ ordered number 0 r ∷ [] }
-after_placing h number (PlaceUntil last r) = record h { orders = h.orders ++ ordered number last r ∷ [] }
+after_placing h number (Place last r) = record h { orders = h.orders ++ ordered number last r ∷ [] }
 after_placing h number (AddAsset ticker) = h
 after_placing h number OpenAccount = h
 after_placing h number (DepositMoney account ticks) = h

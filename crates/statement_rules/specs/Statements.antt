@@ -3,7 +3,7 @@
 use Rattle.std.specs.Prelude.{◌≡◌, ℕ, ℤ, List, [], ◌∷◌, ◌++◌, length, codes, decimal}
 use Rattle.std.specs.Fmt.{signed_decimal}
 use Rattle.std.specs.List.{flat_map, range_with_len, sum_by}
-use Rattle.wire_records.specs.Commands.{Request, Command, AddAsset, OpenAccount, DepositMoney, DepositAsset, WithdrawMoney, WithdrawAsset, PlaceOrder, CancelOrder, RunBatch, PlaceUntil, SetMoneyCredit, SetUnitCredit, Pair}
+use Rattle.wire_records.specs.Commands.{Request, Command, AddAsset, OpenAccount, DepositMoney, DepositAsset, WithdrawMoney, WithdrawAsset, Place, CancelOrder, RunBatch, SetMoneyCredit, SetUnitCredit, Pair}
 use Rattle.wire_records.specs.Records.{Record}
 use Rattle.wire_records.specs.declared.version.Version.{Version}
 use Rattle.wire_records.specs.Refusals.{code_of}
@@ -14,7 +14,7 @@ use Rattle.flow_accounts.specs.Balances.{IsAccount}
 use Rattle.flow_orders.specs.Outcomes.{Outcome, trades_of}
 use Rattle.flow_orders.specs.Trades.{Trade, paid}
 use Rattle.market_rules.specs.Market.{Market, empty_market}
-use Rattle.pair_text.specs.Texts.{◌then◌, asset_name, entry_text}
+use Rattle.pair_text.specs.Texts.{◌then◌, asset_name, entry_text, last_text}
 use Rattle.statement_rules.specs.Views.{Event, Adds, Opens, Asks, Clears, Skips, Sees}
 use Rattle.statement_rules.specs.Holdings.{Holding, nothing, after, after_all}
 
@@ -37,9 +37,8 @@ done_line tickers (SetMoneyCredit account ticks) = money_line (codes "credit") t
 done_line tickers (SetUnitCredit account asset units) = units_line (codes "credit") tickers asset units
 done_line tickers (AddAsset ticker) = []
 done_line tickers OpenAccount = []
-done_line tickers (PlaceOrder request) = []
+done_line tickers (Place last request) = []
 done_line tickers (RunBatch budget) = []
-done_line tickers (PlaceUntil last request) = []
 
 -- an order's number, and the numbers of its request
 abbrev pub order_numbers : ℕ → Request → List ℕ
@@ -49,8 +48,7 @@ order_numbers number r =
 
 -- the line of a command that placed the order of a number
 abbrev pub placing_line : List (List ℕ) → ℕ → Command → List ℕ
-placing_line tickers number (PlaceOrder r) = order_numbers number r then flat_map (entry_text tickers) r.row then codes "\n"
-placing_line tickers number (PlaceUntil last r) = order_numbers number r then codes " last " then decimal last then flat_map (entry_text tickers) r.row then codes "\n"
+placing_line tickers number (Place last r) = order_numbers number r then last_text last then flat_map (entry_text tickers) r.row then codes "\n"
 placing_line tickers number (AddAsset ticker) = []
 placing_line tickers number OpenAccount = []
 placing_line tickers number (DepositMoney account ticks) = []

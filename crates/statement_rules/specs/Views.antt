@@ -3,7 +3,7 @@ use Rattle.std.specs.Prelude.{◌≡◌, ℕ, ◌+◌, nat_lt, ◌==◌, Bool, �
 use Rattle.std.specs.List.{filter}
 use Rattle.wire_records.specs.Records.{Record}
 use Rattle.wire_records.specs.Versions.{IsReadAs}
-use Rattle.wire_records.specs.Commands.{Command, AddAsset, OpenAccount, DepositMoney, DepositAsset, WithdrawMoney, WithdrawAsset, PlaceOrder, CancelOrder, RunBatch, PlaceUntil, SetMoneyCredit, SetUnitCredit, Answer, Plain, Batch, Pair}
+use Rattle.wire_records.specs.Commands.{Command, AddAsset, OpenAccount, DepositMoney, DepositAsset, WithdrawMoney, WithdrawAsset, Place, CancelOrder, RunBatch, SetMoneyCredit, SetUnitCredit, Answer, Plain, Batch, Pair}
 use Rattle.wire_records.specs.declared.command.BodyFault.{BodyFault}
 use Rattle.wire_records.specs.declared.version.Version.{Version}
 use Rattle.wire_records.specs.declared.reply.Reply.{Reply}
@@ -55,10 +55,9 @@ seen_plain account there (DepositMoney named ticks) reply = event_if (there && (
 seen_plain account there (DepositAsset named asset units) reply = event_if (there && (named == account)) (Asks (DepositAsset named asset units) reply)
 seen_plain account there (WithdrawMoney named ticks) reply = event_if (there && (named == account)) (Asks (WithdrawMoney named ticks) reply)
 seen_plain account there (WithdrawAsset named asset units) reply = event_if (there && (named == account)) (Asks (WithdrawAsset named asset units) reply)
-seen_plain account there (PlaceOrder r) reply = event_if (there && (r.account == account)) (Asks (PlaceOrder r) reply)
+seen_plain account there (Place last r) reply = event_if (there && (r.account == account)) (Asks (Place last r) reply)
 seen_plain account there (CancelOrder named number) reply = event_if (there && (named == account)) (Asks (CancelOrder named number) reply)
 seen_plain account there (RunBatch budget) reply = []
-seen_plain account there (PlaceUntil last r) reply = event_if (there && (r.account == account)) (Asks (PlaceUntil last r) reply)
 seen_plain account there (SetMoneyCredit named ticks) reply = event_if (there && (named == account)) (Asks (SetMoneyCredit named ticks) reply)
 seen_plain account there (SetUnitCredit named asset units) reply = event_if (there && (named == account)) (Asks (SetUnitCredit named asset units) reply)
 

@@ -1,11 +1,11 @@
 -- The bodies of commands.
-use Rattle.std.proofs.Common.{◌≡◌, ◌≢◌, ◌<◌, ◌^◌, ℕ, List, [], ◌++◌, length, length-append, refl, sym, ap, ◌∙◌, arith}
+use Rattle.std.proofs.Common.{◌≡◌, ◌≢◌, ◌<◌, ◌^◌, ℕ, List, [], ◌++◌, length, length-append, refl, sym, ap, ◌∙◌, arith, None, Some}
 use Rattle.std.proofs.lemmas.List.{append-nil}
 use Rattle.std.specs.Prelude.{if◌then◌else◌, ◌==◌}
 use Rattle.wire_fields.specs.Numbers.{unsigned, IsUnsigned}
 use Rattle.wire_fields.proofs.Spelling.{length-unsigned, unsigned_unique}
 use Rattle.wire_records.specs.Records.{Record}
-use Rattle.wire_records.specs.Commands.{Request, Command, AddAsset, OpenAccount, DepositMoney, DepositAsset, WithdrawMoney, WithdrawAsset, PlaceOrder, CancelOrder, RunBatch, PlaceUntil, SetMoneyCredit, SetUnitCredit}
+use Rattle.wire_records.specs.Commands.{Request, Command, AddAsset, OpenAccount, DepositMoney, DepositAsset, WithdrawMoney, WithdrawAsset, Place, CancelOrder, RunBatch, SetMoneyCredit, SetUnitCredit}
 use Rattle.wire_records.specs.CommandRecords.{tag_of, body_of, request_spelling, IsRequest, IsCommand, Spells, SpellsNone}
 use Rattle.wire_records.specs.Private.{SpellsNoRequest, SpellsNoUntil}
 use Rattle.wire_records.proofs.Requests.{request_unique}
@@ -20,9 +20,9 @@ pub length-body_of : (c : Command) → IsCommand c → tag_of c ≢ 7 → tag_of
 unfolding body_of
 length-body_of (AddAsset ticker) h other until = h.0
 length-body_of OpenAccount h other until = refl
-length-body_of (PlaceOrder request) h other until = absurd (other refl)
+length-body_of (Place None request) h other until = absurd (other refl)
 length-body_of (RunBatch budget) h other until = length-unsigned 4 budget
-length-body_of (PlaceUntil last request) h other until = absurd (until refl)
+length-body_of (Place (Some last) request) h other until = absurd (until refl)
 length-body_of command h other until = simp (length-append, length-unsigned)
 
 -- a record is its tag and its body
@@ -45,7 +45,7 @@ spells_none r order until other c s =
 -- a command of the tag 7 has the body of a request
 is_request : (c : Command) → IsCommand c → tag_of c ≡ 7 → SpellsNoRequest (body_of c) → ⊥
 unfolding body_of
-is_request (PlaceOrder request) h e none = none request (record { fits = h; spelled = refl })
+is_request (Place None request) h e none = none request (record { fits = h; spelled = refl })
 is_request command h e none = absurd (omega (arith, e))
 
 -- a body that is no request's is no order's
@@ -56,7 +56,7 @@ spells_none-from_request r order none c s =
 -- a command of the tag 10 has the body of a last batch and a request
 is_until : (c : Command) → IsCommand c → tag_of c ≡ 10 → SpellsNoUntil (body_of c) → ⊥
 unfolding body_of
-is_until (PlaceUntil last request) h e none = none last request (record { fits = h; spelled = refl })
+is_until (Place (Some last) request) h e none = none last request (record { fits = h; spelled = refl })
 is_until command h e none = absurd (omega (arith, e))
 
 -- a body that is none of these is no such order's
@@ -100,12 +100,13 @@ same_command (DepositMoney a t) (DepositMoney b u) h k tags bodies = let e = mon
 same_command (DepositAsset a i t) (DepositAsset b j u) h k tags bodies = let e = units_unique a i t b j u h k bodies in rw (e.0, e.1, e.2) refl
 same_command (WithdrawMoney a t) (WithdrawMoney b u) h k tags bodies = let e = money_unique a t b u h k bodies in rw (e.0, e.1) refl
 same_command (WithdrawAsset a i t) (WithdrawAsset b j u) h k tags bodies = let e = units_unique a i t b j u h k bodies in rw (e.0, e.1, e.2) refl
-same_command (PlaceOrder r) (PlaceOrder s) h k tags bodies = ap PlaceOrder (request_unique r s h k bodies)
+same_command (Place None r) (Place None s) h k tags bodies = ap (Place None) (request_unique r s h k bodies)
 same_command (CancelOrder a n) (CancelOrder b m) h k tags bodies = let e = money_unique a n b m h k bodies in rw (e.0, e.1) refl
 same_command (RunBatch m) (RunBatch n) h k tags bodies = ap RunBatch (number_unique 4 m n h k bodies)
-same_command (PlaceUntil m r) (PlaceUntil n s) h k tags bodies = let e = until_unique m n r s h k bodies in rw (e.0, e.1) refl
+same_command (Place (Some m) r) (Place (Some n) s) h k tags bodies = let e = until_unique m n r s h k bodies in rw (e.0, e.1) refl
 same_command (SetMoneyCredit a t) (SetMoneyCredit b u) h k tags bodies = let e = money_unique a t b u h k bodies in rw (e.0, e.1) refl
 same_command (SetUnitCredit a i t) (SetUnitCredit b j u) h k tags bodies = let e = units_unique a i t b j u h k bodies in rw (e.0, e.1, e.2) refl
+same_command command (Place None s) h k tags bodies = absurd (omega (arith, tags))
 same_command command d h k tags bodies = absurd (omega (arith, tags))
 
 -- a record spells at most one command

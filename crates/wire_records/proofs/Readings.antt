@@ -1,5 +1,5 @@
 -- A record of bytes has exactly one reading.
-use Rattle.std.proofs.Common.{◌≡◌, ◌≢◌, ◌≤◌, ◌↔◌, ℕ, List, ◌++◌, inl, inr, ◌⊎◌, length, length-append, refl, sym, ap, ◌∙◌, arith}
+use Rattle.std.proofs.Common.{◌≡◌, ◌≢◌, ◌≤◌, ◌↔◌, ℕ, List, ◌++◌, inl, inr, ◌⊎◌, length, length-append, refl, sym, ap, ◌∙◌, arith, None, Some}
 use Rattle.std.specs.Prelude.{Result, Ok, Err}
 use Rattle.std.proofs.lemmas.Bool.{cases_lt, cases_eq}
 use Rattle.std.proofs.lemmas.List.{nil_from_length}
@@ -8,7 +8,7 @@ use Rattle.wire_fields.proofs.Spelling.{length-unsigned}
 use Rattle.wire_records.specs.declared.command.BodyFault.{BodyFault}
 use Rattle.wire_records.specs.declared.command.BodyFault.TheVariants.{UnknownTag, BadBody}
 use Rattle.wire_records.specs.Records.{Record, AreBytes, IsRecord, most_body}
-use Rattle.wire_records.specs.Commands.{Request, Command, AddAsset, OpenAccount, DepositMoney, DepositAsset, WithdrawMoney, WithdrawAsset, PlaceOrder, CancelOrder, RunBatch, PlaceUntil, SetMoneyCredit, SetUnitCredit}
+use Rattle.wire_records.specs.Commands.{Request, Command, AddAsset, OpenAccount, DepositMoney, DepositAsset, WithdrawMoney, WithdrawAsset, Place, CancelOrder, RunBatch, SetMoneyCredit, SetUnitCredit}
 use Rattle.wire_records.specs.CommandRecords.{tag_of, body_of, record_of, request_spelling, IsCommand, SpellsNone, HasShortRow, Spells, IsTag, IsRead}
 use Rattle.wire_records.specs.declared.version.Version.{Version}
 use Rattle.wire_records.specs.declared.version.Version.TheVariants.{One, Two, Three}
@@ -22,6 +22,7 @@ use Rattle.wire_records.proofs.Bodies.{size_of, same_record, tag_is, spells_none
 -- the tag of each command, from above and below
 tag_of-range : (c : Command) → IsTag (tag_of c)
 tag_of-range (AddAsset ticker) = (omega arith, omega arith)
+tag_of-range (Place None request) = (omega arith, omega arith)
 tag_of-range command = (omega arith, omega arith)
 
 -- the record of a command is read as no fault
@@ -144,14 +145,14 @@ spelled r small tag order until len =
     ]
 
 -- the order of the tag 7, if the body is a request's
-pub order_spelled : (r : Record) (request : Request) → r.tag ≡ 7 → SpellsRequest r.body request → Spells (PlaceOrder request) r
+pub order_spelled : (r : Record) (request : Request) → r.tag ≡ 7 → SpellsRequest r.body request → Spells (Place None request) r
 unfolding body_of
-order_spelled r request is found = from_body (PlaceOrder request) r found.fits is found.spelled
+order_spelled r request is found = from_body (Place None request) r found.fits is found.spelled
 
 -- the order of the tag 10, if the body is a last batch's and a request's
-pub until_spelled : (r : Record) (last : ℕ) (request : Request) → r.tag ≡ 10 → SpellsUntil r.body last request → Spells (PlaceUntil last request) r
+pub until_spelled : (r : Record) (last : ℕ) (request : Request) → r.tag ≡ 10 → SpellsUntil r.body last request → Spells (Place (Some last) request) r
 unfolding body_of
-until_spelled r last request is found = from_body (PlaceUntil last request) r found.fits is found.spelled
+until_spelled r last request is found = from_body (Place (Some last) request) r found.fits is found.spelled
 
 -- whether a tag is up to a bound
 up_to_or_not : (most tag : ℕ) → ((1 ≤ tag) × (tag ≤ most)) ⊎ ((1 ≤ tag) × (tag ≤ most) → ⊥)
@@ -167,14 +168,14 @@ told r small tag =
     elim (cases_eq r.tag 7) [
       | inl is ↦
           elim (request_told r.body small) [
-            | inl found ↦ inl (PlaceOrder found.0, order_spelled r found.0 is found.1)
+            | inl found ↦ inl (Place None found.0, order_spelled r found.0 is found.1)
             | inr none ↦ inr (spells_none-from_request r is none)
           ]
       | inr order ↦
           elim (cases_eq r.tag 10) [
             | inl is ↦
                 elim (until_told r.body small) [
-                  | inl found ↦ inl (PlaceUntil found.0 found.1, until_spelled r found.0 found.1 is found.2)
+                  | inl found ↦ inl (Place (Some found.0) found.1, until_spelled r found.0 found.1 is found.2)
                   | inr none ↦ inr (spells_none-from_until r is none)
                 ]
             | inr until ↦
@@ -244,9 +245,9 @@ command_short (DepositMoney account ticks) h few = record { tag = omega arith; b
 command_short (DepositAsset account asset units) h few = record { tag = omega arith; body = omega (arith, units_size account asset units) }
 command_short (WithdrawMoney account ticks) h few = record { tag = omega arith; body = omega (arith, money_size account ticks) }
 command_short (WithdrawAsset account asset units) h few = record { tag = omega arith; body = omega (arith, units_size account asset units) }
-command_short (PlaceOrder request) h few = record { tag = omega arith; body = omega (arith, request_size request, few) }
+command_short (Place None request) h few = record { tag = omega arith; body = omega (arith, request_size request, few) }
 command_short (CancelOrder account number) h few = record { tag = omega arith; body = omega (arith, money_size account number) }
 command_short (RunBatch budget) h few = record { tag = omega arith; body = omega (arith, length-unsigned 4 budget) }
-command_short (PlaceUntil last request) h few = record { tag = omega arith; body = omega (arith, length-append (unsigned 4 last) (request_spelling request), length-unsigned 4 last, request_size request, few) }
+command_short (Place (Some last) request) h few = record { tag = omega arith; body = omega (arith, length-append (unsigned 4 last) (request_spelling request), length-unsigned 4 last, request_size request, few) }
 command_short (SetMoneyCredit account ticks) h few = record { tag = omega arith; body = omega (arith, money_size account ticks) }
 command_short (SetUnitCredit account asset units) h few = record { tag = omega arith; body = omega (arith, units_size account asset units) }

@@ -1,10 +1,10 @@
 -- The record that each command is spelled as, and what a record is read as.
-use Rattle.std.specs.Prelude.{◌≡◌, ◌≤◌, ℕ, List, [], ◌++◌, length, All, Result, Ok, Err}
+use Rattle.std.specs.Prelude.{◌≡◌, ◌≤◌, ℕ, List, [], ◌++◌, length, All, Result, Ok, Err, None, Some}
 use Rattle.std.specs.List.{flat_map}
 use Rattle.wire_fields.specs.Numbers.{unsigned, signed, IsUnsigned, IsSigned}
 use Rattle.weight_rows.specs.declared.entries.Entry.{Entry}
 use Rattle.wire_records.specs.Records.{Record, AreBytes}
-use Rattle.wire_records.specs.Commands.{Request, Command, AddAsset, OpenAccount, DepositMoney, DepositAsset, WithdrawMoney, WithdrawAsset, PlaceOrder, CancelOrder, RunBatch, PlaceUntil, SetMoneyCredit, SetUnitCredit}
+use Rattle.wire_records.specs.Commands.{Request, Command, AddAsset, OpenAccount, DepositMoney, DepositAsset, WithdrawMoney, WithdrawAsset, Place, CancelOrder, RunBatch, SetMoneyCredit, SetUnitCredit}
 use Rattle.wire_records.specs.declared.command.BodyFault.{BodyFault}
 use Rattle.wire_records.specs.declared.command.BodyFault.TheVariants.{UnknownTag, BadBody}
 
@@ -16,10 +16,10 @@ tag_of (DepositMoney account ticks) = 3
 tag_of (DepositAsset account asset units) = 4
 tag_of (WithdrawMoney account ticks) = 5
 tag_of (WithdrawAsset account asset units) = 6
-tag_of (PlaceOrder request) = 7
+tag_of (Place None request) = 7
 tag_of (CancelOrder account number) = 8
 tag_of (RunBatch budget) = 9
-tag_of (PlaceUntil last request) = 10
+tag_of (Place (Some last) request) = 10
 tag_of (SetMoneyCredit account ticks) = 11
 tag_of (SetUnitCredit account asset units) = 12
 
@@ -41,10 +41,10 @@ body_of (DepositMoney account ticks) = unsigned 4 account ++ unsigned 8 ticks
 body_of (DepositAsset account asset units) = unsigned 4 account ++ (unsigned 2 asset ++ unsigned 8 units)
 body_of (WithdrawMoney account ticks) = unsigned 4 account ++ unsigned 8 ticks
 body_of (WithdrawAsset account asset units) = unsigned 4 account ++ (unsigned 2 asset ++ unsigned 8 units)
-body_of (PlaceOrder request) = request_spelling request
+body_of (Place None request) = request_spelling request
 body_of (CancelOrder account number) = unsigned 4 account ++ unsigned 8 number
 body_of (RunBatch budget) = unsigned 4 budget
-body_of (PlaceUntil last request) = unsigned 4 last ++ request_spelling request
+body_of (Place (Some last) request) = unsigned 4 last ++ request_spelling request
 body_of (SetMoneyCredit account ticks) = unsigned 4 account ++ unsigned 8 ticks
 body_of (SetUnitCredit account asset units) = unsigned 4 account ++ (unsigned 2 asset ++ unsigned 8 units)
 
@@ -74,10 +74,10 @@ IsCommand (DepositMoney account ticks) = IsUnsigned 4 account × IsUnsigned 8 ti
 IsCommand (DepositAsset account asset units) = IsUnsigned 4 account × IsUnsigned 2 asset × IsUnsigned 8 units
 IsCommand (WithdrawMoney account ticks) = IsUnsigned 4 account × IsUnsigned 8 ticks
 IsCommand (WithdrawAsset account asset units) = IsUnsigned 4 account × IsUnsigned 2 asset × IsUnsigned 8 units
-IsCommand (PlaceOrder request) = IsRequest request
+IsCommand (Place None request) = IsRequest request
 IsCommand (CancelOrder account number) = IsUnsigned 4 account × IsUnsigned 8 number
 IsCommand (RunBatch budget) = IsUnsigned 4 budget
-IsCommand (PlaceUntil last request) = IsUnsigned 4 last × IsRequest request
+IsCommand (Place (Some last) request) = IsUnsigned 4 last × IsRequest request
 IsCommand (SetMoneyCredit account ticks) = IsUnsigned 4 account × IsUnsigned 8 ticks
 IsCommand (SetUnitCredit account asset units) = IsUnsigned 4 account × IsUnsigned 2 asset × IsUnsigned 8 units
 
@@ -97,10 +97,10 @@ HasShortRow (DepositMoney account ticks) = Unit {0}
 HasShortRow (DepositAsset account asset units) = Unit {0}
 HasShortRow (WithdrawMoney account ticks) = Unit {0}
 HasShortRow (WithdrawAsset account asset units) = Unit {0}
-HasShortRow (PlaceOrder request) = length request.row ≤ most_row
+HasShortRow (Place None request) = length request.row ≤ most_row
 HasShortRow (CancelOrder account number) = Unit {0}
 HasShortRow (RunBatch budget) = Unit {0}
-HasShortRow (PlaceUntil last request) = length request.row ≤ most_row_until
+HasShortRow (Place (Some last) request) = length request.row ≤ most_row_until
 HasShortRow (SetMoneyCredit account ticks) = Unit {0}
 HasShortRow (SetUnitCredit account asset units) = Unit {0}
 

@@ -1,5 +1,5 @@
 -- Commands and their answers as plain values.
-use Rattle.std.specs.Prelude.{ℕ, ℤ, List}
+use Rattle.std.specs.Prelude.{ℕ, ℤ, List, Option}
 use Rattle.weight_rows.specs.declared.entries.Entry.{Entry}
 use Rattle.wire_records.specs.declared.reply.Reply.{Reply}
 
@@ -20,10 +20,9 @@ pub data Command : Type 0 where
   DepositAsset : (account asset units : ℕ) → Command
   WithdrawMoney : (account ticks : ℕ) → Command
   WithdrawAsset : (account asset units : ℕ) → Command
-  PlaceOrder : (request : Request) → Command
+  Place : (last : Option ℕ) (request : Request) → Command
   CancelOrder : (account number : ℕ) → Command
   RunBatch : (budget : ℕ) → Command
-  PlaceUntil : (last : ℕ) (request : Request) → Command
   SetMoneyCredit : (account ticks : ℕ) → Command
   SetUnitCredit : (account asset units : ℕ) → Command
 

@@ -1,11 +1,11 @@
 -- What the views of requests and rows are made of.
-use Rattle.std.specs.Prelude.{◌≡◌, ℕ, ◌+◌, ◌*◌, ◌++◌, List, [], ◌∷◌, length, All}
+use Rattle.std.specs.Prelude.{◌≡◌, ℕ, ◌+◌, ◌*◌, ◌++◌, List, [], ◌∷◌, length, All, None, Some}
 use Rattle.std.specs.List.{flat_map}
 use Rattle.std.specs.Int.{cast_signed, w32}
 use Rattle.wire_fields.specs.Numbers.{unsigned, signed, IsUnsigned, IsSigned}
 use Rattle.weight_rows.specs.declared.entries.Entry.{Entry}
 use Rattle.wire_records.specs.declared.place.Numbers.{Numbers}
-use Rattle.wire_records.specs.Commands.{Request, Command, PlaceOrder, PlaceUntil}
+use Rattle.wire_records.specs.Commands.{Request, Command, Place}
 use Rattle.wire_records.specs.CommandRecords.{entry_spelling, request_spelling, IsEntry, IsRequest}
 
 -- the entry of these six bytes
@@ -56,6 +56,6 @@ SpellsNoUntil body = (last : ℕ) (request : Request) → ¬ SpellsUntil body la
 
 -- the most bytes that the record of a command with a row of such a length takes, or of one without a row
 abbrev pub room_of : Command → ℕ
-room_of (PlaceOrder request) = 38 + 6 * length request.row
-room_of (PlaceUntil last request) = 42 + 6 * length request.row
+room_of (Place None request) = 38 + 6 * length request.row
+room_of (Place (Some last) request) = 42 + 6 * length request.row
 room_of _ = 19

@@ -1,6 +1,6 @@
 -- What contracts see of the program's own commands and of views of borrowed bytes.
-use Rattle.std.specs.Prelude.{Result, Ok, Err}
-use Rattle.wire_records.specs.Commands.{Command, AddAsset, OpenAccount, DepositMoney, DepositAsset, WithdrawMoney, WithdrawAsset, PlaceOrder, CancelOrder, RunBatch, PlaceUntil, SetMoneyCredit, SetUnitCredit}
+use Rattle.std.specs.Prelude.{Result, Ok, Err, None, Some}
+use Rattle.wire_records.specs.Commands.{Command, AddAsset, OpenAccount, DepositMoney, DepositAsset, WithdrawMoney, WithdrawAsset, Place, CancelOrder, RunBatch, SetMoneyCredit, SetUnitCredit}
 use Rattle.wire_records.specs.declared.command.Command as owned
 use Rattle.wire_records.specs.declared.command.Command.TheVariants as own
 use Rattle.wire_records.specs.declared.command.CommandView.{CommandView}
@@ -15,10 +15,10 @@ command_in (own.DepositMoney account ticks) = DepositMoney account ticks
 command_in (own.DepositAsset account asset units) = DepositAsset account asset units
 command_in (own.WithdrawMoney account ticks) = WithdrawMoney account ticks
 command_in (own.WithdrawAsset account asset units) = WithdrawAsset account asset units
-command_in (own.PlaceOrder account low high rate cap row) = PlaceOrder (record { account = account; low = low; high = high; rate = rate; cap = cap; row = row })
+command_in (own.PlaceOrder account low high rate cap row) = Place None (record { account = account; low = low; high = high; rate = rate; cap = cap; row = row })
 command_in (own.CancelOrder account order) = CancelOrder account order
 command_in (own.RunBatch budget) = RunBatch budget
-command_in (own.PlaceUntil last account low high rate cap row) = PlaceUntil last (record { account = account; low = low; high = high; rate = rate; cap = cap; row = row })
+command_in (own.PlaceUntil last account low high rate cap row) = Place (Some last) (record { account = account; low = low; high = high; rate = rate; cap = cap; row = row })
 command_in (own.SetMoneyCredit account ticks) = SetMoneyCredit account ticks
 command_in (own.SetUnitCredit account asset units) = SetUnitCredit account asset units
 
@@ -30,10 +30,10 @@ command_of (view.DepositMoney account ticks) = DepositMoney account ticks
 command_of (view.DepositAsset account asset units) = DepositAsset account asset units
 command_of (view.WithdrawMoney account ticks) = WithdrawMoney account ticks
 command_of (view.WithdrawAsset account asset units) = WithdrawAsset account asset units
-command_of (view.PlaceOrder place) = PlaceOrder place
+command_of (view.PlaceOrder place) = Place None place
 command_of (view.CancelOrder account order) = CancelOrder account order
 command_of (view.RunBatch budget) = RunBatch budget
-command_of (view.PlaceUntil last place) = PlaceUntil last place
+command_of (view.PlaceUntil last place) = Place (Some last) place
 command_of (view.SetMoneyCredit account ticks) = SetMoneyCredit account ticks
 command_of (view.SetUnitCredit account asset units) = SetUnitCredit account asset units
 
