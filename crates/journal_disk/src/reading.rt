@@ -5,7 +5,7 @@ ghost use Rattle.flow_io.specs.Faults.{Blames};
 ghost use Rattle.journal_disk.specs.Looking.{OnlyLooks};
 ghost use Rattle.journal_disk.specs.Ahead.{IsPiece, HoldsPart};
 ghost use Rattle.journal_disk.specs.Frames.{IsStated};
-ghost use Rattle.journal_disk.specs.Pairs.{longest_pair};
+ghost use Rattle.journal_records.specs.Pairs.{longest_pair};
 
 use crate::ahead::Ahead;
 use crate::fault::DiskFault;
