@@ -1,5 +1,5 @@
 //! `run` as a word: records in, pairs out.
-ghost use Rattle.std.specs.Prelude.{◌≡◌};
+ghost use Rattle.std.specs.Prelude.{◌≡◌, ℕ};
 ghost use Rattle.wire_records.specs.declared.version.Version.TheVariants.{One};
 ghost use Rattle.market_rules.specs.Market.{empty_market};
 ghost use Rattle.exchange_session.specs.Serving.{HasNumbers};
@@ -30,6 +30,14 @@ impl Run {
             alloc,
             session: Session::new(alloc),
         }
+    }
+
+    /// A run that has begun, and continues with this session. Takes no memory.
+    pub fn over(alloc: Global, session: Session) -> Run
+        ensures state { ⟦<Run as ServesWord>⟧.state result ≡ session }
+        ensures ready { (left : ℕ) → HasNumbers session left → ⟦<Run as ServesWord>⟧.is_ready result left }
+    {
+        Run { alloc, session }
     }
 }
 

@@ -7,10 +7,9 @@ ghost use Rattle.journal_words.specs.Line.{counted_line};
 ghost use Rattle.journal_words.specs.Words.{counting};
 
 use crate::on_pair::OnPair;
-use crate::pieces::put_number;
 use batch_audit::{Audit, Change};
 use journal_records::PairView;
-use word_driver::{Halt, Memory};
+use word_driver::{Halt, Memory, put_number};
 
 // As many bytes has the longest line: three numbers of 20 digits, and 34 bytes of words.
 const MOST_LINE: usize = 94;

@@ -8,12 +8,11 @@ ghost use Rattle.journal_words.specs.Words.{explaining};
 
 use crate::counting::Counting;
 use crate::on_pair::OnPair;
-use crate::pieces::{put, put_number};
 use batch_audit::{Audit, Change, Finding};
 use batch_certificate::Verdict;
 use journal_records::PairView;
 use wire_records::Reply;
-use word_driver::{Halt, Memory};
+use word_driver::{Halt, Memory, put_number, put_text};
 
 // Appends a plain reply, for which there is room.
 fn put_reply(text: &mut Vec<u8>, reply: Reply)
@@ -23,7 +22,7 @@ fn put_reply(text: &mut Vec<u8>, reply: Reply)
     ensures room { vec_capacity text.old ≤ vec_capacity text.new }
 {
     match reply {
-        Reply::Done => put(text, b"done"),
+        Reply::Done => put_text(text, b"done"),
         Reply::Asset(asset) => put_number(text, b"asset ", asset, b""),
         Reply::Account(account) => put_number(text, b"account ", account, b""),
         Reply::Order(order) => put_number(text, b"order ", order, b""),
@@ -40,11 +39,11 @@ fn put_part(text: &mut Vec<u8>, verdict: Verdict)
 {
     match verdict {
         Verdict::Right => {}
-        Verdict::Count => put(text, b"count"),
+        Verdict::Count => put_text(text, b"count"),
         Verdict::Price(asset) => put_number(text, b"price ", asset, b""),
         Verdict::Rate(place) => put_number(text, b"rate ", place, b""),
         Verdict::Residual(asset) => put_number(text, b"residual ", asset, b""),
-        Verdict::Gap => put(text, b"gap"),
+        Verdict::Gap => put_text(text, b"gap"),
     }
 }
 
@@ -55,9 +54,9 @@ fn put_expected(text: &mut Vec<u8>, reply: Reply)
     ensures most { vec_len text.new ≤ vec_len text.old + 43 }
     ensures room { vec_capacity text.old ≤ vec_capacity text.new }
 {
-    put(text, b"reply ");
+    put_text(text, b"reply ");
     put_reply(text, reply);
-    put(text, b" expected");
+    put_text(text, b" expected");
 }
 
 // Appends what is found, for which there is room.
@@ -68,14 +67,14 @@ fn put_finding(text: &mut Vec<u8>, finding: Finding)
     ensures room { vec_capacity text.old ≤ vec_capacity text.new }
 {
     match finding {
-        Finding::NoReply => put(text, b"no reply"),
+        Finding::NoReply => put_text(text, b"no reply"),
         Finding::OtherReply(reply) => put_expected(text, reply),
         Finding::Batch(number) => put_number(text, b"batch ", number, b" expected"),
         Finding::Part(verdict) => put_part(text, verdict),
-        Finding::SingleBook => put(text, b"one-asset book"),
-        Finding::TraceLength => put(text, b"trace length"),
+        Finding::SingleBook => put_text(text, b"one-asset book"),
+        Finding::TraceLength => put_text(text, b"trace length"),
         Finding::TraceStep(place) => put_number(text, b"trace step ", place, b""),
-        Finding::AllSettled => put(text, b"all settled"),
+        Finding::AllSettled => put_text(text, b"all settled"),
         Finding::StartDual(right) => put_number(text, b"start dual ", right, b""),
         Finding::EndDual(right) => put_number(text, b"end dual ", right, b""),
         Finding::Legal => {}
@@ -90,7 +89,7 @@ fn put_line(text: &mut Vec<u8>, number: u64, finding: Finding)
 {
     put_number(text, b"pair ", number, b": ");
     put_finding(text, finding);
-    put(text, b"\n");
+    put_text(text, b"\n");
 }
 
 /// The counts of an audit, and of the first pair that isn't legal the line of what is found of it.

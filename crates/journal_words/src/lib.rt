@@ -9,7 +9,6 @@ mod counting;
 mod explaining;
 mod on_pair;
 mod pairs;
-mod pieces;
 mod telling;
 
 pub use counting::Counting;

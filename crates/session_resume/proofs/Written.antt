@@ -1,39 +1,36 @@
 -- What records that were served have written, from a sound market on.
-use Rattle.std.proofs.Common.{◌≡◌, ◌⊎◌, ◌+◌, ◌<◌, ◌≤◌, ◌^◌, ℕ, List, [], ◌∷◌, ◌++◌, map, length, Option, Ok, Err, append-nil, append_assoc, length-append, refl, sym, ap, subst, ◌∙◌, arith, inl, inr}
+use Rattle.std.proofs.Common.{◌≡◌, ◌+◌, ◌<◌, ◌≤◌, ◌^◌, ℕ, List, [], ◌∷◌, ◌++◌, length, take, drop, Ok, Err, append-nil, append_assoc, refl, sym, ap, ◌∙◌, arith, inl, inr}
 use Rattle.std.specs.Prelude.{All}
 use Rattle.std.specs.List.{flat_map}
-use Rattle.std.proofs.lemmas.List.{flat_map_more, map-append}
-use Rattle.std.proofs.lemmas.List.Elements.{All-nil, All-cons, All-push}
-use Rattle.flow_io.specs.Faults.{Blames}
-use Rattle.flow_io.specs.Streams.{Grows, GrowsByFront}
-use Rattle.flow_io.specs.Changes.{change}
-use Rattle.flow_io.proofs.Growth.{Grows-nothing, Grows-more, GrowsByFront-more}
+use Rattle.std.proofs.lemmas.List.{take-append-drop}
+use Rattle.std.proofs.lemmas.List.Elements.{All-nil, All-cons}
 use Rattle.wire_records.specs.Records.{Record}
 use Rattle.wire_records.specs.Commands.{Pair}
 use Rattle.wire_records.specs.Versions.{IsReadAs}
 use Rattle.wire_records.specs.Reading as reading
 use Rattle.wire_records.specs.Grammars.{spell_all}
 use Rattle.wire_records.specs.Formats.{commands}
-use Rattle.wire_records.proofs.Readings.{read_own, reading_unique}
-use Rattle.file_units.specs.Units.{Leads, GoesToEnd, GoesToBreak}
+use Rattle.wire_records.proofs.Readings.{read_own}
 use Rattle.flow_orders.specs.Outcomes.{Outcome}
 use Rattle.own_rule.specs.Own.{IsOwnOutcome}
 use Rattle.journal_records.specs.Pairs.{IsPair, pair_spelling}
 use Rattle.market_rules.specs.Market.{Market, IsSound}
-use Rattle.market_rules.specs.Journal.{Follows, IsAnswered}
-use Rattle.market_rules.proofs.OneJournal.{follows-append}
+use Rattle.market_rules.specs.Journal.{IsAnswered}
 use Rattle.own_journals.proofs.OwnIsLegal.{own_follows_are_right}
 use Rattle.market_rules.proofs.LawProofs.{journals_hold_deposits}
 use Rattle.own_journals.proofs.LawProofs.{steps_number_one}
 use Rattle.market_rules.proofs.Promised.{legal_journal_keeps_promises}
 use Rattle.own_journals.proofs.OwnPromises.{own_journal_clears_near}
+use Rattle.word_driver.specs.declared.fault.Fault.TheVariants.{Read, Write, Memory, NotFlow, Torn, TooLong, Stopped}
+use Rattle.word_driver.specs.declared.fault.Never.{Never}
+use Rattle.word_driver.specs.Ended.{Ended}
+use Rattle.word_driver.specs.Word.{Goes, AtEnd, Halts, Passes, ComesOn, LacksOn}
+use Rattle.word_driver.specs.Private.{GetsTo}
 use Rattle.exchange_session.specs.Serving.{AnswersOne}
-use Rattle.session_resume.specs.declared.serving.ServeFault.{ServeFault}
-use Rattle.session_resume.specs.declared.serving.ServeFault.TheVariants.{Write, Memory}
-use Rattle.word_driver.proofs.Going.{blames_later}
+use Rattle.exchange_session.specs.Running.{run}
 use Rattle.session_resume.specs.Continuing.{Continues}
 use Rattle.session_resume.specs.Rests.{ServesAll, ended_by}
-use Rattle.session_resume.specs.Private.{WritesPair, BreaksPair, WritesFirst, WritesInto, WritesShort}
+use Rattle.session_resume.specs.Private.{WritesInto, WritesShort}
 
 -- Pairs that answer records from a market on, and their text.
 pub record Answers (old : Market) (records : List Record) (new : Market) (text : List ℕ) : Type 0 where
@@ -56,30 +53,6 @@ answers_more old next new r records text rest one more =
       spelled = ap (λ xs. xs ++ rest) one.spelled ∙ ap (λ xs. pair_spelling pair ++ xs) more.spelled;
     }
 
--- served records give no more numbers to orders than they are
-orders_few : (old new : Market) (pairs : List (Pair Record Outcome)) → Follows IsReadAs IsOwnOutcome old pairs new → new.next_order ≤ old.next_order + length pairs
-orders_few old new [] follows = omega (arith, ap (λ (m : Market). m.next_order) follows)
-orders_few old new (pair ∷ pairs) (between, step, follows) =
-    omega (arith, steps_number_one old pair.asked pair.answer between step, orders_few between new pairs follows)
-
--- pairs that answer one more record
-answers_push : (old middle new : Market) (records : List Record) (r : Record) (text last : List ℕ) → Answers old records middle text → AnswersOne middle r new last → Answers old (records ++ r ∷ []) new (text ++ last)
-answers_push old middle new records r text last so one =
-    let pair : Pair Record Outcome = record { asked = r; answer = one.answer } in
-    let few = orders_few old middle so.pairs so.answered.steps in
-    let rise = steps_number_one middle r one.answer new one.step in
-    let asked : Pair Record Outcome → Record = λ p. p.asked in
-    let longer : length (so.pairs ++ pair ∷ []) ≡ length so.pairs + 1 = length-append so.pairs (pair ∷ []) in
-    record {
-      pairs = so.pairs ++ pair ∷ [];
-      answered = record {
-        asked = map-append asked so.pairs (pair ∷ []) ∙ ap (λ (xs : List Record). xs ++ r ∷ []) so.answered.asked;
-        steps = follows-append IsReadAs reading_unique IsOwnOutcome old middle new so.pairs (pair ∷ []) so.answered.steps (new, one.step, refl);
-      };
-      fits = λ room. All-push IsPair so.pairs pair (so.fits (omega (arith, longer, room))) (one.fits (omega (arith, longer, few, rise, room)));
-      spelled = ap (λ xs. xs ++ last) so.spelled ∙ ap (λ xs. flat_map pair_spelling so.pairs ++ xs) one.spelled ∙ flat_map_more pair_spelling [] so.pairs pair;
-    }
-
 -- such pairs keep what is promised, where the first market is sound
 pub continues : (old new : Market) (records : List Record) (text : List ℕ) → IsSound old → Answers old records new text → Continues old records new text
 continues old new records text sound so =
@@ -94,104 +67,85 @@ continues old new records text sound so =
       spelled = so.spelled;
     }
 
-module _ {K : Type 0} (held : K → Option (List ℕ)) (faults : K → ℕ) where
-  -- what serving a record does to an output
-  abbrev pub Writes : Market → Record → Market → K → K → Type 0
-  Writes old asked new before after = WritesPair old asked new (change held faults before after)
+-- what a run writes behind its opening are such pairs
+answered : (old new : Market) (records : List Record) (text : List ℕ) → Goes run old records new text → Answers old records new text
+answered old new [] text goes = rw (goes.0, goes.1) (none_answered old)
+answered old new (r ∷ records) text goes =
+    rw goes.5 (answers_more old goes.0 new r records goes.1 goes.2 goes.3 (answered goes.0 new records goes.2 goes.4))
 
-  -- where it breaks off
-  abbrev pub Breaks : Market → Record → ServeFault → K → K → Type 0
-  Breaks old asked fault before after = BreaksPair old asked fault (change held faults before after)
+-- a run writes nothing last
+nothing_last : (More : Type 0) (place : ℕ) (rest : List ℕ) (new : Market) (ended : Ended Never) (last : List ℕ) → Halts run More place rest new ended last → last ≡ []
+nothing_last More place rest new (Ok done) last halts = halts.1
+nothing_last More place rest new (Err (Torn n)) last halts = halts.1
+nothing_last More place rest new (Err TooLong) last halts = halts.1
+nothing_last More place rest new (Err (Stopped why)) last (inl stops) = absurd stops.3
+nothing_last More place rest new (Err (Stopped why)) last (inr stops) = absurd stops.1
+nothing_last More place rest new (Err NotFlow) last halts = absurd halts
+nothing_last More place rest new (Err Read) last halts = absurd halts
+nothing_last More place rest new (Err Write) last halts = absurd halts
+nothing_last More place rest new (Err Memory) last halts = absurd halts
 
-  -- What records have written, and no fault came.
-  pub record HasWritten (old : Market) (records : List Record) (new : Market) (before after : K) : Type 0 where
-    pub text : List ℕ
-    pub so : Answers old records new text
-    pub written : Grows (held before) (held after) text
-    pub quiet : faults after ≡ faults before
+module _ (old : Market) (sound : IsSound old) (More : Type 0) (place : ℕ) (body : List ℕ) where
+  -- the text of a run is that of the units that it took
+  so_far : {P : Type 0} {bytes : List ℕ} (ended : Ended Never) (text : List ℕ) (on : ComesOn run P place bytes old ended text) → text ≡ on.so_far
+  so_far {P} ended text on =
+      on.writes ∙ ap (λ xs. on.so_far ++ xs) (nothing_last P (place + length (spell_all commands.units on.units)) on.rest on.state ended on.last on.halts) ∙ append-nil on.so_far
 
-  pub has_written : (old new : Market) (before after : K) (records : List Record) → Leads commands Writes old before records new after → HasWritten old records new before after
-  has_written old new before after [] leads = record {
-    text = [];
-    so = subst (λ (m : Market). Answers old [] m []) (sym leads.0) (none_answered old);
-    written = rw leads.1 (Grows-nothing (held before));
-    quiet = ap faults leads.1;
+  written : (units : List Record) (rest : List ℕ) (new : Market) (bytes text : List ℕ) → Passes run bytes old units rest new text → Continues old units new text
+  written units rest new bytes text passes = continues old new units text sound (answered old new units text passes.goes)
+
+  serves : (ending : reading.Ending) (units : List Record) (rest : List ℕ) (new : Market) (text : List ℕ) → Passes run body old units rest new text → AtEnd run More (place + length (spell_all commands.units units)) rest ending → ServesAll old More place body (ended_by ending) text
+  serves ending units rest new text passes at = record {
+    records = units;
+    ending = ending;
+    new = new;
+    reads = record { rest = rest; whole = passes.whole; each = passes.each; none = at.0; ends = at.1 };
+    ends = refl;
+    writes = written units rest new body text passes;
   }
-  has_written old new before after (r ∷ records) leads =
-      let one = leads.2 in
-      let rest = has_written leads.0 new leads.1 after records leads.3 in
-      record {
-        text = one.text ++ rest.text;
-        so = answers_more old leads.0 new r records one.text rest.text one.answers rest.so;
-        written = Grows-more (held before) (held leads.1) (held after) one.text rest.text one.written rest.written;
-        quiet = rest.quiet ∙ one.quiet;
-      }
 
-  module _ (old : Market) (sound : IsSound old) (body : List ℕ) (before after : K) where
-    -- all whole records were served
-    pub to_end : (new : Market) (More : Type 0) (place : ℕ) (ending : reading.Ending) → GoesToEnd commands Writes place More body ending old new before after
-        → (text : List ℕ) × ServesAll old More place body (ended_by ending) text × Grows (held before) (held after) text
-    to_end new More place ending goes =
-        let wrote = has_written old new before after goes.units goes.leads in (
-          wrote.text,
-          record {
-            records = goes.units;
-            ending = ending;
-            new = new;
-            reads = goes.reads;
-            ends = refl;
-            writes = continues old new goes.units wrote.text sound wrote.so;
-          },
-          wrote.written,
-        )
+  -- all whole records were served
+  pub to_end : (text : List ℕ) → ComesOn run More place body old (Ok tt) text → ServesAll old More place body (Ok tt) text
+  to_end text on = rw (so_far (Ok tt) text on) (serves reading.End on.units on.rest on.state on.so_far on.passes on.halts.0)
 
-    -- and no fault came
-    pub to_end_quiet : (new : Market) (More : Type 0) (place : ℕ) (ending : reading.Ending) → GoesToEnd commands Writes place More body ending old new before after → faults after ≡ faults before
-    to_end_quiet new More place ending goes = (has_written old new before after goes.units goes.leads).quiet
+  pub to_torn : (n : ℕ) (text : List ℕ) → ComesOn run More place body old (Err (Torn n)) text → ServesAll old More place body (Err (Torn n)) text
+  to_torn n text on = rw (so_far (Err (Torn n)) text on) (serves (reading.Torn n) on.units on.rest on.state on.so_far on.passes on.halts.0)
 
-    -- the pair of a record wasn't written whole
-    pub to_cut : (goes : GoesToBreak commands Writes Breaks body Write old before after) → (text : List ℕ) × WritesInto old body text × GrowsByFront (held before) (held after) text
-    to_cut goes =
-        let wrote = has_written old goes.middle before goes.between goes.units goes.leads in
-        let off = goes.breaks in
-        let cut = off.broken.broken in
-        let text = wrote.text ++ cut.1 in
-        let records = goes.units ++ off.unit ∷ [] in (
-          text,
-          (
-            records,
-            off.rest,
-            cut.0,
-            record {
-              whole = goes.begins ∙ ap (λ xs. spell_all commands.units goes.units ++ xs) off.front ∙ sym (append_assoc (spell_all commands.units goes.units) (commands.units.spell off.unit) off.rest)
-                  ∙ ap (λ xs. xs ++ off.rest) (flat_map_more commands.units.spell [] goes.units off.unit);
-              each = All-push commands.units.IsLawful goes.units off.unit goes.each off.lawful;
-              writes = continues old cut.0 records text sound (answers_push old goes.middle cut.0 goes.units off.unit wrote.text cut.1 wrote.so cut.2);
-            },
-          ),
-          GrowsByFront-more (held before) (held goes.between) (held after) wrote.text cut.1 wrote.written cut.3,
-        )
+  pub to_limit : (text : List ℕ) → ComesOn run More place body old (Err TooLong) text → ServesAll old More place body (Err TooLong) text
+  to_limit text on = rw (so_far (Err TooLong) text on) (serves reading.TooLong on.units on.rest on.state on.so_far on.passes on.halts.0)
 
-    -- memory was wanted at a record
-    pub to_want : (goes : GoesToBreak commands Writes Breaks body Memory old before after) → (text : List ℕ) × WritesShort old body text × Grows (held before) (held after) text
-    to_want goes =
-        let wrote = has_written old goes.middle before goes.between goes.units goes.leads in
-        let off = goes.breaks in (
-          wrote.text,
-          record {
-            records = goes.units;
-            left = goes.left;
-            new = goes.middle;
-            next = off.unit;
-            behind = off.rest;
-            first = record { whole = goes.begins; each = goes.each; writes = continues old goes.middle goes.units wrote.text sound wrote.so };
-            stands = (off.lawful, off.front);
-            wants = off.broken.broken.0;
-          },
-          subst (λ (now : Option (List ℕ)). Grows (held before) now wrote.text) (sym off.broken.broken.1) wrote.written,
-        )
+  -- the pair of a record wasn't written whole
+  pub to_cut : (text : List ℕ) → GetsTo run More place body old text → WritesInto old body text
+  to_cut text (inl (n, ended, on)) = rw (so_far ended text on) (
+    on.units,
+    on.rest ++ drop n body,
+    on.state,
+    record {
+      whole = sym (take-append-drop n body) ∙ ap (λ xs. xs ++ drop n body) on.passes.whole ∙ append_assoc (spell_all commands.units on.units) on.rest (drop n body);
+      each = on.passes.each;
+      writes = written on.units on.rest on.state (take n body) on.so_far on.passes;
+    },
+  )
+  to_cut text (inr (ended, on)) = rw (so_far ended text on)
+      (on.units, on.rest, on.state, record { whole = on.passes.whole; each = on.passes.each; writes = written on.units on.rest on.state body on.so_far on.passes })
 
-    -- which is to be blamed on the output only where a write failed
-    pub to_break_blames : (fault : ServeFault) → GoesToBreak commands Writes Breaks body fault old before after → Blames (fault ≡ Write) (faults before) (faults after)
-    to_break_blames fault goes =
-        blames_later (faults before) (faults goes.between) (faults after) (has_written old goes.middle before goes.between goes.units goes.leads).quiet (λ e. e) (λ e. e) goes.breaks.broken.cause
+  -- memory was wanted at a record
+  pub to_want : (text : List ℕ) → LacksOn run More place body old text → WritesShort old body text
+  to_want text on =
+      elim on.wants [
+        | inl at ↦ record {
+          records = on.units;
+          left = on.rest;
+          new = on.state;
+          next = at.0;
+          behind = at.1;
+          first = record { whole = on.passes.whole; each = on.passes.each; writes = written on.units on.rest on.state body text on.passes };
+          stands = at.2;
+          wants = at.3;
+        }
+        | inr at ↦ absurd at.1
+      ]
+
+  -- it never stops
+  pub no_stop : (why : Never) (text : List ℕ) → ComesOn run More place body old (Err (Stopped why)) text → ⊥
+  no_stop why text on = elim on.halts [ inl stops ↦ stops.3 | inr stops ↦ stops.1 ]

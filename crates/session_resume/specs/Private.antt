@@ -1,8 +1,6 @@
--- Words that only private functions use: why there is nothing to go on from, what serving a record does, and how an input ends.
+-- Words that only private functions use: why there is nothing to go on from, and how an input ends.
 use Rattle.std.specs.Prelude.{◌≡◌, ◌⊎◌, ℕ, List, [], ◌++◌, Option, Ok, Err, All}
-use Rattle.flow_io.specs.Faults.{Blames}
 use Rattle.flow_io.specs.Streams.{Grows, GrowsByFront}
-use Rattle.flow_io.specs.Changes.{Change}
 use Rattle.wire_records.specs.Records.{Record}
 use Rattle.wire_records.specs.Grammars.{BeginsWith, spell_all}
 use Rattle.wire_records.specs.Formats.{commands, command_magic_of}
@@ -10,12 +8,9 @@ use Rattle.market_rules.specs.Market.{Market}
 use Rattle.market_rules.specs.Wanting.{RecordMayWant}
 use Rattle.word_driver.specs.Ended.{Ended}
 use Rattle.word_driver.specs.declared.fault.Fault.TheVariants.{Read, Write, Memory, NotFlow, Torn, TooLong, Stopped}
-use Rattle.exchange_session.specs.Serving.{AnswersOne}
 use Rattle.session_resume.specs.declared.first.FirstFault.{FirstFault}
 use Rattle.session_resume.specs.declared.first.FirstFault.TheVariants as fault
 use Rattle.session_resume.specs.declared.first.Unfit.{Unfit}
-use Rattle.session_resume.specs.declared.serving.ServeFault.{ServeFault}
-use Rattle.session_resume.specs.declared.serving.ServeFault.TheVariants as serve
 use Rattle.session_resume.specs.Firsts.{Neither, NoCheckpoint, Illegal, IsFirst}
 use Rattle.session_resume.specs.Continuing.{Continues}
 
@@ -25,23 +20,6 @@ IsFirstFault bytes fault.Neither = IsFirst bytes Neither
 IsFirstFault bytes fault.NoCheckpoint = IsFirst bytes NoCheckpoint
 IsFirstFault bytes (fault.Illegal number) = IsFirst bytes (Illegal number)
 IsFirstFault bytes fault.Memory = Unit {0}
-
--- A record was answered, and its pair written.
-pub record WritesPair (old : Market) (asked : Record) (new : Market) (out : Change) : Type 0 where
-  pub text : List ℕ
-  pub answers : AnswersOne old asked new text
-  pub written : Grows out.before out.after text
-  pub quiet : out.faults_after ≡ out.faults
-
--- by why a record's pair wasn't written whole
-abbrev pub BreaksPairBy : Market → Record → ServeFault → Option (List ℕ) → Option (List ℕ) → Type 0
-BreaksPairBy old asked serve.Write before after = (new : Market) × (text : List ℕ) × AnswersOne old asked new text × GrowsByFront before after text
-BreaksPairBy old asked serve.Memory before after = RecordMayWant old asked × (after ≡ before)
-
--- A record's pair wasn't written whole.
-pub record BreaksPair (old : Market) (asked : Record) (fault : ServeFault) (out : Change) : Type 0 where
-  pub broken : BreaksPairBy old asked fault out.before out.after
-  pub cause : Blames (fault ≡ serve.Write) out.faults out.faults_after
 
 -- These are the first records, and the text is that of their pairs.
 pub record WritesFirst (old : Market) (body : List ℕ) (records : List Record) (left : List ℕ) (new : Market) (text : List ℕ) : Type 0 where

@@ -6,7 +6,6 @@
 
 mod first;
 mod resume;
-mod serving;
 
 pub use first::{Origin, Unfit};
 pub use resume::resume_source;

@@ -11,14 +11,12 @@ ghost use Rattle.session_resume.specs.Tasks.{resuming};
 ghost use Rattle.session_resume.specs.Private.{Ends, WritesInto, WritesShort, IntoBehind, ShortBehind};
 
 use crate::first::{FirstFault, FirstPart, Origin, Unfit, first_part};
-use crate::serving::{ServeFault, Serving};
-use exchange_session::Session;
-use file_units::{Ending, take_units};
+use exchange_session::{Run, Session};
 use flow_io::{ReadAllFault, Sink, Source, read_all};
-use journal_records::{MOST_PLAIN_PAIR, is_overlong};
+use journal_records::is_overlong;
 use std::alloc::Global;
 use wire_records::{COMMAND_MAGIC, Version, command_magic};
-use word_driver::Fault;
+use word_driver::{Fault, ServesWord, go_over_bytes};
 
 // Serves the records that stand in the bytes of an input from a place on, and writes their pairs.
 fn serve_all<K: Sink>(
@@ -37,17 +35,19 @@ fn serve_all<K: Sink>(
 {
     // What a session ensures of its market: it is sound.
     let _sound = session.market();
-    let pair = match Vec::with_capacity(alloc, MOST_PLAIN_PAIR) {
-        Ok(pair) => pair,
+    let text = match Vec::with_capacity(alloc, Run::ROOM) {
+        Ok(text) => text,
         Err(_) => return Err(Fault::Memory),
     };
-    let mut serving = Serving { session, pair };
-    match take_units(bytes, place, more, &mut serving, out) {
-        Ok(Ending::End) => Ok(()),
-        Ok(Ending::Torn(place)) => Err(Fault::Torn(place)),
-        Ok(Ending::TooLong) => Err(Fault::TooLong),
-        Err(ServeFault::Write) => Err(Fault::Write),
-        Err(ServeFault::Memory) => Err(Fault::Memory),
+    match go_over_bytes(Run::over(alloc, session), text, bytes, place, more, out) {
+        Ok(()) => Ok(()),
+        Err(Fault::Torn(place)) => Err(Fault::Torn(place)),
+        Err(Fault::TooLong) => Err(Fault::TooLong),
+        Err(Fault::Write) => Err(Fault::Write),
+        Err(Fault::Memory) => Err(Fault::Memory),
+        Err(Fault::Read) => unreachable!(),
+        Err(Fault::NotFlow) => unreachable!(),
+        Err(Fault::Stopped(_)) => unreachable!(),
     }
 }
 

@@ -34,7 +34,7 @@ blames_later before middle now same to back cause = record {
 }
 
 -- errors are the same where their reasons are
-same_fault : (T F : Type 0) (a b : F) → ◌≡◌ {A = Result T F} (Err a) (Err b) → a ≡ b
+pub same_fault : (T F : Type 0) (a b : F) → ◌≡◌ {A = Result T F} (Err a) (Err b) → a ≡ b
 same_fault T F a b e = cc
 
 -- a fault is to blame where the answer with it is
@@ -344,7 +344,7 @@ module _ {U S B O : Type 0} (w : Word U S B) (held : O → Option (List ℕ)) (f
         blames_later (faults before) (faults goes.between) (faults after) so.quiet (λ e. e) (λ e. e) goes.breaks.broken.cause
 
     -- and no fault of the source
-    not_read : (fault : Fault B) → ToBreak fault → fault ≢ Read
+    pub not_read : (fault : Fault B) → ToBreak fault → fault ≢ Read
     not_read Write goes e = absurd cc
     not_read Memory goes e = absurd cc
     not_read NotFlow goes e = absurd cc

@@ -3,7 +3,7 @@ mod Puts
 pub mod Going
 pub mod Ahead
 pub mod OneEnds
-mod Alike
+pub mod Alike
 mod Doing
 pub mod Tasks
 mod Whole

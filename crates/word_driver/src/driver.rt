@@ -1,17 +1,17 @@
 //! The driver.
-ghost use Rattle.std.specs.Prelude.{◌≡◌, ◌-◌, ◌+◌, ◌≤◌, ◌<◌, ◌^◌, Err, None, [], ℕ, List, length, vec_capacity};
+ghost use Rattle.std.specs.Prelude.{◌≡◌, ◌-◌, ◌+◌, ◌≤◌, ◌<◌, ◌^◌, Err, None, [], ℕ, List, IsTrue, drop, length, vec_capacity};
 ghost use Rattle.flow_io.specs.Faults.{Blames};
 ghost use Rattle.flow_io.specs.Streams.{HandsOver};
 ghost use Rattle.flow_io.specs.Changes.{change};
 ghost use Rattle.word_driver.specs.Does.{Does, task};
 ghost use Rattle.word_driver.specs.Laws.{IsExact, IsKept};
 ghost use Rattle.word_driver.specs.Pieces.{IsByPieces};
-ghost use Rattle.word_driver.specs.Private.{Closed, GoesOn, GoesOver, PutsLast, PutsOn, PutsAll};
+ghost use Rattle.word_driver.specs.Private.{Closed, Ends, GoesOn, GoesOver, PutsLast, PutsOn, PutsAll};
 
 use crate::fault::Fault;
 use crate::serves::ServesWord;
 use crate::writing::{Writing, halt_with, put};
-use file_units::{Ending, TakeFault, take_from};
+use file_units::{Ending, TakeFault, take_from, take_units};
 use flow_io::{Filled, Sink, Source, Window};
 use std::alloc::Global;
 
@@ -64,6 +64,38 @@ fn go_on<S: Source, K: Sink, W: ServesWord + Drop>(
         Ok(Ending::TooLong) => Err(Fault::TooLong),
         Err(TakeFault::Read) => Err(Fault::Read),
         Err(TakeFault::Broken(fault)) => Err(fault),
+    }
+}
+
+/// Continues a word that has begun, over bytes that are in memory: hands the units in them from a place on to the word, one after
+/// the other, and writes what it puts into the buffer, which is emptied for each unit, by one call. `more` says whether the input
+/// has bytes after these. Nothing is read, and no memory is taken but what the word takes.
+///
+/// That the word is exact is a law of it, which the caller cites.
+pub fn go_over_bytes<K: Sink, W: ServesWord + Drop>(
+    word: W,
+    text: Vec<u8>,
+    bytes: &[u8],
+    place: usize,
+    more: bool,
+    out: &mut K,
+) -> Result<(), Fault<W::Stop>>
+    requires exact { IsExact W.word }
+    requires inside { place ≤ length bytes.now }
+    requires room { W.ROOM ≤ vec_capacity text }
+    requires ready { W.is_ready word (length bytes.now - place) }
+    ensures ends { Ends W.word (IsTrue more) place (drop place bytes.now) (W.state word) 0 [] None result
+        (K.held out.old) (K.held out.new) }
+    // Nothing is read.
+    ensures unread { result ≡ Err Fault.Read → ⊥ }
+    ensures cause { Blames (result ≡ Err Fault.Write) (K.faults out.old) (K.faults out.new) }
+{
+    let mut writing = Writing { word, text };
+    match take_units(bytes, place, more, &mut writing, out) {
+        Ok(Ending::End) => close(&mut writing, out),
+        Ok(Ending::Torn(at)) => Err(Fault::Torn(at)),
+        Ok(Ending::TooLong) => Err(Fault::TooLong),
+        Err(fault) => Err(fault),
     }
 }
 

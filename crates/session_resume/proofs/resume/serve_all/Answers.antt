@@ -1,65 +1,53 @@
-use Rattle.std.proofs.Common.{Err, refl, drop, inr, IsTrue}
-use Rattle.wire_records.specs.Reading as reading
-use Rattle.word_driver.specs.declared.fault.Fault.TheVariants.{Write}
-use Rattle.word_driver.proofs.Going.{blames_nobody, err_alike}
-use Rattle.session_resume.specs.declared.serving.ServeFault.TheVariants as serve
-use Rattle.session_resume.proofs.Written.{to_end, to_end_quiet, to_cut, to_want, to_break_blames}
+use Rattle.std.proofs.Common.{inr, drop, refl, IsTrue}
+use Rattle.exchange_session.proofs.RunLaws.{run_is_exact}
+use Rattle.session_resume.proofs.Written.{to_end, to_torn, to_limit, to_cut, to_want, no_stop}
 use Rattle.session_resume.proofs.resume.serve_all.Goals as goal
 
-pub returns-in-Ok-End : goal.returns-in-Ok-End
-returns-in-Ok-End g c =
-    let held = g.K.Sink.held in
-    let faults = g.K.Sink.faults in
+pub go_over_bytes-requires-clause-exact : goal.go_over_bytes-requires-clause-exact
+go_over_bytes-requires-clause-exact g c = run_is_exact
+
+pub returns-in-Ok-go_over_bytes-clause-ends : goal.returns-in-Ok-go_over_bytes-clause-ends
+returns-in-Ok-go_over_bytes-clause-ends g c =
     let rest = drop c.args.place c.args.bytes.now in
-    let goes = rw c.in-Ok-End.field-0-is at c.in-Ok-End.ensures.ended in
+    let ends = rw c.over.ensures.state at c.in-Ok-go_over_bytes.ensures.ends in
+    (ends.1, to_end c.args.session c.market-sound.ensures.sound (IsTrue c.args.more) c.args.place rest ends.1 ends.2, ends.3)
+
+pub returns-in-Err-Torn : goal.returns-in-Err-Torn
+returns-in-Err-Torn g c =
+    let rest = drop c.args.place c.args.bytes.now in
+    let ends = rw c.over.ensures.state at (rw c.in-Err-Torn.field-0-is at c.in-Err-Torn.ensures.ends) in
+    let cause = rw c.in-Err-Torn.field-0-is at c.in-Err-Torn.ensures.cause in
     record {
-      ends = to_end held faults c.args.session c.market-sound.ensures.sound rest c.args.out.now c.take_units.new.out c.take_units.new.taker.session (IsTrue c.args.more) c.args.place reading.End goes;
-      cause = blames_nobody _ _ (λ e. cc) (to_end_quiet held faults c.args.session c.market-sound.ensures.sound rest c.args.out.now c.take_units.new.out c.take_units.new.taker.session (IsTrue c.args.more) c.args.place reading.End goes);
+      ends = (ends.0, to_torn c.args.session c.market-sound.ensures.sound (IsTrue c.args.more) c.args.place rest c.in-Err-Torn.place ends.0 ends.1, ends.2);
+      cause = record { later = cause.later; rose = λ e. absurd cc; quiet = λ _. cause.quiet (λ e. cc) };
     }
 
-pub returns-in-Ok-Torn : goal.returns-in-Ok-Torn
-returns-in-Ok-Torn g c =
-    let held = g.K.Sink.held in
-    let faults = g.K.Sink.faults in
+pub returns-in-Err-TooLong : goal.returns-in-Err-TooLong
+returns-in-Err-TooLong g c =
     let rest = drop c.args.place c.args.bytes.now in
-    let goes = rw c.in-Ok-Torn.field-0-is at c.in-Ok-Torn.ensures.ended in
+    let ends = rw c.over.ensures.state at (rw c.in-Err-TooLong.field-0-is at c.in-Err-TooLong.ensures.ends) in
+    let cause = rw c.in-Err-TooLong.field-0-is at c.in-Err-TooLong.ensures.cause in
     record {
-      ends = to_end held faults c.args.session c.market-sound.ensures.sound rest c.args.out.now c.take_units.new.out c.take_units.new.taker.session (IsTrue c.args.more) c.args.place (reading.Torn c.in-Ok-Torn.place) goes;
-      cause = blames_nobody _ _ (λ e. cc) (to_end_quiet held faults c.args.session c.market-sound.ensures.sound rest c.args.out.now c.take_units.new.out c.take_units.new.taker.session (IsTrue c.args.more) c.args.place (reading.Torn c.in-Ok-Torn.place) goes);
-    }
-
-pub returns-in-Ok-TooLong : goal.returns-in-Ok-TooLong
-returns-in-Ok-TooLong g c =
-    let held = g.K.Sink.held in
-    let faults = g.K.Sink.faults in
-    let rest = drop c.args.place c.args.bytes.now in
-    let goes = rw c.in-Ok-TooLong.field-0-is at c.in-Ok-TooLong.ensures.ended in
-    record {
-      ends = to_end held faults c.args.session c.market-sound.ensures.sound rest c.args.out.now c.take_units.new.out c.take_units.new.taker.session (IsTrue c.args.more) c.args.place reading.TooLong goes;
-      cause = blames_nobody _ _ (λ e. cc) (to_end_quiet held faults c.args.session c.market-sound.ensures.sound rest c.args.out.now c.take_units.new.out c.take_units.new.taker.session (IsTrue c.args.more) c.args.place reading.TooLong goes);
+      ends = (ends.0, to_limit c.args.session c.market-sound.ensures.sound (IsTrue c.args.more) c.args.place rest ends.0 ends.1, ends.2);
+      cause = record { later = cause.later; rose = λ e. absurd cc; quiet = λ _. cause.quiet (λ e. cc) };
     }
 
 pub returns-in-Err-Write : goal.returns-in-Err-Write
 returns-in-Err-Write g c =
-    let held = g.K.Sink.held in
-    let faults = g.K.Sink.faults in
     let rest = drop c.args.place c.args.bytes.now in
-    let goes = rw c.in-Err-Write.field-0-is at c.in-Err-Write.ensures.broken in
-    let cause = to_break_blames held faults c.args.session c.market-sound.ensures.sound rest c.args.out.now c.take_units.new.out serve.Write goes in
+    let ends = rw c.over.ensures.state at (rw c.in-Err-Write.field-0-is at c.in-Err-Write.ensures.ends) in
+    let cause = rw c.in-Err-Write.field-0-is at c.in-Err-Write.ensures.cause in
     record {
-      ends = to_cut held faults c.args.session c.market-sound.ensures.sound rest c.args.out.now c.take_units.new.out goes;
+      ends = (ends.1, to_cut c.args.session c.market-sound.ensures.sound (IsTrue c.args.more) c.args.place rest ends.1 ends.2, ends.3);
       cause = record { later = cause.later; rose = λ _. cause.rose refl; quiet = λ not. absurd (not refl) };
     }
 
-pub returns : goal.returns
-returns g c =
-    let held = g.K.Sink.held in
-    let faults = g.K.Sink.faults in
+pub returns-in-Err-Memory : goal.returns-in-Err-Memory
+returns-in-Err-Memory g c =
     let rest = drop c.args.place c.args.bytes.now in
-    let goes = rw c.in-Err-Memory.field-0-is at c.in-Err-Memory.ensures.broken in
-    let cause = to_break_blames held faults c.args.session c.market-sound.ensures.sound rest c.args.out.now c.take_units.new.out serve.Memory goes in
-    let want = to_want held faults c.args.session c.market-sound.ensures.sound rest c.args.out.now c.take_units.new.out goes in
+    let ends = rw c.over.ensures.state at (rw c.in-Err-Memory.field-0-is at c.in-Err-Memory.ensures.ends) in
+    let cause = rw c.in-Err-Memory.field-0-is at c.in-Err-Memory.ensures.cause in
     record {
-      ends = (want.0, inr want.1, want.2);
+      ends = (ends.1, inr (to_want c.args.session c.market-sound.ensures.sound (IsTrue c.args.more) c.args.place rest ends.1 ends.2), ends.3);
       cause = record { later = cause.later; rose = λ e. absurd cc; quiet = λ _. cause.quiet (λ e. cc) };
     }
