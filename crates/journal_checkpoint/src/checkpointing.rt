@@ -53,7 +53,7 @@ impl OnPair for Checkpointing {
         _pairs: u64,
         _text: &mut Vec<u8>,
     ) -> Result<(), Memory> {
-        audit.make(pair, change).map_err(|_| Memory)
+        audit.make(pair, change)
     }
 
     fn illegal(

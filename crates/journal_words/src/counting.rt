@@ -85,7 +85,7 @@ impl OnPair for Counting {
         _pairs: u64,
         _text: &mut Vec<u8>,
     ) -> Result<(), Memory> {
-        audit.make(pair, change).map_err(|_| Memory)?;
+        audit.make(pair, change)?;
         let tag = pair.answered().tag();
         self.cleared += count_of(tag, CLEARED);
         self.skipped += count_of(tag, SKIPPED);
