@@ -1,23 +1,51 @@
 -- What a word comes to of first bytes if more follow is what it comes to where their number is the limit, whatever follows.
-use Rattle.std.proofs.Common.{◌≡◌, ◌+◌, ◌<◌, ◌↔◌, ℕ, List, [], ◌∷◌, ◌++◌, Err, length, take, inl, inr, append-nil, length-append, refl, sym, ap, ◌∙◌, subst, arith}
+use Rattle.std.proofs.Common.{◌≡◌, ◌+◌, ◌<◌, ◌↔◌, ℕ, List, [], ◌∷◌, ◌++◌, Ok, Err, length, take, inl, inr, append-nil, length-append, refl, sym, ap, ◌∙◌, subst, arith}
 use Rattle.std.proofs.Math.Seq.{take-append-add}
 use Rattle.std.proofs.lemmas.List.{take_at}
 use Rattle.wire_records.specs.Grammars.{spell_all}
+use Rattle.wire_records.specs.Reading.{Ending, End, EndsAs}
+use Rattle.wire_records.specs.Reading as reading
 use Rattle.wire_records.specs.declared.version.Version.{Version}
 use Rattle.wire_records.proofs.ReadingLaws.{none_in_none}
-use Rattle.word_driver.specs.declared.fault.Fault.TheVariants.{TooLong}
+use Rattle.word_driver.specs.declared.fault.Fault.TheVariants.{Read, Write, Memory, NotFlow, Torn, TooLong, Stopped}
 use Rattle.word_driver.specs.Ended.{Ended}
-use Rattle.word_driver.specs.Word.{Word, ComesOn, Comes}
+use Rattle.word_driver.specs.Word.{Word, AtEnd, Halts, ComesOn, Comes}
 use Rattle.word_driver.specs.Does.{task}
 use Rattle.word_driver.specs.Laws.{IsExact}
-use Rattle.word_driver.proofs.Alike.{comes_on_alike}
 
 -- whether more follow may be said in another way
-pub comes_alike : {U S B : Type 0} (w : Word U S B) (P Q : Type 0) (same : P ↔ Q) (start : Version → S) (bytes : List ℕ) (ended : Ended B) (text : List ℕ) → Comes w start bytes P ended text → Comes w start bytes Q ended text
-unfolding comes_on_alike
-comes_alike w P Q same start bytes ended text (inl none) = inl none
-comes_alike w P Q same start bytes ended text (inr (version, body, behind, magic, is, (on, kept))) =
-    inr (version, body, behind, magic, is, (comes_on_alike w P Q same (length (w.format.magics.spell version)) body (start version) ended behind on, kept))
+module _ {U S B : Type 0} (w : Word U S B) (P Q : Type 0) (same : P ↔ Q) where
+  at_end_alike : (place : ℕ) (rest : List ℕ) (ending : Ending) → AtEnd w P place rest ending → AtEnd w Q place rest ending
+  at_end_alike place rest End at = (at.0, (at.1.0, λ q. at.1.1 (same.1 q), at.1.2))
+  at_end_alike place rest reading.TooLong at = (at.0, (at.1.0, same.0 at.1.1))
+  at_end_alike place rest (reading.Torn n) at = (at.0, (at.1.0, elim at.1.1 [ inl over ↦ inl over | inr short ↦ inr (λ q. short.0 (same.1 q), short.1) ]))
+
+  halts_alike : (place : ℕ) (rest : List ℕ) (state : S) (ended : Ended B) (last : List ℕ) → Halts w P place rest state ended last → Halts w Q place rest state ended last
+  halts_alike place rest state (Ok done) last halts = (at_end_alike place rest End halts.0, halts.1)
+  halts_alike place rest state (Err (Torn n)) last halts = (at_end_alike place rest (reading.Torn n) halts.0, halts.1)
+  halts_alike place rest state (Err TooLong) last halts = (at_end_alike place rest reading.TooLong halts.0, halts.1)
+  halts_alike place rest state (Err (Stopped why)) last (inl at) = inl at
+  halts_alike place rest state (Err (Stopped why)) last (inr halts) = inr (at_end_alike place rest End halts.0, halts.1)
+  halts_alike place rest state (Err NotFlow) last halts = halts
+  halts_alike place rest state (Err Read) last halts = halts
+  halts_alike place rest state (Err Write) last halts = halts
+  halts_alike place rest state (Err Memory) last halts = halts
+
+  pub comes_alike : (start : Version → S) (bytes : List ℕ) (ended : Ended B) (text : List ℕ) → Comes w start bytes P ended text → Comes w start bytes Q ended text
+  comes_alike start bytes ended text (inl none) = inl none
+  comes_alike start bytes ended text (inr (version, body, behind, magic, is, (on, kept))) =
+      let place = length (w.format.magics.spell version) + length (spell_all w.format.units on.units) in
+      let way : ComesOn w Q (length (w.format.magics.spell version)) body (start version) ended behind = record {
+        units = on.units;
+        rest = on.rest;
+        state = on.state;
+        so_far = on.so_far;
+        last = on.last;
+        passes = on.passes;
+        halts = halts_alike place on.rest on.state ended on.last on.halts;
+        writes = on.writes;
+      } in
+      inr (version, body, behind, magic, is, (way, kept))
 
 module _ {U S B : Type 0} (w : Word U S B) (start : Version → S) where
   -- more follow the first bytes
