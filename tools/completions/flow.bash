@@ -1,4 +1,4 @@
-# Completes the words of flow in bash, and files behind a redirection and where a word names one. Made by tools/words.
+# Completes the subcommands of flow in bash, and files after a redirection or a subcommand that takes one. Made by tools/words.
 #
 #     source tools/completions/flow.bash
 

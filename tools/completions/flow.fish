@@ -1,15 +1,15 @@
-# Completes the words of flow in fish. Files behind a redirection are completed by fish itself. Made by tools/words.
+# Completes the subcommands of flow in fish. fish itself completes files after a redirection. Made by tools/words.
 #
 #     source tools/completions/flow.fish
 
 complete -c flow -f
 complete -c flow -n 'test (count (commandline -opc)) -eq 1' -a encode -d 'lines of JSON: write a command file'
 complete -c flow -n 'test (count (commandline -opc)) -eq 1' -a run -d 'a command file: write its journal'
-complete -c flow -n 'test (count (commandline -opc)) -eq 1' -a audit -d 'a journal: is it legal?'
-complete -c flow -n 'test (count (commandline -opc)) -eq 1' -a explain -d 'a journal: what is wrong with it?'
-complete -c flow -n 'test (count (commandline -opc)) -eq 1' -a report -d 'a journal: show it as text'
-complete -c flow -n 'test (count (commandline -opc)) -eq 1' -a statement -d 'a journal: the statement of an account'
-complete -c flow -n 'test (count (commandline -opc)) -eq 1' -a checkpoint -d 'a journal: write its market'
+complete -c flow -n 'test (count (commandline -opc)) -eq 1' -a audit -d 'a journal, or a checkpoint and entries: is it valid?'
+complete -c flow -n 'test (count (commandline -opc)) -eq 1' -a explain -d 'a journal, or a checkpoint and entries: what is wrong with it?'
+complete -c flow -n 'test (count (commandline -opc)) -eq 1' -a report -d 'a journal, or a checkpoint and entries: show it as text'
+complete -c flow -n 'test (count (commandline -opc)) -eq 1' -a statement -d 'a journal, or a checkpoint and entries: the statement of an account'
+complete -c flow -n 'test (count (commandline -opc)) -eq 1' -a checkpoint -d 'a journal, or a checkpoint and entries: write its market'
 complete -c flow -n 'test (count (commandline -opc)) -eq 1' -a resume -d 'a journal or a checkpoint, and commands: write their entries'
 complete -c flow -n 'test (count (commandline -opc)) -eq 1' -a keep -d 'a command file: keep its journal in a file'
 complete -c flow -n 'test (count (commandline -opc)) -eq 1' -a sample -d 'a number, and how many orders: try a large market'

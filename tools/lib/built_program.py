@@ -1,4 +1,4 @@
-"""The built program, for the tools: where it stands, journals that it finds legal, and what is put before it."""
+"""The built program, for the tools: where it is, journals that it finds valid, and what is put before it."""
 import functools
 import os
 import shutil
@@ -10,8 +10,8 @@ TOP = os.path.realpath(f"{__file__}/../../..")
 
 @functools.lru_cache(None)
 def program():
-    """Where the program stands that is built from the sources as they are; it is built first where it isn't. Ends as
-    tools/program does where it can't be."""
+    """The place of the program that is built from the sources as they are; it is built first if there is none. Ends as
+    tools/program does if it can't be built."""
     made = subprocess.run([f"{TOP}/tools/program"], stdin=subprocess.DEVNULL, stdout=subprocess.PIPE)
     if made.returncode:
         sys.exit(made.returncode)
@@ -19,7 +19,7 @@ def program():
 
 
 def bytes_of(place):
-    """What a file holds. Where it can't be read, the tool ends, and says why."""
+    """What a file holds. If it can't be read, the tool ends, and says why."""
     try:
         with open(place, "rb") as file:
             return file.read()
@@ -28,7 +28,7 @@ def bytes_of(place):
 
 
 def output_of(word, given):
-    """What a word writes. Where it isn't done, its line is said, and the tool ends with its status."""
+    """What a subcommand writes. If it isn't done, its line is printed, and the tool ends with its status."""
     ran = subprocess.run([program(), word], input=given, stdout=subprocess.PIPE)
     if ran.returncode:
         sys.exit(ran.returncode)
@@ -36,14 +36,14 @@ def output_of(word, given):
 
 
 def legal_journal(place):
-    """The bytes of a journal that `flow audit` finds legal."""
+    """The bytes of a journal that `flow audit` finds valid."""
     journal = bytes_of(place)
     output_of("audit", journal)
     return journal
 
 
 def compiled(source, folder, *options):
-    """What a C compiler makes of a source in tools/lib, or nothing where there is none that makes it."""
+    """What a C compiler makes of a source in tools/lib, or nothing if there is none that makes it."""
     made = f"{folder}/{os.path.splitext(source)[0]}"
     for compiler in filter(None, [os.environ.get("CC"), "cc", "gcc", "clang"]):
         if shutil.which(compiler):

@@ -1,5 +1,5 @@
-"""A reader and a writer of the checkpoints that `flow checkpoint` writes, by the formats alone, the test whether a market is sound,
-by the market's rules, and the market of a day as a checkpoint."""
+"""A reader and a writer of the checkpoints that `flow checkpoint` writes, by the formats alone, the test whether a market is
+consistent, by the market's rules, and the market of a day as a checkpoint."""
 import struct
 from collections import Counter, namedtuple
 
@@ -13,7 +13,7 @@ MOST_MONEY, MOST_UNITS, MOST_CREDIT, MOST_PRICE, NO_NUMBER = 1 << 100, 1 << 60, 
 MOST_LIMIT, MOST_RATE, MOST_CAP = 1 << 28, 1 << 24, 1 << 40
 
 # A market. Amounts of an account, of all and of the exchange are lists of money, in grains, and then of the units of each asset;
-# credits are such lists too, in ticks and units. A ticker has the spaces behind it.
+# credits are such lists too, in ticks and units. A ticker has the spaces after it.
 Checkpoint = namedtuple("Checkpoint", "version tickers accounts totals exchange next_number batches prices orders")
 Account = namedtuple("Account", "amounts credits")
 # A live order. Limits are in ticks, and a last batch of 0 is none.
@@ -50,7 +50,7 @@ class Front:
 
 
 def read(data):
-    """The market that the first bytes spell, sound or not, and how many bytes these are."""
+    """The market that the first bytes encode, consistent or not, and how many bytes these are."""
     front = Front(data)
     magic, version, assets = front.take(">8sBH")
     if magic != MAGIC:
@@ -83,7 +83,7 @@ def order_bytes(order):
 
 
 def spelled(kept):
-    """The bytes of a market, sound or not, whose numbers fit their fields."""
+    """The bytes of a market, consistent or not, whose numbers fit their fields."""
     parts = [MAGIC, struct.pack(">BH", kept.version, len(kept.tickers)), *kept.tickers, struct.pack(">I", len(kept.accounts))]
     parts += map(account_bytes, kept.accounts)
     parts += [amounts_bytes(kept.totals), amounts_bytes(kept.exchange)]
@@ -91,7 +91,7 @@ def spelled(kept):
     return b"".join([*parts, *map(order_bytes, kept.orders)])
 
 
-# ---- soundness
+# ---- consistency
 
 
 def is_live(order, kept):
@@ -144,23 +144,23 @@ def are_balances(kept):
     return all(max(account.credits) <= most and covers(account, needed.get(number, nothing)) for number, account in each)
 
 
-def is_sound(kept):
+def is_consistent(kept):
     numbers = [order.number for order in kept.orders]
     orders = numbers == sorted(set(numbers)) and all(is_live(order, kept) for order in kept.orders)
     return are_counts(kept) and are_totals(kept) and orders and are_balances(kept)
 
 
-def sound_market(data):
-    """The sound market that the first bytes spell, and how many bytes these are, or nothing where there is none."""
+def consistent_market(data):
+    """The consistent market that the first bytes encode, and how many bytes these are, or nothing if there is none."""
     try:
         kept, size = read(data)
     except NoCheckpoint:
         return None, 0
-    return (kept, size) if is_sound(kept) else (None, 0)
+    return (kept, size) if is_consistent(kept) else (None, 0)
 
 
 def last_lines(kept, number):
-    """The last lines of a statement of this account, or None where it isn't there."""
+    """The last lines of a statement of this account, or None if it isn't there."""
     if not 1 <= number <= len(kept.accounts):
         return None
     needed = needs([order for order in kept.orders if order.account == number]).get(number, Counter())
@@ -189,14 +189,14 @@ def checkpoint_of(day):
 
 
 def placed(order):
-    """An order of a checkpoint, as it stands in a day."""
+    """An order of a checkpoint, as it is in a day."""
     made = Order(order.number, Terms(order.account, order.low, order.high, order.rate, order.cap, order.row, order.last or None))
     made.filled = order.filled
     return made
 
 
 def day_from(kept, pairs=b""):
-    """The day that goes on from a sound market, by these pairs."""
+    """The day that continues from a consistent market, by these entries."""
     day, keys = Day(b"FLOWJNL%d" % kept.version), [MONEY_KEY, *range(len(kept.tickers))]
     day.tickers, day.prices = list(map(name_of, kept.tickers)), list(kept.prices)
     day.accounts = {number: dict(zip(keys, account.amounts)) for number, account in enumerate(kept.accounts, 1)}

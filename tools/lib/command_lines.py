@@ -37,14 +37,14 @@ class Object(tuple):
 
 
 def fraction(spelling):
-    """A number that isn't whole by its spelling. One that no float of 64 bits reaches is none at all."""
+    """A number that isn't whole by its form. One that no float of 64 bits reaches is none at all."""
     if math.isinf(float(spelling)):
         raise ValueError(f"the number {spelling} is too large")
     return float(spelling)
 
 
 def whole(spelling):
-    """A number without fraction and exponent. Where it needs more than 64 bits, and where it is -0, it isn't whole."""
+    """A number without fraction and exponent. If it needs more than 64 bits, or is -0, it isn't whole."""
     if spelling != "-0" and len(spelling) <= 20 and -(1 << 63) <= int(spelling) < 1 << 64:
         return int(spelling)
     return fraction(spelling)
@@ -92,7 +92,7 @@ def number(form, value):
 
 
 def row(weights, tickers):
-    """The entries of weights, in ascending order of assets, behind their count."""
+    """The legs of a weight vector, in ascending order of assets, after their count."""
     if not isinstance(weights, Object):
         raise ValueError(f"{weights} is no object")
     entries = {}
@@ -142,14 +142,14 @@ def ladder(asked, tickers):
 
 
 def add(ticker, tickers):
-    """The market's rule: a ticker is added where it is valid, isn't taken and there is room for it."""
+    """The market's rule: a ticker is added if it is valid, isn't taken and there is room for it."""
     if is_ticker(ticker) and ticker not in tickers and len(tickers) < TICKERS:
         tickers.append(ticker)
 
 
 def record_of(line, tickers, version):
-    """The record that a line asks for in a version, or the records where it asks for a ladder's orders, after lines that left these
-    tickers, to which its own is added. It is empty where the line is blank, and None where it is no command."""
+    """The record that a line asks for in a version, or the records if it asks for a ladder's orders, after lines that left these
+    tickers, to which its own is added. It is empty if the line is blank, and None if it is no command."""
     if not line.strip(b" \t\r"):
         return b""
     try:
@@ -182,7 +182,7 @@ def encoded(text, version=1):
 
 
 def values_of(tag, body, tickers):
-    """What stands in a record for the further keys. Assets are named by these tickers."""
+    """What a record has for the further keys. Assets are named by these tickers."""
     if tag in (7, 10):
         terms = terms_of(tag, body)
         row = {name_of(tickers[asset]): weight for asset, weight in terms.row}

@@ -1,6 +1,6 @@
 /* Writes down each call that the program into which this is loaded makes of the file that it keeps, and each write of its output, one
-   after the other, on the descriptor CRASH_TELL: a letter, a place or length and a count in eight bytes each, and the bytes. Where
-   CRASH_AT is set, the call of the file of this number, counted from 1, fails, and all behind it where CRASH_EVER is set.
+   after the other, on the descriptor CRASH_TELL: a letter, a place or length and a count in eight bytes each, and the bytes. If
+   CRASH_AT is set, the call of the file of this number, counted from 1, fails, and all after it if CRASH_EVER is set.
    tools/check/check_crashes compiles it. */
 #define _GNU_SOURCE
 #include <dlfcn.h>

@@ -1,5 +1,5 @@
 """Drawings of a day as SVG, each of its own: prices and volumes, demand and supply, bars. They are told apart without
-colour: demand is a whole line, supply a broken one, a clearing price a dotted one. Colours come from the page's style, by
+colour: demand is a solid line, supply a broken one, a clearing price a dotted one. Colours come from the page's style, by
 the classes `demand`, `supply`, `price`, `axis`, `grid` and `bar`."""
 import math
 from html import escape
@@ -54,7 +54,7 @@ def steps(low, high, most):
 
 
 class Scale:
-    """Where numbers between two stand in a drawing."""
+    """Where numbers between two are in a drawing."""
 
     def __init__(self, low, high, start, end):
         self.low, self.high, self.start, self.end = low, high, start, end
@@ -140,7 +140,7 @@ def prices_chart(batches, asset, ticker):
 
 def bends(trade, asset, prices):
     """The prices of an asset, in ticks, at which an order's line bends, at the other assets' published prices: where it is cut
-    at its room, and where it ends; its weight of the asset; and what it asks for of the asset at the first of the two."""
+    at its batch maximum, and where it ends; its weight of the asset; and what it asks for of the asset at the first of the two."""
     order, weight = trade.order, trade.order.weight(asset)
     others = (order.cost(prices) - weight * prices[asset]) / TICK
     cut = order.high - trade.room * (order.high - order.low) / order.rate
@@ -173,7 +173,7 @@ def curve(sides, low, high):
 
 def window(sides, price):
     """Between which prices curves are shown: those at which the orders bend that trade a part at the clearing price, or
-    where there is none, those at which any does; but not further from the clearing price than twice the shortest line of
+    if there is none, those at which any does; but not further from the clearing price than twice the shortest line of
     these, so that it is seen beside long ones."""
     near = [side for side in sides if min(side[:2]) <= price <= max(side[:2])] or sides
     reach = 2 * min(abs(empty - full) for full, empty, _, _ in near)
@@ -224,7 +224,7 @@ def legend():
 
 
 def share_bar(part, whole, words):
-    """How much of a whole a part is."""
+    """How much of all a part is."""
     filled = 120 * max(0, min(part, whole)) / whole if whole > 0 else 0
     parts = [bar("cap", 0.5, 0.5, 120, 11), bar("bar", 0.5, 0.5, filled, 11)]
     return drawing(parts, words, 121, 12)

@@ -1,5 +1,5 @@
 /* Makes a call of the program fail into which this is loaded: of the kind that FAULT_KIND names, the one of the number FAULT_AT,
-   counted from 1, and all behind it where FAULT_EVER is set. A read gives at most FAULT_PIECE bytes. At the end it tells, on the
+   counted from 1, and all after it if FAULT_EVER is set. A read gives at most FAULT_PIECE bytes. At the end it writes, on the
    descriptor FAULT_TELL, how many calls of the kind there were. tools/check/check_faults compiles it and says what the kinds are. */
 #define _GNU_SOURCE
 #include <dlfcn.h>
@@ -58,7 +58,7 @@ ssize_t write(int to, const void *bytes, size_t size)
         real = (ssize_t (*)(int, const void *, size_t))next("write");
     if ((to == 1 && fails('w', ENOSPC)) || (to == 2 && fails('n', EIO)))
         return -1;
-    if (to == 1 && kind == 'p') {                   /* a write that takes a part: half of the bytes, and nothing behind it */
+    if (to == 1 && kind == 'p') {                   /* a write that takes a part: half of the bytes, and nothing after it */
         calls++;
         if (at && calls > at) { errno = ENOSPC; return -1; }
         if (calls == at) return real(to, bytes, (size + 1) / 2);

@@ -6,18 +6,18 @@ from collections import namedtuple
 # Grains in a tick.
 TICK = 1 << 32
 
-# The letters of a ticker, and the limits of an order's row.
+# The letters of a ticker, and the limits of an order's weight vector.
 LETTERS = frozenset(b"ABCDEFGHIJKLMNOPQRSTUVWXYZ0123456789.-")
 MOST_ENTRIES, MOST_WEIGHT = 16, 1 << 12
 
 # The tags of replies.
 DONE, ASSET, ACCOUNT, ORDER, REFUSED, CLEARED, SKIPPED = range(128, 135)
 
-# The form of each command's body by its tag, but of orders, whose entries stand behind their terms.
+# The form of each command's body by its tag, but of orders, whose legs follow their terms.
 MONEY, UNITS, TERMS, ENTRY = ">IQ", ">IHQ", ">IqqIQB", ">Hi"
 FORMS = {1: ">8s", 2: ">", 3: MONEY, 4: UNITS, 5: MONEY, 6: UNITS, 8: MONEY, 9: ">I", 11: MONEY, 12: UNITS}
 
-# How many bytes stand before a record's body, and before an order's entries.
+# How many bytes there are before a record's body, and before an order's legs.
 HEAD, BEFORE_ENTRIES = 5, struct.calcsize(TERMS)
 
 # The key of money beside the numbers of assets.
@@ -29,7 +29,7 @@ def record(tag, body=b""):
 
 
 def places_of(data, at=8):
-    """The place of each record behind the magic, and of the end."""
+    """The place of each record after the magic, and of the end."""
     places = [at]
     while places[-1] < len(data):
         at = places[-1]
@@ -38,30 +38,30 @@ def places_of(data, at=8):
 
 
 def records_of(data, at=8):
-    """The bytes of each record behind the magic."""
+    """The bytes of each record after the magic."""
     places = places_of(data, at)
     return [data[first:last] for first, last in zip(places, places[1:])]
 
 
 def records(data, at=8):
-    """The tag and the body of each record behind the magic."""
+    """The tag and the body of each record after the magic."""
     return [(each[0], each[HEAD:]) for each in records_of(data, at)]
 
 
 def pairs_of(journal):
-    """The bytes of each pair of a journal."""
+    """The bytes of each entry of a journal."""
     places = places_of(journal)[::2]
     return [journal[first:last] for first, last in zip(places, places[1:])]
 
 
 def signed(body, at, width, count):
-    """So many signed numbers, one behind the other."""
+    """This many signed numbers, one after the other."""
     places = range(at, at + width * count, width)
     return [int.from_bytes(body[place:place + width], "big", signed=True) for place in places]
 
 
 def name_of(ticker):
-    """A ticker without the spaces behind it."""
+    """A ticker without the spaces after it."""
     return ticker.decode("ascii").rstrip(" ")
 
 
@@ -71,14 +71,14 @@ def is_ticker(ticker):
 
 
 def is_row(row):
-    """Whether entries may be an order's, whatever assets there are."""
+    """Whether legs may be an order's, whatever assets there are."""
     named = [asset for asset, _ in row]
     weights = all(1 <= abs(weight) <= MOST_WEIGHT for _, weight in row)
     return 1 <= len(row) <= MOST_ENTRIES and named == sorted(set(named)) and weights
 
 
 class Terms(namedtuple("Terms", "account low high rate cap row last", defaults=[None])):
-    """What an order's command says. Limits are in ticks, amounts in units of the portfolio, and the last batch is none where the
+    """What an order's command says. Limits are in ticks, amounts in units of the portfolio, and the last batch is none if the
     command can't have one."""
 
     def cost(self, prices):

@@ -1,5 +1,5 @@
-"""The market that a legal journal makes, pair by pair, by the formats and the market's rules alone: orders with their
-fills, balances, the exchange's own account, and what each batch came to. It doesn't ask whether the journal is legal."""
+"""The market that a valid journal makes, entry by entry, by the formats and the market's rules alone: orders with their
+fills, balances, the exchange's own account, and the result of each batch. It doesn't ask whether the journal is valid."""
 import struct
 from collections import Counter, namedtuple
 
@@ -24,9 +24,9 @@ REPLIES = {DONE: "Done", ASSET: "Asset", ACCOUNT: "Account", ORDER: "Order", REF
 REPLIES.update({CLEARED: "Cleared", SKIPPED: "Skipped"})
 LIVE, FILLED, CANCELLED, ENDED = "live", "filled", "cancelled", "left after its last batch"
 
-# A pair: its number from 1, the tags and bodies of its records, and its text as a report has it, without the number.
+# An entry: its number from 1, the tags and bodies of its records, and its text as a report has it, without the number.
 Pair = namedtuple("Pair", "number tag body reply answer text")
-# What an order had in a batch: its room, and its rate.
+# What an order had in a batch: its batch maximum, and its rate.
 Trade = namedtuple("Trade", "order room rate")
 
 
@@ -49,7 +49,7 @@ class Order:
 
 
 class Batch:
-    """A batch that was held, cleared or skipped. Prices, gap and duals are in grains, amounts in units. What orders bought and
+    """A batch that was held, cleared or skipped. Prices, gap and dual values are in grains, amounts in units. What orders bought and
     sold is by asset."""
 
     def __init__(self, pair, number, trades):
@@ -74,8 +74,8 @@ def add(balances, key, amount):
 
 
 class Day:
-    """All that a legal journal tells. Balances are by account, from 1, and then by asset, in units, or MONEY_KEY, in
-    grains; what stands at none is 0. Credits are so too, with money in ticks."""
+    """All that a valid journal says. Balances are by account, from 1, and then by asset, in units, or MONEY_KEY, in
+    grains; a balance that is missing is 0. Credits are so too, with money in ticks."""
 
     def __init__(self, journal):
         self.version = int(journal[7:8])
@@ -85,7 +85,7 @@ class Day:
         self.go_on(journal[8:])
 
     def go_on(self, pairs):
-        """Takes up more pairs, which a legal journal may have behind those before."""
+        """Takes more entries, which a valid journal may have after those before."""
         every = records(pairs, 0)
         for number, (asked, answered) in enumerate(zip(every[::2], every[1::2]), len(self.pairs) + 1):
             self.take(number, *asked, *answered)
@@ -154,7 +154,7 @@ class Day:
         return batch
 
     def settle(self, order, rate, prices):
-        """The account pays and gets what the rate comes to, and the exchange has the other side of it."""
+        """The account pays and gets what results from the rate, and the exchange has the other side of it."""
         order.filled += rate
         for key, amount in [(MONEY_KEY, -order.cost(prices) * rate), *((asset, weight * rate) for asset, weight in order.row)]:
             add(self.accounts[order.account], key, amount)

@@ -8,7 +8,7 @@ MAGICS = {1: b"FLOWDSK1", 2: b"FLOWDSK2", 3: b"FLOWDSK3"}
 MAGIC = MAGICS[2]
 OPEN, CLOSED = b"\x01", b"\0"
 
-# A file of at most so many bytes is a new one, whatever it holds.
+# A file of at most this many bytes is a new one, whatever it holds.
 MOST_NEW = 9
 
 # The longest bodies of a command's record and of a reply's.
@@ -21,7 +21,7 @@ class Foreign(Exception):
 
 
 class Damaged(Exception):
-    """The file has no whole entry where one should begin, at this byte."""
+    """The file has no complete entry where one should begin, at this byte."""
 
 
 def is_pair(pair):
@@ -36,7 +36,7 @@ def is_pair(pair):
 
 
 def begin(file):
-    """Looks at the front of an open file, behind which entries may follow: its version, or None where it is a new one."""
+    """Looks at the beginning of an open file, after which entries may follow: its version, or None if it is a new one."""
     front = file.read(MOST_NEW + 1)
     file.seek(len(MAGIC))
     if len(front) <= MOST_NEW:
@@ -48,7 +48,7 @@ def begin(file):
 
 
 def kept_pairs(file):
-    """The pairs that an open file keeps, one after the other."""
+    """The entries that an open file keeps, one after the other."""
     if begin(file) is None:
         return
     place = len(MAGIC)
@@ -67,5 +67,5 @@ def kept_pairs(file):
 
 
 def file_of(pairs, behind=CLOSED, version=2):
-    """The bytes of a file that keeps these pairs of a version, and what stands behind them."""
+    """The bytes of a file that keeps these entries of a version, and what follows them."""
     return MAGICS[version] + b"".join(OPEN + struct.pack(">I", len(pair)) + pair for pair in pairs) + behind

@@ -8,7 +8,7 @@ TICKERS = [b"AAPL    ", b"MSFT    ", b"BRK.B   ", b"Z-9     ", b"aapl    ", b"AA
 MAGICS = [b"FLOWCMD1", b"FLOWCMD2", b"FLOWCMD3", b"FLOWCMD4", b"FLOWJNL1", b"FLOWJNL2", b"FLOWJNL3", b"FLOWJNL4", b"FLOWSNP1", b"FLOWCMD", b""]
 BUDGETS = [0, 1, 1, 2, 3, 10, 100, 1000, 1000, 1000, 10_000, 65_536, 65_537]
 EDGES = [0, 1, 2, 4096, 1 << 16, 1 << 24, 1 << 28, (1 << 32) - 1, 1 << 40, 1 << 60, (1 << 63) - 1, (1 << 64) - 1]
-# Lengths that a record may state, whatever stands behind it.
+# Lengths that a record may state, whatever follows it.
 LENGTHS = [0, 1, 4, 12, 14, 33, 39, 1024, 1025, 262_144, 262_145, (1 << 32) - 1]
 
 
@@ -33,7 +33,7 @@ def row():
 
 
 def order():
-    """The body of an order, most often a lawful one for prices around 100 ticks."""
+    """The body of an order, most often a valid one for prices around 100 ticks."""
     entries = row()
     middle = sum(weight for _, weight in entries) * 100 + random.randint(-10, 10)
     half = random.choice([1, 5, 5, 20, 20, 300, 0, 1 << 28])
@@ -61,7 +61,7 @@ def command():
 
 
 def command_file():
-    """A market with accounts, assets and money in it, most often, and random commands behind that."""
+    """A market with accounts, assets and money in it, most often, and random commands after that."""
     made = [random.choice([b"FLOWCMD1", b"FLOWCMD2", b"FLOWCMD3"])]
     if random.random() < 0.9:
         made += [record(1, ticker) for ticker in TICKERS[:3]] + [record(2)] * 3
@@ -76,7 +76,7 @@ def any_bytes():
 
 
 def pieces(data):
-    """The magic and the records of a file, and what stands behind the whole ones."""
+    """The magic and the records of a file, and what follows the complete ones."""
     parts, at = [data[:8]], 8
     while at + 5 <= len(data):
         end = at + 5 + int.from_bytes(data[at + 1:at + 5], "big")
@@ -86,7 +86,7 @@ def pieces(data):
 
 
 def with_other_records(data):
-    """Records, or pairs, are left out, doubled or changed for others."""
+    """Records, or entries, are left out, doubled or changed for others."""
     whole = pieces(data)
     first, last = sorted(random.choices(range(1, len(whole) + 1), k=2))
     kind = random.randrange(3)
@@ -115,7 +115,7 @@ def with_other_bytes(data):
 
 
 def altered(data):
-    """The same with a change or some."""
+    """A file with one change or some."""
     for _ in range(random.choice([1, 1, 1, 2, 5])):
         data = random.choice([with_other_records, with_other_bytes, with_other_bytes])(data)
     return data

@@ -1,4 +1,4 @@
-"""Random lines of JSON: lines that ask for commands in spellings that one rarely sees, and such lines with faults."""
+"""Random lines of JSON: lines that ask for commands in forms that one rarely sees, and such lines with faults."""
 import json
 import random
 
@@ -32,7 +32,7 @@ def weight():
 
 
 def asset():
-    """A ticker with some of the spaces that may stand behind it."""
+    """A ticker with some of the spaces that may follow it."""
     ticker = random.choice(TICKERS)
     return ticker.ljust(random.randint(len(ticker), 8))
 
@@ -47,7 +47,7 @@ def limits():
 
 
 def points():
-    """Those of a ladder, with a flat stretch here and there."""
+    """The points of a ladder, with a flat stretch here and there."""
     count = random.choice([2, 3, 5, 33])
     prices = sorted(random.sample(range(-(1 << 28), (1 << 28) + 1), count))
     rates = [random.choice([1, 2, 1 << 24, random.randint(1, 1 << 24)]) for _ in range(count - 1)]
@@ -108,7 +108,7 @@ def commands(count):
 
 
 def with_fault(asked):
-    """A line in which a byte is lost, one is put in, one is another, a part stands twice, or a value is another."""
+    """A line in which a byte is lost, one is put in, one is another, a part comes twice, or a value is another."""
     spelling, kind = line(asked), random.randrange(5)
     first, last = sorted(random.choices(range(len(spelling)), k=2))
     if kind == 4:

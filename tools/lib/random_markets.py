@@ -1,4 +1,4 @@
-"""Markets as checkpoints have them, altered in a part or some. Many are sound still. All go by the state of `random`."""
+"""Markets as checkpoints have them, altered in a part or some. Many are still consistent. All go by the state of `random`."""
 import random
 
 AMOUNTS = [-(1 << 62), -(1 << 61), -1, 0, 1, 1 << 20, 1 << 59, 1 << 60, (1 << 60) + 1, 1 << 61, 1 << 62]

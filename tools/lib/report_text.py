@@ -1,4 +1,4 @@
-"""The text of a legal journal, made from its bytes by the formats alone. The samples are made with it, and compared."""
+"""The text of a valid journal, or of the entries of a day, by the formats alone. The samples are made with it, and compared."""
 import struct
 
 from formats import ACCOUNT, ASSET, CLEARED, DONE, MONEY, ORDER, SKIPPED, UNITS, name_of, records, signed, terms_of
@@ -51,7 +51,7 @@ def skipped(body):
 
 
 def told(tickers, asked, answered):
-    """What is told of a pair behind its number, under the tickers after it."""
+    """The text of an entry after its number, under the tickers after it."""
     tag, body = answered
     if tag == DONE:
         return done(tickers, *asked)
@@ -68,7 +68,7 @@ def told(tickers, asked, answered):
 
 
 def report_of(journal):
-    """The text of a legal journal that is whole."""
+    """The text of a valid journal that is complete."""
     every = records(journal)
     tickers, lines = [], []
     for number, (asked, answered) in enumerate(zip(every[::2], every[1::2]), 1):
@@ -78,7 +78,12 @@ def report_of(journal):
     return "".join(lines).encode("ascii")
 
 
+def report_of_day(day):
+    """The text of the entries that a day has taken, from a journal or after a checkpoint."""
+    return "".join(f"{pair.number} {pair.text}\n" for pair in day.pairs).encode("ascii")
+
+
 def legal_line(journal):
-    """The line that an audit writes of a legal journal that is whole."""
+    """The line that an audit writes of a valid journal that is complete."""
     replies = [tag for tag, _ in records(journal)[1::2]]
     return b"legal: %d pairs, %d cleared, %d skipped\n" % (len(replies), replies.count(CLEARED), replies.count(SKIPPED))

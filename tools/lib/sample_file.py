@@ -5,7 +5,7 @@ from formats import MONEY, UNITS, Terms, order_body, record
 
 
 class Draws:
-    """Numbers that look as if they were drawn by lot."""
+    """Pseudorandom numbers."""
 
     def __init__(self, number):
         self.state = number

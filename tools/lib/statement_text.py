@@ -1,8 +1,8 @@
-"""The statement of an account, made from the bytes of a legal journal by the formats and the market's rules alone. The samples are
+"""The statement of an account, made from the bytes of a valid journal by the formats and the market's rules alone. The samples are
 made with it, and compared."""
 import struct
 
-from formats import ACCOUNT, ASSET, CLEARED, FORMS, MONEY, MONEY_KEY, ORDER, REFUSED, SKIPPED, TICK, name_of, records, signed, terms_of
+from formats import ACCOUNT, ASSET, CLEARED, FORMS, MONEY, MONEY_KEY, ORDER, REFUSED, SKIPPED, TICK, Terms, name_of, records, signed, terms_of
 from report_text import WORDS, limits
 
 # The codes of records that are no command, and so name no account.
@@ -10,7 +10,7 @@ NO_COMMAND = (1, 2)
 
 
 class Order:
-    """A live order of the account: its terms, and what is left of its cap."""
+    """A live order of the account: its terms, and its remaining quantity."""
 
     def __init__(self, number, terms):
         self.number, self.terms, self.left = number, terms, terms.cap
@@ -20,7 +20,7 @@ class Order:
 
 
 class Statement:
-    """What an account has by the pairs that were told, and the lines of these."""
+    """What an account has by the entries so far, and the lines of these."""
 
     def __init__(self, account):
         self.account, self.is_open, self.lines = account, False, []
@@ -80,7 +80,7 @@ class Statement:
         self.lines.append(f"  order {order.number} rate {rate} cost {cost}")
 
     def names(self, asked, answered):
-        """Whether the pair's command names the account."""
+        """Whether the entry's command names the account."""
         (tag, body), (reply, told) = asked, answered
         if reply == REFUSED and told[0] in NO_COMMAND or tag not in (3, 4, 5, 6, 7, 8, 10, 11, 12):
             return False
@@ -106,14 +106,39 @@ class Statement:
             yield f"{ticker} units {self.units.get(asset, 0)} reserved {sum(o.needed(asset) for o in self.orders)}"
 
 
+    def begin(self, kept):
+        """Takes up what the account has in the market of a checkpoint."""
+        self.tickers = [name_of(ticker) for ticker in kept.tickers]
+        if not 1 <= self.account <= len(kept.accounts):
+            return
+        self.is_open = True
+        self.money, *units = kept.accounts[self.account - 1].amounts
+        self.units = dict(enumerate(units))
+        for placed in kept.orders:
+            if placed.account == self.account:
+                terms = Terms(placed.account, placed.low, placed.high, placed.rate, placed.cap, placed.row, placed.last or None)
+                self.orders.append(Order(placed.number, terms))
+                self.orders[-1].left -= placed.filled
+
+
 def text_of(lines):
     return "".join(line + "\n" for line in lines).encode("ascii")
 
 
 def statement_of(journal, account):
-    """The text of what an account sees of a legal journal that is whole, and the last lines, or None where there is no such
+    """The text of what an account sees of a valid journal that is complete, and the last lines, or None if there is no such
     account."""
     every, statement = records(journal), Statement(account)
     for asked, answered in zip(every[::2], every[1::2]):
         statement.tell(asked, answered)
     return text_of(statement.lines), text_of(statement.end()) if statement.is_open else None
+
+
+def statement_from(kept, entries, account):
+    """The same of valid entries after a checkpoint: the text begins with the balances carried forward, if the account is there."""
+    every, statement = records(entries, 0), Statement(account)
+    statement.begin(kept)
+    carried = text_of(statement.end()) if statement.is_open else b""
+    for asked, answered in zip(every[::2], every[1::2]):
+        statement.tell(asked, answered)
+    return carried + text_of(statement.lines), text_of(statement.end()) if statement.is_open else None

@@ -1,5 +1,5 @@
-/* What keeping pairs costs at least: an entry and its gate, each a write with a sync. The words are a file, how many pairs there are for each
-   byte of standard input, which is answered by a byte, and how many bytes a pair has. */
+/* What keeping entries costs at least: a stored entry and its commit byte, each a write with a sync. The words are a file, how many
+   entries there are for each byte of standard input, which is answered by a byte, and how many bytes an entry has. */
 #include <fcntl.h>
 #include <stdlib.h>
 #include <unistd.h>

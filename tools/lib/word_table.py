@@ -1,6 +1,6 @@
-"""The words of the program, a row each, and what README.md, docs/FORMATS.md, docs/flow.1 and the completions have of them. Whoever
-adds a word or a form adds a row or a form here, and has `tools/words --write` put it there; `tools/check/check_documents` sees that
-it was done."""
+"""The subcommands of the program, a row each, and what README.md, docs/FORMATS.md, docs/flow.1 and the completions have of them.
+Anyone who adds a subcommand or a form adds a row or a form here, and has `tools/words --write` put it there;
+`tools/check/check_documents` sees that it was done."""
 import re
 from collections import namedtuple
 
@@ -8,16 +8,16 @@ from collections import namedtuple
 STATUSES = ("Done Usage NotFlow Torn ReadFault WriteFault NoMemory Rejected TooLong BadText BadCheckpoint NoAccount DiskFault NotDisk "
             "Damaged").split()
 
-# A word: what may stand behind it on the command line, where capitals are the name of a value; what it reads and writes, each the
-# name of a file in capitals, where there is one, and words on it, with links within docs/FORMATS.md; how it ends but for Done,
+# A subcommand: what may follow it on the command line, with the names of values in capitals; what it reads and writes, each the
+# name of a file in capitals, if there is one, and words on it, with links within docs/FORMATS.md; how it ends but for Done,
 # Usage, ReadFault, WriteFault and NoMemory; and a line on it.
 Word = namedtuple("Word", "name forms source reads out writes ends line")
 
 WORDS = [
     Word("encode", ["", "2", "3"],
-         "LINES", "[lines of JSON](#json-lines)",
+         "LINES", "[lines of JSON](#json-lines), perhaps after a checkpoint",
          "COMMANDS", "the [command file](#command-files) of version 1, 2 or 3 that they ask for",
-         "BadText TooLong",
+         "BadText TooLong BadCheckpoint",
          "lines of JSON: write a command file"),
     Word("run", [""],
          "COMMANDS", "a command file",
@@ -25,30 +25,30 @@ WORDS = [
          "NotFlow Torn TooLong",
          "a command file: write its journal"),
     Word("audit", [""],
-         "JOURNAL", "a journal",
+         "HISTORY", "a [history](#histories): a journal, or a checkpoint and entries",
          "", "one line, if it is complete and [valid](#audits)",
-         "NotFlow Torn Rejected TooLong",
-         "a journal: is it legal?"),
+         "NotFlow Torn Rejected TooLong BadCheckpoint",
+         "a journal, or a checkpoint and entries: is it valid?"),
     Word("explain", [""],
-         "JOURNAL", "a journal",
+         "HISTORY", "a history",
          "", "that line, or what is [found](#what-is-found-of-an-entry) of the first invalid entry",
-         "NotFlow Torn Rejected TooLong",
-         "a journal: what is wrong with it?"),
+         "NotFlow Torn Rejected TooLong BadCheckpoint",
+         "a journal, or a checkpoint and entries: what is wrong with it?"),
     Word("report", [""],
-         "JOURNAL", "a journal",
+         "HISTORY", "a history",
          "", "the [text](#reports) of its valid entries",
-         "NotFlow Torn Rejected TooLong",
-         "a journal: show it as text"),
+         "NotFlow Torn Rejected TooLong BadCheckpoint",
+         "a journal, or a checkpoint and entries: show it as text"),
     Word("statement", ["NUMBER"],
-         "JOURNAL", "a journal",
+         "HISTORY", "a history",
          "", "the [statement](#statements) of the account of this number",
-         "NotFlow Torn Rejected TooLong NoAccount",
-         "a journal: the statement of an account"),
+         "NotFlow Torn Rejected TooLong BadCheckpoint NoAccount",
+         "a journal, or a checkpoint and entries: the statement of an account"),
     Word("checkpoint", [""],
-         "JOURNAL", "a journal",
+         "HISTORY", "a history",
          "CHECKPOINT", "the [checkpoint](#checkpoints) of its market, if it is complete and valid",
-         "NotFlow Torn Rejected TooLong",
-         "a journal: write its market"),
+         "NotFlow Torn Rejected TooLong BadCheckpoint",
+         "a journal, or a checkpoint and entries: write its market"),
     Word("resume", [""],
          "JOURNAL_OR_CHECKPOINT_AND_COMMANDS", "a journal or a checkpoint, followed by commands",
          "PAIRS", "the [entries of these commands](#resuming)",
@@ -68,13 +68,13 @@ WORDS = [
 
 
 def numbers_of(word):
-    """The statuses that a word may end with, but for Usage, by their numbers."""
+    """The statuses that a subcommand may end with, but for Usage, by their numbers."""
     names = {"Done", "WriteFault", "NoMemory", *word.ends.split(), *(["ReadFault"] if word.source else [])}
     return sorted(map(STATUSES.index, names))
 
 
 def called(word):
-    """The forms of a word as they are typed."""
+    """The forms of a subcommand as they are typed."""
     return [f"{word.name} {form}".rstrip() for form in word.forms]
 
 
@@ -82,7 +82,7 @@ def called(word):
 
 
 def ends_of(word):
-    """How a word ends: by its statuses, or by an earlier word's and those that it has beside."""
+    """How a subcommand ends: by its statuses, or by an earlier one's and those that it has beside."""
     ends, before = word.ends.split(), WORDS[:WORDS.index(word)]
     within = [(len(each.ends), each) for each in before if each.ends and set(each.ends.split()) <= set(ends)]
     if not within:
@@ -97,7 +97,7 @@ def row(*cells):
 
 
 def readme_table():
-    """Each word in a line, without links."""
+    """Each subcommand in a line, without links."""
     yield row("subcommand", "reads", "writes", "other exit statuses")
     yield "|---|---|---|---|"
     for word in WORDS:
@@ -113,7 +113,7 @@ def formats_table():
 
 
 def command_lines():
-    """Each form of each word, with its files."""
+    """Each form of each subcommand, with its files."""
     for word in WORDS:
         files = [f"{sign} {file}" for sign, file in (("<", word.source), (">", word.out)) if file]
         for form in called(word):
@@ -156,7 +156,7 @@ def ranges(numbers):
 
 
 def exit_statuses():
-    """Which statuses each word ends with, those of the same together."""
+    """Which statuses each subcommand ends with, those of the same together."""
     groups = {}
     for word in WORDS:
         groups.setdefault(tuple(numbers_of(word)), []).append(word.name)
@@ -175,7 +175,7 @@ REDIRECTIONS = ["'<'", "'>'", "'>>'"]
 
 
 def choices():
-    """The words of which a digit may follow, and these digits; and those that a file follows."""
+    """The subcommands of which a digit may follow, and these digits; and those that a file follows."""
     digits = {word.name: [form for form in word.forms if form.isdigit()] for word in WORDS if word.forms[1:]}
     return digits, [word.name for word in WORDS if word.forms == ["FILE"]]
 
@@ -183,7 +183,7 @@ def choices():
 def zsh():
     digits, files = choices()
     yield "#compdef flow"
-    yield "# Completes the words of flow in zsh. Files behind a redirection are completed by zsh itself. Made by tools/words."
+    yield "# Completes the subcommands of flow in zsh. zsh itself completes files after a redirection. Made by tools/words."
     yield "#"
     yield "#     fpath=(tools/completions $fpath); autoload -Uz compinit; compinit"
     yield ""
@@ -193,7 +193,7 @@ def zsh():
         yield f"    '{word.name}:{said}'"
     yield ")"
     yield "if (( CURRENT == 2 )); then"
-    yield "    _describe word words_of_flow"
+    yield "    _describe subcommand words_of_flow"
     for name, versions in digits.items():
         yield f"elif (( CURRENT == 3 )) && [[ $words[2] == {name} ]]; then"
         said = " ".join(f"{version}:of\\ version\\ {version}" for version in versions)
@@ -206,7 +206,7 @@ def zsh():
 
 def bash():
     digits, files = choices()
-    yield "# Completes the words of flow in bash, and files behind a redirection and where a word names one. Made by tools/words."
+    yield "# Completes the subcommands of flow in bash, and files after a redirection or a subcommand that takes one. Made by tools/words."
     yield "#"
     yield "#     source tools/completions/flow.bash"
     yield ""
@@ -233,7 +233,7 @@ def fish():
     digits, files = choices()
     words = "complete -c flow -n 'test (count (commandline -opc)) -eq "
     second = f"{words}2; and test (commandline -opc)[2] = "
-    yield "# Completes the words of flow in fish. Files behind a redirection are completed by fish itself. Made by tools/words."
+    yield "# Completes the subcommands of flow in fish. fish itself completes files after a redirection. Made by tools/words."
     yield "#"
     yield "#     source tools/completions/flow.fish"
     yield ""
@@ -246,11 +246,11 @@ def fish():
         yield from (f"{second}{name}' -a {version} -d 'of version {version}'" for version in versions)
 
 
-# ---- where these stand
+# ---- where these are
 
 
 def marked(text, begin, lines, ends):
-    """A text with these lines behind the one that begins them, up to the next that ends them. Blank ones behind the first stay."""
+    """A text with these lines after the one that begins them, up to the next that ends them. Blank ones after the first stay."""
     whole = text.split("\n")
     first = whole.index(begin) + 1
     while not whole[first]:

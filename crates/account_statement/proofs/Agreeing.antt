@@ -1,4 +1,4 @@
--- What is told of a pair, by what is held, is what the account sees of it.
+-- The lines of an entry, by what the statement holds, are those of what the account sees of it.
 use Rattle.std.proofs.Common.{◌≡◌, ℕ, ◌+◌, Bool, true, false, ◌&&◌, List, [], ◌∷◌, ◌++◌, length, Result, Ok, Err, refl, sym, ap, subst, ◌∙◌, arith}
 use Rattle.std.specs.Prelude.{◌==◌}
 use Rattle.std.proofs.lemmas.List.{append-nil}
@@ -8,10 +8,10 @@ use Rattle.wire_records.specs.Commands.{Command, AddAsset, OpenAccount, RunBatch
 use Rattle.wire_records.specs.declared.command.BodyFault.{BodyFault}
 use Rattle.wire_records.specs.declared.reply.Reply.{Reply}
 use Rattle.wire_records.proofs.Readings.{reading_unique}
-use Rattle.flow_orders.specs.Outcomes.{Clearing, Outcome, Cleared, Skipped, IsRightOutcome, IsRightClearing}
+use Rattle.flow_orders.specs.Outcomes.{Clearing, Outcome, Cleared, Skipped, IsAdmissibleOutcome, IsAdmissibleClearing}
 use Rattle.journal_records.specs.Replies.{SpellsAnswer}
 use Rattle.journal_records.proofs.Spelled.{answer_unique}
-use Rattle.market_rules.specs.Market.{Market, IsSound, start_prices}
+use Rattle.market_rules.specs.Market.{Market, IsConsistent, start_prices}
 use Rattle.market_rules.specs.Step.{Serves, ServesRead}
 use Rattle.market_rules.proofs.LawProofs.{batch_of}
 use Rattle.batch_audit.specs.Legal.{IsLegalPair}
@@ -19,18 +19,18 @@ use Rattle.statement_rules.specs.Views.{Event, Asks, Clears, Skips, event_if, is
 use Rattle.statement_rules.specs.Holdings.{Holding, after_all, IsHeld}
 use Rattle.statement_rules.specs.Statements.{lines_from}
 use Rattle.statement_rules.proofs.Told.{told}
-use Rattle.statement_rules.proofs.ViewLaws.{sound_after}
+use Rattle.statement_rules.proofs.ViewLaws.{consistent_after}
 use Rattle.account_statement.specs.Telling.{Statement, holding_of, Agrees, IsTold}
 use Rattle.account_statement.specs.Private.{AreAlike, Names, fills_for, seen_by, IsServed, Tells}
 use Rattle.account_statement.proofs.OwnRates.{rates_found, own_found, fills_ascend}
 
--- what is alike agrees alike
-pub agrees_alike : (account : ℕ) (m : Market) (h g : Holding) → IsSound m → AreAlike g h → IsHeld account m h → IsHeld account m g
-agrees_alike account m h g sound like held = record {
+-- a holding that is like one that agrees with a market agrees with it too
+pub agrees_alike : (account : ℕ) (m : Market) (h g : Holding) → IsConsistent m → AreAlike g h → IsHeld account m h → IsHeld account m g
+agrees_alike account m h g consistent like held = record {
   tickers = like.tickers ∙ held.tickers;
   opened = like.is_open ∙ held.opened;
   money = λ some. like.money ∙ held.money some;
-  units = λ some asset is. like.units asset (omega (arith, is, ap length held.tickers, sound.one_each.tickers)) ∙ held.units some asset is;
+  units = λ some asset is. like.units asset (omega (arith, is, ap length held.tickers, consistent.one_each.tickers)) ∙ held.units some asset is;
   orders = like.orders ∙ held.orders;
 }
 
@@ -46,77 +46,77 @@ seen_named account named there (RunBatch budget) answer names = absurd names
 seen_named account named there command answer names = ap (λ k. event_if (there && (k == account)) (Asks command answer)) (sym names)
 
 -- the own fills of a market are those that are found under the numbers of the own orders
-pub own_fills_are : (account : ℕ) (m : Market) (h : Holding) (c : Clearing) → IsSound m → IsHeld account m h → IsRightClearing m.orders (start_prices m) c → own_fills account m c ≡ fills_for c.fills h.orders
-own_fills_are account m h c sound held right =
-    own_found account c.fills m.orders c.fills right.numbers (rates_found c.fills (fills_ascend m.orders c.fills right.numbers sound.ascending))
+pub own_fills_are : (account : ℕ) (m : Market) (h : Holding) (c : Clearing) → IsConsistent m → IsHeld account m h → IsAdmissibleClearing m.orders (start_prices m) c → own_fills account m c ≡ fills_for c.fills h.orders
+own_fills_are account m h c consistent held right =
+    own_found account c.fills m.orders c.fills right.numbers (rates_found c.fills (fills_ascend m.orders c.fills right.numbers consistent.ascending))
     ∙ ap (fills_for c.fills) (sym held.orders)
 
--- so what an account sees of an answered command can be told by what is held
-pub seen_is : (s : Statement) (m : Market) (c : Command) (a : Answer Outcome) (n : Market) → IsSound m → Agrees m s → Serves IsRightOutcome m c a n → seen s.account m (Ok c) a ≡ seen_by s c a
-seen_is s m c (Plain answer) n sound held serves = ap (λ b. seen_plain s.account b c answer) (sym held.opened)
-seen_is s m c (Batch batch (Cleared k)) n sound held serves =
-    let right = (batch_of IsRightOutcome m c batch (Cleared k) n serves).ruled in
-    ap (λ fills. event_if (is_there m s.account) (Clears batch k.prices fills)) (own_fills_are s.account m (holding_of s) k sound held right)
+-- what an account sees of an answered command is determined by what the statement holds
+pub seen_is : (s : Statement) (m : Market) (c : Command) (a : Answer Outcome) (n : Market) → IsConsistent m → Agrees m s → Serves IsAdmissibleOutcome m c a n → seen s.account m (Ok c) a ≡ seen_by s c a
+seen_is s m c (Plain answer) n consistent held serves = ap (λ b. seen_plain s.account b c answer) (sym held.opened)
+seen_is s m c (Batch batch (Cleared k)) n consistent held serves =
+    let right = (batch_of IsAdmissibleOutcome m c batch (Cleared k) n serves).ruled in
+    ap (λ fills. event_if (is_there m s.account) (Clears batch k.prices fills)) (own_fills_are s.account m (holding_of s) k consistent held right)
     ∙ ap (λ b. event_if b (Clears batch k.prices (fills_for k.fills s.orders))) (sym held.opened)
-seen_is s m c (Batch batch (Skipped k)) n sound held serves = ap (λ b. event_if b (Skips batch)) (sym held.opened)
+seen_is s m c (Batch batch (Skipped k)) n consistent held serves = ap (λ b. event_if b (Skips batch)) (sym held.opened)
 
-module _ (m : Market) (pair : Record × Record) (old : Statement) (sound : IsSound m) (agrees : Agrees m old) where
-  -- what a legal pair's records are read as is the step's
+module _ (m : Market) (pair : Record × Record) (old : Statement) (consistent : IsConsistent m) (agrees : Agrees m old) where
+  -- a valid entry's record is read as it is in its step
   same_read : (read : Result Command BodyFault) (next : Market) (legal : IsLegalPair m pair next) → IsReadAs m.version pair.0 read → legal.step.read ≡ read
   same_read read next legal reads = reading_unique m.version pair.0 legal.step.read read legal.step.spelled reads
 
   same_answer : (a : Answer Outcome) (next : Market) (legal : IsLegalPair m pair next) → SpellsAnswer pair.1 a → legal.answer ≡ a
   same_answer a next legal spells = answer_unique legal.answer a legal.spelled.fits spells.fits (sym legal.spelled.spelled ∙ spells.spelled)
 
-  pub served_as : (c : Command) (a : Answer Outcome) (next : Market) → IsLegalPair m pair next → IsReadAs m.version pair.0 (Ok c) → SpellsAnswer pair.1 a → Serves IsRightOutcome m c a next
+  pub served_as : (c : Command) (a : Answer Outcome) (next : Market) → IsLegalPair m pair next → IsReadAs m.version pair.0 (Ok c) → SpellsAnswer pair.1 a → Serves IsAdmissibleOutcome m c a next
   served_as c a next legal reads spells =
-      subst (λ x. ServesRead IsRightOutcome m (Ok c) x next) (same_answer a next legal spells)
-      (subst (λ r. ServesRead IsRightOutcome m r legal.answer next) (same_read (Ok c) next legal reads) legal.step.served)
+      subst (λ x. ServesRead IsAdmissibleOutcome m (Ok c) x next) (same_answer a next legal spells)
+      (subst (λ r. ServesRead IsAdmissibleOutcome m r legal.answer next) (same_read (Ok c) next legal reads) legal.step.served)
 
-  -- some market answers so
+  -- some market answers the command so
   pub is_served : (c : Command) (a : Answer Outcome) → (next : Market) × IsLegalPair m pair next → IsReadAs m.version pair.0 (Ok c) → SpellsAnswer pair.1 a → IsServed old c a
   is_served c a (next, legal) reads spells = record {
     market = m;
     next = next;
-    sound = sound;
-    sound_next = sound_after m pair.0 legal.answer next legal.step.read sound legal.step.spelled legal.step.served;
+    consistent = consistent;
+    consistent_next = consistent_after m pair.0 legal.answer next legal.step.read consistent legal.step.spelled legal.step.served;
     agrees = agrees;
     served = served_as c a next legal reads spells;
   }
 
-  -- a command that was told with its answer
+  -- the statement takes a command with its answer
   pub is_told : (new : Statement) (before now : List ℕ) (c : Command) (a : Answer Outcome) → IsReadAs m.version pair.0 (Ok c) → SpellsAnswer pair.1 a → Tells (seen_by old c a) old new before now
       → (next : Market) (legal : IsLegalPair m pair next) → IsTold m pair old new before now next legal
   is_told new before now c a reads spells tells next legal = record {
     agrees = subst (λ k. IsHeld k next (holding_of new)) (sym tells.account)
-        (agrees_alike old.account next (after_all (holding_of old) (seen_by old c a)) (holding_of new) sound_next tells.after
-        (subst (λ l. IsHeld old.account next (after_all (holding_of old) l)) seen_so (told old.account m (holding_of old) sound agrees (Ok c) a next serves)));
+        (agrees_alike old.account next (after_all (holding_of old) (seen_by old c a)) (holding_of new) consistent_next tells.after
+        (subst (λ l. IsHeld old.account next (after_all (holding_of old) l)) seen_so (told old.account m (holding_of old) consistent agrees (Ok c) a next serves)));
     text = tells.text ∙ ap (λ l. before ++ lines_from (holding_of old) l) (sym (again ∙ seen_so));
   }
     where
-      sound_next : IsSound next
-      sound_next = sound_after m pair.0 legal.answer next legal.step.read sound legal.step.spelled legal.step.served
+      consistent_next : IsConsistent next
+      consistent_next = consistent_after m pair.0 legal.answer next legal.step.read consistent legal.step.spelled legal.step.served
 
-      serves : Serves IsRightOutcome m c a next
+      serves : Serves IsAdmissibleOutcome m c a next
       serves = served_as c a next legal reads spells
 
       seen_so : seen old.account m (Ok c) a ≡ seen_by old c a
-      seen_so = seen_is old m c a next sound agrees serves
+      seen_so = seen_is old m c a next consistent agrees serves
 
       again : seen old.account m legal.step.read legal.answer ≡ seen old.account m (Ok c) a
       again = ap (λ r. seen old.account m r legal.answer) (same_read (Ok c) next legal reads) ∙ ap (seen old.account m (Ok c)) (same_answer a next legal spells)
 
-  -- a record that is no command, of which nothing is told
+  -- the statement takes a record that is no command, which has no lines
   pub is_not_told : (text : List ℕ) (why : BodyFault) → IsReadAs m.version pair.0 (Err why) → (next : Market) (legal : IsLegalPair m pair next) → IsTold m pair old old text text next legal
   is_not_told text why reads next legal = record {
-    agrees = told old.account m (holding_of old) sound agrees (Err why) legal.answer next (subst (λ r. ServesRead IsRightOutcome m r legal.answer next) same legal.step.served);
+    agrees = told old.account m (holding_of old) consistent agrees (Err why) legal.answer next (subst (λ r. ServesRead IsAdmissibleOutcome m r legal.answer next) same legal.step.served);
     text = sym (append-nil text) ∙ ap (λ r. text ++ lines_from (holding_of old) (seen old.account m r legal.answer)) (sym same);
   }
     where
       same : legal.step.read ≡ Err why
       same = same_read (Err why) next legal reads
 
--- nothing is told, and nothing changes
+-- without events nothing is written, and nothing changes
 pub nothing_told : (events : List Event) (s : Statement) (text : List ℕ) → events ≡ [] → Tells events s s text text
 nothing_told events s text none = record {
   account = refl;
@@ -124,7 +124,7 @@ nothing_told events s text none = record {
   text = sym (ap (λ l. text ++ lines_from (holding_of s) l) none ∙ append-nil text);
 }
 
--- what has no lines leaves any text
+-- a change without lines leaves any text
 pub told_silently : (events : List Event) (old new : Statement) (text : List ℕ) → Tells events old new [] [] → Tells events old new text text
 told_silently events old new text tells = record {
   account = tells.account;
@@ -132,7 +132,7 @@ told_silently events old new text tells = record {
   text = sym (ap (λ l. text ++ l) (sym tells.text) ∙ append-nil text);
 }
 
--- what was told behind an empty text is told behind whatever stood before
+-- what is appended to an empty text is appended to any text
 pub told_behind : (m : Market) (pair : Record × Record) (old new : Statement) (before empty text now : List ℕ) (next : Market) (legal : IsLegalPair m pair next)
     → empty ≡ [] → now ≡ before ++ text → IsTold m pair old new empty text next legal → IsTold m pair old new before now next legal
 told_behind m pair old new before empty text now next legal none whole told_so = record {
@@ -140,13 +140,13 @@ told_behind m pair old new before empty text now next legal none whole told_so =
   text = whole ∙ ap (λ l. before ++ l) (told_so.text ∙ ap (λ l. l ++ lines_from (holding_of old) (seen old.account m legal.step.read legal.answer)) none);
 }
 
--- what may be told of a command of the account's own is what is seen of it
+-- what the statement takes of a command of the account's own is what the account sees of it
 pub told_own : (s new : Statement) (c : Command) (answer : Reply) (named : ℕ) (before now : List ℕ) → Names named c → (s.is_open && (named == s.account)) ≡ true
     → Tells (Asks c answer ∷ []) s new before now → Tells (seen_by s c (Plain answer)) s new before now
 told_own s new c answer named before now names own tells =
     subst (λ l. Tells l s new before now) (sym (seen_named s.account named s.is_open c answer names ∙ ap (λ b. event_if b (Asks c answer)) own)) tells
 
--- and of another account's command nothing is
+-- an account sees nothing of another account's command
 pub told_others : (s : Statement) (c : Command) (answer : Reply) (named : ℕ) (text : List ℕ) → Names named c → (s.is_open && (named == s.account)) ≡ false
     → Tells (seen_by s c (Plain answer)) s s text text
 told_others s c answer named text names other =

@@ -9,7 +9,7 @@ use Rattle.std.proofs.lemmas.List.{take_all, get_or_past}
 use Rattle.list_sums.specs.Sums.{int_sum_by}
 use Rattle.list_sums.proofs.Products.{unsigned_abs-add, unsigned_abs-mul_le}
 use Rattle.list_sums.proofs.SumLemmas.{int_sum_by_more}
-use Rattle.weight_rows.specs.Rows.{IsLawfulRow, weight_in, price_of}
+use Rattle.weight_rows.specs.Rows.{IsWeightVector, weight_in, price_of}
 use Rattle.weight_rows.proofs.RowLawProofs.{weights_are_small}
 use Rattle.demand_curve.specs.Demand.{most_rate}
 use Rattle.flow_orders.specs.Orders.{Order, IsOrder, most_orders, terms_of}
@@ -26,7 +26,7 @@ pub record HasCosts (prices : List ℤ) (ts : List Trade) (i : ℕ) (old now : L
   pub sum_is : sum ≡ int_sum_by (paid prices) (take i ts)
   pub small : unsigned_abs sum ≤ i * 2 ^ 110
 
--- what the code has after one order more: its sum in 128 bits fits, and is the sum of one more
+-- what the code has after one more order: its sum in 128 bits fits, and is the sum of one more
 pub record HasOneMore (prices : List ℤ) (ts : List Trade) (i : ℕ) (old now : List ℕ) (sum part : ℤ) : Type 0 where
   pub fits : FitsSigned w128 (sum +ℤ to_z w128 (of_z w128 part))
   pub next : HasCosts prices ts (i + 1) old now (to_z w128 (of_z w128 (sum +ℤ to_z w128 (of_z w128 part))))
@@ -70,16 +70,16 @@ none_brought n ts units zeros = record {
       (cases_lt a (length units));
 }
 
-received_small : (t : Trade) (asset : ℕ) → IsLawfulRow t.order.row → t.traded ≤ most_rate → unsigned_abs (received asset t) ≤ 2 ^ 36
+received_small : (t : Trade) (asset : ℕ) → IsWeightVector t.order.row → t.traded ≤ most_rate → unsigned_abs (received asset t) ≤ 2 ^ 36
 received_small t asset lawful slow =
     omega (arith, unsigned_abs-mul_le (weight_in t.order.row asset) (pos t.traded) 4096 (2 ^ 24) (weights_are_small t.order.row asset lawful) slow)
 
--- a rate within an order's room is within the highest
+-- a rate within an order's batch maximum is within the highest rate
 pub slow_enough : (o : Order) (x : ℕ) → IsOrder o → x ≤ (terms_of o).room → x ≤ most_rate
 slow_enough o x order within = omega (arith, within, order.terms.room_most, order.terms.rate_most)
 
 pub one_more_brought : (n : ℕ) (orders : List Order) (rates : List ℕ) (i : ℕ) (o : Order) (x : ℕ) (now new : List ℤ)
-    → IsTurn orders rates i o x → AreBrought n (trades orders rates) i now → IsTradeAdded o.row x now new → IsLawfulRow o.row → x ≤ most_rate → AreBrought n (trades orders rates) (i + 1) new
+    → IsTurn orders rates i o x → AreBrought n (trades orders rates) i now → IsTradeAdded o.row x now new → IsWeightVector o.row → x ≤ most_rate → AreBrought n (trades orders rates) (i + 1) new
 one_more_brought n orders rates i o x now new turn before added lawful slow =
     let ts = trades orders rates in
     let t : Trade = record { order = o; traded = x } in

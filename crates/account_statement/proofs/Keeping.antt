@@ -31,7 +31,7 @@ own_staying account orders rates new is own =
     own_filter account is_live (map after_fill (trades orders rates)) new is
     (All-map (λ (o : Order). o.account ≡ account) after_fill (trades orders rates) (All-trades (λ (o : Order). o.account ≡ account) orders rates own))
 
--- what an account's own orders need is what all of these need
+-- what an account's own orders need is what all orders of its list need
 pub own_need : (need : Order → ℕ) (account : ℕ) (orders : List Order) → AreOwn account orders → own_sum (λ (o : Order). o.account) account (λ o. pos (need o)) orders ≡ pos (sum_by need orders)
 own_need need account [] own = refl
 own_need need account (o ∷ orders) own =
@@ -41,7 +41,7 @@ own_need need account (o ∷ orders) own =
 
 -- ---- balances of units
 
--- one more asset, of which there is nothing
+-- a balance of 0 for one more asset changes no balance
 same_default : (units : List ℤ) (asset : ℕ) → get_or (units ++ pos 0 ∷ []) asset (pos 0) ≡ get_or units asset (pos 0)
 same_default [] zero = refl
 same_default [] (suc k) = refl
@@ -55,7 +55,7 @@ units_added units n count asset = by (eqb_tells asset n)
     by (inl same) = rw same.0 (same_default units asset ∙ get_or_past units asset (pos 0) (omega (arith, same.1, count)))
     by (inr other) = rw other.0 (same_default units asset)
 
--- the units of one asset are others
+-- the units of one asset are replaced
 pub units_set : (units : List ℤ) (k n : ℕ) (amount v : ℤ) → k ≡ n → n < length units → v ≡ get_or units n (pos 0) +ℤ amount
     → (asset : ℕ) → get_or (set units k v) asset (pos 0) ≡ units_changed (λ a. get_or units a (pos 0)) n amount asset
 units_set units k n amount v place inside is asset = by (eqb_tells asset n)
@@ -65,7 +65,7 @@ units_set units k n amount v place inside is asset = by (eqb_tells asset n)
         rw same.0 (ap (λ i. get_or (set units k v) i (pos 0)) (same.1 ∙ sym place) ∙ get_or-set_same units k v (pos 0) (omega (arith, inside, place)) ∙ is ∙ ap (λ i. get_or units i (pos 0) +ℤ amount) (sym same.1))
     by (inr other) = rw other.0 (get_or-set_other units k asset v (pos 0) (λ e. other.1 (e ∙ place)))
 
--- what was brought is added
+-- what the batch brought is added
 pub units_brought : (n : ℕ) (units brought new : List ℤ) (f : ℕ → ℤ) → length units ≡ n → brought ≡ map f (range_with_len 0 n)
     → HasEach (length units) (λ asset. residual_in units asset +ℤ residual_in brought asset) new → (asset : ℕ) → asset < n → get_or new asset (pos 0) ≡ get_or units asset (pos 0) +ℤ f asset
 units_brought n units brought new f count is has asset inside =

@@ -1,4 +1,5 @@
 mod Agreeing
+mod Carrying
 mod Costs
 mod Keeping
 mod May

@@ -1,4 +1,4 @@
--- What a market that answers so allows to be done with what is held.
+-- What may be done to what a statement holds, if a market answers so.
 use Rattle.std.proofs.Common.{◌≡◌, ◌⊎◌, inl, inr, ℕ, zero, suc, ◌<◌, ◌≤◌, ◌+◌, Bool, true, false, not, if◌then◌else◌, ◌&&◌, ℤ, pos, neg_ℤ, ◌+ℤ◌, ◌-ℤ◌, List, [], ◌∷◌, map, length, Option, Some, None, Ok, refl, sym, ap, subst, ◌∙◌, arith}
 use Rattle.std.specs.Prelude.{All, Contains, ◌==◌, slice_index_or}
 use Rattle.std.specs.List.{filter}
@@ -17,12 +17,12 @@ use Rattle.flow_accounts.specs.Balances.{IsAccount, IsAsset, asset_count}
 use Rattle.flow_accounts.specs.Lawful.{IsMoneyBalance, IsUnitBalance}
 use Rattle.flow_orders.specs.Orders.{Order, most_orders, terms_of}
 use Rattle.flow_orders.specs.Excess.{price_for}
-use Rattle.flow_orders.specs.Outcomes.{Fill, Clearing, Outcome, Cleared, trades_of, IsRightOutcome, IsRightClearing}
+use Rattle.flow_orders.specs.Outcomes.{Fill, Clearing, Outcome, Cleared, trades_of, IsAdmissibleOutcome, IsAdmissibleClearing}
 use Rattle.flow_orders.specs.Trades.{Trade, trader, paid, received}
 use Rattle.flow_orders.proofs.TradeFacts.{All-trades}
 use Rattle.order_book.specs.Book.{HasOrder}
 use Rattle.ticker_table.specs.Adding.{IsAddable}
-use Rattle.market_rules.specs.Market.{Market, IsSound, IsLiveOrder, start_prices}
+use Rattle.market_rules.specs.Market.{Market, IsConsistent, IsLiveOrder, start_prices}
 use Rattle.market_rules.specs.Step.{FirstRefusal, Accepts, Answers, Serves}
 use Rattle.market_rules.proofs.Accepted.{past_unless, past_when, not_least}
 use Rattle.market_rules.proofs.Lawful.{money_of_each, units_of_each}
@@ -46,7 +46,7 @@ contains_filter p (y ∷ xs) x (suc k, inside, is) pass = by (contains_filter p 
     by (j, within, found) (inl one) = rw one (suc j, omega (arith, within), found)
     by found (inr one) = rw one found
 
--- no more pass than there are
+-- no more elements pass than there are
 few_pass : {X : Type 0} (p : X → Bool) (xs : List X) → length (filter p xs) ≤ length xs
 few_pass p xs = let both = length-filter_both p (λ x. not (p x)) (λ x. refl) xs in omega (arith, both)
 
@@ -62,29 +62,29 @@ no_asset r k e = cc
 same_order : (j k : ℕ) → ◌≡◌ {A = Answer Outcome} (Plain (reply.Order j)) (Plain (reply.Order k)) → j ≡ k
 same_order j k e = cc
 
--- what is answered by Done was accepted, and so what is answered by a number
-done_accepted : (m : Market) (c : Command) (n : Market) → Serves IsRightOutcome m c (Plain reply.Done) n → FirstRefusal m c None
+-- a command that is answered by Done was accepted
+done_accepted : (m : Market) (c : Command) (n : Market) → Serves IsAdmissibleOutcome m c (Plain reply.Done) n → FirstRefusal m c None
 done_accepted m c n serves = by serves.first serves.refused serves.answered
   where
-    by : (first : Option Refusal) → FirstRefusal m c first → Answers IsRightOutcome m c first (Plain reply.Done) n → FirstRefusal m c None
+    by : (first : Option Refusal) → FirstRefusal m c first → Answers IsAdmissibleOutcome m c first (Plain reply.Done) n → FirstRefusal m c None
     by (Some r) refused answers = absurd (no_done r answers.0)
     by None refused answers = refused
 
-order_accepted : (m : Market) (c : Command) (k : ℕ) (n : Market) → Serves IsRightOutcome m c (Plain (reply.Order k)) n → FirstRefusal m c None × Accepts IsRightOutcome m c (Plain (reply.Order k)) n
+order_accepted : (m : Market) (c : Command) (k : ℕ) (n : Market) → Serves IsAdmissibleOutcome m c (Plain (reply.Order k)) n → FirstRefusal m c None × Accepts IsAdmissibleOutcome m c (Plain (reply.Order k)) n
 order_accepted m c k n serves = by serves.first serves.refused serves.answered
   where
-    by : (first : Option Refusal) → FirstRefusal m c first → Answers IsRightOutcome m c first (Plain (reply.Order k)) n → FirstRefusal m c None × Accepts IsRightOutcome m c (Plain (reply.Order k)) n
+    by : (first : Option Refusal) → FirstRefusal m c first → Answers IsAdmissibleOutcome m c first (Plain (reply.Order k)) n → FirstRefusal m c None × Accepts IsAdmissibleOutcome m c (Plain (reply.Order k)) n
     by (Some r) refused answers = absurd (no_order r k answers.0)
     by None refused answers = (refused, answers)
 
-asset_accepted : (m : Market) (c : Command) (k : ℕ) (n : Market) → Serves IsRightOutcome m c (Plain (reply.Asset k)) n → FirstRefusal m c None
+asset_accepted : (m : Market) (c : Command) (k : ℕ) (n : Market) → Serves IsAdmissibleOutcome m c (Plain (reply.Asset k)) n → FirstRefusal m c None
 asset_accepted m c k n serves = by serves.first serves.refused serves.answered
   where
-    by : (first : Option Refusal) → FirstRefusal m c first → Answers IsRightOutcome m c first (Plain (reply.Asset k)) n → FirstRefusal m c None
+    by : (first : Option Refusal) → FirstRefusal m c first → Answers IsAdmissibleOutcome m c first (Plain (reply.Asset k)) n → FirstRefusal m c None
     by (Some r) refused answers = absurd (no_asset r k answers.0)
     by None refused answers = refused
 
-module _ (account : ℕ) (m n : Market) (h : Holding) (sound : IsSound m) (sound_next : IsSound n) (held : IsHeld account m h) (open_now : h.is_open ≡ true) where
+module _ (account : ℕ) (m n : Market) (h : Holding) (consistent : IsConsistent m) (consistent_next : IsConsistent n) (held : IsHeld account m h) (open_now : h.is_open ≡ true) where
   -- a holding after the step that is open is that of an account
   there_in : (g : Holding) → IsHeld account n g → g.is_open ≡ true → IsAccount n.balances account
   there_in g is open_then = is_account n account (sym is.opened ∙ open_then)
@@ -92,17 +92,17 @@ module _ (account : ℕ) (m n : Market) (h : Holding) (sound : IsSound m) (sound
   money_fits : (g : Holding) → IsHeld account n g → g.is_open ≡ true → IsMoneyBalance g.money
   money_fits g is open_then =
       let there = there_in g is open_then in
-      subst IsMoneyBalance (sym (is.money there.0)) (money_of_each n sound_next account there)
+      subst IsMoneyBalance (sym (is.money there.0)) (money_of_each n consistent_next account there)
 
   units_fit : (g : Holding) (asset : ℕ) → IsHeld account n g → g.is_open ≡ true → asset < length g.tickers → IsUnitBalance (g.units asset)
   units_fit g asset is open_then inside =
       let there = there_in g is open_then in
-      let is_asset : IsAsset n.balances asset = omega (arith, inside, ap length is.tickers, sound_next.one_each.tickers) in
-      subst IsUnitBalance (sym (is.units there.0 asset is_asset)) (units_of_each n sound_next asset is_asset account there)
+      let is_asset : IsAsset n.balances asset = omega (arith, inside, ap length is.tickers, consistent_next.one_each.tickers) in
+      subst IsUnitBalance (sym (is.units there.0 asset is_asset)) (units_of_each n consistent_next asset is_asset account there)
 
-  -- an asset of the market is one that is held
+  -- an asset of the market is one of the statement
   asset_held : (asset : ℕ) → IsAsset m.balances asset → asset < length h.tickers
-  asset_held asset is = omega (arith, is, ap length held.tickers, sound.one_each.tickers)
+  asset_held asset is = omega (arith, is, ap length held.tickers, consistent.one_each.tickers)
 
   one_changed : (asset : ℕ) (amount : ℤ) → units_changed h.units asset amount asset ≡ h.units asset +ℤ amount
   one_changed asset amount = ap (λ b. if b then h.units asset +ℤ amount else h.units asset) (eq-eqb asset asset refl)
@@ -131,12 +131,12 @@ module _ (account : ℕ) (m n : Market) (h : Holding) (sound : IsSound m) (sound
   above_all number is_next =
       subst (All (λ (o : Order). o.number < number)) (sym held.orders)
       (All-filter (λ (o : Order). o.account == account) (λ (o : Order). o.number < number) m.orders
-      (λ k d inside. let live = sound.live k d inside in omega (arith, live.numbered.1, is_next)))
+      (λ k d inside. let live = consistent.live k d inside in omega (arith, live.numbered.1, is_next)))
 
   few_orders : length m.orders < most_orders → length h.orders < most_orders
   few_orders few = omega (arith, few, few_pass (λ (o : Order). o.account == account) m.orders, ap length held.orders)
 
-  may_order : (c : Command) (number : ℕ) → Names account c → FirstRefusal m c None → Accepts IsRightOutcome m c (Plain (reply.Order number)) n → MayOrder account h number c
+  may_order : (c : Command) (number : ℕ) → Names account c → FirstRefusal m c None → Accepts IsAdmissibleOutcome m c (Plain (reply.Order number)) n → MayOrder account h number c
   may_order (Place last r) number names none accepts =
       let one = past_unless none in
       let two = past_unless one.1 in
@@ -161,28 +161,28 @@ module _ (account : ℕ) (m n : Market) (h : Holding) (sound : IsSound m) (sound
   is_open_there = sym held.opened ∙ open_now
 
   -- what it has after its own command
-  own_after : (c : Command) (answer : Reply) → Names account c → Serves IsRightOutcome m c (Plain answer) n → IsHeld account n (after h (Asks c answer))
+  own_after : (c : Command) (answer : Reply) → Names account c → Serves IsAdmissibleOutcome m c (Plain answer) n → IsHeld account n (after h (Asks c answer))
   own_after c answer names serves =
       subst (λ l. IsHeld account n (after_all h l)) (seen_named account account (is_there m account) c answer names ∙ ap (λ b. event_if b (Asks c answer)) both)
-      (told account m h sound held (Ok c) (Plain answer) n serves)
+      (told account m h consistent held (Ok c) (Plain answer) n serves)
     where
       both : (is_there m account && (account == account)) ≡ true
       both = ap (λ b. b && (account == account)) is_open_there ∙ eq-eqb account account refl
 
-  pub may_make : (c : Command) (answer : Reply) → Names account c → Serves IsRightOutcome m c (Plain answer) n → MayMake account h c answer
+  pub may_make : (c : Command) (answer : Reply) → Names account c → Serves IsAdmissibleOutcome m c (Plain answer) n → MayMake account h c answer
   may_make c reply.Done names serves = may_do c names (done_accepted m c n serves) (own_after c reply.Done names serves)
   may_make c (reply.Order number) names serves = let both = order_accepted m c number n serves in may_order c number names both.0 both.1
   may_make c (reply.Asset asset) names serves = tt
   may_make c (reply.Account number) names serves = tt
   may_make c (reply.Refused refusal) names serves = tt
 
-  own_part : (c : Clearing) → IsRightClearing m.orders (start_prices m) c → HasOwn h.orders c
+  own_part : (c : Clearing) → IsAdmissibleClearing m.orders (start_prices m) c → HasOwn h.orders c
   own_part c right = record {
-    few = omega (arith, sound.few_orders, few_pass (λ (o : Order). o.account == account) m.orders, ap length held.orders);
-    ascending = fills_ascend m.orders c.fills right.numbers sound.ascending;
+    few = omega (arith, consistent.few_orders, few_pass (λ (o : Order). o.account == account) m.orders, ap length held.orders);
+    ascending = fills_ascend m.orders c.fills right.numbers consistent.ascending;
     listed = own (λ (o : Order). IsListed c.fills o.number) (all_listed m.orders c.fills right.numbers);
     small = right.small;
-    priced = own (λ (o : Order). IsPricedBy o.row c.prices) (λ k d inside j e within. let there = (sound.live k d inside).assets j e within in omega (arith, there, prices));
+    priced = own (λ (o : Order). IsPricedBy o.row c.prices) (λ k d inside j e within. let there = (consistent.live k d inside).assets j e within in omega (arith, there, prices));
     within = subst (All (λ (t : Trade). t.traded ≤ (terms_of t.order).room)) own_trades_are
         (All-filter (λ t. trader t == account) (λ (t : Trade). t.traded ≤ (terms_of t.order).room) (trades_of m.orders c.fills)
         (λ k d inside.
@@ -194,43 +194,43 @@ module _ (account : ℕ) (m n : Market) (h : Holding) (sound : IsSound m) (sound
       own P all = subst (All P) (sym held.orders) (All-filter (λ (o : Order). o.account == account) P m.orders all)
 
       prices : length c.prices ≡ asset_count m.balances
-      prices = right.one_price_each ∙ length-map m.last_prices _ ∙ sound.one_each.prices
+      prices = right.one_price_each ∙ length-map m.last_prices _ ∙ consistent.one_each.prices
 
       live : All (λ (t : Trade). IsLiveOrder m t.order) (trades_of m.orders c.fills)
-      live = All-trades (IsLiveOrder m) m.orders (map (λ (f : Fill). f.rate) c.fills) sound.live
+      live = All-trades (IsLiveOrder m) m.orders (map (λ (f : Fill). f.rate) c.fills) consistent.live
 
       own_trades_are : own_trades account (trades_of m.orders c.fills) ≡ trades_for c.fills h.orders
       own_trades_are =
           sym (own_again account m.orders (map (λ (f : Fill). f.rate) c.fills))
           ∙ ap (λ l. trades_of l (own_fills account m c)) (sym held.orders)
-          ∙ ap (trades_of h.orders) (own_fills_are account m h c sound held right)
+          ∙ ap (trades_of h.orders) (own_fills_are account m h c consistent held right)
           ∙ trades_found c.fills h.orders
 
-  pub may_clear : (c : Command) (batch : ℕ) (k : Clearing) → Serves IsRightOutcome m c (Batch batch (Cleared k)) n → MayClear h k
+  pub may_clear : (c : Command) (batch : ℕ) (k : Clearing) → Serves IsAdmissibleOutcome m c (Batch batch (Cleared k)) n → MayClear h k
   may_clear c batch k serves = record {
     own = own_part k right;
-    assets = ap length held.tickers ∙ sound.one_each.tickers ∙ sym prices;
+    assets = ap length held.tickers ∙ consistent.one_each.tickers ∙ sym prices;
     money = subst (λ ts. IsMoneyBalance (h.money -ℤ int_sum_by (paid k.prices) ts)) (trades_found k.fills h.orders) (money_fits g is open_now);
     units = λ asset inside. subst (λ ts. IsUnitBalance (h.units asset +ℤ int_sum_by (received asset) ts)) (trades_found k.fills h.orders) (units_fit g asset is open_now inside);
   }
     where
-      right : IsRightClearing m.orders (start_prices m) k
-      right = (batch_of IsRightOutcome m c batch (Cleared k) n serves).ruled
+      right : IsAdmissibleClearing m.orders (start_prices m) k
+      right = (batch_of IsAdmissibleOutcome m c batch (Cleared k) n serves).ruled
 
       prices : length k.prices ≡ asset_count m.balances
-      prices = right.one_price_each ∙ length-map m.last_prices _ ∙ sound.one_each.prices
+      prices = right.one_price_each ∙ length-map m.last_prices _ ∙ consistent.one_each.prices
 
       g : Holding
       g = after h (Clears batch k.prices (fills_for k.fills h.orders))
 
       is : IsHeld account n g
       is = subst (λ l. IsHeld account n (after_all h l))
-          (ap (λ fills. event_if (is_there m account) (Clears batch k.prices fills)) (own_fills_are account m h k sound held right)
+          (ap (λ fills. event_if (is_there m account) (Clears batch k.prices fills)) (own_fills_are account m h k consistent held right)
           ∙ ap (λ b. event_if b (Clears batch k.prices (fills_for k.fills h.orders))) is_open_there)
-          (told account m h sound held (Ok c) (Batch batch (Cleared k)) n serves)
+          (told account m h consistent held (Ok c) (Batch batch (Cleared k)) n serves)
 
 -- a new ticker can be added
-pub may_add : (account : ℕ) (m n : Market) (h : Holding) (ticker : List ℕ) (answer : Reply) → IsHeld account m h → Serves IsRightOutcome m (AddAsset ticker) (Plain answer) n → MayAdd h ticker answer
+pub may_add : (account : ℕ) (m n : Market) (h : Holding) (ticker : List ℕ) (answer : Reply) → IsHeld account m h → Serves IsAdmissibleOutcome m (AddAsset ticker) (Plain answer) n → MayAdd h ticker answer
 may_add account m n h ticker (reply.Asset asset) held serves =
     let none = asset_accepted m (AddAsset ticker) asset n serves in
     let one = past_unless none in
@@ -242,17 +242,17 @@ may_add account m n h ticker (reply.Account number) held serves = tt
 may_add account m n h ticker (reply.Order number) held serves = tt
 may_add account m n h ticker (reply.Refused refusal) held serves = tt
 
--- what is held may be done with by a command of the account's own
+-- the change of the account's own command may be made
 pub may_make_own : (s : Statement) (c : Command) (answer : Reply) (named : ℕ) → Names named c → (s.is_open && (named == s.account)) ≡ true → IsServed s c (Plain answer)
     → MayMake s.account (holding_of s) c answer
 may_make_own s c answer named names own served =
     let both = and_parts s.is_open (named == s.account) own in
-    may_make s.account served.market served.next (holding_of s) served.sound served.sound_next served.agrees both.0 c answer
+    may_make s.account served.market served.next (holding_of s) served.consistent served.consistent_next served.agrees both.0 c answer
     (subst (λ k. Names k c) (eqb-true named s.account both.1) names) served.served
 
 pub may_clear_own : (s : Statement) (c : Command) (batch : ℕ) (k : Clearing) → IsServed s c (Batch batch (Cleared k)) → s.is_open ≡ true → MayClear (holding_of s) k
 may_clear_own s c batch k served open_now =
-    may_clear s.account served.market served.next (holding_of s) served.sound served.sound_next served.agrees open_now c batch k served.served
+    may_clear s.account served.market served.next (holding_of s) served.consistent served.consistent_next served.agrees open_now c batch k served.served
 
 pub may_add_own : (s : Statement) (ticker : List ℕ) (answer : Reply) → IsServed s (AddAsset ticker) (Plain answer) → MayAdd (holding_of s) ticker answer
 may_add_own s ticker answer served = may_add s.account served.market served.next (holding_of s) ticker answer served.agrees served.served

@@ -30,7 +30,7 @@ rates_found (f ∷ fills) ascending (suc k) d inside =
 heads : (a b : ℕ) (x y : List ℕ) → a ∷ x ≡ b ∷ y → (a ≡ b) × (x ≡ y)
 heads a b x y e = (cc, cc)
 
--- own trades, as they are published, by the rates that are found
+-- own trades, as they are published, have the rates that are found
 pub own_found : (account : ℕ) (all : List Fill) (orders : List Order) (fills : List Fill) → map (λ (f : Fill). f.order) fills ≡ map (λ (o : Order). o.number) orders
     → All (λ (f : Fill). rate_in all f.order ≡ f.rate) fills → map fill_of (own_trades account (trades_of orders fills)) ≡ fills_for all (own_orders account orders)
 own_found account all [] fills same found = refl
@@ -49,7 +49,7 @@ own_found account all (o ∷ orders) (f ∷ fills) same found =
     by rest (inl one) = rw one (ap (λ r. record { order = o.number; rate = r } ∷ map fill_of (own_trades account (trades_of orders fills))) (sym here) ∙ ap (λ l. record { order = o.number; rate = rate_in all o.number } ∷ l) rest)
     by rest (inr one) = rw one rest
 
--- what orders trade by the fills that are found
+-- the trades of orders by the fills that are found
 pub trades_found : (all : List Fill) (orders : List Order) → trades_of orders (fills_for all orders) ≡ trades_for all orders
 trades_found all orders = ap (trades orders) (map-map (λ (f : Fill). f.rate) (λ (o : Order). record { order = o.number; rate = rate_in all o.number }) orders)
 
@@ -69,7 +69,7 @@ as_many orders fills is = sym (length-map fills (λ (f : Fill). f.order)) ∙ ap
 no_order : Order
 no_order = record { number = 0; account = 0; low = pos 0; high = pos 0; rate = 0; cap = 0; filled = 0; row = []; last = 0 }
 
--- the numbers ascend, as those of the orders do
+-- the numbers of the fills ascend, as those of the orders do
 pub fills_ascend : (orders : List Order) (fills : List Fill) → map (λ (f : Fill). f.order) fills ≡ map (λ (o : Order). o.number) orders
     → AllPairs (λ (o : Order) (later : Order). o.number < later.number) orders → AreAscending fills
 fills_ascend orders fills same ascending i j d less inside =

@@ -1,4 +1,4 @@
--- What a batch that cleared makes of a statement, change by change.
+-- What a batch that cleared changes in a statement, change by change.
 use Rattle.std.proofs.Common.{◌≡◌, ℕ, ◌<◌, ◌+◌, true, false, ℤ, pos, ◌+ℤ◌, ◌-ℤ◌, List, [], ◌∷◌, ◌++◌, length, refl, sym, ap, subst, ◌∙◌, arith}
 use Rattle.std.specs.Prelude.{codes, decimal}
 use Rattle.std.specs.List.{flat_map}
@@ -17,15 +17,15 @@ use Rattle.account_statement.specs.Telling.{Statement, holding_of}
 use Rattle.account_statement.specs.Private.{AreAlike, rates_for, fills_for, trades_for, MayClear, Tells}
 use Rattle.account_statement.proofs.OwnRates.{trades_found}
 
--- the residual of an asset in the list of all
+-- the amount of an asset in the list of what was brought
 pub brought_at : (n : ℕ) (ts : List Trade) (brought : List ℤ) (asset : ℕ) → brought ≡ residuals_of n ts → asset < n → residual_in brought asset ≡ int_sum_by (received asset) ts
 brought_at n ts brought asset is inside = ap (λ l. residual_in l asset) is ∙ get_or-map-range_with_len (residual ts) 0 n asset asset (pos 0) inside (omega arith)
 
--- there is one for each asset
+-- there is one amount for each asset
 pub brought_count : (n : ℕ) (ts : List Trade) (brought : List ℤ) → brought ≡ residuals_of n ts → length brought ≡ n
 brought_count n ts brought is = ap length is ∙ length-map-range_with_len (residual ts) 0 n
 
--- and what is brought of it fits its balance
+-- what is brought of an asset fits its balance
 pub brought_fits : (c : Clearing) (s one : Statement) (cost : ℤ) (brought : List ℤ) → MayClear (holding_of s) c → brought ≡ residuals_of (length c.prices) (trades_for c.fills s.orders)
     → one ≡ record s { money = s.money -ℤ cost } → (asset : ℕ) → asset < length one.tickers → IsUnitBalance (residual_in one.units asset +ℤ residual_in brought asset)
 brought_fits c s one cost brought may is money asset inside =
@@ -76,7 +76,7 @@ cleared_text s batch c old one two first second =
     orders : List ℕ
     orders = flat_map (cost_line c.prices) (trades_of s.orders (fills_for c.fills s.orders))
 
--- a batch that cleared was told
+-- the statement has taken a batch that cleared
 pub told_cleared : (s new : Statement) (batch : ℕ) (c : Clearing) (old one two : List ℕ) → s.is_open ≡ true → new.account ≡ s.account
     → AreAlike (holding_of new) (after (holding_of s) (Clears batch c.prices (fills_for c.fills s.orders)))
     → one ≡ old ++ cleared_line batch → two ≡ one ++ flat_map (cost_line c.prices) (trades_for c.fills s.orders)
@@ -85,7 +85,7 @@ told_cleared s new batch c old one two open_now account alike first second =
     subst (λ b. Tells (event_if b (Clears batch c.prices (fills_for c.fills s.orders))) s new old two) (sym open_now)
     (record { account = account; after = alike; text = cleared_text s batch c old one two first second })
 
--- nothing is told of a batch where the account isn't there
+-- nothing is written of a batch if the account isn't there
 pub told_nothing : (s : Statement) (event : Event) (text : List ℕ) → s.is_open ≡ false → Tells (event_if s.is_open event) s s text text
 told_nothing s event text closed =
     subst (λ b. Tells (event_if b event) s s text text) (sym closed)

@@ -1,10 +1,10 @@
--- What the fields of a statement stand for.
+-- What the fields of a statement represent.
 use Rattle.std.specs.Prelude.{◌≡◌, length, vec_len, All}
 use Rattle.flow_orders.specs.Orders.{Order}
 use Rattle.account_statement.specs.Telling.{Statement}
 use Rattle.account_statement.specs.declared.statement.Statement.TheInside.{Inside}
 
--- what the fields say that the account has
+-- the statement that the fields represent
 abbrev pub statement_in : Inside → Statement
 statement_in s = record {
   account = s.account;
@@ -15,7 +15,7 @@ statement_in s = record {
   orders = s.book.orders;
 }
 
--- a balance for each ticker, and own orders alone
+-- the invariant of the fields: a balance for each ticker, and orders of the account alone
 pub record IsKept (s : Inside) : Type 0 where
   pub one_each : vec_len s.units ≡ length s.tickers
   pub own : All (λ (o : Order). o.account ≡ s.account) s.book.orders

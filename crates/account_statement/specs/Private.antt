@@ -1,7 +1,7 @@
--- Words that only private functions use.
+-- Definitions that only private functions use.
 use Rattle.std.specs.Prelude.{◌≡◌, ℕ, ◌<◌, ◌≤◌, ◌==◌, if◌then◌else◌, ℤ, pos, neg_ℤ, ◌+ℤ◌, ◌-ℤ◌, List, [], ◌∷◌, ◌++◌, map, length, All, AllPairs, slice_index_or, ⊤}
 use Rattle.list_sums.specs.Sums.{int_sum_by}
-use Rattle.weight_rows.specs.Rows.{IsLawfulRow, IsPrice, IsPricedBy}
+use Rattle.weight_rows.specs.Rows.{IsWeightVector, IsPrice, IsPricedBy}
 use Rattle.demand_curve.specs.Demand.{most_rate}
 use Rattle.ticker_table.specs.Adding.{IsAddable}
 use Rattle.wire_records.specs.Commands.{Request, Command, AddAsset, OpenAccount, DepositMoney, DepositAsset, WithdrawMoney, WithdrawAsset, Place, CancelOrder, RunBatch, SetMoneyCredit, SetUnitCredit, Answer, Plain, Batch}
@@ -10,23 +10,29 @@ use Rattle.wire_records.specs.declared.reply.Reply.TheVariants as reply
 use Rattle.flow_accounts.specs.Balances.{grains}
 use Rattle.flow_accounts.specs.Lawful.{IsMoneyBalance, IsUnitBalance}
 use Rattle.flow_orders.specs.Orders.{Order, AreLimits, IsFrom1To, most_cap, most_orders, terms_of}
-use Rattle.flow_orders.specs.Outcomes.{Fill, Clearing, Outcome, Cleared, Skipped, IsRightOutcome}
+use Rattle.flow_orders.specs.Outcomes.{Fill, Clearing, Outcome, Cleared, Skipped, IsAdmissibleOutcome}
 use Rattle.flow_orders.specs.Trades.{Trade, trades, paid, received}
 use Rattle.order_book.specs.Book.{HasOrder}
-use Rattle.market_rules.specs.Market.{Market, IsSound}
+use Rattle.market_rules.specs.Market.{Market, IsConsistent}
 use Rattle.market_rules.specs.Step.{Serves}
 use Rattle.statement_rules.specs.Views.{Event, Clears, Skips, event_if, seen_plain}
 use Rattle.statement_rules.specs.Holdings.{Holding, after_all}
 use Rattle.statement_rules.specs.Statements.{lines_from}
 use Rattle.account_statement.specs.Telling.{Statement, holding_of, Agrees}
 
--- the same holding, asset by asset as far as there are tickers
+-- two holdings are alike: equal, and in the units of each asset equal as far as there are tickers
 pub record AreAlike (one other : Holding) : Type 0 where
   pub tickers : one.tickers ≡ other.tickers
   pub is_open : one.is_open ≡ other.is_open
   pub money : one.money ≡ other.money
   pub units : (asset : ℕ) → asset < length other.tickers → one.units asset ≡ other.units asset
   pub orders : one.orders ≡ other.orders
+
+-- ---- what a statement copies from a market
+
+-- at least one of the orders belongs to this account
+abbrev pub HasOwnOrder : ℕ → List Order → Type 0
+HasOwnOrder account orders = (place : ℕ) × (place < length orders) × ((default : Order) → (slice_index_or orders place default).account ≡ account)
 
 -- ---- which account a command names
 
@@ -44,7 +50,7 @@ Names named (RunBatch budget) = ⊥
 Names named (SetMoneyCredit account ticks) = named ≡ account
 Names named (SetUnitCredit account asset units) = named ≡ account
 
--- a command that names no account
+-- the command names no account
 abbrev pub NamesNone : Command → Type 0
 NamesNone (AddAsset ticker) = ⊤
 NamesNone OpenAccount = ⊤
@@ -60,24 +66,24 @@ NamesNone (SetUnitCredit account asset units) = ⊥
 
 -- ---- the rates of own orders
 
--- the rate that is listed under a number
+-- the rate that is listed under a number, or 0 if none is
 unfoldable pub rate_in : List Fill → ℕ → ℕ
 rate_in [] number = 0
 rate_in (f ∷ fills) number = if f.order == number then f.rate else rate_in fills number
 
--- the rates of these orders
+-- the rates of these orders, by their places
 abbrev pub rates_for : List Fill → List Order → List ℕ
 rates_for fills orders = map (λ (o : Order). rate_in fills o.number) orders
 
--- the same, as they are published
+-- the fills of these orders, as they are published: each order's number with its rate
 abbrev pub fills_for : List Fill → List Order → List Fill
 fills_for fills orders = map (λ (o : Order). record { order = o.number; rate = rate_in fills o.number }) orders
 
--- what the orders trade by them
+-- the trades of these orders at their rates
 abbrev pub trades_for : List Fill → List Order → List Trade
 trades_for fills orders = trades orders (rates_for fills orders)
 
--- what stands where there is no fill
+-- the value at a place at which there is no fill
 abbrev pub no_fill : Fill
 no_fill = record { order = 0; rate = 0 }
 
@@ -85,50 +91,50 @@ no_fill = record { order = 0; rate = 0 }
 abbrev pub fill_at : List Fill → ℕ → Fill
 fill_at fills place = slice_index_or fills place no_fill
 
--- ascending numbers
+-- the fills are by ascending numbers of orders
 abbrev pub AreAscending : List Fill → Type 0
 AreAscending fills = AllPairs (λ (f : Fill) (later : Fill). f.order < later.order) fills
 
--- the number is listed
+-- there is a fill under this number
 abbrev pub IsListed : List Fill → ℕ → Type 0
 IsListed fills number = (place : ℕ) × (place < length fills) × ((fill_at fills place).order ≡ number)
 
--- ---- what is seen, by what is held
+-- ---- what is seen, by what the statement holds
 
--- what the account sees of an answered command
+-- what the account sees of an answered command, by what the statement holds
 abbrev pub seen_by : Statement → Command → Answer Outcome → List Event
 seen_by s command (Plain answer) = seen_plain s.account s.is_open command answer
 seen_by s command (Batch batch (Cleared c)) = event_if s.is_open (Clears batch c.prices (fills_for c.fills s.orders))
 seen_by s command (Batch batch (Skipped k)) = event_if s.is_open (Skips batch)
 
--- some market with which the statement agrees answers a command so
+-- some consistent market with which the statement agrees answers the command so
 pub record IsServed (s : Statement) (command : Command) (answer : Answer Outcome) : Type 0 where
   pub market : Market
   pub next : Market
-  pub sound : IsSound market
-  pub sound_next : IsSound next
+  pub consistent : IsConsistent market
+  pub consistent_next : IsConsistent next
   pub agrees : Agrees market s
-  pub served : Serves IsRightOutcome market command answer next
+  pub served : Serves IsAdmissibleOutcome market command answer next
 
--- Events were told: what is held is what it is after them, and their lines stand behind what stood there before.
+-- The statement has taken these events: it holds what follows from them, and their lines come after the text before.
 pub record Tells (events : List Event) (old new : Statement) (before now : List ℕ) : Type 0 where
   pub account : new.account ≡ old.account
   pub after : AreAlike (holding_of new) (after_all (holding_of old) events)
   pub text : now ≡ before ++ lines_from (holding_of old) events
 
--- ---- what may be done with what is held
+-- ---- what may be done to what a statement holds
 
--- what a new order is like: within the limits, and behind the others
+-- an order that may be added: the account's own, within the limits, and with a number above those of the others
 pub record MayPlace (account : ℕ) (h : Holding) (number : ℕ) (r : Request) : Type 0 where
   pub own : r.account ≡ account
   pub limits : AreLimits r.low r.high
   pub rate : IsFrom1To most_rate r.rate
   pub cap : IsFrom1To most_cap r.cap
-  pub row : IsLawfulRow r.row
+  pub row : IsWeightVector r.row
   pub few : length h.orders < most_orders
   pub above : All (λ (o : Order). o.number < number) h.orders
 
--- the amounts of a command that is done fit, its asset is there, and the order that it cancels
+-- a command that may be done: its amount fits, its asset is there, and so is the order that it cancels
 abbrev pub MayDo : Holding → Command → Type 0
 MayDo h (DepositMoney account ticks) = IsMoneyBalance (h.money +ℤ grains ticks)
 MayDo h (DepositAsset account asset units) = (asset < length h.tickers) × IsUnitBalance (h.units asset +ℤ pos units)
@@ -142,7 +148,7 @@ MayDo h (RunBatch budget) = ⊤
 MayDo h (SetMoneyCredit account ticks) = ⊤
 MayDo h (SetUnitCredit account asset units) = ⊤
 
--- the order of a command is like a new one
+-- the order that a command places may be added
 abbrev pub MayOrder : ℕ → Holding → ℕ → Command → Type 0
 MayOrder account h number (Place last r) = MayPlace account h number r
 MayOrder account h number (AddAsset ticker) = ⊤
@@ -156,7 +162,7 @@ MayOrder account h number (RunBatch budget) = ⊤
 MayOrder account h number (SetMoneyCredit named ticks) = ⊤
 MayOrder account h number (SetUnitCredit named asset units) = ⊤
 
--- what an answer does to what is held may be done
+-- the change of an answered command may be made
 abbrev pub MayMake : ℕ → Holding → Command → Reply → Type 0
 MayMake account h command reply.Done = MayDo h command
 MayMake account h command (reply.Order number) = MayOrder account h number command
@@ -164,7 +170,7 @@ MayMake account h command (reply.Asset asset) = ⊤
 MayMake account h command (reply.Account number) = ⊤
 MayMake account h command (reply.Refused refusal) = ⊤
 
--- the ticker of a new asset isn't there yet
+-- the ticker of an asset that is added is valid and isn't there yet
 abbrev pub MayAdd : Holding → List ℕ → Reply → Type 0
 MayAdd h ticker (reply.Asset asset) = IsAddable h.tickers ticker
 MayAdd h ticker reply.Done = ⊤
@@ -172,7 +178,7 @@ MayAdd h ticker (reply.Account number) = ⊤
 MayAdd h ticker (reply.Order number) = ⊤
 MayAdd h ticker (reply.Refused refusal) = ⊤
 
--- a clearing has a rate of each own order, which is within its room, and a price of each asset
+-- a clearing has a rate of each own order, which is within its batch maximum, and a price of each asset
 pub record HasOwn (orders : List Order) (c : Clearing) : Type 0 where
   pub few : length orders ≤ most_orders
   pub ascending : AreAscending c.fills
@@ -181,7 +187,7 @@ pub record HasOwn (orders : List Order) (c : Clearing) : Type 0 where
   pub priced : All (λ (o : Order). IsPricedBy o.row c.prices) orders
   pub within : All (λ (t : Trade). t.traded ≤ (terms_of t.order).room) (trades_for c.fills orders)
 
--- and what they come to fits the balances
+-- a clearing has the account's own rates and prices, and what they pay and bring fits the balances
 pub record MayClear (h : Holding) (c : Clearing) : Type 0 where
   pub own : HasOwn h.orders c
   pub assets : length h.tickers ≡ length c.prices

@@ -1,4 +1,4 @@
-//! What a batch that cleared makes of an account's own orders.
+//! The part of an account's own orders in a batch that cleared.
 ghost use Rattle.std.specs.Prelude.{◌≡◌, ◌^◌, ◌<◌, ◌≤◌, ◌++◌, ◌+ℤ◌, ℕ, length, unsigned_abs, All, IfOk, OnOk};
 ghost use Rattle.std.specs.List.{flat_map};
 ghost use Rattle.list_sums.specs.Sums.{int_sum_by};
@@ -20,8 +20,8 @@ use statement_lines::put_cost;
 use std::alloc::Global;
 use wire_records::Memory;
 
-// What own orders come to in a batch: their rates, by their places, what these bring of each asset, in units, and what they cost
-// together, in grains.
+// The part of an account's own orders in a batch: their rates, by their places, what these bring of each asset, in
+// units, and what they cost together, in grains.
 #[derive(Drop)]
 pub(crate) struct OwnPart {
     pub(crate) rates: Vec<u32>,
@@ -30,7 +30,7 @@ pub(crate) struct OwnPart {
 }
 
 impl OwnPart {
-    // What the rates cost together, in grains.
+    // Returns what the rates cost together, in grains.
     pub(crate) fn cost(&self) -> i128
         ensures { result ≡ self.now.cost }
     {
@@ -38,7 +38,7 @@ impl OwnPart {
     }
 }
 
-// The price of an asset that has one.
+// Returns the price of an asset that has one.
 fn price_at(view: &ClearedView<'_>, asset: u16) -> i64
     requires { asset < length view.now.clearing.prices }
     ensures { result ≡ residual_in view.now.clearing.prices asset }
@@ -46,7 +46,7 @@ fn price_at(view: &ClearedView<'_>, asset: u16) -> i64
     view.price(asset).unwrap()
 }
 
-// The prices, in memory of their own.
+// Returns a copy of the prices.
 fn prices_of(alloc: Global, view: &ClearedView<'_>) -> Result<Vec<i64>, Memory>
     ensures { IfOk result (λ prices. prices.items ≡ view.now.clearing.prices) }
 {
@@ -58,7 +58,7 @@ fn prices_of(alloc: Global, view: &ClearedView<'_>) -> Result<Vec<i64>, Memory>
     Ok(prices)
 }
 
-// What an order pays at a rate, in grains.
+// Returns what an order pays at a rate, in grains.
 fn cost_of(order: &Order, rate: u32, prices: &[i64]) -> i128
     requires range { All IsPrice prices.now }
     requires priced { IsPricedBy order.now.row prices.now }
@@ -68,7 +68,7 @@ fn cost_of(order: &Order, rate: u32, prices: &[i64]) -> i128
     i128::from(rate) * order.row().price(prices)
 }
 
-// The line of each order with its rate. Answers what all pay together.
+// Appends the line of each order with its rate. Returns what all orders pay together, in grains.
 fn put_costs(
     orders: &[Order],
     rates: &[u32],
@@ -93,7 +93,7 @@ fn put_costs(
     Ok(sum)
 }
 
-// Makes zeros what the orders receive of each asset at these rates.
+// Turns `brought`, all zero on entry, into what the orders receive of each asset at these rates, in units.
 fn bring(orders: &[Order], rates: &[u32], brought: &mut [i64])
     requires few { length orders.now ≤ most_orders }
     requires one_each { length rates.now ≡ length orders.now }
@@ -107,7 +107,7 @@ fn bring(orders: &[Order], rates: &[u32], brought: &mut [i64])
     }
 }
 
-// What own orders come to in a batch, with the line of each.
+// Returns the part of an account's own orders in a batch, and appends the line of each.
 pub(crate) fn own_part(
     alloc: Global,
     view: &ClearedView<'_>,
@@ -136,7 +136,7 @@ pub(crate) fn own_part(
     })
 }
 
-// Adds to balances of units what was brought of each asset.
+// Adds to balances of units what the batch brought of each asset.
 pub(crate) fn add_brought(units: &mut [i64], brought: &[i64])
     requires places { length brought.now ≡ length units.old }
     requires fits { (asset : ℕ) → asset < length units.old → IsUnitBalance (residual_in units.old asset +ℤ residual_in brought.now asset) }

@@ -1,4 +1,4 @@
-//! What pairs make of what a statement holds.
+//! What entries change in what a statement holds.
 ghost use Rattle.std.specs.Prelude.{◌≡◌, ℕ, ◌<◌, ◌≤◌, ◌++◌, ◌+ℤ◌, ◌-ℤ◌, [], ◌∷◌, length, All, OnOk, OnErr};
 ghost use Rattle.list_sums.specs.Sums.{int_sum_by};
 ghost use Rattle.ticker_table.specs.Adding.{IsAddable};
@@ -21,7 +21,7 @@ use journal_records::ClearedView;
 use weight_rows::WeightRow;
 use wire_records::{CommandView, Memory, PlaceView, Reply};
 
-// The bytes of a ticker.
+// Returns the 8 bytes of a ticker.
 fn ticker_of(bytes: &[u8]) -> [u8; 8]
     requires { length bytes.now ≡ 8 }
     ensures { result ≡ bytes.now }
@@ -31,7 +31,7 @@ fn ticker_of(bytes: &[u8]) -> [u8; 8]
     ticker
 }
 
-// A balance of units, with an amount more.
+// Returns a balance of units plus an amount.
 fn sum_of(units: i64, amount: i128) -> i64
     requires { IsUnitBalance (units +ℤ amount) }
     ensures { result ≡ units +ℤ amount }
@@ -40,7 +40,7 @@ fn sum_of(units: i64, amount: i128) -> i64
 }
 
 impl Statement {
-    // What an answered command of the account's own makes of what is held.
+    // Makes the change of an answered command of the account's own.
     pub(crate) fn make(&mut self, command: &CommandView<'_>, answer: Reply) -> Result<(), Memory>
         requires { MayMake self.old.account (holding_of self.old) (command_of command.now) answer }
         ensures account { self.new.account ≡ self.old.account }
@@ -59,7 +59,7 @@ impl Statement {
         }
     }
 
-    // Of one that was done.
+    // Makes the change of a command that was done.
     fn make_done(&mut self, command: &CommandView<'_>)
         requires { MayDo (holding_of self.old) (command_of command.now) }
         ensures account { self.new.account ≡ self.old.account }
@@ -107,7 +107,7 @@ impl Statement {
         self.units[place] = units;
     }
 
-    // Of one that placed the order of a number.
+    // Makes the change of a command that placed the order of a number.
     fn make_order(&mut self, number: u64, command: &CommandView<'_>) -> Result<(), Memory>
         requires { MayOrder self.old.account (holding_of self.old) number (command_of command.now) }
         ensures account { self.new.account ≡ self.old.account }
@@ -168,7 +168,7 @@ impl Statement {
         }
     }
 
-    // What a batch that cleared makes of what is held.
+    // Makes the change of a batch that cleared.
     pub(crate) fn settle(&mut self, view: &ClearedView<'_>, part: &OwnPart)
         requires may { MayClear (holding_of self.old) view.now.clearing }
         requires rates { part.now.rates.items ≡ rates_for view.now.clearing.fills self.old.orders }
@@ -185,7 +185,7 @@ impl Statement {
         self.fill(part.rates.as_slice(), view.batch());
     }
 
-    // Takes an amount of money, in grains, which may be below 0.
+    // Subtracts an amount of money, in grains, which may be negative.
     fn take_money(&mut self, amount: i128)
         requires { IsMoneyBalance (self.old.money -ℤ amount) }
         ensures { self.new ≡ record (self.old) { money = self.old.money -ℤ amount } }
@@ -193,7 +193,7 @@ impl Statement {
         self.money -= amount;
     }
 
-    // Adds to the units what was brought of each asset.
+    // Adds to the units what the batch brought of each asset.
     fn receive(&mut self, brought: &[i64])
         requires places { length brought.now ≡ length self.old.tickers }
         requires fits { (asset : ℕ) → asset < length self.old.tickers → IsUnitBalance (residual_in self.old.units asset +ℤ residual_in brought.now asset) }

@@ -5,7 +5,7 @@ ghost use Rattle.account_statement.specs.Private.{Names, NamesNone};
 
 use wire_records::CommandView;
 
-// The account that a command names, if it names one.
+// Returns the account that a command names, if it names one.
 pub(crate) fn named(command: &CommandView<'_>) -> Option<u32>
     ensures some { IfSome result (λ account. Names account (command_of command.now)) }
     ensures none { IfNone result (NamesNone (command_of command.now)) }

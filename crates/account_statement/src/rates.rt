@@ -9,7 +9,7 @@ use journal_records::ClearedView;
 use std::alloc::Global;
 use wire_records::Memory;
 
-// The number of the order at a place that has a rate.
+// Returns the number of the order at a place that has a rate.
 fn number_at(view: &ClearedView<'_>, place: u32) -> u64
     requires { place < length view.now.clearing.fills }
     ensures { result ≡ (fill_at view.now.clearing.fills place).order }
@@ -17,7 +17,7 @@ fn number_at(view: &ClearedView<'_>, place: u32) -> u64
     view.order(place).unwrap()
 }
 
-// The rate at a place that has one.
+// Returns the rate at a place that has one.
 fn rate_at(view: &ClearedView<'_>, place: u32) -> u32
     requires { place < length view.now.clearing.fills }
     ensures { result ≡ (fill_at view.now.clearing.fills place).rate }
@@ -25,7 +25,7 @@ fn rate_at(view: &ClearedView<'_>, place: u32) -> u32
     view.rate(place).unwrap()
 }
 
-// The place of a number that is listed, found by halving.
+// Returns the place of a number that is listed, found by halving.
 fn place_of(view: &ClearedView<'_>, number: u64) -> u32
     requires ascending { AreAscending view.now.clearing.fills }
     requires listed { IsListed view.now.clearing.fills number }
@@ -45,7 +45,7 @@ fn place_of(view: &ClearedView<'_>, number: u64) -> u32
     low
 }
 
-// The rate that is listed under a number.
+// Returns the rate that is listed under a number.
 fn rate_of(view: &ClearedView<'_>, number: u64) -> u32
     requires ascending { AreAscending view.now.clearing.fills }
     requires listed { IsListed view.now.clearing.fills number }
@@ -54,7 +54,7 @@ fn rate_of(view: &ClearedView<'_>, number: u64) -> u32
     rate_at(view, place_of(view, number))
 }
 
-// The rates of these orders, by their places.
+// Returns the rates of these orders, by their places.
 pub(crate) fn rates_of(
     alloc: Global,
     view: &ClearedView<'_>,

@@ -1,12 +1,13 @@
 //! A statement, and its public calls.
-ghost use Rattle.std.specs.Prelude.{◌≡◌, ◌≤◌, ◌<◌, ◌++◌, length, true, OnOk, OnErr, vec_capacity};
+ghost use Rattle.std.specs.Prelude.{◌≡◌, ◌≤◌, ◌<◌, ◌++◌, length, true, IfOk, OnOk, OnErr, vec_capacity};
 ghost use Rattle.wire_records.specs.declared.version.Version.{Version};
 ghost use Rattle.market_rules.specs.Market.{Market as market_value, empty_market};
 ghost use Rattle.batch_audit.specs.Legal.{IsLegalPair};
 ghost use Rattle.statement_rules.specs.Holdings.{nothing};
 ghost use Rattle.statement_rules.specs.Statements.{money_reserved, units_reserved, end_lines, asset_line};
-ghost use Rattle.account_statement.specs.Telling.{holding_of, Agrees, IsTold};
+ghost use Rattle.account_statement.specs.Telling.{holding_of, Agrees, AllocatesCopy, IsTold};
 
+use crate::carried::{all_units, copied_tickers, has_account, money_in, own_book};
 use journal_records::PairView;
 use market_core::Market;
 use order_book::Book;
@@ -17,9 +18,9 @@ use std::marker::Model;
 use ticker_table::TickerTable;
 use wire_records::Memory;
 
-/// What an account has by the pairs that were told of a journal: its own money, units and live orders, the assets that there are, and
-/// whether it is there yet. Credits and the count of batches change no line, and aren't kept. Contracts see these and whose statement
-/// it is; it agrees with a market where what it holds is what the account has there.
+/// What an account has by the entries so far, after the empty market or the one that the statement was made from: its own money, units
+/// and live orders, the assets that there are, and whether the account is open. Credits and the count of batches change no line, and
+/// aren't kept. Contracts see these and whose statement it is; it agrees with a market if what it holds is what the account has there.
 #[derive(Drop)]
 pub struct Statement {
     pub(crate) alloc: Global,
@@ -46,7 +47,8 @@ impl Model for Statement {
 }
 
 impl Statement {
-    /// The statement of an account before the first pair of a journal. There needn't be an account of this number. Takes no memory.
+    /// Makes the statement of an account before the first entry of a journal. There needn't be an account of this
+    /// number. Takes no memory.
     pub fn new(alloc: Global, account: u32) -> Statement
         ensures account { result.account ≡ account }
         ensures nothing { (holding_of result) ≡ nothing }
@@ -63,20 +65,54 @@ impl Statement {
         }
     }
 
-    /// Whether the pair that opened the account was told: exactly where there is an account of this number in a market with which the
-    /// statement agrees. Constant cost.
+    /// Creates a statement of an account that begins in a market, and agrees with it. There needn't be an account of this number. Copies
+    /// what the account has there: the tickers, its money in grains, its units of each asset, and its live orders with their legs. Costs
+    /// two look-ups for each asset, one pass over all live orders, and a copy of each own one. The market is as before; if orders were
+    /// cancelled since the last call of [`Market::orders`], the gaps that they left in its book are closed.
+    ///
+    /// `Memory` comes only if the market has an asset, or the account is there.
+    pub fn from_market(
+        alloc: Global,
+        account: u32,
+        market: &mut Market,
+    ) -> Result<Statement, Memory>
+        ensures account { IfOk result (λ statement. statement.account ≡ account) }
+        ensures agrees { IfOk result (λ statement. Agrees market.old statement) }
+        ensures wanted { OnErr result (AllocatesCopy account market.old) }
+        ensures market { market.new ≡ market.old }
+    {
+        let tickers = copied_tickers(alloc, market.tickers())?;
+        let units = all_units(alloc, market.accounts(), account)?;
+        let is_open = has_account(market.accounts(), account);
+        let money = money_in(market.accounts(), account);
+        let book = own_book(alloc, market.orders(), account)?;
+        Ok(Statement {
+            alloc,
+            account,
+            is_open,
+            tickers,
+            money,
+            units,
+            book,
+        })
+    }
+
+    /// Returns whether the account is open: `true` exactly if there is an account of this number in a market with which the statement
+    /// agrees. Constant cost.
     pub fn is_open(&self) -> bool
         ensures { result ≡ self.now.is_open }
     {
         self.is_open
     }
 
-    /// Tells a pair of a journal: appends the lines of what the account sees of it. The statement agrees with the market before the pair,
-    /// and the pair is a step of this market, as [`Audit::explain`](batch_audit::Audit::explain) finds; afterwards the statement
-    /// agrees with the market that the step makes.
+    /// Takes the next entry: appends the lines of what the account sees of it. The statement agrees with
+    /// the market before the entry, and the entry is a step of this market, as
+    /// [`Audit::explain`](batch_audit::Audit::explain) finds; afterwards the statement agrees with the market that the
+    /// step makes.
     ///
-    /// Of a pair before the one that opened the account, of commands that name another account or none, and of records that spell no
-    /// command nothing is appended. `Memory` comes where there was none for the lines, or for what the statement keeps of the pair; then it and
+    /// Nothing is appended for an entry before the one that opened the account, for a command that names another account,
+    /// for one that names none, except the opening and a batch that was held, and for a record that encodes no command.
+    /// Returns `Memory` if there was no memory for the lines, or for what the statement keeps of the entry; then it and
     /// `out` are as before. Costs are those of the [crate](crate).
     pub fn pair(
         &mut self,
@@ -106,8 +142,9 @@ impl Statement {
         }
     }
 
-    /// Appends the last lines of the statement: the account's money, in grains, and its units of each asset, each with what its
-    /// live orders need. The account is there. After `Memory` `out` is as before. It costs two look-ups for each asset.
+    /// Appends the last lines of the statement: the account's money, in grains, and its units of each asset, each with
+    /// what its live orders need. The account is there. After `Memory` `out` is as before. It costs two look-ups for
+    /// each asset.
     pub fn finish(&self, out: &mut Vec<u8>) -> Result<(), Memory>
         requires open { self.now.is_open ≡ true }
         ensures told { OnOk result (out.new.items ≡ out.old.items ++ end_lines (holding_of self.now)) }
@@ -127,7 +164,7 @@ impl Statement {
         }
     }
 
-    // The last lines.
+    // Appends the last lines.
     fn put_end(&self, out: &mut Text) -> Result<(), Memory>
         ensures before { out.new.before ≡ out.old.before }
         ensures put { OnOk result (out.new.text ≡ out.old.text ++ end_lines (holding_of self.now)) }
@@ -139,7 +176,7 @@ impl Statement {
         Ok(())
     }
 
-    // The line of an asset that there is.
+    // Appends the line of an asset that is there.
     fn put_asset(&self, asset: u16, out: &mut Text) -> Result<(), Memory>
         requires { asset < length self.now.tickers }
         ensures before { out.new.before ≡ out.old.before }
@@ -154,14 +191,14 @@ impl Statement {
         )
     }
 
-    // The money, in grains.
+    // Returns the money, in grains.
     fn money_held(&self) -> i128
         ensures { result ≡ self.now.money }
     {
         self.money
     }
 
-    // The units of an asset that there is.
+    // Returns the units of an asset that is there.
     pub(crate) fn units_held(&self, asset: u16) -> i64
         requires { asset < length self.now.tickers }
         ensures { result ≡ (holding_of self.now).units asset }
@@ -169,14 +206,14 @@ impl Statement {
         self.units[usize::from(asset)]
     }
 
-    // The money that the live orders need, in grains.
+    // Returns the money that the live orders need, in grains.
     fn money_reserved(&self) -> u128
         ensures { result ≡ money_reserved (holding_of self.now) }
     {
         self.book.money_needed(self.account).unsigned_abs()
     }
 
-    // The units of an asset that they need.
+    // Returns the units of an asset that the live orders need.
     fn units_reserved(&self, asset: u16) -> u128
         ensures { result ≡ units_reserved (holding_of self.now) asset }
     {

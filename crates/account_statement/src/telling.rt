@@ -1,4 +1,4 @@
-//! What a statement is told.
+//! How a statement takes an entry.
 ghost use Rattle.std.specs.Prelude.{◌≡◌, ◌==◌, ◌&&◌, [], ◌∷◌, true, OnOk, OnErr};
 ghost use Rattle.wire_records.specs.Commands.{Plain};
 ghost use Rattle.wire_records.specs.Views.{command_of};
@@ -19,7 +19,7 @@ use statement_lines::{put_asked, put_cleared, put_opening, put_skipped};
 use wire_records::{CommandView, Memory, Reply};
 
 impl Statement {
-    // Tells a legal pair.
+    // Takes a valid entry.
     pub(crate) fn tell(
         &mut self,
         market: &Market,
@@ -34,8 +34,8 @@ impl Statement {
         ensures stays { OnErr result (self.new ≡ self.old) }
         ensures before { out.new.before ≡ out.old.before }
     {
-        // Called for its contract: the market is sound.
-        let _sound = market.accounts();
+        // Called for its contract: the market is consistent.
+        let _consistent = market.accounts();
         match market.read(&pair.asked()) {
             Ok(command) => match reply(&pair.answered()) {
                 Some(seen) => self.tell_served(&command, &seen, out),
@@ -45,7 +45,7 @@ impl Statement {
         }
     }
 
-    // Tells a command with its answer.
+    // Takes a command with its answer.
     fn tell_served(
         &mut self,
         command: &CommandView<'_>,
@@ -64,7 +64,7 @@ impl Statement {
         }
     }
 
-    // Tells a command that holds no batch, or that was refused.
+    // Takes a command that holds no batch, or that was refused.
     fn tell_plain(
         &mut self,
         command: &CommandView<'_>,
@@ -87,14 +87,14 @@ impl Statement {
         }
     }
 
-    // Whether the account was opened, and is this one.
+    // Returns whether the account was opened, and is this one.
     fn is_own(&self, account: u32) -> bool
         ensures { result ≡ (self.now.is_open && (account == self.now.account)) }
     {
         self.is_open && account == self.account
     }
 
-    // Tells a command that names no account.
+    // Takes a command that names no account.
     fn tell_general(
         &mut self,
         command: &CommandView<'_>,
@@ -123,7 +123,7 @@ impl Statement {
         }
     }
 
-    // Tells an asset that is added, which has no line.
+    // Takes an asset that is added, which has no line.
     fn tell_asset(&mut self, ticker: &[u8], answer: Reply) -> Result<(), Memory>
         requires { MayAdd (holding_of self.old) ticker.now answer }
         ensures told { OnOk result (Tells (seen_asset ticker.now answer) self.old self.new [] []) }
@@ -138,7 +138,7 @@ impl Statement {
         }
     }
 
-    // Tells an account that is opened.
+    // Takes an account that is opened.
     fn tell_opening(&mut self, answer: Reply, out: &mut Text) -> Result<(), Memory>
         ensures told { OnOk result (Tells (seen_opening self.old.account answer) self.old self.new out.old.text out.new.text) }
         ensures stays { OnErr result (self.new ≡ self.old) }
@@ -158,7 +158,7 @@ impl Statement {
         }
     }
 
-    // Tells a command of the account's own: first its line, and then what it makes of what is held.
+    // Takes a command of the account's own: first its line, and then its change.
     fn tell_own(
         &mut self,
         command: &CommandView<'_>,
@@ -174,7 +174,7 @@ impl Statement {
         self.make(command, answer)
     }
 
-    // Tells a batch that cleared: first its lines, and then what it makes of what is held.
+    // Takes a batch that cleared: first its lines, and then its change.
     fn tell_cleared(&mut self, view: &ClearedView<'_>, out: &mut Text) -> Result<(), Memory>
         requires { self.old.is_open ≡ true → MayClear (holding_of self.old) view.now.clearing }
         ensures told { OnOk result (Tells (event_if self.old.is_open (Clears view.now.batch view.now.clearing.prices
@@ -191,7 +191,7 @@ impl Statement {
         Ok(())
     }
 
-    // Tells a batch that was skipped.
+    // Takes a batch that was skipped.
     fn tell_skipped(&mut self, view: &SkippedView<'_>, out: &mut Text) -> Result<(), Memory>
         ensures told { OnOk result (Tells (event_if self.old.is_open (Skips view.now.batch)) self.old self.new out.old.text out.new.text) }
         ensures stays { OnErr result (self.new ≡ self.old) }

@@ -1,4 +1,4 @@
--- What settling asks of the batches of the tests.
+-- What settling requires of the batches of the tests.
 use Rattle.std.proofs.Common.{◌≡◌, ℕ, zero, suc, ℤ, pos, ◌≤ℤ◌, List, [], ◌∷◌, sym, subst, arith}
 use Rattle.std.specs.Prelude.{neg_ℤ, All}
 use Rattle.std.proofs.lemmas.Int.{ints}

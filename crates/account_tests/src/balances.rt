@@ -11,7 +11,7 @@ use flow_accounts::{AccountFault, Accounts, MOST_ACCOUNTS, MOST_ASSETS, laws};
 use std::process::Abort;
 use std::test::Fail;
 
-// What each account has, and the total.
+// Compares what each account has, and the total.
 fn holds_money(rt: &impl Abort, accounts: &Accounts, rows: &[(u32, Option<i128>)], total: i128) {
     for (account, money) in rows {
         assert!(rt; accounts.money(*account) == *money, "account {account}");
@@ -19,7 +19,7 @@ fn holds_money(rt: &impl Abort, accounts: &Accounts, rows: &[(u32, Option<i128>)
     assert!(rt; accounts.total_money() == total);
 }
 
-// What an account has of an asset, and the asset's total.
+// Compares what an account has of an asset, and the asset's total.
 fn holds_units(
     rt: &impl Abort,
     accounts: &Accounts,
@@ -125,7 +125,7 @@ fn deposits_and_withdrawals_of_units(rt: HostRuntime) -> Result<(), Fail> {
     Ok(())
 }
 
-// Settlement changes the money of an account, and answers what it has then.
+// Changes the money of an account as settlement does, and returns what the account has then, in grains.
 fn pay(rt: &impl Abort, accounts: &mut Accounts, account: u32, grains: i128) -> Option<i128> {
     let money = accounts.money(account)?.checked_add(grains)?;
     let credit = i128::from(accounts.money_credit(account)?) * (1 << 32);
@@ -134,7 +134,7 @@ fn pay(rt: &impl Abort, accounts: &mut Accounts, account: u32, grains: i128) -> 
     accounts.money(account)
 }
 
-// The same for the units of an asset.
+// Changes the units of an asset in an account as settlement does, and returns what the account has then.
 fn give(
     rt: &impl Abort,
     accounts: &mut Accounts,
@@ -149,7 +149,7 @@ fn give(
     accounts.units(account, asset)
 }
 
-// Changes the money of each account, and sees to what it has then.
+// Changes the money of each account, and compares what the account has then.
 fn pay_all(rt: &impl Abort, accounts: &mut Accounts, rows: &[(u32, i128, i128)]) {
     for (account, grains, left) in rows {
         assert!(rt;
@@ -159,7 +159,7 @@ fn pay_all(rt: &impl Abort, accounts: &mut Accounts, rows: &[(u32, i128, i128)])
     }
 }
 
-// The same for the units of asset 0.
+// Changes the units of asset 0 in each account, and compares what the account has then.
 fn give_all(rt: &impl Abort, accounts: &mut Accounts, rows: &[(u32, i64, i64)]) {
     for (account, amount, left) in rows {
         assert!(rt;
@@ -190,7 +190,7 @@ fn what_a_settlement_leaves(rt: HostRuntime) -> Result<(), Fail> {
     Ok(())
 }
 
-// What credit an account has, of money and of units of asset 0.
+// Compares what credit an account has, of money and of units of asset 0.
 fn has_credits(rt: &impl Abort, accounts: &Accounts, money: (u32, u64), units: (u32, u64)) {
     assert!(rt; accounts.money_credit(money.0) == Some(money.1));
     assert!(rt; accounts.unit_credit(units.0, 0) == Some(units.1));
@@ -219,7 +219,7 @@ fn credit_that_is_given(rt: HostRuntime) -> Result<(), Fail> {
     Ok(())
 }
 
-// What a withdrawal of money would be answered.
+// Returns the answer to a withdrawal of money.
 fn take(
     rt: &impl Abort,
     accounts: &Accounts,
@@ -232,7 +232,7 @@ fn take(
     accounts.money_withdrawal(account, ticks, reserved)
 }
 
-// The same of units.
+// Returns the answer to a withdrawal of units.
 fn take_units(
     rt: &impl Abort,
     accounts: &Accounts,
@@ -245,7 +245,7 @@ fn take_units(
     accounts.unit_withdrawal(account, 0, units, reserved)
 }
 
-// What an account may take of its money, by ticks and what is reserved.
+// Compares what an account may take of its money, by ticks and what is reserved.
 fn may_take(
     rt: &impl Abort,
     accounts: &Accounts,
@@ -288,7 +288,7 @@ fn credit_that_is_in_use(rt: HostRuntime) -> Result<(), Fail> {
 
 const NEEDED: i128 = 4_488_240_824_320_000;
 
-// Credit of which some is in use is given once more.
+// Gives a new credit while some of the old one is in use.
 fn credits_again(rt: &impl Abort, accounts: &mut Accounts) {
     for (ticks, given) in [
         (1_094_990, Err(InUse(4_702_946_239_447_500))),

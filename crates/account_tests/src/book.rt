@@ -9,7 +9,7 @@ use order_book::{Book, Memory};
 use std::alloc::Global;
 use std::test::Fail;
 
-// Adds the order where the book can take it.
+// Adds the order, if the book can take it.
 fn add(book: &mut Book, order: Order) -> bool {
     let number = order.number();
     if book.len() >= 16_384 || !book.orders().iter().all(|other| other.number() < number) {
@@ -22,7 +22,7 @@ fn add(book: &mut Book, order: Order) -> bool {
     true
 }
 
-// Whether there is one rate for each order, and none above its room.
+// Returns whether there is one rate for each order, and none above its batch maximum.
 fn are_within(orders: &[Order], rates: &[u32]) -> bool
     ensures count { IsTrue result → length rates.now ≡ length orders.now }
     ensures within { IsTrue result →
@@ -39,7 +39,7 @@ fn are_within(orders: &[Order], rates: &[u32]) -> bool
     true
 }
 
-// Fills the orders where the rates are within their rooms.
+// Fills the orders, if the rates are within their batch maximums.
 fn fill(book: &mut Book, rates: &[u32]) -> bool {
     if !are_within(book.orders(), rates) {
         return false;
@@ -48,7 +48,7 @@ fn fill(book: &mut Book, rates: &[u32]) -> bool {
     true
 }
 
-// Adds each order, or answers false where one isn't taken.
+// Adds each order, or returns false if one isn't taken.
 fn place_all(alloc: Global, book: &mut Book, rows: &[Placed<'_>]) -> bool {
     for placed in rows {
         if !place(alloc, book, *placed) {
@@ -65,7 +65,7 @@ fn place(alloc: Global, book: &mut Book, placed: Placed<'_>) -> bool {
     }
 }
 
-// A buyer of account 1, a seller of account 2, and a pair of account 1.
+// Adds a buyer of account 1, a seller of account 2, and a switch of account 1.
 fn place_three(alloc: Global, book: &mut Book, cap: u64) -> bool {
     let rows: [Placed<'_>; 3] = [
         ((1, 1), (90, 110), (1000, cap), &[(0, 1)]),
@@ -75,7 +75,7 @@ fn place_three(alloc: Global, book: &mut Book, cap: u64) -> bool {
     place_all(alloc, book, &rows)
 }
 
-// What the accounts need: money of 1 and 2, units of asset 3 of 1, units of asset 0 of 2; and the count of orders.
+// Returns what the accounts need: money of 1 and 2, units of asset 3 of 1, units of asset 0 of 2; and the count of orders.
 fn needs_in(book: &Book) -> (i128, i128, i128, i128, usize) {
     (
         book.money_needed(1),
@@ -118,7 +118,7 @@ fn place_numbered(alloc: Global, book: &mut Book, numbers: &[u64]) -> bool {
     true
 }
 
-// Whether these are the numbers of the live orders.
+// Returns whether these are the numbers of the live orders.
 fn are_numbers(orders: &[Order], numbers: &[u64]) -> bool {
     orders
         .iter()

@@ -1,7 +1,7 @@
-//! Tests of what is kept: balances (`flow_accounts`), the exchange's own account (`residual_account`), orders and what
-//! they need (`flow_orders`), the book (`order_book`) and the settlement of batches (`fill_caps`).
+//! Tests of accounts and orders: balances (`flow_accounts`), the exchange's own account (`residual_account`), orders and what they need
+//! (`flow_orders`), the book (`order_book`) and the settlement of batches (`fill_caps`).
 //!
-//! A crate with tests is proved twice, so these have a crate of their own, on which none stands.
+//! A crate with tests is proved twice, so these have a crate of their own, which no other depends on.
 #![tactic(auto)]
 
 #[cfg(test)]

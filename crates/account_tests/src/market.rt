@@ -1,5 +1,4 @@
-//! A market that settles nothing: each total stays the sum of all balances, and by that every call
-//! may be made.
+//! A market that settles nothing: each total stays the sum of all balances, so every call may be made.
 ghost use Rattle.std.specs.Prelude.{IfOk, IsTrue, pos, ◌≤ℤ◌};
 ghost use Rattle.flow_accounts.specs.Balances.{IsAccount, IsAsset, money_with_credit, units_with_credit};
 ghost use Rattle.flow_accounts.specs.Sums.{TotalsAreSums};
@@ -8,8 +7,8 @@ use flow_accounts::{AccountFault, Accounts, MOST_ASSETS, laws};
 use std::alloc::Global;
 use std::process::Abort;
 
-// A call on accounts whose totals are the sums of the balances. The first numbers are the account
-// and the asset, the last ones what is reserved.
+// A call on accounts whose totals are the sums of the balances. The first numbers are the account and the asset, the last ones what is
+// reserved.
 #[derive(Clone, Copy, Debug)]
 pub enum Call {
     Deposit(u32, u64),
@@ -41,7 +40,7 @@ pub fn add_asset(rt: &impl Abort, accounts: &mut Accounts)
     accounts.add_asset();
 }
 
-// One asset, and accounts 1 and 2, which have nothing.
+// Returns accounts 1 and 2, which have nothing, and one asset.
 pub fn two_accounts(rt: &impl Abort, alloc: Global) -> Result<Accounts, AccountFault>
     ensures { IfOk result (λ accounts. TotalsAreSums accounts) }
 {
@@ -95,7 +94,7 @@ pub fn deposit_units(
     Ok(())
 }
 
-// Whether an account that is there covers what is reserved, with its credit.
+// Returns whether an account, if it exists, covers what is reserved, with its credit.
 pub fn covers(accounts: &Accounts, account: u32, reserved: i128) -> bool
     requires { pos 0 ≤ℤ reserved }
     ensures { IsTrue result → IsAccount accounts.now account → reserved ≤ℤ money_with_credit accounts.now account }
@@ -109,7 +108,7 @@ pub fn covers(accounts: &Accounts, account: u32, reserved: i128) -> bool
     }
 }
 
-// The same of the units of an asset.
+// Returns whether an account, if it exists, covers what is reserved of the units of an asset, with its credit.
 pub fn covers_units(accounts: &Accounts, account: u32, asset: u16, reserved: i128) -> bool
     requires { pos 0 ≤ℤ reserved }
     ensures { IsTrue result → IsAccount accounts.now account → IsAsset accounts.now asset →

@@ -58,7 +58,7 @@ fn tells_needs(rt: HostRuntime) -> Result<(), Fail> {
     Ok(())
 }
 
-// What an order tells of its numbers.
+// Returns the numbers that an order shows.
 fn numbers_of(order: &Order) -> (u64, u32, i64, i64, u32, u64) {
     (
         order.number(),
@@ -70,7 +70,7 @@ fn numbers_of(order: &Order) -> (u64, u32, i64, i64, u32, u64) {
     )
 }
 
-// Fills an order by `x` where it has the room.
+// Fills an order by `x`, if that is within its batch maximum.
 fn fill(order: &mut Order, x: u32) -> Option<bool> {
     if x <= order.curve().room {
         Some(order.add_fill(x))
@@ -79,7 +79,7 @@ fn fill(order: &mut Order, x: u32) -> Option<bool> {
     }
 }
 
-// Fills an order by `x`, and sees to whether it is full then, how much was filled, and how much room it has.
+// Fills an order by `x`, and compares whether it is full then, how much was filled, and its batch maximum.
 fn see_fill(rt: &impl Abort, order: &mut Order, row: (u32, Option<bool>, u64, u32)) {
     let (x, full, filled, room) = row;
     assert!(rt; fill(order, x) == full, "a fill of {x}");
@@ -108,7 +108,7 @@ fn orders_are_filled_to_their_cap(rt: HostRuntime) -> Result<(), Fail> {
     Ok(())
 }
 
-// Adds an order that has this weight of asset 5, or answers false where it isn't taken.
+// Adds an order that has this weight of asset 5, or returns false if it isn't taken.
 fn add(alloc: Global, orders: &mut Vec<Order>, weight: i32) -> bool {
     match order_of(alloc, ((7, 1), (0, 1), (1, 1), &[(5, weight)])) {
         Ok(Some(order)) => orders.push(order).is_ok(),
@@ -116,7 +116,7 @@ fn add(alloc: Global, orders: &mut Vec<Order>, weight: i32) -> bool {
     }
 }
 
-// What the orders' weights of an asset come to: their spread and their steepness.
+// Compares the rounding bound and the slope bound that result from the orders' weights of an asset.
 fn see_sums(rt: &impl Abort, orders: &[Order], sums: (i64, i64)) {
     assert!(rt; orders.len() <= 2);
     assert!(rt; (spread(orders, 5), steepness(orders, 5)) == sums);

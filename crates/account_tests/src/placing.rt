@@ -3,10 +3,10 @@ use flow_orders::{Order, order_fault};
 use std::alloc::{AllocError, Global};
 use weight_rows::{Entry, EntryList, WeightRow, row_fault};
 
-// Number and account, limits in ticks, rate and cap, and the row.
+// Number and account, limits in ticks, rate and cap, and the weight vector.
 pub type Placed<'a> = ((u64, u32), (i64, i64), (u32, u64), &'a [(u16, i32)]);
 
-// The order, or None where its numbers or its row have a fault.
+// Returns the order, or `None` if its numbers or its weight vector have a fault.
 pub fn order_of(alloc: Global, placed: Placed<'_>) -> Result<Option<Order>, AllocError> {
     let ((number, account), (low, high), (rate, cap), row) = placed;
     let entries = row

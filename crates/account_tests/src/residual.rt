@@ -4,7 +4,7 @@ ghost use Rattle.std.specs.Prelude.{◌≡◌, ◌<◌, length};
 use residual_account::ResidualAccount;
 use std::test::Fail;
 
-// Adds to an account where the sums fit, and answers the units of the asset and the money that it holds then.
+// Adds to an account if the sums fit, and returns the units of the asset and the money that it holds then.
 fn leave(account: &mut ResidualAccount, asset: u16, units: i64, money: i128) -> Option<(i64, i128)>
     requires { asset < length account.old.units }
     ensures { length account.new.units ≡ length account.old.units }

@@ -1,6 +1,6 @@
-//! What settling batches leaves to accounts and exchange.
+//! What settling batches leaves to the accounts and the exchange.
 ghost use Rattle.std.specs.Prelude.{◌≡◌, ◌≤◌, [], ◌∷◌, pos, neg_ℤ, IfOk};
-ghost use Rattle.weight_rows.specs.Rows.{IsLawfulRow};
+ghost use Rattle.weight_rows.specs.Rows.{IsWeightVector};
 ghost use Rattle.demand_curve.specs.Demand.{most_rate};
 ghost use Rattle.flow_accounts.specs.Balances.{no_credit};
 ghost use Rattle.flow_orders.specs.Orders.{AreLimits, IsFrom1To, most_cap, price_of_ticks};
@@ -13,7 +13,7 @@ use std::alloc::{AllocError, Global};
 use std::test::Fail;
 use weight_rows::{Entry, EntryList, WeightRow};
 
-// An order that was just placed: its number and account, its limits in ticks, its rate and cap, and its row.
+// An order that was just placed: its number and account, its limits in ticks, its rate and cap, and its weight vector.
 fn order_of(
     alloc: Global,
     placed: (u64, u32),
@@ -24,7 +24,7 @@ fn order_of(
     requires limits { AreLimits limits.0 limits.1 }
     requires rate { IsFrom1To most_rate amounts.0 }
     requires cap { IsFrom1To most_cap amounts.1 }
-    requires row { IsLawfulRow entries.now }
+    requires row { IsWeightVector entries.now }
     ensures { IfOk result (λ order. order ≡ record {
       number = placed.0;
       account = placed.1;

@@ -1,4 +1,4 @@
--- What is found of a pair, by what its records spell.
+-- The finding on an entry, by what its records encode.
 use Rattle.std.proofs.Common.{◌≡◌, ◌↔◌, ℕ, ◌+◌, ◌<◌, ℤ, pos, false, List, length, Some, None, Ok, Err, refl, sym, ap, subst, ◌∙◌}
 use Rattle.std.specs.Prelude.{◌≢◌}
 use Rattle.wire_records.specs.Records.{Record}
@@ -11,7 +11,7 @@ use Rattle.wire_records.specs.declared.reply.Refusal.{Refusal}
 use Rattle.flow_orders.specs.Orders.{Order}
 use Rattle.flow_orders.specs.Excess.{is_unsettled}
 use Rattle.flow_orders.specs.Walks.{AreSettled}
-use Rattle.flow_orders.specs.Outcomes.{Clearing, Skipping, Outcome, Cleared, Skipped, IsRightOutcome, IsRightSkip, dual_of, end_of, IsLegalFrom, EndsSettled}
+use Rattle.flow_orders.specs.Outcomes.{Clearing, Skipping, Outcome, Cleared, Skipped, IsAdmissibleOutcome, IsAdmissibleSkip, dual_of, end_of, IsLegalFrom, EndsSettled}
 use Rattle.flow_orders.proofs.Moving.{has_walked}
 use Rattle.price_moves.proofs.MadeAgain.{illegal_whole}
 use Rattle.journal_records.specs.Replies.{SpellsAnswer}
@@ -36,15 +36,15 @@ pub gets_refusal : (m : Market) (asked : Record) (budget : ℕ) (refusal : Refus
 gets_refusal m asked budget refusal read first =
     (m, record { read = Ok (RunBatch budget); spelled = read; served = record { first = Some refusal; refused = first; answered = (refl, refl) } })
 
--- a command that holds no batch gets what is expected
+-- a command that holds no batch gets the expected reply
 pub gets_expected : (m : Market) (asked : Record) (c : Command) (reply : Reply) → ((budget : ℕ) → ¬ (c ≡ RunBatch budget)) → IsReadAs m.version asked (Ok c) → IsExpected m c reply
     → GetsReply m asked reply
 gets_expected m asked c reply none read expected =
-    (expected.0, record { read = Ok c; spelled = read; served = plain_by_any IsRightOutcome m c (Plain reply) expected.0 expected.1 })
+    (expected.0, record { read = Ok c; spelled = read; served = plain_by_any IsAdmissibleOutcome m c (Plain reply) expected.0 expected.1 })
 
--- ---- findings of a pair
+-- ---- findings on an entry
 
--- where a plain reply is got
+-- the finding on an entry whose record gets a plain reply
 pub reply_found : (m : Market) (pair : Record × Record) (answer : Answer Outcome) → SpellsAnswer pair.1 answer → (reply : Reply) (found : Finding) → GetsReply m pair.0 reply
     → IsReplyFound answer reply found → IsFinding m pair found
 reply_found m pair answer spelled reply finding.NoReply gets is = absurd is
@@ -61,13 +61,13 @@ reply_found m pair answer spelled reply (finding.EndDual right) gets is = absurd
 reply_found m pair answer spelled reply finding.Legal gets is = (gets.0, record { answer = Plain reply; spelled = subst (SpellsAnswer pair.1) is spelled; step = gets.1 })
 
 module _ (m : Market) (pair : Record × Record) (budget : ℕ) (due : IsDue m pair.0 budget) where
-  -- where a batch is due, and another answer is told
+  -- a batch is due, and the reply has another answer
   pub other_batch : (answer : Answer Outcome) (number : ℕ) → SpellsAnswer pair.1 answer → number ≡ m.batches + 1 → ((outcome : Outcome) → answer ≢ Batch number outcome)
       → IsFinding m pair (finding.Batch number)
   other_batch answer number spelled next other = record { answer = answer; spelled = spelled; budget = budget; due = due; next = next; other = other }
 
-  -- a right outcome makes a legal pair
-  pub right_batch : (outcome : Outcome) → SpellsAnswer pair.1 (Batch (m.batches + 1) outcome) → IsRightOutcome (parts_of m.version) m.orders (start_prices m) budget outcome → IsFinding m pair finding.Legal
+  -- an admissible outcome makes a valid entry
+  pub right_batch : (outcome : Outcome) → SpellsAnswer pair.1 (Batch (m.batches + 1) outcome) → IsAdmissibleOutcome (parts_of m.version) m.orders (start_prices m) budget outcome → IsFinding m pair finding.Legal
   right_batch outcome spelled right = (
     after_batch m outcome,
     record {
@@ -108,7 +108,7 @@ module _ (m : Market) (pair : Record × Record) (budget : ℕ) (due : IsDue m pa
   skip_found s (finding.EndDual right) spelled is = (tells s spelled, is.0, is.1)
   skip_found s finding.Legal spelled is = right_batch (Skipped s) spelled is
 
--- the same of every pair that tells a clearing, or a skip
+-- the finding on a clearing is that of every entry that has it
 pub clearing_where : (m : Market) (budget number : ℕ) (c : Clearing) (found : Finding) → number ≡ m.batches + 1 → IsClearingFound m.orders (start_prices m) c found
     → IsFoundWhere m (λ asked. IsDue m asked budget) (Batch number (Cleared c)) found
 clearing_where m budget number c found next holds pair due spelled =
@@ -123,11 +123,11 @@ skip_where m budget number s found next holds pair due spelled =
 pub plain_is_none : (reply : Reply) (k : ℕ) (outcome : Outcome) → Plain reply ≢ Batch k outcome
 plain_is_none reply k outcome same = cc
 
--- ---- findings of a skip
+-- ---- findings on a skip
 
 module _ (parts : ℕ) (orders : List Order) (start : List ℤ) (budget : ℕ) (s : Skipping) where
-  -- a skip is right exactly where it is found to be legal
-  pub right_where : (found : Finding) → IsSkipFound parts orders start budget s found → (found ≡ finding.Legal) ↔ IsRightSkip parts orders start budget s
+  -- a skip is admissible exactly if the finding on it is `Legal`
+  pub right_where : (found : Finding) → IsSkipFound parts orders start budget s found → (found ≡ finding.Legal) ↔ IsAdmissibleSkip parts orders start budget s
   right_where finding.NoReply is = absurd is
   right_where (finding.OtherReply right) is = absurd is
   right_where (finding.Batch number) is = absurd is
@@ -146,7 +146,7 @@ module _ (parts : ℕ) (orders : List Order) (start : List ℤ) (budget : ℕ) (
     count : length end ≡ length start
     count = ap length ends ∙ (has_walked parts orders (length start) start s.trace refl legal).count
 
-    -- so all are settled at the end
+    -- all assets are settled at the end
     settles : AreSettled (length end) (is_unsettled orders) end → EndsSettled parts orders start s.trace
     settles all asset inside = subst (λ p. is_unsettled orders p asset ≡ false) ends (all asset (subst (λ n. asset < n) (sym count) inside))
 
@@ -164,16 +164,16 @@ module _ (parts : ℕ) (orders : List Order) (start : List ℤ) (budget : ℕ) (
       ends_unsettled : EndsUnsettled parts orders start budget s
       ends_unsettled = record { walked = walked; unsettled = λ all. unsettled (settled all) }
 
-      -- the dual floor at the start is another one
+      -- the dual value at the start is another one
       pub start_found : (right : ℤ) → IsOtherDual orders start s.start_dual right → IsSkipFound parts orders start budget s (finding.StartDual right)
       start_found right other = (ends_unsettled, other)
 
       module _ (first : s.start_dual ≡ pos (dual_of orders start)) where
-        -- that at the end is
+        -- the dual value at the end is another one
         pub end_found : (right : ℤ) → IsOtherDual orders end s.end_dual right → IsSkipFound parts orders start budget s (finding.EndDual right)
         end_found right other = (record { ends = ends_unsettled; start_dual = first }, subst (λ p. IsOtherDual orders p s.end_dual right) ends other)
 
-        -- neither is
+        -- neither dual value is another one
         pub right_found : s.end_dual ≡ pos (dual_of orders end) → IsSkipFound parts orders start budget s finding.Legal
         right_found last =
             let told : ℤ → ℤ → Skipping = λ a b. record { trace = s.trace; start_dual = a; end_dual = b } in

@@ -1,4 +1,4 @@
--- A pair has one finding at most.
+-- There is at most one finding on an entry.
 use Rattle.std.proofs.Common.{◌≡◌, ℕ, zero, suc, ◌+◌, ◌<◌, ◌≤◌, ℤ, pos, List, [], ◌∷◌, length, take, ◌⊎◌, inl, inr, ⊎_elim, Option, Some, None, Result, Ok, Err, refl, sym, ap, subst, ◌∙◌, arith}
 use Rattle.std.specs.Prelude.{◌≢◌}
 use Rattle.std.proofs.lemmas.Bool.{cases_lt}
@@ -13,7 +13,7 @@ use Rattle.wire_records.proofs.Readings.{reading_unique}
 use Rattle.flow_orders.specs.Orders.{Order}
 use Rattle.flow_orders.specs.Excess.{is_unsettled}
 use Rattle.flow_orders.specs.Walks.{IsLegal}
-use Rattle.flow_orders.specs.Outcomes.{Clearing, Skipping, Outcome, Cleared, Skipped, IsRightOutcome, IsWide, IsLegalFrom, EndsSettled, step_of, dual_of, end_of}
+use Rattle.flow_orders.specs.Outcomes.{Clearing, Skipping, Outcome, Cleared, Skipped, IsAdmissibleOutcome, IsWide, IsLegalFrom, EndsSettled, step_of, dual_of, end_of}
 use Rattle.price_moves.specs.Retracing.{IsFirstIllegal}
 use Rattle.price_moves.proofs.MadeAgain.{illegal_whole}
 use Rattle.batch_certificate.specs.declared.verdict.Verdict.{Verdict}
@@ -36,13 +36,13 @@ use Rattle.batch_audit.specs.Private.{IsReplyFound, IsClearingFound, IsSkipFound
 use Rattle.batch_audit.proofs.Found.{plain_is_none}
 use Rattle.batch_audit.specs.Laws.{OneFinding, FindingsTellLegality}
 
--- ---- findings in line
+-- ---- findings in order
 
--- one finding at most is so
+-- at most one finding has the property
 abbrev IsOne : (Finding → Type 0) → Type 0
 IsOne V = (f g : Finding) → V f → V g → f ≡ g
 
--- what is found first, or what is found later where something else holds that it excludes
+-- what is found first, or what is found later if something else holds that the first excludes
 one_of_two : (B : Type 0) (First Later : Finding → Type 0) → IsOne First → ((f : Finding) → First f → ¬ B) → IsOne Later → IsOne (λ f. First f ⊎ (B × Later f))
 one_of_two B First Later one apart rest f g a b =
     elim a [
@@ -56,7 +56,7 @@ one_named A named f g a b = a.1 ∙ sym b.1
 
 -- ---- a skip
 
--- a first part of a legal walk is legal
+-- a first part of an admissible walk is admissible
 legal_less : (parts : ℕ) (orders : List Order) (n : ℕ) (p : List ℤ) (walk : List ℕ) (j k : ℕ) → j ≤ k → IsLegal n (is_unsettled orders) (step_of parts orders) p (take k walk)
     → IsLegal n (is_unsettled orders) (step_of parts orders) p (take j walk)
 legal_less parts orders n p walk zero k within legal = tt
@@ -65,7 +65,7 @@ legal_less parts orders n p (a ∷ walk) (suc j) zero within legal = absurd (ome
 legal_less parts orders n p (a ∷ walk) (suc j) (suc k) within legal = (legal.0, legal.1, legal_less parts orders n (step_of parts orders p a) walk j k (omega (arith, within)) legal.2)
 
 module _ (parts : ℕ) (orders : List Order) (start : List ℤ) (budget : ℕ) (s : Skipping) where
-  -- two first places that aren't legal are the same
+  -- the first place of a walk that isn't admissible isn't later than another such place
   not_later : (j k : ℕ) → IsFirstIllegal parts orders start s.trace j → IsFirstIllegal parts orders start s.trace k → j < k → ⊥
   not_later j k a b below = a.refused (legal_less parts orders (length start) start s.trace (j + 1) k (omega (arith, below)) b.before)
 
@@ -76,7 +76,7 @@ module _ (parts : ℕ) (orders : List Order) (start : List ℤ) (budget : ℕ) (
       (λ not_below. ⊎_elim (λ above. absurd (not_later k j b a above)) (λ not_above. omega (arith, not_below, not_above)) (cases_lt k j))
       (cases_lt j k)
 
-  -- the findings of a skip in line
+  -- the findings on a skip, in order
   abbrev Last : Finding → Type 0
   Last f = ((right : ℤ) × IsOtherDual orders (end_of parts orders start s.trace) s.end_dual right × (f ≡ finding.EndDual right)) ⊎ ((s.end_dual ≡ pos (dual_of orders (end_of parts orders start s.trace))) × (f ≡ finding.Legal))
 
@@ -145,7 +145,7 @@ module _ (parts : ℕ) (orders : List Order) (start : List ℤ) (budget : ℕ) (
 
 -- ---- a clearing
 
--- what a verdict finds
+-- the finding by a verdict
 abbrev found_by : Verdict → Finding → Type 0
 found_by v f = ((v ≡ Right) × (f ≡ finding.Legal)) ⊎ ((v ≢ Right) × (f ≡ finding.Part v))
 
@@ -206,7 +206,7 @@ module _ (answer : Answer Outcome) (reply : Reply) where
   one_reply_finding : IsOne (IsReplyFound answer reply)
   one_reply_finding f g a b = one_by_reply f g (by_reply f a) (by_reply g b)
 
--- ---- which reply is got, or which batch is due
+-- ---- which plain reply is got, or which batch is due
 
 -- a command holds a batch or doesn't
 batch_or_not : (c : Command) → ((budget : ℕ) × (c ≡ RunBatch budget)) ⊎ ((budget : ℕ) → ¬ (c ≡ RunBatch budget))
@@ -220,46 +220,46 @@ same_outcome : (n : ℕ) (o p : Outcome) → Batch n o ≡ Batch n p → o ≡ p
 same_outcome n o p e = cc
 
 -- a held batch answers no plain reply
-never_plain : (m : Market) (budget : ℕ) (r : Reply) (n : Market) → holds_batch IsRightOutcome m budget (Plain r) n → ⊥
+never_plain : (m : Market) (budget : ℕ) (r : Reply) (n : Market) → holds_batch IsAdmissibleOutcome m budget (Plain r) n → ⊥
 never_plain m budget r n held = plain_is_none r (m.batches + 1) held.0 held.2.0
 
 -- plain answers of one command are the same
-plain_answers : (m : Market) (c : Command) (r q : Reply) (x y : Market) → Serves IsRightOutcome m c (Plain r) x → Serves IsRightOutcome m c (Plain q) y → ◌≡◌ {A = Answer Outcome} (Plain r) (Plain q)
+plain_answers : (m : Market) (c : Command) (r q : Reply) (x y : Market) → Serves IsAdmissibleOutcome m c (Plain r) x → Serves IsAdmissibleOutcome m c (Plain q) y → ◌≡◌ {A = Answer Outcome} (Plain r) (Plain q)
 plain_answers m c r q x y a b =
     ⊎_elim
-    (λ batch. by_first a.first a.answered (subst (λ f. Answers IsRightOutcome m c f (Plain q) y) (one_first m c b.first a.first b.refused a.refused) b.answered) batch.0 batch.1)
+    (λ batch. by_first a.first a.answered (subst (λ f. Answers IsAdmissibleOutcome m c f (Plain q) y) (one_first m c b.first a.first b.refused a.refused) b.answered) batch.0 batch.1)
     (λ none. (plain_commands_have_one_answer m c (Plain r) (Plain q) x y none a b).0)
     (batch_or_not c)
   where
-    by_first : (first : Option Refusal) → Answers IsRightOutcome m c first (Plain r) x → Answers IsRightOutcome m c first (Plain q) y → (budget : ℕ) → c ≡ RunBatch budget
+    by_first : (first : Option Refusal) → Answers IsAdmissibleOutcome m c first (Plain r) x → Answers IsAdmissibleOutcome m c first (Plain q) y → (budget : ℕ) → c ≡ RunBatch budget
         → ◌≡◌ {A = Answer Outcome} (Plain r) (Plain q)
     by_first (Some f) one other budget is = one.0 ∙ sym other.0
-    by_first None one other budget is = absurd (never_plain m budget r x (subst (λ d. Accepts IsRightOutcome m d (Plain r) x) is one))
+    by_first None one other budget is = absurd (never_plain m budget r x (subst (λ d. Accepts IsAdmissibleOutcome m d (Plain r) x) is one))
 
 -- a record gets one plain reply
 one_reply : (m : Market) (asked : Record) (r q : Reply) → GetsReply m asked r → GetsReply m asked q → r ≡ q
 one_reply m asked r q a b =
     same_plain r q
-    (by_read a.1.read a.1.served (subst (λ read. ServesRead IsRightOutcome m read (Plain q) b.0) (reading_unique m.version asked b.1.read a.1.read b.1.spelled a.1.spelled) b.1.served))
+    (by_read a.1.read a.1.served (subst (λ read. ServesRead IsAdmissibleOutcome m read (Plain q) b.0) (reading_unique m.version asked b.1.read a.1.read b.1.spelled a.1.spelled) b.1.served))
   where
-    by_read : (read : Result Command BodyFault) → ServesRead IsRightOutcome m read (Plain r) a.0 → ServesRead IsRightOutcome m read (Plain q) b.0 → ◌≡◌ {A = Answer Outcome} (Plain r) (Plain q)
+    by_read : (read : Result Command BodyFault) → ServesRead IsAdmissibleOutcome m read (Plain r) a.0 → ServesRead IsAdmissibleOutcome m read (Plain q) b.0 → ◌≡◌ {A = Answer Outcome} (Plain r) (Plain q)
     by_read (Err why) one other = one.0 ∙ sym other.0
     by_read (Ok c) one other = plain_answers m c r q a.0 b.0 one other
 
--- and none where a batch is due
+-- a record gets no plain reply if a batch is due
 not_both : (m : Market) (asked : Record) (r : Reply) (budget : ℕ) → GetsReply m asked r → IsDue m asked budget → ⊥
 not_both m asked r budget gets due =
     let read = reading_unique m.version asked gets.1.read (Ok (RunBatch budget)) gets.1.spelled due.asks in
-    let serves : Serves IsRightOutcome m (RunBatch budget) (Plain r) gets.0 = subst (λ x. ServesRead IsRightOutcome m x (Plain r) gets.0) read gets.1.served in
-    never_plain m budget r gets.0 (subst (λ f. Answers IsRightOutcome m (RunBatch budget) f (Plain r) gets.0) (one_first m (RunBatch budget) serves.first None serves.refused due.allowed) serves.answered)
+    let serves : Serves IsAdmissibleOutcome m (RunBatch budget) (Plain r) gets.0 = subst (λ x. ServesRead IsAdmissibleOutcome m x (Plain r) gets.0) read gets.1.served in
+    never_plain m budget r gets.0 (subst (λ f. Answers IsAdmissibleOutcome m (RunBatch budget) f (Plain r) gets.0) (one_first m (RunBatch budget) serves.first None serves.refused due.allowed) serves.answered)
 
--- one batch is due
+-- one batch is due at most
 one_due : (m : Market) (asked : Record) (b c : ℕ) → IsDue m asked b → IsDue m asked c → b ≡ c
 one_due m asked b c due other = same_budget b c (reading_unique m.version asked (Ok (RunBatch b)) (Ok (RunBatch c)) due.asks other.asks)
 
--- ---- a pair
+-- ---- an entry
 
--- what is found of an outcome of a batch that is due
+-- the finding on an outcome of a batch that is due
 abbrev OutcomeFound : Market → ℕ → Outcome → Finding → Type 0
 OutcomeFound m budget (Cleared c) f = IsClearingFound m.orders (start_prices m) c f
 OutcomeFound m budget (Skipped s) f = IsSkipFound (parts_of m.version) m.orders (start_prices m) budget s f
@@ -268,11 +268,11 @@ one_outcome : (m : Market) (budget : ℕ) (o : Outcome) → IsOne (OutcomeFound 
 one_outcome m budget (Cleared c) = one_clearing m.orders (start_prices m) c
 one_outcome m budget (Skipped s) = one_skip (parts_of m.version) m.orders (start_prices m) budget s
 
-right_outcome : (m : Market) (budget : ℕ) (o : Outcome) → IsRightOutcome (parts_of m.version) m.orders (start_prices m) budget o → OutcomeFound m budget o finding.Legal
-right_outcome m budget (Cleared c) right = right
-right_outcome m budget (Skipped s) right = right
+admissible_outcome : (m : Market) (budget : ℕ) (o : Outcome) → IsAdmissibleOutcome (parts_of m.version) m.orders (start_prices m) budget o → OutcomeFound m budget o finding.Legal
+admissible_outcome m budget (Cleared c) right = right
+admissible_outcome m budget (Skipped s) right = right
 
--- of an answer where a batch is due
+-- the finding on an answer while a batch is due
 abbrev DueFound : Market → ℕ → Answer Outcome → Finding → Type 0
 DueFound m budget a f =
     (((o : Outcome) → a ≢ Batch (m.batches + 1) o) × (f ≡ finding.Batch (m.batches + 1)))
@@ -288,7 +288,7 @@ one_due_found m budget a f g x y =
       ]
     ]
 
--- of an answer
+-- the finding on an answer
 abbrev AnswerFound : Market → Record → Answer Outcome → Finding → Type 0
 AnswerFound m asked a f = ((r : Reply) × GetsReply m asked r × IsReplyFound a r f) ⊎ ((budget : ℕ) × IsDue m asked budget × DueFound m budget a f)
 
@@ -326,29 +326,29 @@ module _ (m : Market) (pair : Record × Record) where
   of_skip : (t : TellsSkip m pair) (f : Finding) → IsSkipFound (parts_of m.version) m.orders (start_prices m) t.budget t.skipping f → PairFound f
   of_skip t f found = inr (Batch (m.batches + 1) (Skipped t.skipping), t.spelled, inr (t.budget, t.due, inr (Skipped t.skipping, refl, found)))
 
-  -- a legal pair gets the plain reply, or tells a right outcome of a batch that is due
-  of_legal : (new : Market) (a : Answer Outcome) → Step IsReadAs IsRightOutcome m pair.0 a new → AnswerFound m pair.0 a finding.Legal
+  -- the answer of a valid entry is the plain reply, or an admissible outcome of a batch that is due
+  of_legal : (new : Market) (a : Answer Outcome) → Step IsReadAs IsAdmissibleOutcome m pair.0 a new → AnswerFound m pair.0 a finding.Legal
   of_legal new (Plain r) step = inl (r, (new, step), refl)
   of_legal new (Batch k o) step = by_read step.read step.spelled step.served
     where
-      allowed : (c : Command) (first : Option Refusal) → FirstRefusal m c first → Answers IsRightOutcome m c first (Batch k o) new → FirstRefusal m c None
+      allowed : (c : Command) (first : Option Refusal) → FirstRefusal m c first → Answers IsAdmissibleOutcome m c first (Batch k o) new → FirstRefusal m c None
       allowed c (Some r) refused answers = absurd (plain_is_none (Refused r) k o (sym answers.0))
       allowed c None refused answers = refused
 
-      by_read : (read : Result Command BodyFault) → IsReadAs m.version pair.0 read → ServesRead IsRightOutcome m read (Batch k o) new → AnswerFound m pair.0 (Batch k o) finding.Legal
+      by_read : (read : Result Command BodyFault) → IsReadAs m.version pair.0 read → ServesRead IsAdmissibleOutcome m read (Batch k o) new → AnswerFound m pair.0 (Batch k o) finding.Legal
       by_read (Err why) spelled gives = absurd (plain_is_none _ k o (sym gives.0))
       by_read (Ok c) spelled serves =
-          let held = batch_of IsRightOutcome m c k o new serves in
+          let held = batch_of IsAdmissibleOutcome m c k o new serves in
           inr (
             held.budget,
             record {
               asks = subst (λ d. IsReadAs m.version pair.0 (Ok d)) held.command_is spelled;
               allowed = subst (λ d. FirstRefusal m d None) held.command_is (allowed c serves.first serves.refused serves.answered);
             },
-            inr (o, ap (λ n. Batch n o) held.number_is, right_outcome m held.budget o held.ruled),
+            inr (o, ap (λ n. Batch n o) held.number_is, admissible_outcome m held.budget o held.ruled),
           )
 
-  -- each finding is one of these
+  -- each finding on an entry is one on its answer, or `NoReply`
   found : (f : Finding) → IsFinding m pair f → PairFound f
   found finding.NoReply is = inl (is, refl)
   found (finding.OtherReply right) is = inr (is.answer, is.spelled, inl (right, is.gets, (refl, is.other)))

@@ -1,4 +1,4 @@
--- What a pair is judged to be, by its reply and by what its record is read as.
+-- How an entry is judged, by its reply and by what its record is read as.
 use Rattle.std.proofs.Common.{◌≡◌, ◌↔◌, ◌<◌, ℕ, Bool, true, false, IsTrue, if◌then◌else◌, Result, Ok, Err, Option, Some, None, refl, sym, ap, subst, ◌∙◌}
 use Rattle.std.specs.Prelude.{IfOk}
 use Rattle.std.proofs.lemmas.Bool.{false≢true}
@@ -12,7 +12,7 @@ use Rattle.wire_records.specs.declared.reply.Reply.{Reply}
 use Rattle.wire_records.specs.declared.reply.Reply.TheVariants.{Refused}
 use Rattle.wire_records.specs.declared.reply.Refusal.{Refusal}
 use Rattle.wire_records.proofs.Readings.{reading_unique}
-use Rattle.flow_orders.specs.Outcomes.{Outcome, IsRightOutcome}
+use Rattle.flow_orders.specs.Outcomes.{Outcome, IsAdmissibleOutcome}
 use Rattle.journal_records.specs.Replies.{SpellsAnswer}
 use Rattle.journal_records.proofs.Spelled.{answer_unique}
 use Rattle.market_rules.specs.Market.{Market, most_batches}
@@ -43,18 +43,18 @@ no_first m n c reply (Some refusal) refused answered accepts = absurd (accepts r
 
 module _ (m : Market) (c : Command) (none : (budget : ℕ) → ¬ (c ≡ RunBatch budget)) (reply : Reply) (expected : IsExpected m c reply) where
   -- the expected reply is the one answer
-  answer_is : (a : Answer Outcome) (n : Market) → Serves IsRightOutcome m c a n → a ≡ Plain reply
-  answer_is a n serves = (plain_commands_have_one_answer m c a (Plain reply) n expected.0 none serves (plain_by_any IsRightOutcome m c (Plain reply) expected.0 expected.1)).0
+  answer_is : (a : Answer Outcome) (n : Market) → Serves IsAdmissibleOutcome m c a n → a ≡ Plain reply
+  answer_is a n serves = (plain_commands_have_one_answer m c a (Plain reply) n expected.0 none serves (plain_by_any IsAdmissibleOutcome m c (Plain reply) expected.0 expected.1)).0
 
-  -- any other is none
+  -- any other answer makes no step
   pub other_answer : (a : Answer Outcome) → ¬ (a ≡ Plain reply) → IsReadWeighed m (Ok c) a None
   other_answer a other = λ n serves. other (answer_is a n serves)
 
-  -- the expected answer is got by any rule
-  right_answer : (a : Answer Outcome) → a ≡ Plain reply → Serves IsRightOutcome m c a expected.0
-  right_answer a is = subst (λ x. Serves IsRightOutcome m c x expected.0) (sym is) (plain_by_any IsRightOutcome m c (Plain reply) expected.0 expected.1)
+  -- the expected answer is got under any rule of batches
+  right_answer : (a : Answer Outcome) → a ≡ Plain reply → Serves IsAdmissibleOutcome m c a expected.0
+  right_answer a is = subst (λ x. Serves IsAdmissibleOutcome m c x expected.0) (sym is) (plain_by_any IsAdmissibleOutcome m c (Plain reply) expected.0 expected.1)
 
-  -- where it is no refusal, the command makes its market
+  -- if it is no refusal, the command makes its market
   pub accepted_answer : (seen : CommandView) → c ≡ command_of seen → (a : Answer Outcome) → a ≡ Plain reply → ((refusal : Refusal) → ¬ (reply ≡ Refused refusal))
       → IsReadWeighed m (Ok c) a (Some (change.Command seen))
   accepted_answer seen shows a is accepts =
@@ -67,16 +67,16 @@ module _ (m : Market) (c : Command) (none : (budget : ℕ) → ¬ (c ≡ RunBatc
       let here = right_answer (Plain (Refused refusal)) (ap (λ r. Plain r) (sym refuses)) in
       (expected.0, right_answer a is, (one_refusal m c refusal (Plain (Refused refusal)) expected.0 expected.0 here here).1)
 
--- ---- records and pairs
+-- ---- records and entries
 
--- what a record is read as tells what the record makes
+-- what a record is read as determines what the record changes
 pub record_weighed : (found : Option Change) (old : Market) (asked : Record) (read : Result Command BodyFault) (a : Answer Outcome) → IsReadAs old.version asked read
     → IsReadWeighed old read a found → IsAnswerWeighed old asked a found
 record_weighed (Some x) old asked read a spelled weighed = (weighed.0, record { read = read; spelled = spelled; served = weighed.1 }, weighed.2)
 record_weighed None old asked read a spelled none = λ made step.
-    none made (subst (λ r. ServesRead IsRightOutcome old r a made) (reading_unique old.version asked step.read read step.spelled spelled) step.served)
+    none made (subst (λ r. ServesRead IsAdmissibleOutcome old r a made) (reading_unique old.version asked step.read read step.spelled spelled) step.served)
 
--- and the answer that the other record spells what the pair makes
+-- the answer that the other record encodes determines what the entry changes
 pub pair_weighed : (found : Option Change) (old : Market) (pair : Record × Record) (a : Answer Outcome) → SpellsAnswer pair.1 a
     → IsAnswerWeighed old pair.0 a found → IsWeighed old pair found
 pair_weighed (Some x) old pair a spelled weighed = record {
@@ -86,9 +86,9 @@ pair_weighed (Some x) old pair a spelled weighed = record {
 }
 pair_weighed None old pair a spelled none = λ made legal.
     let same = answer_unique legal.answer a legal.spelled.fits spelled.fits (sym legal.spelled.spelled ∙ spelled.spelled) in
-    none made (subst (λ x. Step IsReadAs IsRightOutcome old pair.0 x made) same legal.step)
+    none made (subst (λ x. Step IsReadAs IsAdmissibleOutcome old pair.0 x made) same legal.step)
 
--- a record that spells no answer makes no legal pair
+-- a record that encodes no answer makes no valid entry
 pub no_answer : (old : Market) (pair : Record × Record) → ((a : Answer Outcome) → ¬ SpellsAnswer pair.1 a) → IsWeighed old pair None
 no_answer old pair none = λ made legal. none legal.answer legal.spelled
 
@@ -105,7 +105,7 @@ pub refused_weighed : (test : Bool) (old : Market) (budget : ℕ) (a : Answer Ou
     → IsTrue test ↔ (a ≡ Plain (Refused refusal)) → IsReadWeighed old (Ok (RunBatch budget)) a (if test then Some change.Nothing else None)
 refused_weighed true old budget a refusal first tests = (old, record { first = Some refusal; refused = first; answered = (tests.0 refl, refl) }, refl)
 refused_weighed false old budget a refusal first tests = λ made serves.
-    let refuses : Serves IsRightOutcome old (RunBatch budget) (Plain (Refused refusal)) old = record { first = Some refusal; refused = first; answered = (refl, refl) } in
+    let refuses : Serves IsAdmissibleOutcome old (RunBatch budget) (Plain (Refused refusal)) old = record { first = Some refusal; refused = first; answered = (refl, refl) } in
     false≢true (tests.1 (one_refusal old (RunBatch budget) refusal a old made refuses serves).0)
 
 -- ---- batches that are due
@@ -119,11 +119,11 @@ batch_weighed old budget a o first more found = (
   record { right = found.0; more = more; made = refl },
 )
 
--- and where there is nothing to settle the answer is none
+-- if there is nothing to settle, the answer is no admissible outcome
 pub batch_not_due : (old : Market) (budget : ℕ) (a : Answer Outcome) → FirstRefusal old (RunBatch budget) None → IsOutcomeFor old budget a None
     → IsReadWeighed old (Ok (RunBatch budget)) a None
 batch_not_due old budget a first none = λ made serves.
-    none made (subst (λ f. Answers IsRightOutcome old (RunBatch budget) f a made) (one_first old (RunBatch budget) serves.first None serves.refused first) serves.answered)
+    none made (subst (λ f. Answers IsAdmissibleOutcome old (RunBatch budget) f a made) (one_first old (RunBatch budget) serves.first None serves.refused first) serves.answered)
 
 -- ---- steps that are made
 
@@ -141,8 +141,8 @@ module _ (old : Market) (pair : Record × Record) where
       → ServesPlain old (command_of seen) (Plain told) new → IsLegalPair old pair new
   command_made seen is told new serves =
       let c = command_of seen in
-      let there = subst (λ r. ServesRead IsRightOutcome old r is.legal.answer is.new) is.changes.is_read is.legal.step.served in
-      let here = plain_by_any IsRightOutcome old c (Plain told) new serves in
+      let there = subst (λ r. ServesRead IsAdmissibleOutcome old r is.legal.answer is.new) is.changes.is_read is.legal.step.served in
+      let here = plain_by_any IsAdmissibleOutcome old c (Plain told) new serves in
       subst (IsLegalPair old pair) (plain_commands_have_one_answer old c is.legal.answer (Plain told) is.new new is.changes.no_batch there here).1 is.legal
 
 -- ---- answers of the code

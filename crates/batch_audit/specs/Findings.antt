@@ -1,12 +1,12 @@
--- Why a pair of records is no step of a market: the first of the findings that holds, in the order of the enum. Each says what it
--- finds, and that none of those before it holds.
+-- Why an entry is no step of a market: the first of the findings that holds, in the order of the enum. Each says what
+-- it finds, and that none of those before it holds.
 use Rattle.std.specs.Prelude.{◌≡◌, ◌≢◌, ℕ, ◌+◌, ℤ, pos, List, length, None, Ok}
 use Rattle.wire_records.specs.Records.{Record}
 use Rattle.wire_records.specs.Commands.{RunBatch, Answer, Plain, Batch}
 use Rattle.wire_records.specs.Versions.{IsReadAs}
 use Rattle.wire_records.specs.declared.reply.Reply.{Reply}
 use Rattle.flow_orders.specs.Orders.{Order}
-use Rattle.flow_orders.specs.Outcomes.{Clearing, Skipping, Outcome, Cleared, Skipped, IsRightOutcome, IsWide, IsLegalFrom, EndsSettled, end_of, dual_of}
+use Rattle.flow_orders.specs.Outcomes.{Clearing, Skipping, Outcome, Cleared, Skipped, IsAdmissibleOutcome, IsWide, IsLegalFrom, EndsSettled, end_of, dual_of}
 use Rattle.price_moves.specs.Retracing.{IsFirstIllegal}
 use Rattle.batch_certificate.specs.declared.verdict.Verdict.TheVariants.{Right}
 use Rattle.batch_certificate.specs.Verdicts.{IsVerdict}
@@ -18,23 +18,23 @@ use Rattle.batch_audit.specs.Legal.{IsLegalPair}
 use Rattle.batch_audit.specs.declared.finding.Finding.{Finding}
 use Rattle.batch_audit.specs.declared.finding.Finding.TheVariants as finding
 
--- a record gets this plain reply, and so no other answer
+-- the record gets this plain reply, and so no other answer
 abbrev pub GetsReply : Market → Record → Reply → Type 0
-GetsReply market asked reply = (new : Market) × Step IsReadAs IsRightOutcome market asked (Plain reply) new
+GetsReply market asked reply = (new : Market) × Step IsReadAs IsAdmissibleOutcome market asked (Plain reply) new
 
 -- a batch of this budget is due: the record asks for it, and no refusal stops it
 pub record IsDue (market : Market) (asked : Record) (budget : ℕ) : Type 0 where
   pub asks : IsReadAs market.version asked (Ok (RunBatch budget))
   pub allowed : FirstRefusal market (RunBatch budget) None
 
--- the pair has another reply than the plain one that its record gets
+-- the entry has another reply than the plain one that its record gets
 pub record HasOtherReply (market : Market) (pair : Record × Record) (reply : Reply) : Type 0 where
   pub answer : Answer Outcome
   pub spelled : SpellsAnswer pair.1 answer
   pub gets : GetsReply market pair.0 reply
   pub other : answer ≢ Plain reply
 
--- a batch is due under this number, and the pair's reply tells no outcome under it
+-- a batch is due under this number, and the entry's reply has no outcome under it
 pub record HasOtherBatch (market : Market) (pair : Record × Record) (number : ℕ) : Type 0 where
   pub answer : Answer Outcome
   pub spelled : SpellsAnswer pair.1 answer
@@ -43,46 +43,46 @@ pub record HasOtherBatch (market : Market) (pair : Record × Record) (number : �
   pub next : number ≡ market.batches + 1
   pub other : (outcome : Outcome) → answer ≢ Batch number outcome
 
--- a batch is due, and the pair tells this clearing under its number
+-- a batch is due, and the entry's reply is this clearing under its number
 pub record TellsClearing (market : Market) (pair : Record × Record) : Type 0 where
   pub clearing : Clearing
   pub spelled : SpellsAnswer pair.1 (Batch (market.batches + 1) (Cleared clearing))
   pub budget : ℕ
   pub due : IsDue market pair.0 budget
 
--- a batch of this budget is due, and the pair tells this skip under its number
+-- a batch of this budget is due, and the entry's reply is this skip under its number
 pub record TellsSkip (market : Market) (pair : Record × Record) : Type 0 where
   pub skipping : Skipping
   pub spelled : SpellsAnswer pair.1 (Batch (market.batches + 1) (Skipped skipping))
   pub budget : ℕ
   pub due : IsDue market pair.0 budget
 
--- all of a skip is right up to the length of its trace: some order names two assets or more, and there is a byte for each move
+-- a skip is admissible up to the length of its trace: some order has two legs or more, and there is a byte for each move
 pub record HasWholeTrace (orders : List Order) (budget : ℕ) (s : Skipping) : Type 0 where
   pub wide : IsWide orders
   pub whole : length s.trace ≡ budget
 
--- and up to the moves, which end by so many parts
+-- a skip is admissible up to its moves; the excess that ends a move is counted in 1/`parts` of a unit
 pub record HasLegalTrace (parts : ℕ) (orders : List Order) (start : List ℤ) (budget : ℕ) (s : Skipping) : Type 0 where
   pub whole : HasWholeTrace orders budget s
   pub legal : IsLegalFrom parts orders start s.trace
 
--- and up to where they end: some asset is unsettled there
+-- a skip is admissible up to the end of its moves: some asset is unsettled there
 pub record EndsUnsettled (parts : ℕ) (orders : List Order) (start : List ℤ) (budget : ℕ) (s : Skipping) : Type 0 where
   pub walked : HasLegalTrace parts orders start budget s
   pub unsettled : ¬ EndsSettled parts orders start s.trace
 
--- and up to the dual floor at the start
+-- a skip is admissible up to the dual value at the start, in grains
 pub record HasStartDual (parts : ℕ) (orders : List Order) (start : List ℤ) (budget : ℕ) (s : Skipping) : Type 0 where
   pub ends : EndsUnsettled parts orders start budget s
   pub start_dual : s.start_dual ≡ pos (dual_of orders start)
 
--- a dual floor at these prices isn't the right one, which is this
+-- a published dual value, in grains, isn't the true one at these prices, which is `right`
 pub record IsOtherDual (orders : List Order) (prices : List ℤ) (told right : ℤ) : Type 0 where
   pub right_is : right ≡ pos (dual_of orders prices)
   pub other : told ≢ right
 
--- what is found of a pair of records: all findings before this one don't hold, and this one does
+-- the finding on an entry: this one holds, and none of those before it does
 abbrev pub IsFinding : Market → Record × Record → Finding → Type 0
 IsFinding m pair finding.NoReply = (answer : Answer Outcome) → ¬ SpellsAnswer pair.1 answer
 IsFinding m pair (finding.OtherReply reply) = HasOtherReply m pair reply

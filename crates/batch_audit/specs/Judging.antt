@@ -1,4 +1,4 @@
--- What the audit of one pair answers, and what it makes of the audit's market.
+-- What the audit of one entry returns, and what it makes of the audit's market.
 use Rattle.std.specs.Prelude.{◌≡◌, ◌<◌, ℕ, Option, Some, None, Result, Ok}
 use Rattle.wire_records.specs.Records.{Record}
 use Rattle.wire_records.specs.Commands.{RunBatch}
@@ -16,36 +16,36 @@ use Rattle.batch_audit.specs.declared.audit.Legality.TheVariants.{Legal, Illegal
 use Rattle.batch_audit.specs.declared.change.Change.{Change}
 use Rattle.batch_audit.specs.declared.change.Change.TheVariants.{Nothing, Command, Batch}
 
--- a legal pair makes the new market, and an illegal one leaves the old
+-- a valid entry makes the new market, and an invalid one leaves the old
 abbrev pub IsJudged : Legality → Market → Record × Record → Market → Type 0
 IsJudged Legal old pair new = IsLegalPair old pair new
 IsJudged Illegal old pair new = IsIllegalPair old pair × (new ≡ old)
 
--- what a record is read as is this command, which holds no batch, and which no refusal stops
+-- the record is read as this command, which holds no batch, and which no refusal stops
 pub record IsAcceptedPlain (old : Market) (read : Result commands.Command BodyFault) (command : commands.Command) : Type 0 where
   pub is_read : read ≡ Ok command
   pub no_batch : (budget : ℕ) → ¬ (command ≡ RunBatch budget)
   pub accepted : FirstRefusal old command None
 
--- settling an outcome, which the market may do, makes the new market
+-- the market may settle this outcome, and settling it makes the new market
 pub record IsSettling (old : Market) (outcome : Outcome) (new : Market) : Type 0 where
   pub right : MaySettle old outcome
   pub more : old.batches < most_batches
   pub made : new ≡ after_batch old (outcome_of old.orders outcome)
 
--- a change of the old market, by what a record is read as, that makes the new one: none, that of its command, or that of a batch
+-- a change of the old market that makes the new one, by what a record is read as: none, that of its command, or that of a batch
 abbrev pub Changes : Market → Result commands.Command BodyFault → Change → Market → Type 0
 Changes old read Nothing new = new ≡ old
 Changes old read (Command seen) new = IsAcceptedPlain old read (command_of seen)
 Changes old read (Batch outcome) new = IsSettling old outcome new
 
--- a pair is legal, and this is what it changes
+-- the entry is valid, and this is what it changes
 pub record IsChangeOf (old : Market) (pair : Record × Record) (change : Change) : Type 0 where
   pub new : Market
   pub legal : IsLegalPair old pair new
   pub changes : Changes old legal.step.read change new
 
--- what is made of a pair before its step: what a legal one changes, or that it is illegal
+-- the judgement of an entry before its step: what a valid one changes, or that it is invalid
 abbrev pub IsWeighed : Market → Record × Record → Option Change → Type 0
 IsWeighed old pair (Some change) = IsChangeOf old pair change
 IsWeighed old pair None = IsIllegalPair old pair

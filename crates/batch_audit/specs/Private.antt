@@ -1,4 +1,4 @@
--- Words that only private functions of the audit use.
+-- Definitions that only private functions of the audit use.
 use Rattle.std.specs.Prelude.{◌≡◌, ◌≢◌, ℤ, ℕ, List, length, Option, Some, None, Result}
 use Rattle.wire_records.specs.Records.{Record}
 use Rattle.wire_records.specs.Commands.{Command, Answer, Plain}
@@ -6,7 +6,7 @@ use Rattle.wire_records.specs.Versions.{IsReadAs}
 use Rattle.wire_records.specs.declared.command.BodyFault.{BodyFault}
 use Rattle.wire_records.specs.declared.reply.Reply.{Reply}
 use Rattle.flow_orders.specs.Orders.{Order}
-use Rattle.flow_orders.specs.Outcomes.{Clearing, Skipping, Outcome, IsRightOutcome, IsRightClearing, IsRightSkip, IsWide, EndsSettled, end_of}
+use Rattle.flow_orders.specs.Outcomes.{Clearing, Skipping, Outcome, IsAdmissibleOutcome, IsAdmissibleClearing, IsAdmissibleSkip, IsWide, EndsSettled, end_of}
 use Rattle.price_moves.specs.Retracing.{IsFirstIllegal}
 use Rattle.batch_outcome.specs.declared.outcome.Outcome as published
 use Rattle.batch_certificate.specs.declared.verdict.Verdict.TheVariants.{Right}
@@ -23,23 +23,23 @@ use Rattle.batch_audit.specs.declared.finding.Finding.{Finding}
 use Rattle.batch_audit.specs.declared.finding.Finding.TheVariants as finding
 use Rattle.batch_audit.specs.Findings.{HasWholeTrace, HasLegalTrace, EndsUnsettled, HasStartDual, IsOtherDual, IsFinding}
 
--- what a record is read as gets this answer, which makes this change; or it gets another one
+-- what a record is read as gets this answer and the change follows from it; or, without a change, it doesn't get this answer
 abbrev pub IsReadWeighed : Market → Result Command BodyFault → Answer Outcome → Option Change → Type 0
-IsReadWeighed old read answer (Some change) = (new : Market) × ServesRead IsRightOutcome old read answer new × Changes old read change new
-IsReadWeighed old read answer None = (new : Market) → ¬ ServesRead IsRightOutcome old read answer new
+IsReadWeighed old read answer (Some change) = (new : Market) × ServesRead IsAdmissibleOutcome old read answer new × Changes old read change new
+IsReadWeighed old read answer None = (new : Market) → ¬ ServesRead IsAdmissibleOutcome old read answer new
 
--- the same of a record
+-- the record gets this answer and the change follows from it; or, without a change, it doesn't get this answer
 abbrev pub IsAnswerWeighed : Market → Record → Answer Outcome → Option Change → Type 0
 IsAnswerWeighed old asked answer (Some change) =
-    (new : Market) × (made : Step IsReadAs IsRightOutcome old asked answer new) × Changes old made.read change new
-IsAnswerWeighed old asked answer None = (new : Market) → ¬ Step IsReadAs IsRightOutcome old asked answer new
+    (new : Market) × (made : Step IsReadAs IsAdmissibleOutcome old asked answer new) × Changes old made.read change new
+IsAnswerWeighed old asked answer None = (new : Market) → ¬ Step IsReadAs IsAdmissibleOutcome old asked answer new
 
--- the market settles this for a batch that is allowed, as the answer tells a right outcome; or it tells none
+-- the answer has an admissible outcome of a batch that is allowed, and this is what the market settles; or it has none
 abbrev pub IsOutcomeFor : Market → ℕ → Answer Outcome → Option published.Outcome → Type 0
-IsOutcomeFor m budget answer (Some o) = MaySettle m o × holds_batch IsRightOutcome m budget answer (after_batch m (outcome_of m.orders o))
-IsOutcomeFor m budget answer None = (new : Market) → ¬ holds_batch IsRightOutcome m budget answer new
+IsOutcomeFor m budget answer (Some o) = MaySettle m o × holds_batch IsAdmissibleOutcome m budget answer (after_batch m (outcome_of m.orders o))
+IsOutcomeFor m budget answer None = (new : Market) → ¬ holds_batch IsAdmissibleOutcome m budget answer new
 
--- what is found of an answer where this plain reply is got
+-- the finding on an answer to a record that gets this plain reply
 abbrev pub IsReplyFound : Answer Outcome → Reply → Finding → Type 0
 IsReplyFound answer reply finding.NoReply = ⊥
 IsReplyFound answer reply (finding.OtherReply right) = (right ≡ reply) × (answer ≢ Plain reply)
@@ -53,7 +53,7 @@ IsReplyFound answer reply (finding.StartDual right) = ⊥
 IsReplyFound answer reply (finding.EndDual right) = ⊥
 IsReplyFound answer reply finding.Legal = answer ≡ Plain reply
 
--- what is found of a clearing of a batch that is due
+-- the finding on a clearing of a batch that is due
 abbrev pub IsClearingFound : List Order → List ℤ → Clearing → Finding → Type 0
 IsClearingFound orders start c finding.NoReply = ⊥
 IsClearingFound orders start c (finding.OtherReply right) = ⊥
@@ -65,9 +65,9 @@ IsClearingFound orders start c (finding.TraceStep place) = ⊥
 IsClearingFound orders start c finding.AllSettled = ⊥
 IsClearingFound orders start c (finding.StartDual right) = ⊥
 IsClearingFound orders start c (finding.EndDual right) = ⊥
-IsClearingFound orders start c finding.Legal = IsRightClearing orders start c
+IsClearingFound orders start c finding.Legal = IsAdmissibleClearing orders start c
 
--- what is found of a skip of a batch that is due, by so many parts
+-- the finding on a skip of a batch that is due; the excess that ends a move is counted in 1/`parts` of a unit
 abbrev pub IsSkipFound : ℕ → List Order → List ℤ → ℕ → Skipping → Finding → Type 0
 IsSkipFound parts orders start budget s finding.NoReply = ⊥
 IsSkipFound parts orders start budget s (finding.OtherReply right) = ⊥
@@ -79,8 +79,8 @@ IsSkipFound parts orders start budget s (finding.TraceStep place) = HasWholeTrac
 IsSkipFound parts orders start budget s finding.AllSettled = HasLegalTrace parts orders start budget s × EndsSettled parts orders start s.trace
 IsSkipFound parts orders start budget s (finding.StartDual right) = EndsUnsettled parts orders start budget s × IsOtherDual orders start s.start_dual right
 IsSkipFound parts orders start budget s (finding.EndDual right) = HasStartDual parts orders start budget s × IsOtherDual orders (end_of parts orders start s.trace) s.end_dual right
-IsSkipFound parts orders start budget s finding.Legal = IsRightSkip parts orders start budget s
+IsSkipFound parts orders start budget s finding.Legal = IsAdmissibleSkip parts orders start budget s
 
--- what is found of every pair whose first record is of some kind, and whose second spells this answer
+-- this is the finding on every entry whose first record is of some kind, and whose second encodes this answer
 abbrev pub IsFoundWhere : Market → (Record → Type 0) → Answer Outcome → Finding → Type 0
 IsFoundWhere m IsAsked answer found = (pair : Record × Record) → IsAsked pair.0 → SpellsAnswer pair.1 answer → IsFinding m pair found

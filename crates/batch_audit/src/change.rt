@@ -1,14 +1,14 @@
-//! What a legal pair makes of a market.
+//! What a valid entry changes in a market.
 use batch_outcome::Outcome;
 use wire_records::CommandView;
 
-/// What a legal pair makes of the market that it was judged over, where it isn't made yet.
+/// What a valid entry changes in the market that it was judged over, before the change is made.
 #[derive(Drop)]
 pub enum Change<'a> {
-    /// Nothing: the command is refused, or the record is none.
+    /// Nothing: the command is refused, or the record is no command.
     Nothing,
-    /// What the command of the pair, which is this, makes of it. No refusal stops it, and it holds no batch.
+    /// What this command, the entry's, changes. No refusal stops it, and it holds no batch.
     Command(CommandView<'a>),
-    /// What settling a batch that ended so makes of it.
+    /// What settling a batch with this outcome changes.
     Batch(Outcome),
 }

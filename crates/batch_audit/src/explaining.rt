@@ -1,4 +1,4 @@
-//! Why a pair is no step of a market. Nothing is changed.
+//! Why an entry is no step of a market. Nothing is changed.
 ghost use Rattle.std.specs.Prelude.{◌≡◌, ◌+◌, ◌^◌, ◌<◌, ◌↔◌, ℕ, None, Ok, IsTrue, IfOk, OnErr};
 ghost use Rattle.wire_records.specs.Commands.{RunBatch, Plain};
 ghost use Rattle.wire_records.specs.CommandRecords.{IsCommand};
@@ -7,7 +7,7 @@ ghost use Rattle.wire_records.specs.Views.{command_of};
 ghost use Rattle.journal_records.specs.Views.{answer_of};
 ghost use Rattle.market_rules.specs.Market.{most_batches};
 ghost use Rattle.market_rules.specs.Step.{FirstRefusal};
-ghost use Rattle.market_rules.specs.Wanting.{MayWant, RecordMayWant};
+ghost use Rattle.market_rules.specs.Allocating.{MayAllocate, RecordMayAllocate};
 ghost use Rattle.batch_audit.specs.Findings.{IsDue};
 ghost use Rattle.batch_audit.specs.Private.{IsReplyFound, IsFoundWhere};
 
@@ -18,7 +18,7 @@ use market_core::Market;
 use std::alloc::Global;
 use wire_records::{CommandView, Memory, RecordView, Reply};
 
-// Whether a reply is this plain one.
+// Returns whether a reply is this plain one.
 pub(crate) fn is_plain(seen: &ReplyView<'_>, plain: Reply) -> bool
     ensures { IsTrue result ↔ (answer_of seen.now ≡ Plain plain) }
 {
@@ -29,7 +29,7 @@ pub(crate) fn is_plain(seen: &ReplyView<'_>, plain: Reply) -> bool
     }
 }
 
-// What is found of a reply where this plain one is got.
+// Returns the finding on a reply to a command that gets the plain reply `right`.
 fn reply_finding(seen: &ReplyView<'_>, right: Reply) -> Finding
     ensures { IsReplyFound (answer_of seen.now) right result }
 {
@@ -40,7 +40,7 @@ fn reply_finding(seen: &ReplyView<'_>, right: Reply) -> Finding
     }
 }
 
-// What is found of a reply to a command that holds no batch.
+// Returns the finding on a reply to a command that holds no batch.
 fn plain_finding(market: &Market, command: &CommandView<'_>, seen: &ReplyView<'_>) -> Finding
     requires command { IsCommand (command_of command.now) }
     requires version { IsOfVersion market.now.version (command_of command.now) }
@@ -52,7 +52,7 @@ fn plain_finding(market: &Market, command: &CommandView<'_>, seen: &ReplyView<'_
     reply_finding(seen, market.expected(command))
 }
 
-// What is found of a reply where a batch with this budget is due.
+// Returns the finding on a reply while a batch with this budget is due.
 fn outcome_finding(
     alloc: Global,
     market: &mut Market,
@@ -82,7 +82,7 @@ fn outcome_finding(
     }
 }
 
-// What is found of a reply where a batch with this budget is asked for.
+// Returns the finding on a reply to a command for a batch with this budget.
 fn batch_finding(
     alloc: Global,
     market: &mut Market,
@@ -91,7 +91,7 @@ fn batch_finding(
 ) -> Result<Finding, Memory>
     ensures found { IfOk result (IsFoundWhere market.old
         (λ asked. IsReadAs market.old.version asked (Ok (RunBatch budget))) (answer_of seen.now)) }
-    ensures wanted { OnErr result (MayWant market.old (RunBatch budget)) }
+    ensures wanted { OnErr result (MayAllocate market.old (RunBatch budget)) }
     ensures stays { market.new ≡ market.old }
 {
     if let Err(refusal) = market.batch_allowed(budget) {
@@ -100,7 +100,7 @@ fn batch_finding(
     Ok(outcome_finding(alloc, market, budget, seen)?)
 }
 
-// What is found of a reply to this record.
+// Returns the finding on a reply to this record.
 pub(crate) fn finding_of(
     alloc: Global,
     market: &mut Market,
@@ -109,7 +109,7 @@ pub(crate) fn finding_of(
 ) -> Result<Finding, Memory>
     requires next { market.old.next_order + 1 < 2 ^ 64 }
     ensures found { IfOk result (IsFoundWhere market.old (λ first. first ≡ asked.now) (answer_of seen.now)) }
-    ensures wanted { OnErr result (RecordMayWant market.old asked.now) }
+    ensures wanted { OnErr result (RecordMayAllocate market.old asked.now) }
     ensures stays { market.new ≡ market.old }
 {
     match market.read(asked) {

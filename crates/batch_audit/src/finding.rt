@@ -1,30 +1,31 @@
-//! Why a pair is no step of the market.
+//! Why an entry is no step of the market.
 use batch_certificate::Verdict;
 use wire_records::Reply;
 
-/// What is found of a pair: the first of these that holds. Places are counted from 0, and dual floors are in grains.
+/// The finding on an entry: the first of these that holds. Places are counted from 0, and dual values are in grains.
 #[derive(Clone, Copy, PartialEq, Eq)]
 pub enum Finding {
-    /// The second record spells no reply.
+    /// The second record encodes no reply.
     NoReply,
-    /// The command gets one plain reply, this one, and the pair has another.
+    /// The command gets this plain reply, and the entry has another one.
     OtherReply(Reply),
-    /// A batch is due, and the reply tells none of its number, which is this one.
+    /// A batch is due, and the reply has no outcome under its number, which is this one.
     Batch(u32),
-    /// Of a batch that cleared this is the first part that isn't right. It is never `Right`.
+    /// The first part of a batch that cleared that isn't admissible. It is never `Right`.
     Part(Verdict),
-    /// A batch was skipped, and no live order names two assets or more.
+    /// A batch was skipped, and no live order has two legs or more.
     SingleBook,
-    /// The trace of a skip hasn't as many bytes as the budget has moves.
+    /// The number of bytes in the trace of a skip isn't the number of moves in the budget.
     TraceLength,
-    /// The byte at this place of the trace is the first that names no asset, or one that is settled when its turn comes.
+    /// The byte at this place of the trace is the first that names no asset, or an asset that is settled before its
+    /// move.
     TraceStep(u32),
-    /// All assets are settled where the trace ends.
+    /// All assets are settled at the end of the trace.
     AllSettled,
-    /// The dual floor at the start isn't the right one, which is this.
+    /// The dual value at the start is false; this is the true one.
     StartDual(i128),
-    /// The dual floor at the end isn't the right one, which is this.
+    /// The dual value at the end is false; this is the true one.
     EndDual(i128),
-    /// None of these: the pair is a step of the market.
+    /// None of these: the entry is a step of the market.
     Legal,
 }

@@ -1,4 +1,4 @@
-//! What a pair would make of a market, by its reply and by what its record is read as. Nothing is changed.
+//! What an entry would change in a market, by its reply and by what its record is read as. Nothing is changed.
 ghost use Rattle.std.specs.Prelude.{◌≡◌, ◌+◌, ◌^◌, ◌<◌, ℕ, if◌then◌else◌, Some, None, Ok, IfOk, IfSome, IfNone, OnErr};
 ghost use Rattle.wire_records.specs.Commands.{RunBatch};
 ghost use Rattle.wire_records.specs.CommandRecords.{IsCommand};
@@ -6,7 +6,7 @@ ghost use Rattle.wire_records.specs.Versions.{IsOfVersion};
 ghost use Rattle.wire_records.specs.Views.{command_of};
 ghost use Rattle.wire_records.specs.declared.reply.Refusal.{Refusal as refusal_type};
 ghost use Rattle.journal_records.specs.Views.{answer_of};
-ghost use Rattle.market_rules.specs.Wanting.{MayWant, RecordMayWant};
+ghost use Rattle.market_rules.specs.Allocating.{MayAllocate, RecordMayAllocate};
 ghost use Rattle.batch_audit.specs.Private.{IsReadWeighed, IsAnswerWeighed};
 
 use crate::change::Change;
@@ -17,14 +17,14 @@ use market_core::Market;
 use std::alloc::Global;
 use wire_records::{CommandView, Memory, RecordView, Refusal, Reply};
 
-// Nothing is changed where a test holds, and else there is no step.
+// Returns the change `Nothing` if the test holds, and else `None`: there is no step.
 fn nothing_where<'a>(test: bool) -> Option<Change<'a>>
     ensures { result ≡ (if test then Some Change.Nothing else None) }
 {
     if test { Some(Change::Nothing) } else { None }
 }
 
-// The refusal that a reply is, if it is one.
+// Returns the refusal in a reply, if it is one.
 fn refusal_in(reply: Reply) -> Option<Refusal>
     ensures some { IfSome result (λ refusal. reply ≡ Reply.Refused refusal) }
     ensures none { IfNone result ((refusal : refusal_type) → ¬ (reply ≡ Reply.Refused refusal)) }
@@ -38,7 +38,7 @@ fn refusal_in(reply: Reply) -> Option<Refusal>
     }
 }
 
-// What a command that holds no batch makes of the market, where this is the reply to it.
+// Returns what a command that holds no batch changes in the market, if this is the reply to it.
 fn judge_plain<'a>(
     market: &Market,
     command: CommandView<'a>,
@@ -60,7 +60,8 @@ fn judge_plain<'a>(
     }
 }
 
-// What a batch with this budget makes of the market, where the reply tells a right outcome of it, or why it is refused.
+// Returns what a batch with this budget changes in the market, if the reply has an admissible outcome of it or its
+// refusal.
 fn judge_batch<'a>(
     alloc: Global,
     market: &mut Market,
@@ -69,7 +70,7 @@ fn judge_batch<'a>(
 ) -> Result<Option<Change<'a>>, Memory>
     ensures weighed { IfOk result (IsReadWeighed market.old (Ok (RunBatch budget)) (answer_of seen.now)) }
     ensures stays { market.new ≡ market.old }
-    ensures wanted { OnErr result (MayWant market.old (RunBatch budget)) }
+    ensures wanted { OnErr result (MayAllocate market.old (RunBatch budget)) }
 {
     if let Err(refusal) = market.batch_allowed(budget) {
         return Ok(nothing_where(is_plain(seen, Reply::Refused(refusal))));
@@ -80,7 +81,7 @@ fn judge_batch<'a>(
     }
 }
 
-// What a record makes of the market, where this is the answer to it.
+// Returns what a record changes in the market, if this is the reply to it.
 pub(crate) fn judge_record<'a>(
     alloc: Global,
     market: &mut Market,
@@ -90,7 +91,7 @@ pub(crate) fn judge_record<'a>(
     requires next { market.old.next_order + 1 < 2 ^ 64 }
     ensures weighed { IfOk result (IsAnswerWeighed market.old asked.now (answer_of seen.now)) }
     ensures stays { market.new ≡ market.old }
-    ensures wanted { OnErr result (RecordMayWant market.old asked.now) }
+    ensures wanted { OnErr result (RecordMayAllocate market.old asked.now) }
 {
     match market.read(asked) {
         Ok(CommandView::RunBatch { budget }) => Ok(judge_batch(alloc, market, budget, seen)?),

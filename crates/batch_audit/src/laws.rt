@@ -1,32 +1,32 @@
-//! What holds of legal pairs and journals, and of what is found of pairs. Each law is the contract of a function that does nothing.
+//! Laws of valid entries, of journals and of findings. Each law is the contract of a function that does nothing.
 ghost use Rattle.batch_audit.specs.Laws.{OneMarket, OneJudgement, PairsNumberOne, OneFinding, EachHasAFinding, FindingsTellLegality};
 
-/// A legal pair makes one market.
+/// A valid entry makes one market.
 pub fn one_market()
     ensures { OneMarket }
 {}
 
-/// Pairs of records are judged in one way: which are legal, which stand behind them, and what market the legal ones make.
+/// A list of entries has one judgement: which are valid, which follow them, and what market the valid ones make.
 pub fn one_judgement()
     ensures { OneJudgement }
 {}
 
-/// A legal pair gives out at most one number of an order.
+/// A valid entry gives out at most one number of an order.
 pub fn pairs_number_one()
     ensures { PairsNumberOne }
 {}
 
-/// One thing is found of a pair of records at most.
+/// There is at most one finding on an entry.
 pub fn one_finding()
     ensures { OneFinding }
 {}
 
-/// There is no pair of records of which nothing is found, in a sound market.
+/// There is a finding on each entry, in a consistent market: it can't be that there is none.
 pub fn each_has_a_finding()
     ensures { EachHasAFinding }
 {}
 
-/// A pair of records is found to be legal exactly where it is a step of the market, and where anything else is found it is
+/// The finding on an entry is `Legal` exactly if the entry is a step of the market, and with any other finding it is
 /// none.
 pub fn findings_tell_legality()
     ensures { FindingsTellLegality }

@@ -1,4 +1,4 @@
-//! Which replies to a batch tell a right outcome.
+//! Which replies to a batch have an admissible outcome.
 ghost use Rattle.std.specs.Prelude.{◌≡◌, pos, ◌^◌, ◌<◌, ◌≤◌, ◌↔◌, ℕ, None, length, All, IsTrue, IfOk, IfSome, IfNone, FitsSigned};
 ghost use Rattle.std.specs.Int.{w128};
 ghost use Rattle.weight_rows.specs.Rows.{IsPrice, IsPricedBy};
@@ -6,7 +6,7 @@ ghost use Rattle.demand_curve.specs.Demand.{IsWithin};
 ghost use Rattle.wire_records.specs.Commands.{RunBatch, Batch};
 ghost use Rattle.flow_orders.specs.Orders.{most_orders};
 ghost use Rattle.flow_orders.specs.Excess.{is_unsettled};
-ghost use Rattle.flow_orders.specs.Outcomes.{IsWide, IsRightClearing, IsRightSkip, most_budget, dual_of};
+ghost use Rattle.flow_orders.specs.Outcomes.{IsWide, IsAdmissibleClearing, IsAdmissibleSkip, most_budget, dual_of};
 ghost use Rattle.flow_orders.specs.Outcomes as outcomes;
 ghost use Rattle.flow_orders.specs.Walks.{AreSettled};
 ghost use Rattle.batch_certificate.specs.Verdicts.{IsVerdict};
@@ -30,7 +30,8 @@ use price_moves::{Retraced, retrace};
 use std::alloc::Global;
 use wire_records::Memory;
 
-// What the market settles where the reply tells a right outcome of a batch that is allowed, under the next number.
+// Returns what the market settles for a batch that is allowed, if the reply has an admissible outcome under the next
+// number.
 pub(crate) fn outcome_for(
     alloc: Global,
     market: &mut Market,
@@ -49,7 +50,7 @@ pub(crate) fn outcome_for(
     }
 }
 
-// A copy of a clearing that is right, under the next number.
+// Returns a copy of a clearing, if it is admissible and under the next number.
 fn cleared_for(
     alloc: Global,
     market: &mut Market,
@@ -60,37 +61,37 @@ fn cleared_for(
         (Batch view.now.batch (outcomes.Cleared view.now.clearing)) found) }
     ensures stays { market.new ≡ market.old }
 {
-    if view.batch() != market.batches() + 1 || !is_clearing_right(alloc, market, view)? {
+    if view.batch() != market.batches() + 1 || !is_clearing_admissible(alloc, market, view)? {
         return Ok(None);
     }
     Ok(Some(Outcome::Cleared(view.to_cleared(alloc)?)))
 }
 
-// Whether a clearing is right for the live orders and the start prices.
-fn is_clearing_right(
+// Returns whether a clearing is admissible for the live orders and the start prices.
+fn is_clearing_admissible(
     alloc: Global,
     market: &mut Market,
     view: &ClearedView<'_>,
 ) -> Result<bool, Memory>
     ensures right { IfOk result (λ right. IsTrue right
-        ↔ IsRightClearing market.old.orders (start_prices market.old) view.now.clearing) }
+        ↔ IsAdmissibleClearing market.old.orders (start_prices market.old) view.now.clearing) }
     ensures stays { market.new ≡ market.old }
 {
     Ok(verdict_on(alloc, market, view)? == Verdict::Right)
 }
 
-// The verdict on a clearing of the live orders, from the start prices.
+// Returns the verdict on a clearing of the live orders, from the start prices.
 fn verdict_on(alloc: Global, market: &mut Market, view: &ClearedView<'_>) -> Result<Verdict, Memory>
     ensures verdict { IfOk result (IsVerdict market.old.orders (start_prices market.old) view.now.clearing) }
     ensures right { IfOk result (λ verdict. (verdict ≡ Right)
-        ↔ IsRightClearing market.old.orders (start_prices market.old) view.now.clearing) }
+        ↔ IsAdmissibleClearing market.old.orders (start_prices market.old) view.now.clearing) }
     ensures stays { market.new ≡ market.old }
 {
     let start = market.start_prices(alloc)?;
     Ok(check_cleared(market.orders(), start.as_slice(), view))
 }
 
-// What is found of a clearing of a batch that is due.
+// Returns the finding on a clearing of a batch that is due.
 pub(crate) fn clearing_finding(
     alloc: Global,
     market: &mut Market,
@@ -107,7 +108,8 @@ pub(crate) fn clearing_finding(
     }
 }
 
-// A skip that is right, under the next number. The market looks at none of its walk, so that isn't copied.
+// Returns a skip, if it is admissible and under the next number. The market needs none of its walk, so that isn't
+// copied.
 fn skipped_for(
     alloc: Global,
     market: &mut Market,
@@ -120,7 +122,7 @@ fn skipped_for(
         (Batch view.now.batch (outcomes.Skipped view.now.skipping))) }
     ensures stays { market.new ≡ market.old }
 {
-    if view.batch() != market.batches() + 1 || !is_skip_right(alloc, market, budget, view)? {
+    if view.batch() != market.batches() + 1 || !is_skip_admissible(alloc, market, budget, view)? {
         return Ok(None);
     }
     Ok(Some(Outcome::Skipped(Skipped {
@@ -130,8 +132,8 @@ fn skipped_for(
     })))
 }
 
-// Whether a skip is right for the live orders, the start prices and the budget.
-fn is_skip_right(
+// Returns whether a skip is admissible for the live orders, the start prices and the budget.
+fn is_skip_admissible(
     alloc: Global,
     market: &mut Market,
     budget: u32,
@@ -139,20 +141,20 @@ fn is_skip_right(
 ) -> Result<bool, Memory>
     requires { budget ≤ most_budget }
     ensures right { IfOk result (λ right. IsTrue right
-        ↔ IsRightSkip (parts_of market.old.version) market.old.orders (start_prices market.old) budget view.now.skipping) }
+        ↔ IsAdmissibleSkip (parts_of market.old.version) market.old.orders (start_prices market.old) budget view.now.skipping) }
     ensures stays { market.new ≡ market.old }
 {
     Ok(is_legal(skip_finding(alloc, market, budget, view)?))
 }
 
-// Whether nothing was found.
+// Returns whether the finding is `Legal`.
 fn is_legal(found: Finding) -> bool
     ensures { IsTrue result ↔ (found ≡ Legal) }
 {
     found == Finding::Legal
 }
 
-// What is found of a skip of a batch that is due.
+// Returns the finding on a skip of a batch that is due.
 pub(crate) fn skip_finding(
     alloc: Global,
     market: &mut Market,
@@ -177,7 +179,7 @@ pub(crate) fn skip_finding(
     Ok(walk_finding(parts, orders, &mut work, view))
 }
 
-// Whether some order names two assets or more.
+// Returns whether some order has two legs or more.
 fn is_wide(orders: &[Order]) -> bool
     ensures { IsTrue result ↔ IsWide orders.now }
 {
@@ -189,7 +191,8 @@ fn is_wide(orders: &[Order]) -> bool
     false
 }
 
-// What is found of a skip of a wide book whose trace is as long as the budget. Its moves end by so many parts of a unit.
+// Returns the finding on a skip of a wide book whose trace is as long as the budget. The excess that ends a move is
+// counted in `parts` to a unit.
 fn walk_finding(
     parts: u16,
     orders: &[Order],
@@ -220,7 +223,7 @@ fn walk_finding(
     }
 }
 
-// The dual floor of a book at these prices, where another one is told.
+// Returns the dual value of a book at these prices, if `told` is another number.
 fn other_dual(orders: &[Order], prices: &[i64], told: i128) -> Option<i128>
     requires few { length orders.now ≤ most_orders }
     requires range { All IsPrice prices.now }
@@ -236,7 +239,7 @@ fn other_dual(orders: &[Order], prices: &[i64], told: i128) -> Option<i128>
     Some(right)
 }
 
-// Whether all assets are settled.
+// Returns whether all assets are settled.
 fn are_settled(work: &Workspace<'_>) -> bool
     ensures { IsTrue result ↔ AreSettled (length work.now.prices) (is_unsettled work.now.orders) work.now.prices }
 {

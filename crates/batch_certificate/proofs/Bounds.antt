@@ -1,4 +1,4 @@
--- The residual of a settled asset is bounded, and so is the gap of bounded residuals.
+-- The imbalance of a settled asset is bounded, and so is the gap of imbalances within their tolerances.
 use Rattle.std.proofs.Common.{◌≡◌, ◌<◌, ◌≤◌, ◌≤ℤ◌, ℕ, ℤ, pos, List, [], ◌∷◌, map, length, refl, ap, sym, subst, ◌∙◌, arith}
 use Rattle.std.specs.Prelude.{All, unsigned_abs}
 use Rattle.std.proofs.lemmas.List.FromFn.{length-map-range_with_len, get_or-map-range_with_len}
@@ -7,9 +7,9 @@ use Rattle.demand_curve.specs.Demand.{IsRounding}
 use Rattle.flow_orders.specs.Orders.{Order, IsOrder, terms_of}
 use Rattle.flow_orders.specs.Excess.{price_for, residual_bound}
 use Rattle.flow_orders.specs.Trades.{Trade, trades, residual}
-use Rattle.flow_orders.specs.Outcomes.{Fill, trades_of, fill_of, residuals_of, gap_of, IsRightClearing, clearing_at}
+use Rattle.flow_orders.specs.Outcomes.{Fill, trades_of, fill_of, residuals_of, gap_of, IsAdmissibleClearing, clearing_at}
 use Rattle.flow_orders.specs.Welfare.{IsOptimalWithin}
-use Rattle.flow_orders.proofs.Book.{IsSound, IsSettled}
+use Rattle.flow_orders.proofs.Book.{IsConsistent, IsSettled}
 use Rattle.flow_orders.proofs.Moving.{settled_is}
 use Rattle.flow_orders.proofs.GapBound.{gaps_are_bounded}
 use Rattle.flow_orders.proofs.Optimal.{roundings_are_optimal}
@@ -22,30 +22,30 @@ pub settled_residuals_are_bounded : SettledResidualsAreBounded
 settled_residuals_are_bounded orders prices rates asset each rounded settled =
     let ts = trades orders rates in
     let before : before_fills ts ≡ orders = before-trades orders rates rounded.one_each in
-    let sound : All IsSound orders = λ k d inside. let o = each k d inside in record { limits = o.terms; lawful = o.row } in
-    let bound = residual_within_bound (λ (t : Trade). t.order) (λ t. t.traded) ts prices asset (All-trades IsSound orders rates sound) rounded.roundings
+    let consistent : All IsConsistent orders = λ k d inside. let o = each k d inside in record { limits = o.terms; lawful = o.row } in
+    let bound = residual_within_bound (λ (t : Trade). t.order) (λ t. t.traded) ts prices asset (All-trades IsConsistent orders rates consistent) rounded.roundings
     (subst (λ l. IsSettled l prices asset) (sym before) (settled_is orders prices asset settled)) in
     subst (λ l. unsigned_abs (residual ts asset) ≤ residual_bound l asset) before bound
 
--- ---- a certificate as a right clearing
--- the rates of trades
+-- ---- a certificate as an admissible clearing
+-- the published rates of trades are the rates
 rates_back : (orders : List Order) (rates : List ℕ) → length rates ≡ length orders → map (λ (f : Fill). f.rate) (map fill_of (trades orders rates)) ≡ rates
 rates_back [] [] count = refl
 rates_back [] (x ∷ rates) count = absurd (omega (arith, count))
 rates_back (o ∷ orders) [] count = absurd (omega (arith, count))
 rates_back (o ∷ orders) (x ∷ rates) count = ap (λ l. x ∷ l) (rates_back orders rates (omega (arith, count)))
 
--- their numbers
+-- the published numbers of trades are their orders' numbers
 numbers_back : (orders : List Order) (rates : List ℕ) → length rates ≡ length orders → map (λ (f : Fill). f.order) (map fill_of (trades orders rates)) ≡ map (λ (o : Order). o.number) orders
 numbers_back [] [] count = refl
 numbers_back [] (x ∷ rates) count = absurd (omega (arith, count))
 numbers_back (o ∷ orders) [] count = absurd (omega (arith, count))
 numbers_back (o ∷ orders) (x ∷ rates) count = ap (λ l. o.number ∷ l) (numbers_back orders rates (omega (arith, count)))
 
--- roundings whose residuals are bounded clear the orders rightly
+-- roundings whose imbalances are within their tolerances give an admissible clearing
 right_at : (orders : List Order) (prices : List ℤ) (rates : List ℕ) → All IsPrice prices → AreRoundings orders prices rates
     → ((asset : ℕ) → asset < length prices → unsigned_abs (residual (trades orders rates) asset) ≤ residual_bound orders asset)
-    → IsRightClearing orders prices (clearing_at (length prices) prices (trades orders rates))
+    → IsAdmissibleClearing orders prices (clearing_at (length prices) prices (trades orders rates))
 right_at orders prices rates small rounded bounded =
     let ts = trades orders rates in
     let back : trades_of orders (map fill_of ts) ≡ ts = ap (trades orders) (rates_back orders rates rounded.one_each) in
@@ -60,7 +60,7 @@ right_at orders prices rates small rounded bounded =
       gap_is = rw back refl;
     }
 
--- a residual in the list of them
+-- an imbalance in the list of imbalances
 pub residual_at : (n : ℕ) (ts : List Trade) (asset : ℕ) → asset < n → price_of (residuals_of n ts) asset ≡ residual ts asset
 residual_at n ts asset inside = get_or-map-range_with_len (residual ts) 0 n asset asset (pos 0) inside (omega arith)
 

@@ -1,4 +1,4 @@
--- Each clearing of lawful orders has a verdict: every part is right or wrong.
+-- Each clearing of orders within the limits has a verdict: every part is right or wrong.
 use Rattle.std.proofs.Common.{◌≡◌, ℕ, zero, suc, ◌+◌, ◌*◌, ◌^◌, ◌<◌, ◌≤◌, ℤ, ◌-ℤ◌, List, [], ◌∷◌, Option, Some, None, map, length, get_or, slice_get, drop, ◌⊎◌, inl, inr, refl, ap, ⊎_elim, arith}
 use Rattle.std.specs.Prelude.{unsigned_abs, All, IfSome}
 use Rattle.std.proofs.lemmas.Int.{ints}

@@ -1,13 +1,13 @@
--- A clearing has one verdict, and it is `Right` exactly where the clearing is right.
+-- A clearing has one verdict, and it is `Right` exactly if the clearing is admissible.
 use Rattle.std.proofs.Common.{◌≡◌, ◌↔◌, ℤ, List, length, refl, ap, subst}
 use Rattle.flow_orders.specs.Orders.{Order}
-use Rattle.flow_orders.specs.Outcomes.{Clearing, IsRightClearing}
+use Rattle.flow_orders.specs.Outcomes.{Clearing, IsAdmissibleClearing}
 use Rattle.batch_certificate.specs.declared.verdict.Verdict.{Verdict}
 use Rattle.batch_certificate.specs.declared.verdict.Verdict.TheVariants.{Right, Count, Price, Rate, Residual, Gap}
 use Rattle.batch_certificate.specs.Verdicts.{IsPriceRight, IsRateRight, IsResidualRight, IsVerdict}
-use Rattle.batch_certificate.specs.Laws.{OneVerdict, RightIsForRightClearings}
+use Rattle.batch_certificate.specs.Laws.{OneVerdict, RightIsForAdmissibleClearings}
 use Rattle.batch_certificate.proofs.Places.{first_is_one, no_first}
-use Rattle.batch_certificate.proofs.Verdicts.{right_clearing, right_parts}
+use Rattle.batch_certificate.proofs.Verdicts.{admissible_clearing, right_parts}
 
 pub one_verdict : OneVerdict
 one_verdict orders start c Count Count a b = refl
@@ -47,11 +47,11 @@ one_verdict orders start c Right (Residual k) a b = absurd (no_first (IsResidual
 one_verdict orders start c Right Gap a b = absurd (b.1 a.1)
 one_verdict orders start c Right Right a b = refl
 
-pub right_where : (orders : List Order) (start : List ℤ) (c : Clearing) (v : Verdict) → IsVerdict orders start c v → (v ≡ Right) ↔ IsRightClearing orders start c
+pub right_where : (orders : List Order) (start : List ℤ) (c : Clearing) (v : Verdict) → IsVerdict orders start c v → (v ≡ Right) ↔ IsAdmissibleClearing orders start c
 right_where orders start c v verdict = (
-  (λ is. let right = subst (IsVerdict orders start c) is verdict in right_clearing orders start c right.0 right.1),
+  (λ is. let right = subst (IsVerdict orders start c) is verdict in admissible_clearing orders start c right.0 right.1),
   (λ right. one_verdict orders start c v Right verdict (right_parts orders start c right)),
 )
 
-pub right_is_for_right_clearings : RightIsForRightClearings
-right_is_for_right_clearings orders start c = ((λ right. right_clearing orders start c right.0 right.1), right_parts orders start c)
+pub right_is_for_admissible_clearings : RightIsForAdmissibleClearings
+right_is_for_admissible_clearings orders start c = ((λ right. admissible_clearing orders start c right.0 right.1), right_parts orders start c)

@@ -16,7 +16,7 @@ one_more Holds k before here j inside =
 pub all_below : (Holds : ℕ → Type 0) (n k : ℕ) → n ≤ k → HoldsBelow Holds k → HoldsBelow Holds n
 all_below Holds n k past before j inside = before j (omega (arith, past, inside))
 
--- what holds exactly where something else holds fails first where that does
+-- facts that hold at the same places fail first at the same place
 pub first_wrong_as : (P Q : ℕ → Type 0) (n k : ℕ) → ((j : ℕ) → j < n → P j → Q j) → ((j : ℕ) → j < n → Q j → P j) → IsFirstWrong P n k → IsFirstWrong Q n k
 first_wrong_as P Q n k there back first = record {
   inside = first.inside;
@@ -32,6 +32,6 @@ first_is_one P n j k a b =
     (λ not_below. ⊎_elim (λ above. absurd (b.wrong (a.before k above))) (λ not_above. omega (arith, not_below, not_above)) (cases_lt k j))
     (cases_lt j k)
 
--- and where something holds at all places there is none
+-- if something holds at all places, it fails first at none
 pub no_first : (P : ℕ → Type 0) (n k : ℕ) → HoldsBelow P n → ¬ IsFirstWrong P n k
 no_first P n k all first = first.wrong (all k first.inside)

@@ -1,4 +1,4 @@
--- A rounding is within the highest rate.
+-- A rounding is at most the highest rate.
 use Rattle.std.proofs.Common.{ℕ, ◌≤◌, ℤ, arith}
 use Rattle.demand_curve.specs.Demand.{Terms, IsWithinLimits, IsRounding, most_rate}
 use Rattle.demand_curve.proofs.RoundingLaws.{rounding_is_within_room}

@@ -1,4 +1,4 @@
--- The residuals and the losses of trades, trade by trade, and what residuals cost, asset by asset.
+-- The imbalances and the losses of trades, trade by trade, and what imbalances cost, asset by asset.
 use Rattle.std.proofs.Common.{◌≡◌, ℕ, zero, suc, ◌+◌, ◌*◌, ◌^◌, ◌<◌, ◌≤◌, ℤ, pos, ◌+ℤ◌, ◌-ℤ◌, ◌*ℤ◌, List, [], ◌∷◌, map, length, take, get_or, to_z, of_z, refl, sym, ap, ◌∙◌, subst, ⊎_elim, arith}
 use Rattle.std.specs.Prelude.{unsigned_abs, All, FitsSigned}
 use mir.Syntax.{w128}
@@ -12,7 +12,7 @@ use Rattle.std.proofs.lemmas.List.FromFn.{length-map-range_with_len, get_or-map-
 use Rattle.list_sums.specs.Sums.{int_sum_by}
 use Rattle.list_sums.proofs.Products.{unsigned_abs-add, unsigned_abs-mul_le}
 use Rattle.list_sums.proofs.SumLemmas.{int_sum_by_more, int_sum_by-range}
-use Rattle.weight_rows.specs.Rows.{IsLawfulRow, IsPrice, weight_in, price_of}
+use Rattle.weight_rows.specs.Rows.{IsWeightVector, IsPrice, weight_in, price_of}
 use Rattle.weight_rows.proofs.RowLawProofs.{weights_are_small}
 use Rattle.demand_curve.specs.Demand.{most_rate, IsRounding, loss}
 use Rattle.flow_orders.specs.Orders.{Order, IsOrder, most_orders, terms_of}
@@ -26,15 +26,15 @@ use Rattle.batch_certificate.proofs.Rates.{rate_is_small}
 use Rattle.excess_bounds.specs.Quotes.{Quote, quote_at, quotes_at}
 use Rattle.excess_bounds.proofs.Quoting.{quote_here}
 
--- ---- sums as the code makes them
+-- ---- sums as the code computes them
 pub fits : (z : ℤ) → unsigned_abs z ≤ 2 ^ 120 → FitsSigned w128 z
 fits z small = fits_signed_from_abs w128 z (omega (arith, small))
 
--- a sum that fits is kept
+-- a sum that fits 128 bits is exact
 sum_kept : (a b : ℤ) → unsigned_abs b ≤ 2 ^ 120 → unsigned_abs (a +ℤ b) ≤ 2 ^ 120 → to_z w128 (of_z w128 (a +ℤ to_z w128 (of_z w128 b))) ≡ a +ℤ b
 sum_kept a b part both = rw (to_z-of_z w128 b (fits b part)) (to_z-of_z w128 (a +ℤ b) (fits (a +ℤ b) both))
 
--- a difference that fits is kept
+-- a difference that fits 128 bits is exact
 difference_kept : (a b : ℤ) → unsigned_abs a ≤ 2 ^ 120 → unsigned_abs b ≤ 2 ^ 120 → to_z w128 (of_z w128 (a -ℤ to_z w128 (of_z w128 b))) ≡ a -ℤ b
 difference_kept a b first second =
     let both : unsigned_abs (a -ℤ b) ≤ 2 ^ 121 = omega (arith, ints, first, second) in
@@ -53,7 +53,7 @@ get_or-trades (e ∷ orders) [] i d o x count inside = absurd (omega (arith, cou
 get_or-trades (e ∷ orders) (y ∷ rates) zero d o x count inside = refl
 get_or-trades (e ∷ orders) (y ∷ rates) (suc i) d o x count inside = get_or-trades orders rates i d o x (omega (arith, count)) (omega (arith, inside))
 
--- the trade of the loop's turn
+-- trade i is that of this order and rate
 pub record IsTurn (orders : List Order) (rates : List ℕ) (i : ℕ) (o : Order) (x : ℕ) : Type 0 where
   pub count : length rates ≡ length orders
   pub inside : i < length orders
@@ -64,12 +64,12 @@ pub trade_at : (orders : List Order) (rates : List ℕ) (i : ℕ) (o : Order) (x
 trade_at orders rates i o x turn =
     get_or-trades orders rates i (record { order = o; traded = x }) o x turn.count turn.inside ∙ (rw (← turn.order, ← turn.rate) refl)
 
--- what holds of each trade holds of the turn's
+-- what holds of each trade holds of trade i
 pub at_turn : (P : Trade → Type 0) (orders : List Order) (rates : List ℕ) (i : ℕ) (o : Order) (x : ℕ) → IsTurn orders rates i o x → All P (trades orders rates) → P (record { order = o; traded = x })
 at_turn P orders rates i o x turn each =
     subst P (trade_at orders rates i o x turn) (each i (record { order = o; traded = x }) (omega (arith, turn.inside, length-trades orders rates turn.count)))
 
--- and what holds of the first trades holds of the turn's too
+-- what holds of the first i trades and of trade i holds of the first i + 1
 pub one_more_holds : (P : Trade → Type 0) (orders : List Order) (rates : List ℕ) (i : ℕ) (o : Order) (x : ℕ) → IsTurn orders rates i o x → All P (take i (trades orders rates)) → P (record { order = o; traded = x })
     → All P (take (i + 1) (trades orders rates))
 one_more_holds P orders rates i o x turn before holds =
@@ -80,7 +80,7 @@ one_more_holds P orders rates i o x turn before holds =
 abbrev pub loss_at : List ℤ → Trade → ℕ
 loss_at prices t = loss (terms_of t.order) t.traded (price_for prices t.order)
 
--- what the first i trades leave over is added
+-- the imbalances of the first i trades are added
 pub record AreAdded (n : ℕ) (ts : List Trade) (i : ℕ) (residuals : List ℤ) : Type 0 where
   pub left : HasEach n (residual (take i ts)) residuals
   pub near : AreNear (i * 2 ^ 36) residuals
@@ -95,12 +95,12 @@ none_added n ts residuals zeros = record {
       (cases_lt a (length residuals));
 }
 
-received_small : (t : Trade) (asset : ℕ) → IsLawfulRow t.order.row → t.traded ≤ most_rate → unsigned_abs (received asset t) ≤ 2 ^ 36
+received_small : (t : Trade) (asset : ℕ) → IsWeightVector t.order.row → t.traded ≤ most_rate → unsigned_abs (received asset t) ≤ 2 ^ 36
 received_small t asset lawful slow =
     omega (arith, unsigned_abs-mul_le (weight_in t.order.row asset) (pos t.traded) 4096 (2 ^ 24) (weights_are_small t.order.row asset lawful) slow)
 
 pub one_added : (n : ℕ) (orders : List Order) (rates : List ℕ) (i : ℕ) (o : Order) (x : ℕ) (now new : List ℤ) → IsTurn orders rates i o x → AreAdded n (trades orders rates) i now → IsTradeAdded o.row x now new
-    → IsLawfulRow o.row → x ≤ most_rate → AreAdded n (trades orders rates) (i + 1) new
+    → IsWeightVector o.row → x ≤ most_rate → AreAdded n (trades orders rates) (i + 1) new
 one_added n orders rates i o x now new turn before added lawful slow =
     let ts = trades orders rates in
     let t : Trade = record { order = o; traded = x } in
@@ -147,7 +147,7 @@ one_lost prices orders rates i o x sum lost turn before is small few =
       small = rw kept bound;
     }
 
--- both
+-- the imbalances of the first i trades, and what they lose, are added
 pub record AreSummed (n : ℕ) (prices : List ℤ) (ts : List Trade) (i : ℕ) (residuals : List ℤ) (lost : ℤ) : Type 0 where
   pub added : AreAdded n ts i residuals
   pub losses : AreLost prices ts i lost
@@ -157,14 +157,14 @@ none_summed n prices ts residuals zeros = record { added = none_added n ts resid
 
 pub one_summed : (n : ℕ) (prices : List ℤ) (orders : List Order) (rates : List ℕ) (i : ℕ) (o : Order) (x : ℕ) (now new : List ℤ) (sum lost : ℤ)
     → IsTurn orders rates i o x → AreSummed n prices (trades orders rates) i now sum → IsTradeAdded o.row x now new
-    → lost ≡ pos (loss (terms_of o) x (price_for prices o)) → unsigned_abs lost ≤ 2 ^ 60 → IsLawfulRow o.row → x ≤ most_rate
+    → lost ≡ pos (loss (terms_of o) x (price_for prices o)) → unsigned_abs lost ≤ 2 ^ 60 → IsWeightVector o.row → x ≤ most_rate
     → length orders ≤ most_orders → AreSummed n prices (trades orders rates) (i + 1) new (to_z w128 (of_z w128 (sum +ℤ to_z w128 (of_z w128 lost))))
 one_summed n prices orders rates i o x now new sum lost turn before added is small lawful slow few = record {
   added = one_added n orders rates i o x now new turn before.added added lawful slow;
   losses = one_lost prices orders rates i o x sum lost turn before.losses is small few;
 }
 
--- numbers for each place are the list of them
+-- a list that has a number for each place is the list of these numbers
 pub each_is : (n : ℕ) (f : ℕ → ℤ) (list : List ℤ) → HasEach n f list → list ≡ map f (range_with_len 0 n)
 each_is n f list has =
     ext_get_or (pos 0) list (map f (range_with_len 0 n)) (has.count ∙ sym (length-map-range_with_len f 0 n))
@@ -197,8 +197,8 @@ all_summed n prices orders rates i residuals lost few count all before = record 
   small = omega (arith, before.losses.small, few, all);
 }
 
--- what is left over is small, however it was added
-residual_small : (ts : List Trade) (asset : ℕ) → All (λ t. IsLawfulRow t.order.row) ts → All (λ t. t.traded ≤ most_rate) ts → unsigned_abs (residual ts asset) ≤ length ts * 2 ^ 36
+-- an imbalance is small, at whatever rates
+residual_small : (ts : List Trade) (asset : ℕ) → All (λ t. IsWeightVector t.order.row) ts → All (λ t. t.traded ≤ most_rate) ts → unsigned_abs (residual ts asset) ≤ length ts * 2 ^ 36
 residual_small [] asset lawful slow = omega arith
 residual_small (t ∷ ts) asset lawful slow =
     let here = received_small t asset (lawful 0 t (omega arith)) (slow 0 t (omega arith)) in
@@ -209,7 +209,7 @@ pub residuals_count : (n : ℕ) (ts : List Trade) (residuals : List ℤ) → res
 residuals_count n ts residuals are = ap length are ∙ length-map-range_with_len (residual ts) 0 n
 
 pub residuals_near : (n : ℕ) (orders : List Order) (rates : List ℕ) (residuals : List ℤ) → length orders ≤ most_orders → length rates ≡ length orders
-    → All (λ t. IsLawfulRow t.order.row) (trades orders rates) → All (λ t. t.traded ≤ most_rate) (trades orders rates) → residuals ≡ residuals_of n (trades orders rates) → AreNear (2 ^ 50) residuals
+    → All (λ t. IsWeightVector t.order.row) (trades orders rates) → All (λ t. t.traded ≤ most_rate) (trades orders rates) → residuals ≡ residuals_of n (trades orders rates) → AreNear (2 ^ 50) residuals
 residuals_near n orders rates residuals few count lawful slow are a =
     let ts = trades orders rates in
     let length_is : length (residuals_of n ts) ≡ n = length-map-range_with_len (residual ts) 0 n in
@@ -219,7 +219,7 @@ residuals_near n orders rates residuals few count lawful slow are a =
     (λ past. rw (get_or_past (residuals_of n ts) a (pos 0) (omega (arith, past, length_is))) (omega arith))
     (cases_lt a n))
 
--- the turn of a quote
+-- the order of a quote
 some_order : (orders : List Order) (i : ℕ) → i < length orders → Order
 some_order [] i inside = absurd (omega (arith, inside))
 some_order (o ∷ orders) i inside = o
@@ -253,7 +253,7 @@ range_more f a (suc n) =
     let sum = range_more f (a + 1) n in
     rw shift (omega (arith, ints, sum, ap f next))
 
--- the first i residuals' cost
+-- the cost of the first i imbalances
 pub record IsCostBefore (prices residuals : List ℤ) (i : ℕ) (sum : ℤ) : Type 0 where
   pub value : sum ≡ int_sum_by (cost_at prices residuals) (range_with_len 0 i)
   pub small : unsigned_abs sum ≤ i * 2 ^ 112
@@ -261,7 +261,7 @@ pub record IsCostBefore (prices residuals : List ℤ) (i : ℕ) (sum : ℤ) : Ty
 pub no_cost : (prices residuals : List ℤ) → IsCostBefore prices residuals 0 (pos 0)
 no_cost prices residuals = record { value = refl; small = omega arith }
 
--- what the code has after one residual more: its sum in 128 bits fits, and is the sum of one cost more
+-- what the code has after one imbalance more: its sum in 128 bits fits, and is the sum of one cost more
 pub record HasGrown (prices residuals : List ℤ) (i : ℕ) (sum part : ℤ) : Type 0 where
   pub fits : FitsSigned w128 (sum +ℤ to_z w128 (of_z w128 part))
   pub next : IsCostBefore prices residuals (i + 1) (to_z w128 (of_z w128 (sum +ℤ to_z w128 (of_z w128 part))))
@@ -284,7 +284,7 @@ cost_grows prices residuals i sum part few inside range near is before =
 pub all_costs : (prices residuals : List ℤ) (i : ℕ) (sum : ℤ) → i ≡ length prices → IsCostBefore prices residuals i sum → sum ≡ int_sum_by (cost_at prices residuals) (range_with_len 0 (length prices))
 all_costs prices residuals i sum all before = rw (← all) before.value
 
--- the cost of residuals that are those of trades
+-- the cost of imbalances that are those of trades
 pub cost_is : (prices : List ℤ) (ts : List Trade) → int_sum_by (cost_at prices (residuals_of (length prices) ts)) (range_with_len 0 (length prices)) ≡ residual_cost prices ts
 cost_is prices ts =
     let n = length prices in

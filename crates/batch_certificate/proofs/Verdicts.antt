@@ -17,7 +17,7 @@ use Rattle.demand_curve.specs.Demand.{IsRounding, loss}
 use Rattle.flow_orders.specs.Orders.{Order, IsOrder, terms_of}
 use Rattle.flow_orders.specs.Excess.{price_for, steepness, residual_bound}
 use Rattle.flow_orders.specs.Trades.{Trade, trades, residual, residual_cost}
-use Rattle.flow_orders.specs.Outcomes.{Fill, Clearing, IsUnnamed, IsRightClearing, trades_of, residuals_of, gap_of}
+use Rattle.flow_orders.specs.Outcomes.{Fill, Clearing, IsUnnamed, IsAdmissibleClearing, trades_of, residuals_of, gap_of}
 use Rattle.flow_orders.specs.Residuals.{residual_in}
 use Rattle.batch_certificate.specs.Residuals.{cost_at}
 use Rattle.batch_certificate.specs.Verdicts.{HoldsBelow, IsFirstWrong, IsPriceRight, IsRateRight, IsResidualRight, IsGapRight, HasRightPrices, HasRightRates, HasRightResiduals}
@@ -33,7 +33,7 @@ rate_for_each orders c numbers =
     omega (arith, ap length numbers, length-map c.fills (λ (f : Fill). f.rate), length-map c.fills (λ (f : Fill). f.order), length-map orders (λ (o : Order). o.number))
 
 -- ---- rates
--- what holds of the trade of a turn holds at its place
+-- the trade at place i, if it is that of this order and rate
 slice_at : (orders : List Order) (rates : List ℕ) (i : ℕ) (o : Order) (x : ℕ) → IsTurn orders rates i o x → slice_get (trades orders rates) i ≡ Some (record { order = o; traded = x })
 slice_at orders rates i o x turn =
     slice_get-get_or (trades orders rates) i (record { order = o; traded = x }) (omega (arith, turn.inside, length-trades orders rates turn.count)) ∙ ap (λ (t : Trade). Some t) (trade_at orders rates i o x turn)
@@ -41,7 +41,7 @@ slice_at orders rates i o x turn =
 pub rates_count : (orders : List Order) (c : Clearing) → length c.fills ≡ length orders → length (rates_in c) ≡ length orders
 rates_count orders c one_each = length-map c.fills (λ (f : Fill). f.rate) ∙ one_each
 
--- the turn of a loop over the orders that reads the rates
+-- the trade at place i, in a loop over the orders that reads the rates
 pub turn_of : (orders : List Order) (c : Clearing) (i : ℕ) (o : Order) (x : ℕ) → length c.fills ≡ length orders → i < length orders → o ≡ get_or orders i o → x ≡ get_or (rates_in c) i 0 → IsTurn orders (rates_in c) i o x
 turn_of orders c i o x one_each inside order rate =
     let count = rates_count orders c one_each in
@@ -73,7 +73,7 @@ places_from_all P ts n count all k inside =
     (slice_get_cases ts k).1
 
 -- ---- prices
--- an asset's spread is 0 exactly where no order names it
+-- an asset's rounding bound is 0 exactly if no order names it
 pub no_spread : (orders : List Order) (asset : ℕ) → All IsOrder orders → IsUnnamed orders asset → weighed unsigned_abs orders asset ≡ 0
 no_spread orders asset each none =
     let zeros : All (λ (o : Order). unsigned_abs (weight_in o.row asset) ≤ 0) orders = λ k d inside.
@@ -111,7 +111,7 @@ prices_in_range orders start prices c spreads n same count kept k d inside =
     let here : k < length c.prices = subst (λ l. k < length l) same inside in
     rw (same, get_or_default c.prices k d (pos 0) here) (kept k (omega (arith, here, count))).0
 
--- ---- residuals
+-- ---- imbalances
 module _ (orders : List Order) (c : Clearing) (residuals : List ℤ) (spreads squares : List ℕ) (n : ℕ) (left : residuals ≡ residuals_of n (trades_of orders c.fills))
     (sums : HasCounts n (weighed unsigned_abs orders) spreads) (squared : HasCounts n (weighed square orders) squares) where
   here_is : (k : ℕ) → k < n → residual_in residuals k ≡ residual (trades_of orders c.fills) k
@@ -157,7 +157,7 @@ module _ (orders : List Order) (start : List ℤ) (c : Clearing) (prices residua
     residuals = λ k inside. residual_is_right orders c residuals spreads squares (length prices) left sums squared k (omega (arith, inside, places, priced.counted.residuals)) (within k (omega (arith, inside, priced.counted.residuals)));
   }
 
--- what was lost less what the residuals cost is the gap
+-- what was lost less what the imbalances cost is the gap
 pub gap_where : (orders : List Order) (c : Clearing) (prices residuals : List ℤ) (lost cost : ℤ) → prices ≡ c.prices → residuals ≡ residuals_of (length prices) (trades_of orders c.fills)
     → lost ≡ pos (sum_by (λ t. loss (terms_of t.order) t.traded (price_for prices t.order)) (trades_of orders c.fills)) → unsigned_abs lost ≤ 2 ^ 74
     → cost ≡ int_sum_by (cost_at prices residuals) (range_with_len 0 (length prices)) → unsigned_abs cost ≤ 2 ^ 118
@@ -167,9 +167,9 @@ gap_where orders c prices residuals lost cost same left lost_is lost_small is sm
     rw (to_z-of_z w128 lost (fits lost (omega (arith, lost_small))), to_z-of_z w128 cost (fits cost (omega (arith, small))))
     (rw (← same, lost_is, costs) refl)
 
--- ---- a clearing that is right
-pub right_clearing : (orders : List Order) (start : List ℤ) (c : Clearing) → HasRightResiduals orders start c → IsGapRight orders c → IsRightClearing orders start c
-right_clearing orders start c right gap =
+-- ---- an admissible clearing
+pub admissible_clearing : (orders : List Order) (start : List ℤ) (c : Clearing) → HasRightResiduals orders start c → IsGapRight orders c → IsAdmissibleClearing orders start c
+admissible_clearing orders start c right gap =
     let priced = right.rated.priced in
     let counted = priced.counted in
     let ts = trades_of orders c.fills in
@@ -185,7 +185,7 @@ right_clearing orders start c right gap =
       gap_is = gap;
     }
 
-pub right_parts : (orders : List Order) (start : List ℤ) (c : Clearing) → IsRightClearing orders start c → HasRightResiduals orders start c × IsGapRight orders c
+pub right_parts : (orders : List Order) (start : List ℤ) (c : Clearing) → IsAdmissibleClearing orders start c → HasRightResiduals orders start c × IsGapRight orders c
 right_parts orders start c right =
     let ts = trades_of orders c.fills in
     let n = length start in

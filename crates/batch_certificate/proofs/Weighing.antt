@@ -1,4 +1,4 @@
--- Adding what the weights of orders come to, entry by entry and order by order.
+-- Adding up the weights of orders, leg by leg and order by order.
 use Rattle.std.proofs.Common.{◌≡◌, ◌≢◌, ℕ, suc, ◌+◌, ◌*◌, ◌^◌, ◌<◌, ◌≤◌, ℤ, pos, eqb, cond, List, [], ◌∷◌, length, take, get_or, set, refl, sym, ap, ◌∙◌, subst, ⊎_elim, le_trans, arith}
 use Rattle.std.proofs.Math.Nat.{mul-le-mul}
 use Rattle.std.specs.Prelude.{unsigned_abs, All}
@@ -9,14 +9,14 @@ use Rattle.std.proofs.lemmas.List.{get_or-set_other, get_or-set_same, get_or_pas
 use Rattle.std.proofs.lemmas.List.Elements.{All-take}
 use Rattle.std.proofs.lemmas.List.Sums.{sum_by-cons, sum_by_more, sum_by-le}
 use Rattle.weight_rows.specs.declared.entries.Entry.{Entry}
-use Rattle.weight_rows.specs.Rows.{most_weight, IsLawfulRow, weight_in}
+use Rattle.weight_rows.specs.Rows.{most_weight, IsWeightVector, weight_in}
 use Rattle.weight_rows.proofs.RowLawProofs.{weights_are_small}
 use Rattle.flow_orders.specs.Orders.{Order}
 use Rattle.batch_certificate.specs.Weighing.{count_in, AreSmall, HasCounts, HasGrownBy, square, weighed}
 use Rattle.flow_orders.proofs.AddedRows.{AreApart, lawful_apart}
 
 module _ (f : ℤ → ℕ) where
-  -- what an entry gives to an asset
+  -- what a leg adds to the number of an asset
   pub given : ℕ → Entry → ℕ
   given asset e = cond (eqb e.asset asset) (f e.weight) 0
 
@@ -27,7 +27,7 @@ module _ (f : ℤ → ℕ) where
       let rest = none_given asset row (λ k d inside. absent (suc k) d (omega (arith, inside))) in
       sum_by-cons (given asset) e row ∙ (rw (ne_eqb e.asset asset (absent 0 e (omega arith))) (omega (arith, rest)))
 
-  -- all entries together give what f makes of the row's weight
+  -- all legs together add f of the asset's weight
   all_given : f (pos 0) ≡ 0 → (asset : ℕ) (row : List Entry) → AreApart row → sum_by (given asset) row ≡ f (weight_in row asset)
   unfolding weight_in given
   all_given nothing asset [] apart = sym nothing
@@ -39,7 +39,7 @@ module _ (f : ℤ → ℕ) where
       (λ other. rw other.0 (omega (arith, all_given nothing asset row (λ i j d before within. apart (suc i) (suc j) d (omega (arith, before)) (omega (arith, within))))))
       (eqb_tells e.asset asset)
 
-  -- the first j entries of a row are added
+  -- the first j legs are added
   abbrev pub AreGiven : List Entry → List ℕ → ℕ → List ℕ → Type 0
   AreGiven row old j new = HasCounts (length old) (λ a. count_in old a + sum_by (given a) (take j row)) new
 
@@ -63,13 +63,13 @@ module _ (f : ℤ → ℕ) where
         (eqb_tells e.asset a));
   }
 
-  pub all_are_given : f (pos 0) ≡ 0 → (row : List Entry) (old : List ℕ) (j : ℕ) (new : List ℕ) → IsLawfulRow row → length row ≤ j → AreGiven row old j new → HasGrownBy f row old new
+  pub all_are_given : f (pos 0) ≡ 0 → (row : List Entry) (old : List ℕ) (j : ℕ) (new : List ℕ) → IsWeightVector row → length row ≤ j → AreGiven row old j new → HasGrownBy f row old new
   all_are_given nothing row old j new lawful past before = record {
     count = before.count;
     each = λ a inside. before.each a inside ∙ ap (λ z. count_in old a + z) (ap (sum_by (given a)) (take_all j row past) ∙ all_given nothing a row (lawful_apart row lawful));
   }
 
-  -- what a lawful weight gives is little
+  -- f of a weight within the limits is little
   abbrev pub IsLittle : Type 0
   IsLittle = (weight : ℤ) → unsigned_abs weight ≤ most_weight → f weight ≤ 2 ^ 24
 
@@ -81,8 +81,8 @@ module _ (f : ℤ → ℕ) where
       (λ other. rw other.0 (omega arith))
       (eqb_tells e.asset asset)
 
-  -- on the way a number has grown by little
-  pub on_the_way : IsLittle → (row : List Entry) (old : List ℕ) (j : ℕ) (now : List ℕ) (asset : ℕ) → IsLawfulRow row → AreSmall (2 ^ 50) old → asset < length old
+  -- while legs are added, a number has grown by little
+  pub on_the_way : IsLittle → (row : List Entry) (old : List ℕ) (j : ℕ) (now : List ℕ) (asset : ℕ) → IsWeightVector row → AreSmall (2 ^ 50) old → asset < length old
       → AreGiven row old j now → count_in now asset ≤ 2 ^ 60
   on_the_way little row old j now asset lawful small inside before =
       let each : All (λ e. given asset e ≤ 2 ^ 24) (take j row) = All-take (λ e. given asset e ≤ 2 ^ 24) j row (λ k d there. given_little little asset (get_or row k d) (lawful.weights k d there).1) in
@@ -90,7 +90,7 @@ module _ (f : ℤ → ℕ) where
       omega (arith, before.each asset inside, small asset, sum, length-take j row, lawful.few)
 
   -- ---- order by order
-  -- the first i orders are weighed
+  -- the weights of the first i orders are added
   pub record AreWeighed (n : ℕ) (orders : List Order) (i : ℕ) (counts : List ℕ) : Type 0 where
     pub sums : HasCounts n (weighed f (take i orders)) counts
     pub small : AreSmall (i * 2 ^ 24) counts
@@ -105,7 +105,7 @@ module _ (f : ℤ → ℕ) where
         (cases_lt a (length counts));
   }
 
-  pub one_weighed : IsLittle → (n : ℕ) (orders : List Order) (i : ℕ) (o : Order) (now new : List ℕ) → i < length orders → o ≡ get_or orders i o → IsLawfulRow o.row
+  pub one_weighed : IsLittle → (n : ℕ) (orders : List Order) (i : ℕ) (o : Order) (now new : List ℕ) → i < length orders → o ≡ get_or orders i o → IsWeightVector o.row
       → AreWeighed n orders i now → HasGrownBy f o.row now new → AreWeighed n orders (i + 1) new
   one_weighed little n orders i o now new within here lawful before grown =
       let count : length new ≡ n = grown.count ∙ before.sums.count in
@@ -131,7 +131,7 @@ module _ (f : ℤ → ℕ) where
     each = λ a inside. before.sums.each a inside ∙ ap (λ l. weighed f l a) (take_all i orders past);
   }
 
--- the two that are kept
+-- absolute weights, and their squares, are little
 pub weights_little : IsLittle unsigned_abs
 weights_little weight light = omega (arith, light)
 

@@ -31,7 +31,7 @@ nothing_is_left : residual (trades buyer_and_seller (500 ∷ 500 ∷ [])) 0 ≡ 
 unfolding buyer_and_seller weight_in
 nothing_is_left = refl
 
--- the published rates 500 and 499 leave one unit over, and have more
+-- the published rates 500 and 499 have an imbalance of one unit, and more welfare
 published_welfare : welfare common 1 (trades buyer_and_seller (500 ∷ 499 ∷ [])) ≡ pos 87617161039708160000
 unfolding common buyer_and_seller scaled_welfare span distance
 published_welfare = refl

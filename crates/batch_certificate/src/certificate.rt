@@ -1,4 +1,4 @@
-//! The certificate of a batch: what its rates leave over, and by how much they may miss the best welfare.
+//! The certificate of a batch: its imbalances, and by how much its rates may miss the best welfare.
 ghost use Rattle.std.specs.Prelude.{◌≡◌, ◌^◌, ◌≤◌, ◌<◌, ◌≤ℤ◌, pos, unsigned_abs, IfOk, length, All};
 ghost use Rattle.std.specs.List.{sum_by, range_with_len};
 ghost use Rattle.list_sums.specs.Sums.{int_sum_by};
@@ -22,22 +22,22 @@ use flow_orders::{Order, add_residuals};
 use out_of_memory::Memory;
 use std::alloc::Global;
 
-/// The certificate of a batch that cleared: adds to its prices and rates what the rates leave over of each asset, bought
-/// less sold, in units, and the gap, in grains.
+/// Certifies a batch that cleared: adds to its prices and rates the imbalance of each asset, bought less sold, in units,
+/// and the gap, in grains.
 ///
-/// The gap is what rounding loses on all orders, less what the residuals cost at the prices. No rates at which nothing
-/// is left over beat these rates by more than the gap. Where an asset is settled at the prices its residual is within
-/// its bound, and where all residuals are within their bounds the gap has a bound too. Orders and their welfare are those
-/// of Flow Trading (Budish, Cramton, Kyle, Lee and Malec, 2023); whole rates, and so residuals, gaps and their bounds, are
-/// this project's own.
+/// The gap is what rounding loses on all orders, less what the imbalances cost at the prices. No rates without imbalances
+/// beat these rates by more than the gap. If an asset is settled at the prices, its imbalance is within its tolerance, and
+/// if all imbalances are within their tolerances, the gap has a bound too. Orders and their welfare are those of Flow
+/// Trading (Budish, Cramton, Kyle, Lee and Malec, 2023); whole rates, and so imbalances, gaps and their bounds, are this
+/// project's own.
 ///
 /// There are at most 16,384 orders, and at most 64 prices, in grains and within 2^62 of 0, one for each asset that an
 /// order names. There is one rate for each order, in its place, and each is the order's demand at the prices, rounded
 /// up or down.
 ///
-/// It costs two passes over the entries of all orders, at most two divisions for each order, and one pass over the prices.
-/// It takes memory for what orders are quoted at, 64 bytes for each, and 8 bytes for each price, before it adds anything;
-/// `Memory` comes only where there is none. [`certify_quoted`] does without the first pass and without memory.
+/// It costs two passes over the legs of all orders, at most two divisions for each order, and one pass over the prices.
+/// It allocates 64 bytes for each order, for what it is quoted at, and 8 bytes for each price, before it adds anything; it
+/// fails with `Memory` only if there is none. [`certify_quoted`] needs neither the first pass nor memory.
 pub fn certify(
     alloc: Global,
     orders: &[Order],
@@ -75,10 +75,10 @@ pub fn certify(
     ))
 }
 
-/// The same of orders that are quoted at the prices, where what the rates leave over was added before: adds the gap.
+/// Certifies a batch that cleared, given its orders quoted at the prices and the imbalances of its rates: adds the gap.
 ///
-/// It costs one division for each order and one pass over the prices, computes no price of a portfolio, and takes no
-/// memory.
+/// It costs one division for each order and one pass over the prices, computes no price of a portfolio, and allocates
+/// nothing.
 pub fn certify_quoted(
     orders: &[Order],
     quotes: &[Quote],
@@ -117,7 +117,7 @@ pub fn certify_quoted(
     }
 }
 
-// The gap: what all rates lose, less what the residuals cost.
+// Returns the gap: what all rates lose, less what the imbalances cost.
 fn measure(
     orders: &[Order],
     quotes: &[Quote],
@@ -140,7 +140,7 @@ fn measure(
     lost - cost(prices, residuals)
 }
 
-// What an order loses at this rate.
+// Returns what an order loses at this rate, in grains.
 fn loss_of(quote: &Quote, rate: u32) -> i128
     requires { IsRounding quote.now.terms rate quote.now.price }
     ensures lost { result ≡ pos (loss quote.now.terms rate quote.now.price) }
@@ -149,7 +149,7 @@ fn loss_of(quote: &Quote, rate: u32) -> i128
     quote.curve().loss(rate, quote.price())
 }
 
-// Makes zeros the residuals of all trades.
+// Turns `residuals`, all zero on entry, into the imbalances of all trades.
 fn add_trades(orders: &[Order], rates: &[u32], residuals: &mut [i64])
     requires few { length orders.now ≤ most_orders }
     requires priced { All (λ o. IsPricedBy o.row residuals.old) orders.now }
@@ -163,7 +163,7 @@ fn add_trades(orders: &[Order], rates: &[u32], residuals: &mut [i64])
     }
 }
 
-// What the residuals cost at the prices.
+// Returns what the imbalances cost at the prices, in grains.
 pub(crate) fn cost(prices: &[i64], residuals: &[i64]) -> i128
     requires assets { length prices.now ≤ most_prices }
     requires range { All IsPrice prices.now }
@@ -179,7 +179,7 @@ pub(crate) fn cost(prices: &[i64], residuals: &[i64]) -> i128
     sum
 }
 
-// What the residual of an asset costs.
+// Returns what the imbalance of an asset costs at its price, in grains.
 fn cost_of(prices: &[i64], residuals: &[i64], asset: usize) -> i128
     requires range { All IsPrice prices.now }
     requires near { AreNear (2 ^ 50) residuals.now }

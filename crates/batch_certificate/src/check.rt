@@ -7,7 +7,7 @@ ghost use Rattle.demand_curve.specs.Demand.{most_rate, IsRounding, loss};
 ghost use Rattle.flow_orders.specs.Orders.{Order as OrderValue, IsOrder, most_orders, terms_of};
 ghost use Rattle.flow_orders.specs.Excess.{price_for, residual_bound};
 ghost use Rattle.flow_orders.specs.Trades.{trades};
-ghost use Rattle.flow_orders.specs.Outcomes.{Clearing, residuals_of, gap_of, trades_of, IsRightClearing};
+ghost use Rattle.flow_orders.specs.Outcomes.{Clearing, residuals_of, gap_of, trades_of, IsAdmissibleClearing};
 ghost use Rattle.flow_orders.specs.Welfare.{IsOptimalWithin};
 ghost use Rattle.flow_orders.specs.Residuals.{most_prices, residual_in, AreNear, AreZeros, IsTradeAdded};
 ghost use Rattle.batch_outcome.specs.GapBound.{gap_bound};
@@ -24,33 +24,34 @@ use crate::weights::add_weights;
 use batch_outcome::ClearedParts;
 use flow_orders::Order;
 
-// No more assets have a price.
+// How many assets may have a price.
 const PLACES: usize = 64;
 
 // The highest price, and minus the lowest, in grains.
 const MOST_PRICE: u64 = 1 << 62;
 
-/// The verdict on a published clearing of these orders: it is right, or this is the first part of it that isn't.
+/// Judges a published clearing of these orders: it is admissible, or the verdict names the first part of it that is wrong.
 ///
-/// Parts are looked at in this order. There is one price for each start price, and one rate for each order, under its
-/// number. Each price is within 2^62 grains of 0, and is the start price where no order names the asset. Each rate is its
-/// order's demand at the prices, rounded up or down. Each residual is what the rates leave over of its asset, bought less
-/// sold, and at most the asset's spread and steepness together. The gap is what rounding loses on all orders, less what
-/// the residuals cost at the prices. Where all is right, no rates at which nothing is left over beat these rates by more
-/// than the gap, and the gap is at most what all roundings can lose and what residuals within their bounds can cost. Orders and their welfare are those of Flow Trading (Budish, Cramton, Kyle, Lee and Malec, 2023); whole
-/// rates, and so the other parts, are this project's own.
+/// Parts are checked in this order. There is one price for each start price, and one rate for each order, under its
+/// number. Each price is within 2^62 grains of 0, and is the start price if no order names the asset. Each rate is its
+/// order's demand at the prices, rounded up or down. Each residual is the imbalance of its asset, bought less sold, and
+/// at most the asset's tolerance. The gap is what rounding loses on all orders, less what the imbalances cost at the
+/// prices. If all parts are right, no rates without imbalances beat these rates by more than the gap, and the gap is at
+/// most what all roundings can lose and what imbalances within their tolerances can cost. Orders and their welfare are
+/// those of Flow Trading (Budish, Cramton, Kyle, Lee and Malec, 2023); whole rates, and so the other parts, are this
+/// project's own.
 ///
 /// There are at most 16,384 orders, and at most 64 start prices, in grains, one for each asset that an order names.
 ///
-/// It takes no memory, and keeps four numbers for each of 64 assets. It goes three times over the entries of all orders,
-/// for all assets together: for what their weights come to, and to price and to add each rate. It divides once an order,
-/// asks for each number of the clearing once, and stops at the first part that isn't right.
+/// It allocates nothing, and keeps four numbers for each of 64 assets. It goes three times over the legs of all orders,
+/// for all assets together: to add up their weights, to price each order, and to add its trade. It divides once for each
+/// order, asks for each number of the clearing once, and stops at the first part that is wrong.
 pub fn check_cleared<P: ClearedParts>(orders: &[Order], start: &[i64], parts: &P) -> Verdict
     requires few { length orders.now ≤ most_orders }
     requires assets { length start.now ≤ most_prices }
     requires priced { All (λ o. IsPricedBy o.row start.now) orders.now }
     ensures verdict { IsVerdict orders.now start.now (P.clearing parts.now) result }
-    ensures right { (result ≡ Right) ↔ IsRightClearing orders.now start.now (P.clearing parts.now) }
+    ensures right { (result ≡ Right) ↔ IsAdmissibleClearing orders.now start.now (P.clearing parts.now) }
     ensures optimal { result ≡ Right → IsOptimalWithin (P.clearing parts.now).gap orders.now (rates_in (P.clearing parts.now)) }
     ensures bounded { result ≡ Right → (P.clearing parts.now).gap ≤ℤ pos (gap_bound orders.now (P.clearing parts.now).prices) }
 {
@@ -73,21 +74,21 @@ pub fn check_cleared<P: ClearedParts>(orders: &[Order], start: &[i64], parts: &P
     )
 }
 
-// A count of 0 for each asset that there may be.
+// Returns a count of 0 for each asset that there may be.
 fn no_counts() -> [u64; PLACES]
     ensures { HasCounts 64 (λ asset. 0) result }
 {
     [0; PLACES]
 }
 
-// No units of each asset that there may be.
+// Returns no units of each asset that there may be.
 fn no_units() -> [i64; PLACES]
     ensures { AreZeros 64 result }
 {
     [0; PLACES]
 }
 
-// Whether there is one price for each start price, and one rate for each order, under its number.
+// Returns whether there is one price for each start price, and one rate for each order, under its number.
 fn are_counted<P: ClearedParts>(orders: &[Order], start: &[i64], parts: &P) -> bool
     requires { length orders.now ≤ most_orders }
     ensures { IsTrue result ↔ AreCounted orders.now start.now (P.clearing parts.now) }
@@ -97,7 +98,7 @@ fn are_counted<P: ClearedParts>(orders: &[Order], start: &[i64], parts: &P) -> b
         && are_numbered(orders, parts)
 }
 
-// Whether the numbers are those of the orders.
+// Returns whether the clearing's numbers are those of the orders.
 fn are_numbered<P: ClearedParts>(orders: &[Order], parts: &P) -> bool
     requires few { length orders.now ≤ most_orders }
     requires one_each { length (P.clearing parts.now).fills ≡ length orders.now }
@@ -111,7 +112,7 @@ fn are_numbered<P: ClearedParts>(orders: &[Order], parts: &P) -> bool
     true
 }
 
-// The verdict where all are counted. Of what is kept of each asset, all is 0 before.
+// Returns the verdict if all is counted right. On entry the four lists have 0 for each asset.
 fn check_counted<P: ClearedParts>(
     orders: &[Order],
     start: &[i64],
@@ -139,7 +140,7 @@ fn check_counted<P: ClearedParts>(
     check_priced(orders, parts, spreads, squares, prices, residuals)
 }
 
-// The first asset whose price is wrong. Where there is none, all prices are copied.
+// Returns the first asset whose price is wrong. If there is none, copies all prices to `prices`.
 fn wrong_price<P: ClearedParts>(
     start: &[i64],
     parts: &P,
@@ -165,7 +166,7 @@ fn wrong_price<P: ClearedParts>(
     None
 }
 
-// Whether the price of an asset is within the range, and is the start price where the asset's spread is 0.
+// Returns whether the price of an asset is in range, and is the start price if the asset's rounding bound is 0.
 fn is_kept(price: i64, start: &[i64], spreads: &[u64], asset: u16) -> bool
     requires start { asset < length start.now }
     requires spread { asset < length spreads.now }
@@ -175,7 +176,7 @@ fn is_kept(price: i64, start: &[i64], spreads: &[u64], asset: u16) -> bool
     price.unsigned_abs() <= MOST_PRICE && (spreads[place] != 0 || price == start[place])
 }
 
-// The verdict where all is right up to the prices, which are these.
+// Returns the verdict if all is right up to the prices, which these are.
 fn check_priced<P: ClearedParts>(
     orders: &[Order],
     parts: &P,
@@ -213,7 +214,7 @@ fn check_priced<P: ClearedParts>(
     }
 }
 
-// Whether the gap is what was lost less what the residuals cost.
+// Returns whether the gap is what was lost, less what the imbalances cost.
 fn is_gap<P: ClearedParts>(parts: &P, lost: i128, cost: i128) -> bool
     requires lost { unsigned_abs lost ≤ 2 ^ 74 }
     requires cost { unsigned_abs cost ≤ 2 ^ 118 }
@@ -222,7 +223,8 @@ fn is_gap<P: ClearedParts>(parts: &P, lost: i128, cost: i128) -> bool
     parts.gap() == lost - cost
 }
 
-// Makes zeros what the rates leave over, and answers what they lose, or the first place whose rate is wrong.
+// Turns `residuals`, all zero on entry, into the imbalances of the rates, and returns what the rates lose, in grains, or the
+// first place whose rate is wrong.
 fn add_rates<P: ClearedParts>(
     orders: &[Order],
     parts: &P,
@@ -257,7 +259,7 @@ fn add_rates<P: ClearedParts>(
     Ok(lost)
 }
 
-// The first asset whose residual isn't this one, or is past its bound.
+// Returns the first asset whose published residual isn't its imbalance, or is past its tolerance.
 fn wrong_residual<P: ClearedParts>(
     parts: &P,
     residuals: &[i64],
@@ -290,7 +292,8 @@ fn wrong_residual<P: ClearedParts>(
     None
 }
 
-// Whether a residual is that of an asset, and within the bound that its spread and its sum of squares give.
+// Returns whether a published residual is the asset's imbalance, and within the tolerance that its rounding bound and its sum
+// of squares give.
 fn is_within_bound(
     residual: i64,
     residuals: &[i64],

@@ -1,13 +1,13 @@
-//! What holds of residuals and verdicts, whatever code there is. Each law is the contract of a function that does nothing.
-ghost use Rattle.batch_certificate.specs.Laws.{SettledResidualsAreBounded, EachHasAVerdict, OneVerdict, RightIsForRightClearings};
+//! What holds of imbalances and verdicts, whatever the code. Each law is the contract of a function that does nothing.
+ghost use Rattle.batch_certificate.specs.Laws.{SettledResidualsAreBounded, EachHasAVerdict, OneVerdict, RightIsForAdmissibleClearings};
 
-/// Where an asset is settled, whatever way the demands are rounded, at most its spread and its steepness together are left
-/// over of it.
+/// If an asset is settled, its imbalance is at most its rounding bound and its slope bound together, however the demands are
+/// rounded.
 pub fn settled_residuals_are_bounded()
     ensures { SettledResidualsAreBounded }
 {}
 
-/// Every clearing of lawful orders has a verdict.
+/// Every clearing of orders within the limits has a verdict.
 pub fn each_has_a_verdict()
     ensures { EachHasAVerdict }
 {}
@@ -17,7 +17,7 @@ pub fn one_verdict()
     ensures { OneVerdict }
 {}
 
-/// That all is right is the verdict on a right clearing, and on no other.
-pub fn right_is_for_right_clearings()
-    ensures { RightIsForRightClearings }
+/// The verdict on a clearing is `Right` exactly if the clearing is admissible.
+pub fn right_is_for_admissible_clearings()
+    ensures { RightIsForAdmissibleClearings }
 {}

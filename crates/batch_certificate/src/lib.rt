@@ -1,20 +1,20 @@
-//! What is published of a batch, the certificate of one that cleared, and the check of a published clearing.
+//! The certificate of a batch that cleared, and the check of a published clearing.
 //!
-//! The types of an outcome are values without conditions. [`certify`] makes a [`Cleared`] of prices and rates: it adds what
-//! the rates leave over of each asset, and the gap; [`certify_quoted`] adds the gap alone, where orders are quoted at the
-//! prices and what is left over is known. The definitions of both stand in `flow_orders`; [`laws`] bounds what is
-//! left over of settled assets.
+//! The types of an outcome, in `batch_outcome`, are values without conditions. [`certify`] makes a
+//! [`Cleared`](batch_outcome::Cleared) of prices and rates: it adds the imbalance of each asset, and the gap;
+//! [`certify_quoted`] adds the gap alone, given orders that are quoted at the prices and known imbalances. The definitions of
+//! both are in `flow_orders`; [`laws`] bounds the imbalances of settled assets.
 //!
-//! [`check_cleared`] judges a clearing that someone published, wherever its numbers lie: it reads them through
-//! [`ClearedParts`], and its [`Verdict`] names the first part that isn't right. Every clearing has exactly one verdict, and
-//! it is `Right` exactly where the clearing is right, as [`laws`] says.
+//! [`check_cleared`] judges a clearing that someone published, wherever its numbers are: it reads them through
+//! [`ClearedParts`](batch_outcome::ClearedParts), and its [`Verdict`] names the first part that is wrong. Every clearing has
+//! exactly one verdict, and it is `Right` exactly if the clearing is admissible, as [`laws`] says.
 //!
 //! # Costs
 //!
-//! [`certify_quoted`] divides once an order and goes over no entries. [`certify`] goes twice over the entries of all orders
-//! before that, and takes memory for what they are quoted at, 64 bytes for each, and for what is left over, 8 bytes for each
-//! asset. [`check_cleared`] goes a few times over the entries of all orders, for all assets together, and takes no memory.
-//! No other call takes memory or more than constant time.
+//! [`certify_quoted`] divides once for each order and goes over no legs. [`certify`] goes twice over the legs of all orders
+//! before that, and allocates what they are quoted at, 64 bytes for each order, and the imbalances, 8 bytes for each
+//! asset. [`check_cleared`] goes three times over the legs of all orders, for all assets together, and allocates nothing.
+//! No other call allocates or takes more than constant time.
 #![tactic(auto)]
 
 mod certificate;

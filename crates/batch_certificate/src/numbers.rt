@@ -6,7 +6,7 @@ ghost use Rattle.batch_outcome.specs.Parts.{numbers_in, rates_in};
 
 use batch_outcome::ClearedParts;
 
-// The price of an asset that has one.
+// Returns the price of an asset that has one.
 pub(crate) fn price_at<P: ClearedParts>(parts: &P, asset: u16) -> i64
     requires { asset < length (P.clearing parts.now).prices }
     ensures { result ≡ price_of (P.clearing parts.now).prices asset }
@@ -14,7 +14,7 @@ pub(crate) fn price_at<P: ClearedParts>(parts: &P, asset: u16) -> i64
     parts.price(asset).unwrap()
 }
 
-// The number of the order at a place that has a rate.
+// Returns the number of the order at a place that has a rate.
 pub(crate) fn number_at<P: ClearedParts>(parts: &P, place: u32) -> u64
     requires { place < length (P.clearing parts.now).fills }
     ensures { result ≡ slice_index_or (numbers_in (P.clearing parts.now)) place 0 }
@@ -22,7 +22,7 @@ pub(crate) fn number_at<P: ClearedParts>(parts: &P, place: u32) -> u64
     parts.order(place).unwrap()
 }
 
-// The rate at a place that has one.
+// Returns the rate at a place that has one.
 pub(crate) fn rate_at<P: ClearedParts>(parts: &P, place: u32) -> u32
     requires { place < length (P.clearing parts.now).fills }
     ensures { result ≡ slice_index_or (rates_in (P.clearing parts.now)) place 0 }
@@ -30,7 +30,7 @@ pub(crate) fn rate_at<P: ClearedParts>(parts: &P, place: u32) -> u32
     parts.rate(place).unwrap()
 }
 
-// The residual of an asset that has one.
+// Returns the published residual of an asset that has one.
 pub(crate) fn residual_at<P: ClearedParts>(parts: &P, asset: u16) -> i64
     requires { asset < length (P.clearing parts.now).residuals }
     ensures { result ≡ residual_in (P.clearing parts.now).residuals asset }

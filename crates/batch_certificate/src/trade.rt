@@ -8,8 +8,8 @@ ghost use Rattle.flow_orders.specs.Residuals.{AreNear, IsTradeAdded};
 
 use flow_orders::{Order, add_residuals};
 
-/// Adds what an order trades at this rate to the residuals of its assets, and answers what the rate loses. Where the rate is
-/// no rounding of the order's demand at the prices, it answers None and adds nothing.
+/// Adds what an order trades at this rate to the imbalances of its assets, and returns what the rate loses, in grains. If
+/// the rate is no rounding of the order's demand at the prices, returns `None` and adds nothing.
 pub(crate) fn try_trade(
     order: &Order,
     rate: u32,
@@ -33,7 +33,7 @@ pub(crate) fn try_trade(
     Some(lost)
 }
 
-// What an order loses at this rate, or None where the rate is no rounding of its demand.
+// Returns what an order loses at this rate, in grains, or `None` if the rate is no rounding of its demand.
 fn rounding_loss(order: &Order, rate: u32, prices: &[i64]) -> Option<i128>
     requires range { All IsPrice prices.now }
     requires priced { IsPricedBy order.now.row prices.now }

@@ -1,9 +1,9 @@
-//! What a check of a published clearing says.
+//! The verdict on a published clearing.
 
-/// Whether a published clearing is right, or else the first part of it that isn't.
+/// Whether a published clearing is admissible, or else the first part of it that is wrong.
 #[derive(Clone, Copy, PartialEq, Eq)]
 pub enum Verdict {
-    /// All of it is right.
+    /// All parts are right: the clearing is admissible.
     Right,
     /// There isn't one price for each asset, or one rate for each live order under its number.
     Count,
@@ -11,8 +11,8 @@ pub enum Verdict {
     Price(u16),
     /// The rate at this place is no rounding of its order's demand at the prices.
     Rate(u32),
-    /// The residual of this asset isn't what the rates leave over, or is past its bound.
+    /// The residual of this asset isn't the imbalance at these rates, or is past its tolerance.
     Residual(u16),
-    /// The gap isn't what rounding loses on all orders, less what the residuals cost at the prices.
+    /// The gap isn't what rounding loses on all orders, less what the imbalances cost at the prices.
     Gap,
 }

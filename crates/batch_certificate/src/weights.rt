@@ -1,4 +1,4 @@
-//! What the weights of all orders come to, for all assets in one pass.
+//! Adds up the weights of all orders, for all assets in one pass.
 ghost use Rattle.std.specs.Prelude.{◌≡◌, ◌+◌, ◌^◌, ◌<◌, ◌≤◌, length, slice_set, unsigned_abs, All};
 ghost use Rattle.weight_rows.specs.Rows.{most_weight};
 ghost use Rattle.flow_orders.specs.Orders.{IsOrder, most_orders};
@@ -7,8 +7,8 @@ ghost use Rattle.batch_certificate.specs.Weighing.{count_in, AreSmall, HasCounts
 use flow_orders::Order;
 use weight_rows::{Entry, WeightRow};
 
-/// Makes zeros the spread of each asset, and the sum of the squares of its weights in all orders. It costs one pass
-/// over the entries of all orders.
+/// Turns `spreads` and `squares`, all zero on entry, into the rounding bound of each asset and the sum of its squared weights
+/// in all orders. It costs one pass over the legs of all orders.
 pub(crate) fn add_weights(orders: &[Order], spreads: &mut [u64], squares: &mut [u64])
     requires few { length orders.now ≤ most_orders }
     requires places { All (λ o. IsWithinPlaces (length spreads.old) o.row) orders.now }
@@ -26,7 +26,7 @@ pub(crate) fn add_weights(orders: &[Order], spreads: &mut [u64], squares: &mut [
     }
 }
 
-// Adds what the weights of one order come to.
+// Adds the absolute weights of one order, and their squares.
 fn add_order(order: &Order, spreads: &mut [u64], squares: &mut [u64])
     requires places { IsWithinPlaces (length spreads.old) order.now.row }
     requires same { length squares.old ≡ length spreads.old }
@@ -41,7 +41,7 @@ fn add_order(order: &Order, spreads: &mut [u64], squares: &mut [u64])
     add_row_weights(order.row(), spreads, squares);
 }
 
-// Adds what the weights of a row come to.
+// Adds the absolute weights of a weight vector, and their squares.
 fn add_row_weights(row: &WeightRow, spreads: &mut [u64], squares: &mut [u64])
     requires places { IsWithinPlaces (length spreads.old) row.now }
     requires same { length squares.old ≡ length spreads.old }
@@ -55,7 +55,7 @@ fn add_row_weights(row: &WeightRow, spreads: &mut [u64], squares: &mut [u64])
     }
 }
 
-// Adds what the weight of an entry comes to.
+// Adds the absolute weight of a leg, and its square.
 fn add_entry_weight(entry: &Entry, spreads: &mut [u64], squares: &mut [u64])
     requires spread { entry.now.asset < length spreads.old }
     requires squares { entry.now.asset < length squares.old }
@@ -72,7 +72,7 @@ fn add_entry_weight(entry: &Entry, spreads: &mut [u64], squares: &mut [u64])
     add_to(squares, entry.asset, weight * weight);
 }
 
-// The absolute weight of an entry.
+// Returns the absolute weight of a leg.
 fn absolute_weight(entry: &Entry) -> u64
     requires { unsigned_abs entry.now.weight ≤ most_weight }
     ensures value { result ≡ unsigned_abs entry.now.weight }

@@ -1,1 +1,1 @@
-pub mod OwnClearing
+pub mod CanonicalClearing

@@ -1,10 +1,10 @@
--- Words that only private functions of a batch use.
+-- Definitions for private functions of a batch.
 use Rattle.std.specs.Prelude.{◌≡◌, pos, ◌≤ℤ◌, ℕ, ℤ, List, length, All}
 use Rattle.flow_orders.specs.Orders.{Order, IsOrder}
 use Rattle.flow_orders.specs.Trades.{trades}
 use Rattle.flow_orders.specs.Welfare.{IsOptimalWithin}
 use Rattle.flow_orders.specs.Outcomes as outcomes
-use Rattle.own_rule.specs.Own.{rates_by_choice, IsOwnOutcome}
+use Rattle.canonical_rule.specs.Canonical.{rates_by_choice, IsCanonicalOutcome}
 use Rattle.flow_orders.specs.Outcomes.{clearing_at}
 use Rattle.batch_outcome.specs.declared.outcome.Cleared.{Cleared}
 use Rattle.batch_outcome.specs.declared.outcome.Outcome.{Outcome}
@@ -13,7 +13,7 @@ use Rattle.batch_outcome.specs.Published.{clearing_of, skipping_of}
 use Rattle.batch_outcome.specs.GapBound.{gap_bound}
 use Rattle.batch_certificate.specs.Laws.{AreBounded}
 
--- what is certified of the chosen rates at these prices
+-- a clearing at these prices has the chosen rates, and is certified
 pub record IsClearedAt (orders : List Order) (prices : List ℤ) (c : Cleared) : Type 0 where
   pub prices_are : c.prices ≡ prices
   pub rates_are : c.rates ≡ rates_by_choice (length prices) orders prices
@@ -22,18 +22,18 @@ pub record IsClearedAt (orders : List Order) (prices : List ℤ) (c : Cleared) :
   pub optimal : IsOptimalWithin c.gap orders c.rates
   pub bounded : AreBounded orders c.residuals → c.gap ≤ℤ pos (gap_bound orders prices)
 
--- a clearing that is the own outcome of a batch
+-- a clearing is the canonical outcome of a batch
 pub record IsClearedFrom (parts : ℕ) (orders : List Order) (start : List ℤ) (budget : ℕ) (c : Cleared) : Type 0 where
   pub each : All IsOrder orders
-  pub own : IsOwnOutcome parts orders start budget (outcomes.Cleared (clearing_of orders c))
+  pub own : IsCanonicalOutcome parts orders start budget (outcomes.Cleared (clearing_of orders c))
   pub at : IsClearedAt orders c.prices c
 
--- a skip that is
+-- a skip is the canonical outcome of a batch
 pub record IsSkippedFrom (parts : ℕ) (orders : List Order) (start : List ℤ) (budget : ℕ) (s : outcomes.Skipping) : Type 0 where
   pub each : All IsOrder orders
-  pub own : IsOwnOutcome parts orders start budget (outcomes.Skipped s)
+  pub own : IsCanonicalOutcome parts orders start budget (outcomes.Skipped s)
 
--- either of the two
+-- an outcome is the canonical one
 abbrev pub IsOutcomeFrom : ℕ → List Order → List ℤ → ℕ → Outcome → Type 0
 IsOutcomeFrom parts orders start budget (variants.Cleared c) = IsClearedFrom parts orders start budget c
 IsOutcomeFrom parts orders start budget (variants.Skipped s) = IsSkippedFrom parts orders start budget (skipping_of s)

@@ -3,9 +3,9 @@ ghost use Rattle.std.specs.Prelude.{◌≡◌, ℕ, ◌^◌, ◌≤◌, ◌↔�
 ghost use Rattle.weight_rows.specs.Rows.{IsPricedBy};
 ghost use Rattle.demand_curve.specs.Demand.{IsWithin};
 ghost use Rattle.flow_orders.specs.Orders.{IsFrom1To, most_orders};
-ghost use Rattle.flow_orders.specs.Outcomes.{most_budget, IsRightOutcome, are_single, ClearsNear};
+ghost use Rattle.flow_orders.specs.Outcomes.{most_budget, IsAdmissibleOutcome, are_single, ClearsNear};
 ghost use Rattle.flow_orders.specs.Residuals.{most_prices};
-ghost use Rattle.own_rule.specs.Own.{IsOwnOutcome};
+ghost use Rattle.canonical_rule.specs.Canonical.{IsCanonicalOutcome};
 ghost use Rattle.excess_bounds.specs.Workspace.{AreQuoted};
 ghost use Rattle.batch_outcome.specs.Published.{outcome_of, HasOneRateEach};
 ghost use Rattle.batch_engine.specs.Certified.{IsCertified};
@@ -21,17 +21,17 @@ use out_of_memory::Memory;
 use rate_rounding::choose_rates;
 use std::alloc::Global;
 
-/// The outcome of a batch of these orders, from these start prices, in grains by the assets' numbers, with this budget of
-/// moves: the program's own one.
+/// Returns the outcome of a batch of these orders, from these start prices, in grains by the assets' numbers, with this
+/// budget of moves: the canonical outcome.
 ///
 /// There are at most 16,384 orders and at most 64 start prices, within 2^60 grains of 0, one for each asset that an order
-/// names. Where each order names one asset the batch always clears: each asset that isn't settled is moved once, and the
-/// budget, from 1 to 65,536 moves, isn't used. Other books are searched, and the batch is skipped where the budget is
+/// names. If each order names one asset, the batch always clears: each asset that isn't settled is moved once, and the
+/// budget, from 1 to 65,536 moves, isn't used. Other books are searched, and the batch is skipped if the budget is
 /// used up before all assets are settled. Orders and clearing are those of Flow Trading (Budish, Cramton, Kyle, Lee and
 /// Malec, 2023); where prices start and end, and how demands are rounded, are this project's own. Moves end by excess in
 /// `parts` of a unit, 1 to 256 of them.
 ///
-/// `Memory` is the one fault.
+/// It fails only with `Memory`.
 pub fn clear(
     alloc: Global,
     parts: u16,
@@ -46,15 +46,15 @@ pub fn clear(
     requires range { All (IsWithin (2 ^ 60)) start.now }
     requires priced { All (λ o. IsPricedBy o.row start.now) orders.now }
     requires budget { IsFrom1To most_budget budget }
-    ensures own { IfOk result (λ outcome. IsOwnOutcome parts orders.now start.now budget (outcome_of orders.now outcome)) }
-    ensures right { IfOk result (λ outcome. IsRightOutcome parts orders.now start.now budget (outcome_of orders.now outcome)) }
+    ensures own { IfOk result (λ outcome. IsCanonicalOutcome parts orders.now start.now budget (outcome_of orders.now outcome)) }
+    ensures right { IfOk result (λ outcome. IsAdmissibleOutcome parts orders.now start.now budget (outcome_of orders.now outcome)) }
 
     // A book of one-asset orders clears.
     ensures near { are_single orders.now ≡ true
         → IfOk result (λ outcome. ClearsNear orders.now start.now (outcome_of orders.now outcome)) }
 
-    // No balanced rates beat those of a clearing by more than its gap, which is bounded; and the walk of a skip lowers the dual
-    // by its movement.
+    // No balanced rates beat those of a clearing by more than its gap, which is bounded; and the walk of a skip lowers the exact
+    // dual value by at least its movement.
     ensures certified { IfOk result (IsCertified parts orders.now start.now) }
     ensures one_rate_each { IfOk result (HasOneRateEach orders.now) }
 {
@@ -64,14 +64,14 @@ pub fn clear(
     clear_wide(alloc, parts, orders, start, budget)
 }
 
-// Whether each order names one asset alone.
+// Returns whether each order names one asset alone.
 fn are_single(orders: &[Order]) -> bool
     ensures { IsTrue result ↔ All (λ o. length o.row ≡ 1) orders.now }
 {
     orders.iter().all(|order| order.row().is_single())
 }
 
-// The clearing of a book in which each order names one asset.
+// Returns the clearing of a book in which each order names one asset.
 fn clear_single(
     alloc: Global,
     parts: u16,
@@ -92,7 +92,7 @@ fn clear_single(
     clear_at(alloc, orders, work.into_quoted())
 }
 
-// The outcome of a book in which some order names two assets or more.
+// Returns the outcome of a book in which some order names two assets or more.
 fn clear_wide(
     alloc: Global,
     parts: u16,
@@ -125,7 +125,7 @@ fn clear_wide(
     }
 }
 
-// The clearing at the prices that the orders are quoted at.
+// Returns the clearing at the prices that the orders are quoted at.
 fn clear_at(alloc: Global, orders: &[Order], quoted: Quoted) -> Result<Cleared, Memory>
     requires { AreQuoted orders.now quoted.prices.items quoted.quotes.items }
     ensures { IfOk result (IsClearedAt orders.now quoted.prices.items) }

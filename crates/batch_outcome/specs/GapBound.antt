@@ -1,4 +1,4 @@
--- How large the gap of a clearing may be at most.
+-- How large the gap of a clearing may be.
 use Rattle.std.specs.Prelude.{ℕ, ℤ, ◌+◌, ◌*◌, unsigned_abs, List, length}
 use Rattle.std.specs.List.{range_with_len, sum_by}
 use Rattle.weight_rows.specs.Rows.{price_of}
@@ -7,7 +7,7 @@ use Rattle.demand_curve.specs.Demand.{span}
 use Rattle.flow_orders.specs.Orders.{Order, terms_of}
 use Rattle.flow_orders.specs.Excess.{residual_bound}
 
--- what all roundings can lose, and what residuals within their bounds can cost
+-- the bound of a gap, in grains: what all roundings can lose, and what imbalances within their tolerances can cost
 abbrev pub gap_bound : List Order → List ℤ → ℕ
 gap_bound orders prices =
     sum_by (λ o. rounded_up (span (terms_of o)) (2 * o.rate)) orders

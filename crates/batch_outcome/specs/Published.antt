@@ -1,4 +1,4 @@
--- What the parts of an outcome say of a batch of orders.
+-- The outcome of a batch of orders that the published values are.
 use Rattle.std.specs.Prelude.{◌≡◌, List, map, length}
 use Rattle.flow_orders.specs.Orders.{Order}
 use Rattle.flow_orders.specs.Trades.{trades}
@@ -9,11 +9,11 @@ use Rattle.batch_outcome.specs.declared.outcome.Skipped.{Skipped}
 use Rattle.batch_outcome.specs.declared.outcome.Outcome.{Outcome}
 use Rattle.batch_outcome.specs.declared.outcome.Outcome.TheVariants as parts
 
--- a clearing of these orders: each rate is that of the order at its place
+-- the clearing of these orders: each rate is that of the order at its place
 abbrev pub clearing_of : List Order → Cleared → Clearing
 clearing_of orders c = record { prices = c.prices; fills = map fill_of (trades orders c.rates); residuals = c.residuals; gap = c.gap }
 
--- a skip
+-- the skip
 abbrev pub skipping_of : Skipped → Skipping
 skipping_of s = record { trace = s.trace; start_dual = s.start_dual; end_dual = s.end_dual }
 

@@ -18,14 +18,14 @@ impl Model for PriceList {
 }
 
 impl PriceList {
-    /// The prices of a vector, whose memory it keeps.
+    /// Returns the prices of a vector, whose memory it keeps.
     pub fn new(items: Vec<i64>) -> PriceList
         ensures { result ≡ items.items }
     {
         PriceList { items }
     }
 
-    /// The prices, without copying them.
+    /// Returns the prices, without copying them.
     pub fn as_slice(&self) -> &[i64]
         ensures { result.now ≡ self.now }
     {
@@ -48,14 +48,14 @@ impl Model for RateList {
 }
 
 impl RateList {
-    /// The rates of a vector, whose memory it keeps.
+    /// Returns the rates of a vector, whose memory it keeps.
     pub fn new(items: Vec<u32>) -> RateList
         ensures { result ≡ items.items }
     {
         RateList { items }
     }
 
-    /// The rates, without copying them.
+    /// Returns the rates, without copying them.
     pub fn as_slice(&self) -> &[u32]
         ensures { result.now ≡ self.now }
     {
@@ -63,7 +63,7 @@ impl RateList {
     }
 }
 
-/// One residual for each asset, in units, by the assets' numbers.
+/// One imbalance for each asset, in units, by the assets' numbers.
 #[derive(Drop)]
 pub struct ResidualList {
     items: Vec<i64>,
@@ -78,14 +78,14 @@ impl Model for ResidualList {
 }
 
 impl ResidualList {
-    /// The residuals of a vector, whose memory it keeps.
+    /// Returns the imbalances of a vector, whose memory it keeps.
     pub fn new(items: Vec<i64>) -> ResidualList
         ensures { result ≡ items.items }
     {
         ResidualList { items }
     }
 
-    /// The residuals, without copying them.
+    /// Returns the imbalances, without copying them.
     pub fn as_slice(&self) -> &[i64]
         ensures { result.now ≡ self.now }
     {
@@ -108,14 +108,14 @@ impl Model for Trace {
 }
 
 impl Trace {
-    /// The moves of a vector, whose memory it keeps.
+    /// Returns the moves of a vector, whose memory it keeps.
     pub fn new(items: Vec<u8>) -> Trace
         ensures { result ≡ items.items }
     {
         Trace { items }
     }
 
-    /// The moves, without copying them.
+    /// Returns the moves, without copying them.
     pub fn as_slice(&self) -> &[u8]
         ensures { result.now ≡ self.now }
     {

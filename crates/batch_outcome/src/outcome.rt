@@ -8,9 +8,9 @@ pub struct Cleared {
     pub prices: PriceList,
     /// The rate of each live order, in units of its portfolio, by the orders' places.
     pub rates: RateList,
-    /// What the rates leave over of each asset, in units, bought less sold.
+    /// The imbalance of each asset, in units, bought less sold.
     pub residuals: ResidualList,
-    /// The gap, in grains: what rounding loses on all orders, less what the residuals cost at the prices. It may be negative.
+    /// The gap, in grains: what rounding loses on all orders, less what the imbalances cost at the prices. It may be negative.
     pub gap: i128,
 }
 
@@ -19,9 +19,9 @@ pub struct Cleared {
 pub struct Skipped {
     /// The assets that were moved, one for each move of the budget.
     pub trace: Trace,
-    /// The dual floor at the start prices, in grains.
+    /// The dual value at the start prices, in grains.
     pub start_dual: i128,
-    /// The dual floor at the prices where the search ended, in grains.
+    /// The dual value at the prices at which the search ended, in grains.
     pub end_dual: i128,
 }
 

@@ -7,7 +7,7 @@ use Rattle.wire_records.specs.declared.command.BodyFault.{BodyFault}
 use Rattle.wire_records.specs.declared.reply.Reply.TheVariants.{Done, Asset, Account, Order, Refused}
 use Rattle.wire_records.specs.declared.reply.Refusal.{Refusal}
 use Rattle.wire_records.proofs.Readings.{reading_unique}
-use Rattle.flow_orders.specs.Outcomes.{Outcome, IsRightOutcome}
+use Rattle.flow_orders.specs.Outcomes.{Outcome, IsAdmissibleOutcome}
 use Rattle.market_rules.specs.Market.{Market}
 use Rattle.market_rules.specs.Step.{Answers, Serves, ServesRead, refusal_of}
 use Rattle.journal_records.specs.Replies.{SpellsAnswer}
@@ -20,7 +20,7 @@ use Rattle.batch_report.specs.Reports.{Tells, IsReport}
 use Rattle.pair_text.proofs.Joining.{joined}
 use Rattle.batch_report.specs.Private.{IsAnswered, IsDone, IsPlacing}
 
--- the answer Done, and the number of an order
+-- the answer is Done
 abbrev says_done : Answer Outcome → Type 0
 says_done (Plain Done) = Unit {0}
 says_done (Plain (Asset asset)) = ⊥
@@ -37,8 +37,8 @@ says_order (Plain (Order order)) = Unit {0}
 says_order (Plain (Refused refusal)) = ⊥
 says_order (Batch number outcome) = ⊥
 
--- what is answered so
-done_answers : (m : Market) (c : Command) (first : Option Refusal) (a : Answer Outcome) (n : Market) → says_done a → Answers IsRightOutcome m c first a n → IsDone c
+-- a command that is answered by Done is one that is done
+done_answers : (m : Market) (c : Command) (first : Option Refusal) (a : Answer Outcome) (n : Market) → says_done a → Answers IsAdmissibleOutcome m c first a n → IsDone c
 done_answers m c (Some refusal) a n says answers = absurd (subst says_done answers.0 says)
 done_answers m (AddAsset ticker) None a n says answers = absurd (subst says_done answers.0 says)
 done_answers m OpenAccount None a n says answers = absurd (subst says_done answers.0 says)
@@ -46,7 +46,7 @@ done_answers m (RunBatch budget) None a n says answers = absurd (subst says_done
 done_answers m (Place last request) None a n says answers = absurd (subst says_done answers.0 says)
 done_answers m command None a n says answers = tt
 
-order_answers : (m : Market) (c : Command) (first : Option Refusal) (a : Answer Outcome) (n : Market) → says_order a → Answers IsRightOutcome m c first a n → IsPlacing c
+order_answers : (m : Market) (c : Command) (first : Option Refusal) (a : Answer Outcome) (n : Market) → says_order a → Answers IsAdmissibleOutcome m c first a n → IsPlacing c
 order_answers m c (Some refusal) a n says answers = absurd (subst says_order answers.0 says)
 order_answers m (RunBatch budget) None a n says answers = absurd (subst says_order answers.2.0 says)
 order_answers m (Place last request) None a n says answers = tt
@@ -54,29 +54,29 @@ order_answers m command None a n says answers = absurd (subst says_order answers
 
 -- the command that a record is read as is the one that is served
 served_by : (old new : Market) (asked : Record) (read : Result Command BodyFault) (a : Answer Outcome) (c : Command) → ((refusal : Refusal) → a ≡ Plain (Refused refusal) → ⊥)
-    → IsReadAs old.version asked read → ServesRead IsRightOutcome old read a new → IsReadAs old.version asked (Ok c) → Serves IsRightOutcome old c a new
+    → IsReadAs old.version asked read → ServesRead IsAdmissibleOutcome old read a new → IsReadAs old.version asked (Ok c) → Serves IsAdmissibleOutcome old c a new
 served_by old new asked (Ok d) a c plain spelled serves seen =
     let same : d ≡ c = (let both = reading_unique old.version asked (Ok d) (Ok c) spelled seen in cc) in
-    subst (λ (x : Command). Serves IsRightOutcome old x a new) same serves
+    subst (λ (x : Command). Serves IsAdmissibleOutcome old x a new) same serves
 served_by old new asked (Err why) a c plain spelled serves seen = absurd (plain (refusal_of why) serves.0)
 
--- and what a record is read as in the version of the market after it, it is read as in that of the one before
-read_before : (old new : Market) (asked : Record) (a : Answer Outcome) (read : Result Command BodyFault) → Step IsReadAs IsRightOutcome old asked a new → IsReadAs new.version asked read → IsReadAs old.version asked read
-read_before old new asked a read step seen = subst (λ version. IsReadAs version asked read) (step_version IsRightOutcome IsReadAs old asked a new step) seen
+-- what a record is read as in the version of the market after its step is what it is read as in that of the market before
+read_before : (old new : Market) (asked : Record) (a : Answer Outcome) (read : Result Command BodyFault) → Step IsReadAs IsAdmissibleOutcome old asked a new → IsReadAs new.version asked read → IsReadAs old.version asked read
+read_before old new asked a read step seen = subst (λ version. IsReadAs version asked read) (step_version IsAdmissibleOutcome IsReadAs old asked a new step) seen
 
 served : (new : Market) (asked : Record) (c : Command) (a : Answer Outcome) → ((refusal : Refusal) → a ≡ Plain (Refused refusal) → ⊥) → IsReadAs new.version asked (Ok c)
-    → (answered : IsAnswered new asked a) → Serves IsRightOutcome answered.0 c a new
+    → (answered : IsAnswered new asked a) → Serves IsAdmissibleOutcome answered.0 c a new
 served new asked c a plain seen answered =
     let step = answered.1 in
     served_by answered.0 new asked step.read a c plain step.spelled step.served (read_before answered.0 new asked a (Ok c) step seen)
 
--- a record that is read as no command isn't answered but by a refusal
+-- a record that is read as no command is answered by a refusal only
 unserved_by : (old new : Market) (asked : Record) (read : Result Command BodyFault) (a : Answer Outcome) (why : BodyFault) → ((refusal : Refusal) → a ≡ Plain (Refused refusal) → ⊥)
-    → IsReadAs old.version asked read → ServesRead IsRightOutcome old read a new → IsReadAs old.version asked (Err why) → ⊥
+    → IsReadAs old.version asked read → ServesRead IsAdmissibleOutcome old read a new → IsReadAs old.version asked (Err why) → ⊥
 unserved_by old new asked (Ok d) a why plain spelled serves seen = absurd (let both = reading_unique old.version asked (Ok d) (Err why) spelled seen in cc)
 unserved_by old new asked (Err other) a why plain spelled serves seen = plain (refusal_of other) serves.0
 
--- Done and the number of an order are no refusals
+-- Done is no refusal
 pub done_plain : (refusal : Refusal) → ◌≡◌ {A = Answer Outcome} (Plain Done) (Plain (Refused refusal)) → ⊥
 done_plain refusal same = subst says_done same tt
 
@@ -104,15 +104,15 @@ order_is_read new asked why number seen answered =
     let step = answered.1 in
     unserved_by answered.0 new asked step.read (Plain (Order number)) why (order_plain number) step.spelled step.served (read_before answered.0 new asked (Plain (Order number)) (Err why) step seen)
 
--- the answer that a legal pair's second record spells is that of its first
+-- the answer that a valid entry's second record encodes is that of its first
 pub answered : (pair : Record × Record) (asked told : Record) (a : Answer Outcome) (new : Market) → asked ≡ pair.0 → told ≡ pair.1 → SpellsAnswer told a
     → (old : Market) × IsLegalPair old pair new → IsAnswered new asked a
 answered pair asked told a new asked_is told_is spelled made =
     let legal = made.1 in
     let same = answer_unique legal.answer a legal.spelled.fits spelled.fits (sym legal.spelled.spelled ∙ sym told_is ∙ spelled.spelled) in
-    (made.0, subst (λ r. Step IsReadAs IsRightOutcome made.0 r a new) (sym asked_is) (subst (λ x. Step IsReadAs IsRightOutcome made.0 pair.0 x new) same legal.step))
+    (made.0, subst (λ r. Step IsReadAs IsAdmissibleOutcome made.0 r a new) (sym asked_is) (subst (λ x. Step IsReadAs IsAdmissibleOutcome made.0 pair.0 x new) same legal.step))
 
--- what is told of it, behind the pair's number
+-- what is reported of the answer, after the entry's number
 pub reported : (market : Market) (number : ℕ) (pair : Record × Record) (asked answered : Record) (a : Answer Outcome) (old one two three : List ℕ)
     → asked ≡ pair.0 → answered ≡ pair.1 → SpellsAnswer answered a → one ≡ old ++ decimal number → two ≡ one ++ codes " "
     → (told : List ℕ) × Tells market asked a told × (three ≡ two ++ told)

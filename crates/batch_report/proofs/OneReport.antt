@@ -1,4 +1,4 @@
--- A pair has one text.
+-- An entry has one text.
 use Rattle.std.proofs.Common.{◌≡◌, ℕ, List, ◌++◌, codes, decimal, Ok, sym, ap, subst, ◌∙◌}
 use Rattle.wire_records.specs.Records.{Record}
 use Rattle.wire_records.specs.Commands.{Command, AddAsset, OpenAccount, Place, RunBatch, Answer, Plain, Batch}
@@ -12,7 +12,7 @@ use Rattle.journal_records.proofs.Spelled.{answer_unique}
 use Rattle.batch_report.specs.Reports.{TellsDone, TellsPlacing, Tells}
 use Rattle.batch_report.specs.Laws.{OneReport}
 
--- one line is told of a command that was done
+-- a command that was done has one line
 one_done : (tickers : List (List ℕ)) (command : Command) (x y : List ℕ) → TellsDone tickers command x → TellsDone tickers command y → x ≡ y
 one_done tickers (AddAsset ticker) x y a b = absurd a
 one_done tickers OpenAccount x y a b = absurd a
@@ -20,12 +20,12 @@ one_done tickers (RunBatch budget) x y a b = absurd a
 one_done tickers (Place last request) x y a b = absurd a
 one_done tickers command x y a b = a ∙ sym b
 
--- one line is told of a command that placed an order
+-- a command that placed an order has one line
 one_placing : (tickers : List (List ℕ)) (order : ℕ) (command : Command) (x y : List ℕ) → TellsPlacing tickers order command x → TellsPlacing tickers order command y → x ≡ y
 one_placing tickers order (Place last request) x y a b = a ∙ sym b
 one_placing tickers order command x y a b = absurd a
 
--- a record asks for one command
+-- a record is read as one command at most
 one_command : (version : Version) (asked : Record) (c d : Command) → IsReadAs version asked (Ok c) → IsReadAs version asked (Ok d) → c ≡ d
 one_command version asked c d a b = let same = reading_unique version asked (Ok c) (Ok d) a b in cc
 

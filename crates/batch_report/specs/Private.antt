@@ -1,9 +1,9 @@
--- Words that only private functions of the report use.
+-- Definitions that only private functions of the report use.
 use Rattle.std.specs.Prelude.{ℕ, List, slice_index_or, ⊤}
 use Rattle.wire_records.specs.Records.{Record}
 use Rattle.wire_records.specs.Commands.{Command, AddAsset, OpenAccount, DepositMoney, DepositAsset, WithdrawMoney, WithdrawAsset, Place, CancelOrder, RunBatch, SetMoneyCredit, SetUnitCredit, Answer}
 use Rattle.wire_records.specs.Versions.{IsReadAs}
-use Rattle.flow_orders.specs.Outcomes.{Fill, Outcome, IsRightOutcome}
+use Rattle.flow_orders.specs.Outcomes.{Fill, Outcome, IsAdmissibleOutcome}
 use Rattle.market_rules.specs.Market.{Market}
 use Rattle.market_rules.specs.Journal.{Step}
 
@@ -11,11 +11,11 @@ use Rattle.market_rules.specs.Journal.{Step}
 abbrev pub fill_at : List Fill → ℕ → Fill
 fill_at fills place = slice_index_or fills place (record { order = 0; rate = 0 })
 
--- some market answers a record so, and is this one then
+-- a step of some market answers the record so, and this is the market after it
 abbrev pub IsAnswered : Market → Record → Answer Outcome → Type 0
-IsAnswered new asked answer = (old : Market) × Step IsReadAs IsRightOutcome old asked answer new
+IsAnswered new asked answer = (old : Market) × Step IsReadAs IsAdmissibleOutcome old asked answer new
 
--- a command that is answered by Done where it is accepted
+-- a command that is answered by Done if it is accepted
 abbrev pub IsDone : Command → Type 0
 IsDone (AddAsset ticker) = ⊥
 IsDone OpenAccount = ⊥

@@ -1,4 +1,4 @@
--- The text of a pair of a journal. Numbers are plain decimal; prices, gaps and duals are in grains, limits in ticks.
+-- The text of an entry of a journal. Numbers are plain decimal; prices, gaps and dual values are in grains, limits in ticks.
 use Rattle.std.specs.Prelude.{◌≡◌, ℕ, List, length, codes, decimal, Option, Ok}
 use Rattle.std.specs.Fmt.{signed_decimal}
 use Rattle.std.specs.List.{flat_map, range_with_len}
@@ -14,48 +14,48 @@ use Rattle.journal_records.specs.Replies.{SpellsAnswer}
 use Rattle.market_rules.specs.Market.{Market}
 use Rattle.pair_text.specs.Texts.{◌then◌, asset_name, entry_text, last_text}
 
--- a deposit, a withdrawal or a credit in money
+-- the text of a deposit, a withdrawal or a credit in money, in ticks
 abbrev pub money_text : List ℕ → ℕ → ℕ → List ℕ
 money_text word account ticks = word then codes " account " then decimal account then codes " ticks " then decimal ticks
 
--- and one in units of an asset
+-- the text of a deposit, a withdrawal or a credit in whole units of an asset
 abbrev pub units_text : List ℕ → List (List ℕ) → ℕ → ℕ → ℕ → List ℕ
 units_text word tickers account asset units =
     word then codes " account " then decimal account then codes " " then asset_name tickers asset then codes " units " then decimal units
 
--- an order's number, and the numbers of its request
+-- the text of an order's number and the numbers of its request, limits in ticks
 abbrev pub numbers_text : ℕ → Request → List ℕ
 numbers_text order r =
     codes "order " then decimal order then codes " account " then decimal r.account then codes " low " then signed_decimal r.low
     then codes " high " then signed_decimal r.high then codes " rate " then decimal r.rate then codes " cap " then decimal r.cap
 
--- an order under its number
+-- the text of an order under its number
 abbrev pub order_text : List (List ℕ) → ℕ → Option ℕ → Request → List ℕ
 order_text tickers order last r = numbers_text order r then last_text last then flat_map (entry_text tickers) r.row
 
--- the line of an asset in a batch that cleared
+-- the line of an asset in a batch that cleared: its price in grains, and its imbalance in units
 abbrev pub price_line : List (List ℕ) → Clearing → ℕ → List ℕ
 price_line tickers c asset =
     codes "  " then asset_name tickers asset then codes " price " then signed_decimal (price_of c.prices asset)
     then codes " residual " then signed_decimal (residual_in c.residuals asset) then codes "\n"
 
--- the line of an order's rate
+-- the line of an order's rate, in units of its portfolio
 abbrev pub rate_line : Fill → List ℕ
 rate_line f = codes "  order " then decimal f.order then codes " rate " then decimal f.rate then codes "\n"
 
--- a batch that cleared: its line, one for each asset, and one for each order that was live
+-- the lines of a batch that cleared: its own, one for each asset, and one for each order that was live
 abbrev pub cleared_lines : List (List ℕ) → ℕ → Clearing → List ℕ
 cleared_lines tickers batch c =
     codes "batch " then decimal batch then codes " cleared gap " then signed_decimal c.gap then codes "\n"
     then flat_map (price_line tickers c) (range_with_len 0 (length c.prices)) then flat_map rate_line c.fills
 
--- a batch that was skipped
+-- the line of a batch that was skipped: the length of its trace, and its dual values at the start and at the end
 abbrev pub skipped_line : ℕ → Skipping → List ℕ
 skipped_line batch s =
     codes "batch " then decimal batch then codes " skipped moves " then decimal (length s.trace)
     then codes " duals " then signed_decimal s.start_dual then codes " " then signed_decimal s.end_dual then codes "\n"
 
--- what is told of a command that was done, in one line without its end
+-- the text of a command that was done, in one line without its end; no other command has one
 abbrev pub TellsDone : List (List ℕ) → Command → List ℕ → Type 0
 TellsDone tickers (DepositMoney account ticks) text = text ≡ money_text (codes "deposit") account ticks
 TellsDone tickers (DepositAsset account asset units) text = text ≡ units_text (codes "deposit") tickers account asset units
@@ -69,7 +69,7 @@ TellsDone tickers (RunBatch budget) text = ⊥
 TellsDone tickers (SetMoneyCredit account ticks) text = text ≡ money_text (codes "credit") account ticks
 TellsDone tickers (SetUnitCredit account asset units) text = text ≡ units_text (codes "credit") tickers account asset units
 
--- what is told of a command that placed the order of a number
+-- the text of a command that placed the order of a number, in one line without its end; no other command has one
 abbrev pub TellsPlacing : List (List ℕ) → ℕ → Command → List ℕ → Type 0
 TellsPlacing tickers order (Place last request) text = text ≡ order_text tickers order last request
 TellsPlacing tickers order (AddAsset ticker) text = ⊥
@@ -83,8 +83,8 @@ TellsPlacing tickers order (RunBatch budget) text = ⊥
 TellsPlacing tickers order (SetMoneyCredit account ticks) text = ⊥
 TellsPlacing tickers order (SetUnitCredit account asset units) text = ⊥
 
--- what is told of a record and its answer, behind the pair's number: with the command that the record is read as in the version
--- of the market after the pair, and under that market's tickers
+-- the text of a record and its answer, which follows the entry's number: with the command that the record is read as in
+-- the version of the market after the entry, and under that market's tickers
 abbrev pub Tells : Market → Record → Answer Outcome → List ℕ → Type 0
 Tells market asked (Plain Done) text = (command : Command) × (line : List ℕ) × IsReadAs market.version asked (Ok command) × TellsDone market.tickers command line × (text ≡ line then codes "\n")
 Tells market asked (Plain (Asset asset)) text = text ≡ codes "asset " then decimal asset then codes " " then asset_name market.tickers asset then codes "\n"
@@ -94,7 +94,7 @@ Tells market asked (Plain (Refused refusal)) text = text ≡ codes "refused " th
 Tells market asked (Batch batch (Cleared c)) text = text ≡ cleared_lines market.tickers batch c
 Tells market asked (Batch batch (Skipped s)) text = text ≡ skipped_line batch s
 
--- The lines of a pair of this number, counted from 1, with the market after it.
+-- The lines of an entry of this number, counted from 1, with the market after it.
 pub record IsReport (market : Market) (number : ℕ) (pair : Record × Record) (text : List ℕ) : Type 0 where
   pub answer : Answer Outcome
   pub told : List ℕ

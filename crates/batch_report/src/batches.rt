@@ -12,7 +12,7 @@ use pair_text::Text;
 use ticker_table::TickerTable;
 use wire_records::Memory;
 
-// The price of an asset that has one.
+// Returns the price of an asset that has one.
 fn price_at(view: &ClearedView<'_>, asset: u16) -> i64
     requires { asset < length view.now.clearing.prices }
     ensures { result ≡ price_of view.now.clearing.prices asset }
@@ -20,7 +20,7 @@ fn price_at(view: &ClearedView<'_>, asset: u16) -> i64
     view.price(asset).unwrap()
 }
 
-// The residual of an asset that has one.
+// Returns the imbalance of an asset that has one.
 fn residual_at(view: &ClearedView<'_>, asset: u16) -> i64
     requires { asset < length view.now.clearing.residuals }
     ensures { result ≡ residual_in view.now.clearing.residuals asset }
@@ -28,7 +28,7 @@ fn residual_at(view: &ClearedView<'_>, asset: u16) -> i64
     view.residual(asset).unwrap()
 }
 
-// The number of the order at a place that has a rate.
+// Returns the number of the order at a place that has a rate.
 fn number_at(view: &ClearedView<'_>, place: u32) -> u64
     requires { place < length view.now.clearing.fills }
     ensures { result ≡ (fill_at view.now.clearing.fills place).order }
@@ -36,7 +36,7 @@ fn number_at(view: &ClearedView<'_>, place: u32) -> u64
     view.order(place).unwrap()
 }
 
-// The rate at a place that has one.
+// Returns the rate at a place that has one.
 fn rate_at(view: &ClearedView<'_>, place: u32) -> u32
     requires { place < length view.now.clearing.fills }
     ensures { result ≡ (fill_at view.now.clearing.fills place).rate }
@@ -44,7 +44,7 @@ fn rate_at(view: &ClearedView<'_>, place: u32) -> u32
     view.rate(place).unwrap()
 }
 
-// The line of an asset.
+// Appends the line of an asset.
 fn put_price(
     tickers: &TickerTable,
     view: &ClearedView<'_>,
@@ -62,7 +62,7 @@ fn put_price(
     out.put(b"\n")
 }
 
-// The lines of all assets.
+// Appends the lines of all assets.
 fn put_prices(tickers: &TickerTable, view: &ClearedView<'_>, out: &mut Text) -> Result<(), Memory>
     ensures before { out.new.before ≡ out.old.before }
     ensures put { OnOk result (out.new.text ≡ out.old.text
@@ -74,7 +74,7 @@ fn put_prices(tickers: &TickerTable, view: &ClearedView<'_>, out: &mut Text) -> 
     Ok(())
 }
 
-// The line of an order.
+// Appends the line of an order.
 fn put_rate(view: &ClearedView<'_>, place: u32, out: &mut Text) -> Result<(), Memory>
     requires { place < length view.now.clearing.fills }
     ensures before { out.new.before ≡ out.old.before }
@@ -85,7 +85,7 @@ fn put_rate(view: &ClearedView<'_>, place: u32, out: &mut Text) -> Result<(), Me
     out.put(b"\n")
 }
 
-// The lines of all orders that were live.
+// Appends the lines of all orders that were live.
 fn put_rates(view: &ClearedView<'_>, out: &mut Text) -> Result<(), Memory>
     ensures before { out.new.before ≡ out.old.before }
     ensures put { OnOk result (out.new.text ≡ out.old.text ++ flat_map rate_line view.now.clearing.fills) }
@@ -96,7 +96,7 @@ fn put_rates(view: &ClearedView<'_>, out: &mut Text) -> Result<(), Memory>
     Ok(())
 }
 
-// A batch that cleared.
+// Appends the lines of a batch that cleared.
 pub(crate) fn put_cleared(
     tickers: &TickerTable,
     view: &ClearedView<'_>,
@@ -112,7 +112,7 @@ pub(crate) fn put_cleared(
     put_rates(view, out)
 }
 
-// A batch that was skipped.
+// Appends the line of a batch that was skipped.
 pub(crate) fn put_skipped(view: &SkippedView<'_>, out: &mut Text) -> Result<(), Memory>
     ensures before { out.new.before ≡ out.old.before }
     ensures put { OnOk result (out.new.text ≡ out.old.text ++ skipped_line view.now.batch view.now.skipping) }

@@ -1,14 +1,13 @@
-//! The text of a journal: what each pair of it tells, in lines for people.
+//! The text of a journal: what each of its entries says, in lines for people.
 //!
-//! [`report_pair`] appends the lines of one pair that an [`Audit`](batch_audit::Audit) has just found legal: one line for
-//! a plain command or a refusal, and for a batch that cleared one more for each asset and for each order that was live. What
-//! holds of the texts stands in [`laws`].
+//! [`report_pair`] appends the lines of one entry that an [`Audit`](batch_audit::Audit) has just found valid: one line
+//! for a plain command or a refusal, and for a batch that cleared one more for each asset and for each order that was
+//! live. The laws of the texts are in [`laws`].
 //!
 //! # Costs
 //!
-//! A pair costs its text: each number is read where it lies in the pair and printed once, right behind what stands in the
-//! output. Memory is taken only where the output has no room for the text; where there is none, the output is cut back to
-//! what it was.
+//! An entry costs its text: each number is read in place and printed once, right after what is in the output. Memory is
+//! taken only if the output has no room for the text; if there is none, the output is cut back to what it was.
 #![tactic(auto)]
 
 mod batches;

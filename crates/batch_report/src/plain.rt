@@ -14,7 +14,7 @@ use pair_text::Text;
 use ticker_table::TickerTable;
 use wire_records::{CommandView, Memory, PlaceView, RecordView, Refusal, Reply};
 
-// A deposit, a withdrawal or a credit in money.
+// Appends a deposit, a withdrawal or a credit in money.
 fn put_money(word: &[u8], account: u32, ticks: u64, out: &mut Text) -> Result<(), Memory>
     ensures before { out.new.before ≡ out.old.before }
     ensures put { OnOk result (out.new.text ≡ out.old.text ++ money_text word.now account ticks) }
@@ -24,7 +24,7 @@ fn put_money(word: &[u8], account: u32, ticks: u64, out: &mut Text) -> Result<()
     out.put_number(b" ticks ", ticks)
 }
 
-// A deposit, a withdrawal or a credit in an asset's units.
+// Appends a deposit, a withdrawal or a credit in an asset's units.
 fn put_units(
     word: &[u8],
     tickers: &TickerTable,
@@ -42,7 +42,7 @@ fn put_units(
     out.put_number(b" units ", units)
 }
 
-// A command that was done, without the end of its line.
+// Appends a command that was done, without the end of its line.
 fn put_command(
     tickers: &TickerTable,
     command: &CommandView<'_>,
@@ -83,7 +83,7 @@ fn put_command(
     }
 }
 
-// The command of a record that was answered by `Done`.
+// Returns the command of a record that was answered by `Done`.
 fn done_command<'a>(market: &Market, asked: &RecordView<'a>) -> CommandView<'a>
     requires { IsAnswered market.now asked.now (Plain reply.Done) }
     ensures read { IsReadAs market.now.version asked.now (Ok (command_of result)) }
@@ -95,7 +95,7 @@ fn done_command<'a>(market: &Market, asked: &RecordView<'a>) -> CommandView<'a>
     }
 }
 
-// The command of a record that was answered by an order's number.
+// Returns the command of a record that was answered by an order's number.
 fn placing_command<'a>(market: &Market, asked: &RecordView<'a>) -> CommandView<'a>
     requires { (number : ℕ) × IsAnswered market.now asked.now (Plain (reply.Order number)) }
     ensures read { IsReadAs market.now.version asked.now (Ok (command_of result)) }
@@ -107,7 +107,7 @@ fn placing_command<'a>(market: &Market, asked: &RecordView<'a>) -> CommandView<'
     }
 }
 
-// The line of a command that was done.
+// Appends the line of a command that was done.
 fn put_done(market: &Market, asked: &RecordView<'_>, out: &mut Text) -> Result<(), Memory>
     requires { IsAnswered market.now asked.now (Plain reply.Done) }
     ensures before { out.new.before ≡ out.old.before }
@@ -118,7 +118,7 @@ fn put_done(market: &Market, asked: &RecordView<'_>, out: &mut Text) -> Result<(
     out.put(b"\n")
 }
 
-// An order's number, and the numbers of its request.
+// Appends an order's number, and the numbers of its request.
 fn put_numbers(place: &PlaceView<'_>, order: u64, out: &mut Text) -> Result<(), Memory>
     ensures before { out.new.before ≡ out.old.before }
     ensures put { OnOk result (out.new.text ≡ out.old.text ++ numbers_text order place.now) }
@@ -131,7 +131,7 @@ fn put_numbers(place: &PlaceView<'_>, order: u64, out: &mut Text) -> Result<(), 
     out.put_number(b" cap ", place.cap())
 }
 
-// An order under its number.
+// Appends an order under its number.
 fn put_order(
     tickers: &TickerTable,
     last: Option<u32>,
@@ -147,7 +147,7 @@ fn put_order(
     out.put_entries(tickers, &place.row())
 }
 
-// The order that a command places, under its number.
+// Appends the order that a command places, under its number.
 fn put_placing(
     tickers: &TickerTable,
     command: &CommandView<'_>,
@@ -177,7 +177,7 @@ fn put_placing(
     }
 }
 
-// The line of an order.
+// Appends the line of an order.
 fn put_placed(
     market: &Market,
     asked: &RecordView<'_>,
@@ -198,7 +198,7 @@ fn put_placed(
     out.put(b"\n")
 }
 
-// The line of a new asset.
+// Appends the line of a new asset.
 fn put_asset(tickers: &TickerTable, asset: u16, out: &mut Text) -> Result<(), Memory>
     ensures before { out.new.before ≡ out.old.before }
     ensures put { OnOk result (out.new.text ≡ out.old.text
@@ -209,7 +209,7 @@ fn put_asset(tickers: &TickerTable, asset: u16, out: &mut Text) -> Result<(), Me
     out.put(b"\n")
 }
 
-// The line of a new account.
+// Appends the line of a new account.
 fn put_account(account: u32, out: &mut Text) -> Result<(), Memory>
     ensures before { out.new.before ≡ out.old.before }
     ensures put { OnOk result (out.new.text ≡ out.old.text ++ (codes "account " then decimal account then codes "\n")) }
@@ -218,7 +218,7 @@ fn put_account(account: u32, out: &mut Text) -> Result<(), Memory>
     out.put(b"\n")
 }
 
-// The line of a refusal.
+// Appends the line of a refusal.
 fn put_refused(refusal: Refusal, out: &mut Text) -> Result<(), Memory>
     ensures before { out.new.before ≡ out.old.before }
     ensures put { OnOk result (out.new.text ≡ out.old.text ++ (codes "refused " then decimal (code_of refusal) then codes "\n")) }
@@ -227,7 +227,7 @@ fn put_refused(refusal: Refusal, out: &mut Text) -> Result<(), Memory>
     out.put(b"\n")
 }
 
-// The line of a plain reply.
+// Appends the line of a plain reply.
 pub(crate) fn put_plain(
     market: &Market,
     asked: &RecordView<'_>,

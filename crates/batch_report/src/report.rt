@@ -1,4 +1,4 @@
-//! The lines of a pair.
+//! The lines of an entry.
 ghost use Rattle.std.specs.Prelude.{◌≡◌, ◌≤◌, ◌++◌, ℕ, List, OnOk, OnErr, vec_capacity};
 ghost use Rattle.journal_records.specs.Views.{answer_of};
 ghost use Rattle.market_rules.specs.Market.{Market};
@@ -14,7 +14,7 @@ use market_core::Market;
 use pair_text::Text;
 use wire_records::{Memory, RecordView};
 
-// What is told of a record and its answer.
+// Appends what is reported of a record and its answer.
 fn put_told(
     market: &Market,
     asked: &RecordView<'_>,
@@ -33,7 +33,7 @@ fn put_told(
     }
 }
 
-// The lines of a pair.
+// Appends the lines of an entry.
 fn put_pair(market: &Market, pair: &PairView<'_>, number: u64, out: &mut Text) -> Result<(), Memory>
     requires { (old : Market) × IsLegalPair old pair.now market.now }
     ensures before { out.new.before ≡ out.old.before }
@@ -48,15 +48,15 @@ fn put_pair(market: &Market, pair: &PairView<'_>, number: u64, out: &mut Text) -
     }
 }
 
-/// Appends the lines of a pair that the audit has just found legal, under its number, counted from 1. They name assets by
-/// the tickers of the market after the pair, without spaces. Prices, gaps and duals are in grains, limits in ticks, all
-/// other amounts in whole units; numbers are plain decimal, with `-` before a negative one, and each line ends with a line
-/// feed.
+/// Appends the lines of an entry that the audit has just found valid, under its number, counted from 1. They name
+/// assets by the tickers of the market after the entry, without spaces. Prices, gaps and dual values are in grains,
+/// limits in ticks, all other amounts in whole units; numbers are plain decimal, with `-` before a negative one, and
+/// each line ends with a line feed.
 ///
-/// One line tells a plain command with what it was given or did, or the code of a refusal. A batch that cleared has a line for
-/// each asset and for each order that was live behind its own, rates of 0 among them. `Memory` comes where there was none
-/// for the text, and then `out` is as before: what was written of the text is taken back. It costs what the pair has of
-/// numbers, and takes memory only where `out` has no room for the text.
+/// A plain command has one line with what it was given or did, or with the code of its refusal. A batch that cleared
+/// has, after its own line, one for each asset and one for each order that was live, including those with a rate of 0.
+/// The error is `Memory`: there was no memory for the text; then `out` is as before, since what was written of the text
+/// is taken back. It costs what the entry has of numbers, and takes memory only if `out` has no room for the text.
 pub fn report_pair(
     audit: &Audit,
     pair: &PairView<'_>,

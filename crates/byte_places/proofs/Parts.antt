@@ -5,13 +5,13 @@ use Rattle.std.proofs.Math.Seq.{take-add}
 use Rattle.std.proofs.lemmas.List.{drop-drop}
 use Rattle.byte_places.specs.Places.{part}
 
--- two parts, one behind the other
+-- two parts, one after the other
 pub part_join : (place a b : ℕ) (bytes : List ℕ) → part place a bytes ++ part (place + a) b bytes ≡ part place (a + b) bytes
 part_join place a b bytes =
     let next : drop a (drop place bytes) ≡ drop (place + a) bytes = drop-drop a place bytes in
     ap (λ xs. part place a bytes ++ take b xs) (sym next) ∙ sym (take-add a b (drop place bytes))
 
--- so many parts of one size, one behind the other
+-- so many parts of one size, one after the other
 pub parts_join : (spell : ℕ → List ℕ) (size place first count : ℕ) (bytes : List ℕ) → ((k : ℕ) → first ≤ k → k + 1 ≤ first + count → spell k ≡ part (place + size * k) size bytes) → flat_map spell (range_with_len first count) ≡ part (place + size * first) (size * count) bytes
 parts_join spell size place first zero bytes each = ap (λ n. part (place + size * first) n bytes) (let none : 0 ≡ size * 0 = omega arith in none)
 parts_join spell size place first (suc count) bytes each =

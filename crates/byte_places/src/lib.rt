@@ -1,7 +1,7 @@
-//! Numbers where they lie in borrowed bytes, read by their places.
+//! Numbers in borrowed bytes, read by their places.
 //!
-//! A format whose parts stand at known places needs no cursor: each number is read from its place, counted in bytes from 0, in
-//! constant time, and nothing is copied. Numbers are spelled as `wire_fields` says.
+//! A format whose parts are at known places needs no cursor: each number is read from its place, counted in bytes from 0, in
+//! constant time, and nothing is copied. Numbers are encoded as `wire_fields` says.
 #![tactic(auto)]
 
 mod numbers;

@@ -1,11 +1,11 @@
-//! A number of each width at a place of bytes, all of whose bytes are there.
+//! Numbers of each width at a place of bytes. All bytes of the number have to be there.
 ghost use Rattle.std.specs.Prelude.{◌≡◌, ◌+◌, ◌≤◌, length};
 ghost use Rattle.std.specs.Int.{w32, w64, w128};
 ghost use Rattle.byte_places.specs.Places.{unsigned_at, signed_at};
 
 use wire_fields::Cursor;
 
-/// The number without a sign of the byte at a place.
+/// Returns the unsigned number in the byte at a place.
 pub fn u8_at(bytes: &[u8], place: usize) -> u8
     requires { place + 1 ≤ length bytes.now }
     ensures { result ≡ unsigned_at 1 place bytes.now }
@@ -13,7 +13,7 @@ pub fn u8_at(bytes: &[u8], place: usize) -> u8
     Cursor::new(&bytes[place..]).take_u8().unwrap()
 }
 
-/// The number without a sign of the 2 bytes at a place.
+/// Returns the unsigned number in the 2 bytes at a place.
 pub fn u16_at(bytes: &[u8], place: usize) -> u16
     requires { place + 2 ≤ length bytes.now }
     ensures { result ≡ unsigned_at 2 place bytes.now }
@@ -21,7 +21,7 @@ pub fn u16_at(bytes: &[u8], place: usize) -> u16
     Cursor::new(&bytes[place..]).take_u16().unwrap()
 }
 
-/// The number without a sign of the 4 bytes at a place.
+/// Returns the unsigned number in the 4 bytes at a place.
 pub fn u32_at(bytes: &[u8], place: usize) -> u32
     requires { place + 4 ≤ length bytes.now }
     ensures { result ≡ unsigned_at 4 place bytes.now }
@@ -29,7 +29,7 @@ pub fn u32_at(bytes: &[u8], place: usize) -> u32
     Cursor::new(&bytes[place..]).take_u32().unwrap()
 }
 
-/// The number without a sign of the 8 bytes at a place.
+/// Returns the unsigned number in the 8 bytes at a place.
 pub fn u64_at(bytes: &[u8], place: usize) -> u64
     requires { place + 8 ≤ length bytes.now }
     ensures { result ≡ unsigned_at 8 place bytes.now }
@@ -37,7 +37,7 @@ pub fn u64_at(bytes: &[u8], place: usize) -> u64
     Cursor::new(&bytes[place..]).take_u64().unwrap()
 }
 
-/// The number with a sign of the 4 bytes at a place.
+/// Returns the signed number in the 4 bytes at a place.
 pub fn i32_at(bytes: &[u8], place: usize) -> i32
     requires { place + 4 ≤ length bytes.now }
     ensures { result ≡ signed_at w32 place bytes.now }
@@ -45,7 +45,7 @@ pub fn i32_at(bytes: &[u8], place: usize) -> i32
     Cursor::new(&bytes[place..]).take_i32().unwrap()
 }
 
-/// The number with a sign of the 8 bytes at a place.
+/// Returns the signed number in the 8 bytes at a place.
 pub fn i64_at(bytes: &[u8], place: usize) -> i64
     requires { place + 8 ≤ length bytes.now }
     ensures { result ≡ signed_at w64 place bytes.now }
@@ -53,7 +53,7 @@ pub fn i64_at(bytes: &[u8], place: usize) -> i64
     Cursor::new(&bytes[place..]).take_i64().unwrap()
 }
 
-/// The number with a sign of the 16 bytes at a place.
+/// Returns the signed number in the 16 bytes at a place.
 pub fn i128_at(bytes: &[u8], place: usize) -> i128
     requires { place + 16 ≤ length bytes.now }
     ensures { result ≡ signed_at w128 place bytes.now }

@@ -6,12 +6,13 @@ use weight_rows::{Entry, EntryList, WeightRow, row_fault};
 /// How many orders there are.
 pub const ORDERS: u32 = 16_384;
 
-// How many entries a row has, at most 16, and how many assets an order's first entry may name.
+// How many legs an order has, at most 16.
 const ENTRIES: u16 = 16;
 
+// How many assets an order's first leg may name.
 const FIRSTS: u32 = 49;
 
-// The entry at a place of an order's row. Of each two orders the second one sells what the first one buys.
+// Returns the leg at a place of an order. Of each two orders the second one sells what the first one buys.
 fn entry(number: u32, place: u16) -> Entry {
     let first = (number / 2 % FIRSTS) as u16;
     let size = i32::from(place % 4) + 1;
@@ -22,7 +23,7 @@ fn entry(number: u32, place: u16) -> Entry {
     }
 }
 
-// The order of a number, or None where its numbers or its row had a fault.
+// Returns the order of a number, or `None` if its numbers or its weight vector had a fault.
 fn order(alloc: Global, number: u32) -> Result<Option<Order>, AllocError> {
     let mut entries = Vec::with_capacity(alloc, usize::from(ENTRIES))?;
     for place in 0..ENTRIES {
@@ -36,7 +37,7 @@ fn order(alloc: Global, number: u32) -> Result<Option<Order>, AllocError> {
     Ok(Some(Order::new(u64::from(number) + 1, 1, -10, 10, 999, 1 << 30, row)))
 }
 
-/// 16,384 orders of 16 entries each over 64 assets. At prices of 0 each asks for 499 and a half, and what one buys of an
+/// Returns 16,384 orders of 16 legs each over 64 assets. At prices of 0 each asks for 499 and a half, and what one buys of an
 /// asset another one sells.
 pub fn fixed(alloc: Global) -> Result<Vec<Order>, AllocError> {
     let mut orders = Vec::with_capacity(alloc, ORDERS as usize)?;

@@ -1,9 +1,9 @@
 //! A benchmark of what a clearing costs: `check_benchmark KIND PASSES`.
 //!
-//! Over a fixed book of 16,384 orders with 16 entries each it does one thing as often as PASSES says. KIND is `check`,
-//! for the check of a published clearing, `clear`, for a batch that clears where it starts, `floors`, for all demands
-//! rounded down, or `chosen`, for the chosen rates. It prints how often the clearing was found right, how often the batch
-//! cleared, or how many units all orders trade together. `tools/dev/benchmark` times it.
+//! Over a fixed book of 16,384 orders with 16 legs each it does one thing as often as PASSES says. KIND is `check`, for the check of a
+//! published clearing, `clear`, for a batch that clears where it starts, `floors`, for all demands rounded down, or `chosen`, for the
+//! chosen rates. It prints how often the clearing was found admissible, how often the batch cleared, or how many units all orders trade
+//! together. `tools/dev/benchmark` times it.
 #![tactic(auto)]
 
 ghost use Rattle.std.specs.Prelude.{IsTrue};
@@ -26,12 +26,13 @@ use std::{env, io};
 
 const ASSETS: usize = 64;
 
-// What an order asks for, rounded down, and what that loses, in grains.
+// What each order asks for, rounded down.
 const RATE: u32 = 499;
 
+// What an order loses by that rounding, in grains.
 const LOSS: i128 = 10_748_167;
 
-// Whether each asset that the order names has a price.
+// Returns whether each asset that the order names has a price.
 pub(crate) fn is_priced(order: &Order, prices: &[i64]) -> bool
     ensures { IsTrue result → IsPricedBy order.now.row prices.now }
 {
@@ -42,7 +43,7 @@ pub(crate) fn is_priced(order: &Order, prices: &[i64]) -> bool
         .all(|entry| usize::from(entry.asset) < prices.len())
 }
 
-// Each order's number and rate.
+// Returns each order's number and rate.
 fn fills(alloc: Global) -> Result<Vec<(u64, u32)>, AllocError> {
     let mut fills = Vec::with_capacity(alloc, ORDERS as usize)?;
     for number in 0..ORDERS {
@@ -51,7 +52,7 @@ fn fills(alloc: Global) -> Result<Vec<(u64, u32)>, AllocError> {
     Ok(fills)
 }
 
-// How often the clearing is found right.
+// Returns how often the clearing is found admissible.
 fn rights(orders: &[Order], fills: &[(u64, u32)], passes: u32) -> u32 {
     let start = [0; ASSETS];
     let assets = [(0, 0); ASSETS];
@@ -75,7 +76,7 @@ fn rights(orders: &[Order], fills: &[(u64, u32)], passes: u32) -> u32 {
     rights
 }
 
-// How often a batch of the book from prices of 0 clears, or None where there is no memory for it.
+// Returns how often a batch of the book from prices of 0 clears, or `None` if there is no memory for it.
 fn clearings(alloc: Global, orders: &[Order], passes: u32) -> Option<u32> {
     let start = [0; ASSETS];
     if orders.len() > 16_384 || !orders.iter().all(|order| is_priced(order, &start)) {
@@ -98,7 +99,7 @@ enum Kind {
     Round(Rounding),
 }
 
-// None where the words aren't a kind and a number.
+// Returns the kind and the number, or `None` if the words aren't these.
 fn task(words: &[String]) -> Option<(Kind, u32)> {
     let [kind, passes] = words else { return None };
     let kind = match kind.as_str() {

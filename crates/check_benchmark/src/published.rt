@@ -3,7 +3,7 @@ ghost use Rattle.std.specs.Prelude.{◌≤◌, length};
 
 use batch_outcome::ClearedParts;
 
-/// Price and residual of each asset, number and rate of each order, and the gap.
+/// Price and imbalance of each asset, number and rate of each order, and the gap.
 #[derive(Drop)]
 pub struct Published<'a> {
     /// At most 64.

@@ -8,10 +8,10 @@ use flow_orders::Order;
 use rate_rounding::{chosen_rates, floor_rates};
 use std::alloc::Global;
 
-// Prices lie up to so many grains from 0, where no demand of the book is cut, and each is a step above the one before,
-// or begins anew.
+// How many grains from 0 prices lie at most, where no demand of the book is cut.
 const MOST: u32 = 1 << 27;
 
+// How many grains each price is above the one before, unless it starts again.
 const STEP: u64 = 39_916_801;
 
 /// How demands are rounded.
@@ -23,7 +23,7 @@ pub enum Rounding {
     Chosen,
 }
 
-// A price for each asset.
+// Returns a price for each asset.
 fn prices() -> [i64; 64] {
     let mut prices = [0; 64];
     for place in 0..64 {
@@ -33,7 +33,7 @@ fn prices() -> [i64; 64] {
     prices
 }
 
-// Whether these are prices of these orders.
+// Returns whether these are prices of these orders.
 fn are_priced(orders: &[Order], prices: &[i64]) -> bool
     ensures few { IsTrue result → length orders.now ≤ most_orders }
     ensures range { IsTrue result → All IsPrice prices.now }
@@ -44,7 +44,7 @@ fn are_priced(orders: &[Order], prices: &[i64]) -> bool
         && orders.iter().all(|order| is_priced(order, prices))
 }
 
-/// Rounds the demands so many times, and answers how many units all orders trade together, or None where there is no
+/// Rounds the demands so many times, and returns how many units all orders trade together, or `None` if there is no
 /// memory for the rates.
 pub fn traded(alloc: Global, orders: &[Order], rounding: Rounding, passes: u32) -> Option<u64> {
     let prices = prices();
@@ -62,7 +62,7 @@ pub fn traded(alloc: Global, orders: &[Order], rounding: Rounding, passes: u32) 
     Some(units)
 }
 
-// The sum of rates, as far as it fits.
+// Returns the sum of rates, as far as it fits.
 fn sum(rates: &[u32]) -> u64 {
     let mut sum = 0u64;
     for rate in rates {

@@ -8,7 +8,7 @@ pub enum Line<'a> {
     Remark,
     /// A name for bytes, which are kept.
     Named,
-    /// A case: the words before the colon, and the bytes behind it.
+    /// A case: the words before the colon, and the bytes after it.
     Case(&'a str, Vec<u8>),
 }
 
@@ -19,14 +19,14 @@ struct Named {
     bytes: Vec<u8>,
 }
 
-/// The names that lines gave to bytes. Where two are the same, the earlier one counts.
+/// The names that lines gave to bytes. If two names are the same, the earlier one counts.
 #[derive(Drop)]
 pub struct Names {
     alloc: Global,
     names: Vec<Named>,
 }
 
-// How often a piece says its bytes, and what says them.
+// Returns how often a piece repeats its bytes, and what says them.
 fn counted(piece: &str) -> (u32, &str) {
     let Some((count, unit)) = piece.split_once('x') else {
         return (1, piece);
@@ -38,7 +38,7 @@ fn counted(piece: &str) -> (u32, &str) {
 }
 
 impl Names {
-    /// No names. Takes no memory.
+    /// No names. Allocates nothing.
     pub fn new(alloc: Global) -> Names {
         Names {
             alloc,
@@ -46,8 +46,7 @@ impl Names {
         }
     }
 
-    /// What a line says, or `None` where it has none of the forms, names what has no name, or there is no memory for its
-    /// bytes.
+    /// Returns what a line says, or `None` if it has none of the forms, names what has no name, or there is no memory for its bytes.
     pub fn read<'a>(&mut self, line: &'a str) -> Option<Line<'a>> {
         if line.is_empty() || line.starts_with('#') {
             return Some(Line::Remark);
@@ -68,7 +67,7 @@ impl Names {
         self.names.push(Named { name, bytes }).ok()
     }
 
-    // The bytes that have a name.
+    // Returns the bytes that have a name.
     fn find(&self, name: &str) -> Option<&[u8]> {
         for named in &self.names {
             if named.name.as_str() == name {
@@ -78,7 +77,7 @@ impl Names {
         None
     }
 
-    // The bytes of pieces.
+    // Returns the bytes of pieces.
     fn bytes(&self, pieces: &str) -> Option<Vec<u8>> {
         let mut bytes = Vec::new(self.alloc);
         for piece in pieces.split_whitespace() {

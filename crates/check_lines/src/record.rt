@@ -3,10 +3,10 @@ ghost use Rattle.std.specs.Prelude.{◌≤◌, ◌<◌, length};
 
 use std::alloc::Global;
 
-// A tag and a length have so many bytes.
+// The bytes of a tag and a length.
 const HEAD: usize = 5;
 
-// How many bytes the first record takes, or all of them where it isn't whole.
+// Returns how many bytes the first record takes, or all of them if it isn't complete.
 fn record_len(bytes: &[u8]) -> usize
     ensures within { result ≤ length bytes.now }
     ensures some { 0 < length bytes.now → 0 < result }
@@ -18,7 +18,7 @@ fn record_len(bytes: &[u8]) -> usize
     bytes.len().min(HEAD + body as usize)
 }
 
-// How many bytes the first two records take, in the same way.
+// Returns how many bytes the first two records take, or all of them if these aren't complete.
 fn pair_len(bytes: &[u8]) -> usize
     ensures within { result ≤ length bytes.now }
     ensures some { 0 < length bytes.now → 0 < result }
@@ -27,7 +27,7 @@ fn pair_len(bytes: &[u8]) -> usize
     first + record_len(&bytes[first..])
 }
 
-/// The records that stand one behind the other, whatever they hold. The last one may not be whole. `None` where there is no
+/// Returns the records that follow one another in the bytes, whatever they hold. The last one may be truncated. `None` if there is no
 /// memory for the list.
 pub fn records(alloc: Global, bytes: &[u8]) -> Option<Vec<&[u8]>> {
     let mut records = Vec::new(alloc);
@@ -40,7 +40,8 @@ pub fn records(alloc: Global, bytes: &[u8]) -> Option<Vec<&[u8]>> {
     Some(records)
 }
 
-/// The same, two records at a time.
+/// Returns the entries, of two records each, that follow one another in the bytes, whatever they hold. The last one may be truncated.
+/// `None` if there is no memory for the list.
 pub fn pairs(alloc: Global, bytes: &[u8]) -> Option<Vec<&[u8]>> {
     let mut pairs = Vec::new(alloc);
     let mut rest = bytes;

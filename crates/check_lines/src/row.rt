@@ -1,8 +1,8 @@
-//! The rows in which bytes are told.
+//! The rows in which bytes are printed.
 use crate::record::records;
 use std::alloc::Global;
 
-// Appends a blank and the digits of bytes, where there are some.
+// Appends a blank and the digits of bytes, if there are any.
 fn put_digits(alloc: Global, bytes: &[u8], rows: &mut String) -> Option<()> {
     if bytes.is_empty() {
         return Some(());
@@ -22,8 +22,8 @@ fn put_record(alloc: Global, record: &[u8], rows: &mut String) -> Option<()> {
     rows.push('\n').ok()
 }
 
-/// Appends a row for each record: its tag, its length and its body in hexadecimal digits. Where there are more than `most`,
-/// only the last ones have a row. `None` where there is no memory.
+/// Appends a row for each record: its tag, its length and its body in hexadecimal digits. If there are more than `most`,
+/// only the last ones have a row. `None` if memory ran out.
 pub fn put_records(alloc: Global, bytes: &[u8], most: usize, rows: &mut String) -> Option<()> {
     let records = records(alloc, bytes)?;
     for record in &records[records.len().saturating_sub(most)..] {
@@ -32,7 +32,7 @@ pub fn put_records(alloc: Global, bytes: &[u8], most: usize, rows: &mut String) 
     Some(())
 }
 
-/// Appends a row for each line of a text. `None` where the bytes are no text, or there is no memory.
+/// Appends a row for each line of a text. `None` if the bytes are no text, or memory ran out.
 pub fn put_text(bytes: &[u8], rows: &mut String) -> Option<()> {
     let text = str::from_utf8(bytes).ok()?;
     for line in text.lines() {
@@ -41,14 +41,14 @@ pub fn put_text(bytes: &[u8], rows: &mut String) -> Option<()> {
     Some(())
 }
 
-/// Appends the rows of a file: one for the magic, and those of the records behind it, as [`put_records`] does.
+/// Appends the rows of a file: one for the magic, and those of the records after it, as [`put_records`] does.
 pub fn put_file(alloc: Global, bytes: &[u8], most: usize, rows: &mut String) -> Option<()> {
     let (magic, records) = bytes.split_at(bytes.len().min(8));
     put_text(magic, rows)?;
     put_records(alloc, records, most, rows)
 }
 
-/// Appends the bytes in hexadecimal digits, 16 in a row. `None` where there is no memory.
+/// Appends the bytes in hexadecimal digits, 16 in a row. `None` if memory ran out.
 pub fn put_rows(alloc: Global, bytes: &[u8], rows: &mut String) -> Option<()> {
     for row in bytes.chunks(16) {
         rows.push(' ').ok()?;

@@ -1,9 +1,8 @@
-//! What a case comes to.
+//! The result of a case, as it is printed.
 use crate::row::{put_records, put_text};
 use std::alloc::Global;
 
-/// The rows that a case comes to. Whoever appends gets no answer: where there is no memory, or the case is faulty, none of
-/// it is told.
+/// The rows of a case's result. Those who append get no answer: if memory ran out, or the case is faulty, nothing of it is printed.
 #[derive(Drop)]
 pub struct Told {
     alloc: Global,
@@ -12,7 +11,7 @@ pub struct Told {
 }
 
 impl Told {
-    /// Nothing so far. Takes no memory.
+    /// Nothing so far. Allocates nothing.
     pub fn new(alloc: Global) -> Told {
         Told {
             alloc,
@@ -27,7 +26,7 @@ impl Told {
         self.keep(put);
     }
 
-    /// Appends a text, and a number behind it.
+    /// Appends a text, and a number after it.
     pub fn put_number(&mut self, text: &str, number: i128) {
         let put = write!(self.rows, "{text}{number}").ok();
         self.keep(put);
@@ -45,7 +44,7 @@ impl Told {
         self.keep(put);
     }
 
-    /// Gives the case up where something of it wasn't done.
+    /// Gives the case up, if something wasn't done.
     pub fn keep(&mut self, done: Option<()>) {
         if done.is_none() {
             self.is_whole = false;
@@ -57,7 +56,7 @@ impl Told {
         self.is_whole = false;
     }
 
-    /// All that was appended, or `None` where the case was given up.
+    /// Returns all that was appended, or `None` if the case was given up.
     pub fn rows(&self) -> Option<&str> {
         if self.is_whole {
             Some(self.rows.as_str())

@@ -9,36 +9,36 @@ use Rattle.weight_rows.specs.Rows.{price_of}
 use Rattle.flow_orders.specs.Orders.{Order}
 use Rattle.flow_orders.specs.Excess.{is_unsettled}
 use Rattle.flow_orders.specs.Walks.{first_that}
-use Rattle.own_rule.specs.Turns.{visits, IsInTurn, IsOwnWalk, IsOwnTrace}
+use Rattle.canonical_rule.specs.Turns.{visits, IsInTurn, IsCanonicalWalk, IsCanonicalTrace}
 use Rattle.flow_orders.specs.Outcomes.{step_of, end_of, IsLegalFrom, EndsSettled}
-use Rattle.own_rule.proofs.Loops.{next_after}
-use Rattle.own_rule.proofs.Walks.{visits-order, in_turn-push, next_after-push, in_turn-legal, next_after-there, own_walk, own_trace, first_that-passes}
+use Rattle.canonical_rule.proofs.Loops.{next_after}
+use Rattle.canonical_rule.proofs.Walks.{visits-order, in_turn-push, next_after-push, in_turn-legal, next_after-there, canonical_walk, canonical_trace, first_that-passes}
 use Rattle.flow_orders.proofs.WalkParts.{walk_end-push}
 use Rattle.flow_orders.proofs.Moving.{AreWithin, has_walked}
 use Rattle.price_moves.proofs.Near.{legal_near}
 
 -- ---- the first number that passes a test
 
--- the numbers before it fail: it is looked for behind them
+-- if a number fails, the search continues after it
 pub skip_failed : (test : ℕ → Bool) (a end : ℕ) → a < end → test a ≡ false
     → first_that test (range_with_len a (end - a)) ≡ first_that test (range_with_len (a + 1) (end - (a + 1)))
 skip_failed test a end inside fails =
     let left : end - a ≡ suc (end - (a + 1)) = omega (arith, inside) in
     rw (left, fails) refl
 
--- it is here
+-- if a number passes, it is found
 pub found_here : (test : ℕ → Bool) (a end : ℕ) → a < end → test a ≡ true → first_that test (range_with_len a (end - a)) ≡ Some a
 found_here test a end inside passes =
     let left : end - a ≡ suc (end - (a + 1)) = omega (arith, inside) in
     rw (left, passes) refl
 
--- no number is left
+-- if no number is left, none is found
 pub none_left : (test : ℕ → Bool) (a end : ℕ) → end ≤ a → first_that test (range_with_len a (end - a)) ≡ None
 none_left test a end past =
     let none : end - a ≡ 0 = omega (arith, past) in
     rw none refl
 
--- it is found in the first part of two lists, else in the second
+-- what is found in the first of two lists is found in the list joined from them
 pub found_before : (test : ℕ → Bool) (xs ys : List ℕ) (a : ℕ) → first_that test xs ≡ Some a → first_that test (xs ++ ys) ≡ Some a
 found_before test [] ys a found = absurd (none-some a found)
 found_before test (x ∷ xs) ys a found =
@@ -57,11 +57,11 @@ found_behind test (x ∷ xs) ys none =
 
 -- ---- a walk
 
--- what a look for the next unsettled asset answers
+-- what a search for the next unsettled asset returns
 abbrev pub IsNext : List Order → List ℤ → ℕ → Option ℕ → Type 0
 IsNext orders prices next found = found ≡ first_that (is_unsettled orders prices) (visits (length prices) next)
 
--- it is the first from the place on, else the first before it
+-- the next unsettled asset is the first from the place on, else the first before it
 pub next_from : (orders : List Order) (prices : List ℤ) (next asset : ℕ) (found : Option ℕ)
     → found ≡ first_that (is_unsettled orders prices) (range_with_len next (length prices - next)) → found ≡ Some asset → IsNext orders prices next (Some asset)
 next_from orders prices next asset found first some =
@@ -74,7 +74,7 @@ next_before orders prices next found other first none second =
     let all : next - 0 ≡ next = omega arith in
     second ∙ ap (λ n. first_that (is_unsettled orders prices) (range_with_len 0 n)) all ∙ sym (found_behind (is_unsettled orders prices) (range_with_len next (length prices - next)) (range_with_len 0 next) (sym first ∙ none))
 
--- the moves so far are a walk in turn, and the next asset is looked for behind the one moved last
+-- the moves so far are a walk in turn, and the next asset is looked for after the one moved last
 pub record IsSearching (parts : ℕ) (orders : List Order) (start : List ℤ) (now : List Order) (prices : List ℤ) (next : ℕ) (walk : List ℕ) : Type 0 where
   pub same : now ≡ orders
   pub in_turn : IsInTurn (length start) (is_unsettled orders) (step_of parts orders) start walk
@@ -82,7 +82,7 @@ pub record IsSearching (parts : ℕ) (orders : List Order) (start : List ℤ) (n
   pub behind : next ≡ next_after (length start) (is_unsettled orders) (step_of parts orders) 0 walk
 
 module _ (parts : ℕ) (orders : List Order) (start : List ℤ) where
-  -- before the first move
+  -- before the first move the walk is empty
   pub none_moved : (walk : List ℕ) → walk ≡ [] → IsSearching parts orders start orders start 0 walk
   none_moved walk empty = rw empty (record { same = refl; in_turn = tt; end = refl; behind = refl })
 
@@ -93,7 +93,7 @@ module _ (parts : ℕ) (orders : List Order) (start : List ℤ) (now : List Orde
   count_so_far : length prices ≡ length start
   count_so_far = ap length so_far.end ∙ (has_walked parts orders (length start) start walk refl legal_so_far).count
 
-  -- the next asset is looked for from one that is there, or behind the last one
+  -- the next asset is looked for from one that is there, or from after the last one
   pub next_so_far : next ≤ length prices
   next_so_far =
       let there = next_after-there (length start) (is_unsettled orders) (step_of parts orders) 0 start walk (omega arith) so_far.in_turn in
@@ -104,7 +104,7 @@ module _ (parts : ℕ) (orders : List Order) (start : List ℤ) (now : List Orde
   near_so_far asset range few inside =
       subst (AreWithin (2 ^ 60 + 2 ^ 61)) (sym so_far.end) (legal_near parts orders start walk range legal_so_far few) asset (pos 0) inside
 
-  -- what is found, in the words of the walk
+  -- what is found is the next asset of the walk in turn
   found_in_turn : (found : Option ℕ) → IsNext now prices next found
       → first_that (is_unsettled orders (end_of parts orders start walk)) (visits (length start) (next_after (length start) (is_unsettled orders) (step_of parts orders) 0 walk)) ≡ found
   found_in_turn found first =
@@ -130,15 +130,15 @@ module _ (parts : ℕ) (orders : List Order) (start : List ℤ) (now : List Orde
           behind = sym (next_after-push n (is_unsettled orders) (step_of parts orders) 0 walk asset);
         }
 
-    -- where none is found all are settled
-    pub ends_settled : (budget : ℕ) → found ≡ None → length walk ≤ budget → IsOwnWalk (length start) (is_unsettled orders) (step_of parts orders) start budget walk
+    -- if none is found, all are settled
+    pub ends_settled : (budget : ℕ) → found ≡ None → length walk ≤ budget → IsCanonicalWalk (length start) (is_unsettled orders) (step_of parts orders) start budget walk
     ends_settled budget none within =
         let n = length start in
         let there = next_after-there n (is_unsettled orders) (step_of parts orders) 0 start walk (omega arith) so_far.in_turn in
         let settled = (visits-order n (next_after n (is_unsettled orders) (step_of parts orders) 0 walk) there).covers (is_unsettled orders (end_of parts orders start walk)) (found_in_turn found first ∙ none) in
-        own_walk n (is_unsettled orders) (step_of parts orders) start budget walk so_far.in_turn settled within
+        canonical_walk n (is_unsettled orders) (step_of parts orders) start budget walk so_far.in_turn settled within
 
-    -- where one is found not all are
+    -- if one is found, not all are settled
     unsettled_left : (asset : ℕ) → found ≡ Some asset → ¬ EndsSettled parts orders start walk
     unsettled_left asset some settled =
         let n = length start in
@@ -150,7 +150,7 @@ module _ (parts : ℕ) (orders : List Order) (start : List ℤ) (now : List Orde
         false≢true (sym (settled asset inside) ∙ first_that-passes test (visits n behind) asset here)
 
     pub ends_spent : (budget asset : ℕ) → found ≡ Some asset → length walk ≡ budget
-        → IsOwnTrace (length start) (is_unsettled orders) (step_of parts orders) start budget walk × (¬ EndsSettled parts orders start walk)
+        → IsCanonicalTrace (length start) (is_unsettled orders) (step_of parts orders) start budget walk × (¬ EndsSettled parts orders start walk)
     ends_spent budget asset some whole =
         let unsettled = unsettled_left asset some in
-        (own_trace (length start) (is_unsettled orders) (step_of parts orders) start budget walk so_far.in_turn whole unsettled, unsettled)
+        (canonical_trace (length start) (is_unsettled orders) (step_of parts orders) start budget walk so_far.in_turn whole unsettled, unsettled)

@@ -10,23 +10,23 @@ use Rattle.weight_rows.specs.Rows.{price_of}
 use Rattle.flow_orders.specs.Orders.{Order, IsOrder}
 use Rattle.flow_orders.specs.Excess.{is_unsettled}
 use Rattle.flow_orders.specs.Moves.{moved, single_reach}
-use Rattle.own_rule.specs.Turns.{visits}
+use Rattle.canonical_rule.specs.Turns.{visits}
 use Rattle.flow_orders.specs.Walks.{AreSettled}
-use Rattle.own_rule.specs.Own.{moved_once}
+use Rattle.canonical_rule.specs.Canonical.{moved_once}
 use Rattle.flow_orders.specs.Outcomes.{are_single}
 use Rattle.flow_orders.proofs.Singles.{IsSingle}
 use Rattle.flow_orders.proofs.SettleSingle.{IsVisit, visit_settles}
 use Rattle.flow_orders.proofs.Moving.{settled_is, is_settled, moved_is}
-use Rattle.own_rule.proofs.OwnIsRight.{settles_once}
-use Rattle.price_moves.proofs.Ends.{all_sound}
+use Rattle.canonical_rule.proofs.CanonicalIsAdmissible.{settles_once}
+use Rattle.price_moves.proofs.Ends.{all_consistent}
 
--- the assets before this one are settled: what is left to do leads where the whole leads
+-- the assets before this one are visited: visiting the rest leads where visiting all does
 pub record IsSettling (parts : ℕ) (orders : List Order) (start prices : List ℤ) (asset : ℕ) : Type 0 where
   pub count : length prices ≡ length start
   pub range : All (IsWithin (2 ^ 60)) prices
   pub rest : moved_once parts orders (range_with_len asset (length start - asset)) prices ≡ moved_once parts orders (visits (length start) 0) start
 
--- where every order names one asset, each does
+-- if every order names one asset, each does
 single_each : (orders : List Order) → are_single orders ≡ true → All IsSingle orders
 single_each [] all k d inside = absurd (omega (arith, inside))
 single_each (o ∷ orders) all zero d inside =
@@ -40,7 +40,7 @@ single_all (o ∷ orders) all =
     let one : length o.row ≡ 1 = all 0 o (omega arith) in
     rw one (single_all orders (λ k d inside. all (suc k) d (omega (arith, inside))))
 
--- a turn is a visit
+-- what the loop does with one asset is a visit
 visit_of : (parts : ℕ) (orders : List Order) (prices : List ℤ) (asset : ℕ) (b : Bool) → is_unsettled orders prices asset ≡ b → IsVisit parts orders single_reach prices asset (cond b (moved parts orders single_reach prices asset) prices)
 visit_of parts orders prices asset true e = inr (moved_is parts orders single_reach prices asset (omega arith) e)
 visit_of parts orders prices asset false e = inl (settled_is orders prices asset e, refl)
@@ -53,11 +53,11 @@ module _ (parts : ℕ) (whole : 1 ≤ parts) (orders : List Order) (single : are
     rest = ap (λ l. moved_once parts orders l start) (sym (append-nil (range_with_len 0 (length start - 0))));
   }
 
-  -- one asset more
+  -- one asset more is visited
   pub one_more_settled : (prices next : List ℤ) (asset : ℕ) → asset < length start → IsSettling parts orders start prices asset
       → next ≡ cond (is_unsettled orders prices asset) (moved parts orders single_reach prices asset) prices → IsSettling parts orders start next (asset + 1)
   one_more_settled prices next asset inside before turn =
-      let visited = visit_settles parts whole orders single_reach (all_sound orders each) (single_each orders single) (omega arith) prices asset _ (omega (arith, inside, before.count)) before.range
+      let visited = visit_settles parts whole orders single_reach (all_consistent orders each) (single_each orders single) (omega arith) prices asset _ (omega (arith, inside, before.count)) before.range
       (visit_of parts orders prices asset (is_unsettled orders prices asset) refl) in
       let left : length start - asset ≡ suc (length start - (asset + 1)) = omega (arith, inside) in
       rw turn (record {
@@ -66,7 +66,7 @@ module _ (parts : ℕ) (whole : 1 ≤ parts) (orders : List Order) (single : are
         rest = rw left at before.rest;
       })
 
-  -- all assets
+  -- all assets are visited
   pub all_settled : (prices : List ℤ) (asset : ℕ) → length start ≤ asset → IsSettling parts orders start prices asset → prices ≡ moved_once parts orders (visits (length start) 0) start
   all_settled prices asset past before =
       let none : length start - asset ≡ 0 = omega (arith, past) in

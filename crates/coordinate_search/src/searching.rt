@@ -6,7 +6,7 @@ ghost use Rattle.flow_orders.specs.Orders.{IsOrder};
 ghost use Rattle.flow_orders.specs.Excess.{is_unsettled};
 ghost use Rattle.flow_orders.specs.Duals.{movement_of};
 ghost use Rattle.flow_orders.specs.Walks.{first_that};
-ghost use Rattle.own_rule.specs.Turns.{visits, IsInTurn};
+ghost use Rattle.canonical_rule.specs.Turns.{visits, IsInTurn};
 ghost use Rattle.flow_orders.specs.Outcomes.{most_budget, step_of, end_of, IsLegalFrom};
 ghost use Rattle.flow_orders.specs.Residuals.{most_prices};
 ghost use Rattle.coordinate_search.specs.Search.{IsFound};
@@ -27,13 +27,13 @@ pub enum Found {
 /// Searches for prices at which all assets are settled, by at most `budget` moves of at most 2^45 grains each, which end
 /// by excess in parts of a unit, 1 to 256 of them.
 ///
-/// The assets are visited in turn: 0 to the last one, and again from 0. One that is settled is passed over, and each
-/// other one is moved and its number appended to `trace`. The search ends as soon as all are settled, also where the
-/// last move used up the budget.
+/// The assets are visited in turn: 0 to the last one, and again from 0. One that is settled is passed over; one that isn't
+/// is moved, and its number appended to `trace`. The search ends as soon as all are settled, even if the last move used up
+/// the budget.
 ///
 /// The prices are within 2^60 grains of 0 at the start, and no price moves further than 2^61 grains from there. `trace`
-/// is empty and has room for `budget` bytes. Before each move, and at the end, each asset is looked at once at most. No
-/// memory is taken.
+/// is empty and has room for `budget` bytes. Before each move, and at the end, each asset is tested at most once. It
+/// allocates nothing.
 pub fn search(work: &mut Workspace<'_>, parts: u16, budget: u32, trace: &mut Vec<u8>) -> Found
     requires some_parts { 1 ≤ parts }
     requires few_parts { parts ≤ 256 }
@@ -49,7 +49,7 @@ pub fn search(work: &mut Workspace<'_>, parts: u16, budget: u32, trace: &mut Vec
     ensures found { IsFound parts result work.old.orders work.old.prices budget trace.new.items }
     ensures capacity { vec_capacity trace.new ≡ vec_capacity trace.old }
 
-    // Each grain of the walk lowers the exact dual by a grain at least.
+    // Each grain of the walk lowers the exact dual value by at least a grain.
     ensures lowers { IsLowered work.old.orders work.old.prices
         (movement_of parts work.old.orders work.old.prices trace.new.items) work.new.prices }
 {
@@ -70,7 +70,7 @@ pub fn search(work: &mut Workspace<'_>, parts: u16, budget: u32, trace: &mut Vec
     }
 }
 
-// The first asset from `next` on that isn't settled, where the last one is followed by 0. None where all are settled.
+// Returns the first asset from `next` on that isn't settled, with 0 after the last one, or `None` if all are settled.
 fn next_unsettled(work: &Workspace<'_>, next: u16) -> Option<u16>
     requires next { next ≤ length work.now.prices }
     ensures first { result
@@ -86,7 +86,7 @@ fn next_unsettled(work: &Workspace<'_>, next: u16) -> Option<u16>
     }
 }
 
-// The first asset from `first` on, and below `end`, that isn't settled.
+// Returns the first asset from `first` on, and below `end`, that isn't settled.
 fn unsettled_between(work: &Workspace<'_>, first: u16, end: u16) -> Option<u16>
     requires end { end ≤ length work.now.prices }
     ensures first { result

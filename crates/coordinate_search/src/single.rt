@@ -4,22 +4,22 @@ ghost use Rattle.weight_rows.specs.Rows.{price_of};
 ghost use Rattle.demand_curve.specs.Demand.{IsWithin};
 ghost use Rattle.flow_orders.specs.Excess.{is_unsettled};
 ghost use Rattle.flow_orders.specs.Moves.{moved, single_reach};
-ghost use Rattle.own_rule.specs.Turns.{visits};
+ghost use Rattle.canonical_rule.specs.Turns.{visits};
 ghost use Rattle.flow_orders.specs.Walks.{AreSettled};
-ghost use Rattle.own_rule.specs.Own.{moved_once};
+ghost use Rattle.canonical_rule.specs.Canonical.{moved_once};
 ghost use Rattle.flow_orders.specs.Outcomes.{are_single};
 
 use excess_bounds::Workspace;
 use price_moves::step;
 
-// As far as any two prices within 2^60 of 0 are apart, in grains.
+// The greatest distance of two prices within 2^60 of 0, in grains.
 const REACH: i64 = 1 << 61;
 
 /// Settles a book in which each order names one asset: each asset that isn't settled is moved once, as far as is
 /// needed. Moves end by excess in parts of a unit, 1 to 256 of them.
 ///
 /// The prices are within 2^60 grains of 0, as all limits of orders are, and stay so. An asset that was settled keeps its
-/// price. Each asset costs a look, and one that isn't settled a move besides. No memory is taken.
+/// price. Each asset costs a test whether it is settled, and one that isn't also a move. It allocates nothing.
 pub fn settle_single(work: &mut Workspace<'_>, parts: u16)
     requires some_parts { 1 ≤ parts }
     requires few_parts { parts ≤ 256 }
@@ -39,7 +39,7 @@ pub fn settle_single(work: &mut Workspace<'_>, parts: u16)
     }
 }
 
-// Moves an asset where it isn't settled.
+// Moves an asset if it isn't settled.
 fn settle_one(work: &mut Workspace<'_>, parts: u16, asset: u16)
     requires some_parts { 1 ≤ parts }
     requires few_parts { parts ≤ 256 }

@@ -1,4 +1,4 @@
--- A ladder's orders at the front of orders, and what they trade.
+-- A ladder's orders as the first ones of a list of orders, and what they trade.
 use Rattle.std.proofs.Common.{◌≡◌, ℕ, zero, suc, ◌+◌, ◌*◌, ◌^◌, ◌<◌, ◌≤◌, pos, Bool, true, false, cond, List, [], ◌∷◌, length, take, drop, get_or, subst, sym, ap, ◌∙◌, refl, ◌⊎◌, inl, inr, ⊎_elim, arith}
 use Rattle.std.specs.Prelude.{◌↔◌, Contains, sum, nat_le, nat_lt, ◌&&◌, IsTrue}
 use Rattle.std.specs.Bool.{Decides}
@@ -11,7 +11,7 @@ use Rattle.flow_orders.specs.Orders.{Order, terms_of, price_of_ticks}
 use Rattle.flow_orders.specs.Trades.{Trade, trades}
 use Rattle.curve_ladder.specs.declared.segment.Segment.{Segment}
 use Rattle.curve_ladder.specs.Totals.{IsOrderOf, AreThere, AreAscending, traded_from}
-use Rattle.curve_ladder.specs.Private.{StandInFront}
+use Rattle.curve_ladder.specs.Private.{AreBefore}
 
 -- ---- one order
 -- what is tested of an order
@@ -28,10 +28,10 @@ abbrev pub no_order : Order
 no_order = record { number = 0; account = 0; low = price_of_ticks (pos 0); high = price_of_ticks (pos 0); rate = 0; cap = 0; filled = 0; row = []; last = 0 }
 
 -- ---- a loop over the segments
--- so many orders were found to be those of segments, and their rates added up; some segments are left
+-- the first `place` orders are those of segments, and their rates add up to `total`; the segments `left` remain
 pub record IsSoFar (first : ℕ) (row : List Entry) (segments : List Segment) (orders : List Order) (rates : List ℕ) (place total : ℕ) (left : List Segment) : Type 0 where
   pub counted : place + length left ≡ length segments
-  pub there : StandInFront (first + place) row left (drop place orders) ↔ StandInFront first row segments orders
+  pub there : AreBefore (first + place) row left (drop place orders) ↔ AreBefore first row segments orders
   pub sum_is : total + sum (take (length left) (drop place rates)) ≡ sum (take (length segments) rates)
   pub small : total ≤ place * 2 ^ 32
 
@@ -40,27 +40,27 @@ none_yet first row segments orders rates =
     let same : first + 0 ≡ first = omega arith in
     record {
       counted = omega arith;
-      there = (subst (λ n. StandInFront n row segments orders) same, subst (λ n. StandInFront n row segments orders) (sym same));
+      there = (subst (λ n. AreBefore n row segments orders) same, subst (λ n. AreBefore n row segments orders) (sym same));
       sum_is = omega arith;
       small = omega arith;
     }
 
 module _ (first : ℕ) (row : List Entry) (segments : List Segment) (orders : List Order) (rates : List ℕ) (place total : ℕ) (left : List Segment) (so_far : IsSoFar first row segments orders rates place total left) where
-  -- the segments left, written in another way
+  -- the remaining segments, written in another way
   pub left_as : (other : List Segment) → left ≡ other → IsSoFar first row segments orders rates place total other
   left_as other same = subst (λ xs. IsSoFar first row segments orders rates place total xs) same so_far
 
-  -- the same numbers, written in another way
+  -- place and total, written in another way
   pub numbers_as : (other_place other_total : ℕ) → other_place ≡ place → other_total ≡ total → IsSoFar first row segments orders rates other_place other_total left
   numbers_as other_place other_total same_place same_total =
       subst (λ n. IsSoFar first row segments orders rates n other_total left) (sym same_place)
       (subst (λ n. IsSoFar first row segments orders rates place n left) (sym same_total) so_far)
 
   module _ (s : Segment) (rest : List Segment) (next : left ≡ s ∷ rest) where
-    here : place < length orders → StandInFront (first + place) row (s ∷ rest) (get_or orders place no_order ∷ drop (place + 1) orders) ↔ StandInFront first row segments orders
+    here : place < length orders → AreBefore (first + place) row (s ∷ rest) (get_or orders place no_order ∷ drop (place + 1) orders) ↔ AreBefore first row segments orders
     here within =
-        subst (λ os. StandInFront (first + place) row (s ∷ rest) os ↔ StandInFront first row segments orders) (drop_more orders place no_order within)
-        (subst (λ xs. StandInFront (first + place) row xs (drop place orders) ↔ StandInFront first row segments orders) next so_far.there)
+        subst (λ os. AreBefore (first + place) row (s ∷ rest) os ↔ AreBefore first row segments orders) (drop_more orders place no_order within)
+        (subst (λ xs. AreBefore (first + place) row xs (drop place orders) ↔ AreBefore first row segments orders) next so_far.there)
 
     -- one order more
     pub one_more : (rate : ℕ) → place < length orders → place < length rates → rate < 2 ^ 32 → rate ≡ get_or rates place 0 → IsOrderOf (first + place) row s (get_or orders place no_order)
@@ -73,8 +73,8 @@ module _ (first : ℕ) (row : List Entry) (segments : List Segment) (orders : Li
         record {
           counted = omega (arith, so_far.counted, ap length next);
           there = (
-            (λ stand. (here within).0 (order, subst (λ n. StandInFront n row rest (drop (place + 1) orders)) (sym number) stand)),
-            (λ all. subst (λ n. StandInFront n row rest (drop (place + 1) orders)) number ((here within).1 all).1),
+            (λ stand. (here within).0 (order, subst (λ n. AreBefore n row rest (drop (place + 1) orders)) (sym number) stand)),
+            (λ all. subst (λ n. AreBefore n row rest (drop (place + 1) orders)) number ((here within).1 all).1),
           );
           sum_is = omega (arith, so_far.sum_is, sums);
           small = omega (arith, so_far.small, small);
@@ -85,23 +85,23 @@ module _ (first : ℕ) (row : List Entry) (segments : List Segment) (orders : Li
     has_place = omega (arith, so_far.counted, ap length next)
 
     -- the next order is another one
-    pub another : place < length orders → (¬ IsOrderOf (first + place) row s (get_or orders place no_order)) → ¬ StandInFront first row segments orders
+    pub another : place < length orders → (¬ IsOrderOf (first + place) row s (get_or orders place no_order)) → ¬ AreBefore first row segments orders
     another within other all = other ((here within).1 all).0
 
   -- all were found
-  pub all_found : left ≡ [] → StandInFront first row segments orders × (total ≡ sum (take (length segments) rates))
+  pub all_found : left ≡ [] → AreBefore first row segments orders × (total ≡ sum (take (length segments) rates))
   all_found none = (
-    so_far.there.0 (subst (λ xs. StandInFront (first + place) row xs (drop place orders)) (sym none) tt),
+    so_far.there.0 (subst (λ xs. AreBefore (first + place) row xs (drop place orders)) (sym none) tt),
     omega (arith, so_far.sum_is, ap (λ xs. sum (take (length xs) (drop place rates))) none),
   )
 
 -- there are no fewer orders than segments
-pub enough : (segments : List Segment) (number : ℕ) (row : List Entry) (orders : List Order) → StandInFront number row segments orders → length segments ≤ length orders
+pub enough : (segments : List Segment) (number : ℕ) (row : List Entry) (orders : List Order) → AreBefore number row segments orders → length segments ≤ length orders
 enough [] number row orders stand = omega arith
 enough (s ∷ segments) number row [] stand = absurd stand
 enough (s ∷ segments) number row (o ∷ os) stand = omega (arith, enough segments (number + 1) row os stand.1)
 
--- ---- from orders that are there to orders at the front
+-- ---- from orders that are there to first orders
 -- an element of a list is the first one or a later one
 pub contains_cases : (o : Order) (os : List Order) (x : Order) → Contains (o ∷ os) x → (o ≡ x) ⊎ Contains os x
 contains_cases o os x (zero, within, is) = inl is
@@ -123,7 +123,7 @@ later_from o os ascending x (k, within, is) =
     let above : o.number < (get_or os k x).number = ascending 0 (suc k) x (omega arith) (omega (arith, within)) in
     omega (arith, above, ap (λ (y : Order). y.number) is)
 
-pub stand_where_there : (segments : List Segment) (number : ℕ) (row : List Entry) (orders : List Order) → AreAscending orders → AreFrom number orders → AreThere segments number orders row → StandInFront number row segments orders
+pub stand_where_there : (segments : List Segment) (number : ℕ) (row : List Entry) (orders : List Order) → AreAscending orders → AreFrom number orders → AreThere segments number orders row → AreBefore number row segments orders
 stand_where_there [] number row orders ascending from there = tt
 stand_where_there (s ∷ segments) number row [] ascending from there =
     let first = there 0 (omega arith) s in
@@ -157,8 +157,8 @@ stand_where_there (s ∷ segments) number row (o ∷ os) ascending from there =
           order,
         )
 
--- and back
-pub there_where_stand : (segments : List Segment) (number : ℕ) (row : List Entry) (orders all : List Order) → ((o : Order) → Contains orders o → Contains all o) → StandInFront number row segments orders → AreThere segments number all row
+-- first orders are there
+pub there_where_stand : (segments : List Segment) (number : ℕ) (row : List Entry) (orders all : List Order) → ((o : Order) → Contains orders o → Contains all o) → AreBefore number row segments orders → AreThere segments number all row
 there_where_stand [] number row orders all inside stand = λ k within d. absurd (omega (arith, within))
 there_where_stand (s ∷ segments) number row [] all inside stand = absurd stand
 there_where_stand (s ∷ segments) number row (o ∷ os) all inside stand =
@@ -174,7 +174,7 @@ there_where_stand (s ∷ segments) number row (o ∷ os) all inside stand =
         (has.0, has.1, subst (λ n. IsOrderOf n row (get_or segments k d) has.0) same has.2)
 
 -- ---- what they trade
--- the rate of an order, where its number counts
+-- the rate of an order if its number counts, else 0
 abbrev counted : ℕ → ℕ → Trade → ℕ
 counted first end t = cond (nat_le first t.order.number && nat_lt t.order.number end) t.traded 0
 
@@ -219,9 +219,9 @@ skip_before first end (suc place) (o ∷ os) (x ∷ xs) before =
     let later = skip_before first end place os xs (λ k d below within. before (suc k) d (omega (arith, below)) (omega (arith, within))) in
     omega (arith, traded-cons first end t (trades os xs), here, later)
 
--- the orders at the front count, and no other
+-- the first orders count, and no others
 pub sum_in_front : (segments : List Segment) (first end number : ℕ) (row : List Entry) (orders : List Order) (rates : List ℕ) → first ≤ number → number + length segments ≡ end → length rates ≡ length orders
-    → AreAscending orders → AreFrom number orders → StandInFront number row segments orders → traded_from first end (trades orders rates) ≡ sum (take (length segments) rates)
+    → AreAscending orders → AreFrom number orders → AreBefore number row segments orders → traded_from first end (trades orders rates) ≡ sum (take (length segments) rates)
 sum_in_front [] first end number row orders rates from to rated ascending least stand =
     none_after first end orders rates (λ o inside. omega (arith, to, least o inside))
 sum_in_front (s ∷ segments) first end number row [] rates from to rated ascending least stand = absurd stand

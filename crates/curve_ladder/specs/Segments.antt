@@ -14,7 +14,7 @@ use Rattle.curve_ladder.specs.Values.{neighbours, drop_between}
 abbrev pub is_drop : Point × Point → Bool
 is_drop pair = nat_lt pair.1.rate pair.0.rate
 
--- the order of a drop: limits at both points, the drop as its rate, and a cap for so many turns
+-- the order of a drop: its limits are the prices of both points, its rate is the drop, and its cap is the drop times `turns`
 abbrev pub segment_between : ℕ → Point × Point → Segment
 segment_between turns pair = record {
   low = pair.0.price;
@@ -31,7 +31,7 @@ segments_in turns points = map (segment_between turns) (filter is_drop (neighbou
 abbrev pub segments_of : Ladder → List Segment
 segments_of l = segments_in l.turns l.points
 
--- the curve of a segment's order of which nothing is filled
+-- the curve of a segment's order before any fill, limits in grains: its batch maximum is the rate, or the cap if that is less
 abbrev pub curve_of : Segment → Terms
 curve_of s = record { low = price_of_ticks s.low; high = price_of_ticks s.high; rate = s.rate; room = min s.rate s.cap }
 
@@ -39,7 +39,7 @@ curve_of s = record { low = price_of_ticks s.low; high = price_of_ticks s.high; 
 abbrev pub curves_of : Ladder → List Terms
 curves_of l = map curve_of (segments_of l)
 
--- the order that a segment asks for, with nothing filled and no last batch
+-- a segment's order as it is placed: nothing is filled, and there is no last batch
 abbrev pub order_of : ℕ → ℕ → List Entry → Segment → Order
 order_of number account row s = record {
   number = number;
@@ -53,15 +53,15 @@ order_of number account row s = record {
   last = 0;
 }
 
--- the request of that order
+-- the request that places a segment's order
 abbrev pub request_of : ℕ → List Entry → Segment → Request
 request_of account row s =
     record { account = account; low = s.low; high = s.high; rate = s.rate; cap = s.cap; row = row }
 
--- the requests of a ladder's orders, all for portfolios of one row
+-- the requests that place a ladder's orders, all with one weight vector
 abbrev pub requests_of : Ladder → ℕ → List Entry → List Request
 requests_of l account row = map (request_of account row) (segments_of l)
 
--- the curve of the order that is asked for, with nothing filled
+-- the curve of a requested order before any fill
 abbrev pub curve_asked : Request → Terms
 curve_asked r = record { low = price_of_ticks r.low; high = price_of_ticks r.high; rate = r.rate; room = min r.rate r.cap }

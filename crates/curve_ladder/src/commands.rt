@@ -4,7 +4,7 @@ ghost use Rattle.std.specs.Prelude.{◌≡◌};
 use std::marker::Model;
 use wire_records::Command;
 
-/// Commands in the order in which they are to be given.
+/// Commands in the order in which they are to be sent.
 #[derive(Drop)]
 pub struct CommandList {
     commands: Vec<Command>,
@@ -20,21 +20,21 @@ impl Model for CommandList {
 }
 
 impl CommandList {
-    /// The commands of a vector, whose memory it keeps.
+    /// Creates the list of the commands of a vector, whose memory it keeps.
     pub fn new(commands: Vec<Command>) -> CommandList
         ensures { result ≡ commands.items }
     {
         CommandList { commands }
     }
 
-    /// The commands, without copying them.
+    /// Returns the commands, without copying them.
     pub fn as_slice(&self) -> &[Command]
         ensures { result.now ≡ self.now }
     {
         self.commands.as_slice()
     }
 
-    /// Gives the vector back; takes no memory.
+    /// Returns the vector, without allocating.
     pub fn into_vec(self) -> Vec<Command>
         ensures { result.items ≡ self }
     {

@@ -1,9 +1,9 @@
-//! What is wrong with points and turns that are no ladder.
+//! What is wrong with points and turns that don't make a ladder.
 ghost use Rattle.std.specs.Prelude.{◌≡◌, ◌↔◌, ◌≤◌, ◌<ℤ◌, length, IsTrue, IsNone, IfSome, MatchOption, Option};
 ghost use Rattle.demand_curve.specs.Demand.{IsWithin, most_rate};
 ghost use Rattle.flow_orders.specs.Orders.{most_ticks, IsFrom1To};
 ghost use Rattle.curve_ladder.specs.declared.faults.LadderFault.{LadderFault};
-ghost use Rattle.curve_ladder.specs.Ladders.{IsLadder, HasLawfulCount, HasSoundPriceAt, HasSoundRateAt, HasSoundPrices, HasSoundRates, most_points};
+ghost use Rattle.curve_ladder.specs.Ladders.{IsLadder, HasLawfulCount, HasConsistentPriceAt, HasConsistentRateAt, HasConsistentPrices, HasConsistentRates, most_points};
 ghost use Rattle.curve_ladder.specs.Faults.{FailsFirstAt, IsFaultOf};
 
 use crate::points::Point;
@@ -15,10 +15,10 @@ const LEAST_POINTS: usize = 2;
 /// The most points of a ladder.
 pub const MOST_POINTS: usize = 33;
 
-/// The most turns of a ladder.
+/// The highest `turns` of a ladder.
 pub const MOST_TURNS: u32 = 65_536;
 
-/// Why points and turns are no ladder. Places are counted from 0, and are the first that breaks the rule.
+/// Why points and turns don't make a ladder. A place is counted from 0, and is the first that breaks its rule.
 #[derive(Clone, Copy, PartialEq, Eq)]
 pub enum LadderFault {
     /// There aren't 2 to 33 points.
@@ -28,13 +28,13 @@ pub enum LadderFault {
     /// At this place the rate breaks a rule: the first rate is 1 to 2^24, no later one is above the one before it,
     /// and the last one is 0.
     Rate(u32),
-    /// The turns aren't 1 to 65,536.
+    /// `turns` isn't 1 to 65,536.
     Turns,
 }
 
-/// The first fault of points and turns, in the order of [`LadderFault`], or `None` exactly for a lawful ladder.
+/// Returns the first fault of points and turns, in the order of [`LadderFault`], or `None` if they make a ladder.
 ///
-/// It costs two passes over the points, and none where their number is wrong.
+/// Costs at most two passes over the points, and none if their number is wrong.
 pub fn ladder_fault(points: &[Point], turns: u32) -> Option<LadderFault>
     ensures exact { (fault : Option LadderFault) → (result ≡ fault)
         ↔ IsFaultOf (record { points = points.now; turns = turns }) fault }
@@ -55,15 +55,15 @@ pub fn ladder_fault(points: &[Point], turns: u32) -> Option<LadderFault>
     None
 }
 
-// The first place whose price isn't sound.
+// Returns the first place whose price is out of range or isn't above the one before it.
 fn price_fault(points: &[Point]) -> Option<u32>
     requires { length points.now ≤ most_points }
-    ensures { MatchOption result (HasSoundPrices points.now)
-        (FailsFirstAt (HasSoundPriceAt points.now) (length points.now)) }
+    ensures { MatchOption result (HasConsistentPrices points.now)
+        (FailsFirstAt (HasConsistentPriceAt points.now) (length points.now)) }
 {
     let mut before = None;
     for (place, point) in points.iter().enumerate() {
-        if !is_sound_price(before, *point) {
+        if !is_consistent_price(before, *point) {
             return Some(place as u32);
         }
         before = Some(*point);
@@ -71,7 +71,7 @@ fn price_fault(points: &[Point]) -> Option<u32>
     None
 }
 
-fn is_sound_price(before: Option<Point>, point: Point) -> bool
+fn is_consistent_price(before: Option<Point>, point: Point) -> bool
     ensures { IsTrue result ↔ (IsWithin most_ticks point.price × IfSome before (λ b. b.price <ℤ point.price)) }
 {
     if point.price < -MOST_TICKS || point.price > MOST_TICKS {
@@ -83,15 +83,15 @@ fn is_sound_price(before: Option<Point>, point: Point) -> bool
     }
 }
 
-// The first place whose rate isn't sound.
+// Returns the first place whose rate breaks its rule.
 fn rate_fault(points: &[Point]) -> Option<u32>
     requires { length points.now ≤ most_points }
-    ensures { MatchOption result (HasSoundRates points.now)
-        (FailsFirstAt (HasSoundRateAt points.now) (length points.now)) }
+    ensures { MatchOption result (HasConsistentRates points.now)
+        (FailsFirstAt (HasConsistentRateAt points.now) (length points.now)) }
 {
     let mut before = None;
     for (place, point) in points.iter().enumerate() {
-        if !is_sound_rate(before, *point, place + 1 == points.len()) {
+        if !is_consistent_rate(before, *point, place + 1 == points.len()) {
             return Some(place as u32);
         }
         before = Some(*point);
@@ -99,7 +99,7 @@ fn rate_fault(points: &[Point]) -> Option<u32>
     None
 }
 
-fn is_sound_rate(before: Option<Point>, point: Point, is_last: bool) -> bool
+fn is_consistent_rate(before: Option<Point>, point: Point, is_last: bool) -> bool
     ensures { IsTrue result ↔ (MatchOption before (IsFrom1To most_rate point.rate) (λ b. point.rate ≤ b.rate)
         × (IsTrue is_last → point.rate ≡ 0)) }
 {

@@ -1,4 +1,4 @@
-//! A lawful ladder.
+//! A ladder, and the commands that place its orders.
 ghost use Rattle.std.specs.Prelude.{◌≡◌, ◌+◌, ◌∷◌, ◌++◌, ◌≤◌, ◌^◌, ◌↔◌, length, map, slice_get, IsNone, OnOk, IfOk, All, vec_len, vec_capacity};
 ghost use Rattle.demand_curve.specs.Demand.{IsWithin};
 ghost use Rattle.wire_records.specs.Commands.{Place};
@@ -14,9 +14,9 @@ use std::marker::Model;
 use weight_rows::EntryList;
 use wire_records::{Command, Memory};
 
-/// A demand curve of many points: 2 to 33 points with ascending prices within 2^28 ticks of 0 and rates that never
-/// rise, of which the first is 1 to 2^24 and the last 0; and 1 to 65,536 turns, the number of batches in which each of
-/// its orders may trade its whole rate.
+/// A demand curve of 2 to 33 points. Their prices ascend and are within 2^28 ticks of 0; their rates never rise, the
+/// first is 1 to 2^24, and the last is 0. Its `turns`, 1 to 65,536, are the number of batches in which each of its
+/// orders can trade its full rate.
 #[derive(Drop)]
 pub struct Ladder {
     points: PointList,
@@ -41,8 +41,8 @@ impl Ladder {
     ghost use Rattle.curve_ladder.specs.Segments.{segments_of, curves_of, requests_of, curve_asked};
     ghost use Rattle.curve_ladder.specs.Demands.{AddUpTo, AtMostOneIsBroken, AskTogether};
 
-    /// The ladder of these points, whose memory it keeps, and turns. [`ladder_fault`](crate::ladder_fault) finds no
-    /// fault in them.
+    /// Creates a ladder of points, whose memory it keeps, and `turns`. [`ladder_fault`](crate::ladder_fault) must find
+    /// no fault in them.
     pub fn new(points: PointList, turns: u32) -> Ladder
         requires { IsLadder (record { points = points; turns = turns }) }
         ensures value { result ≡ record { points = points; turns = turns } }
@@ -51,10 +51,10 @@ impl Ladder {
         Ladder { points, turns }
     }
 
-    /// What the ladder asks for at a price of its portfolio, in grains: the first rate up to the first point's price,
-    /// 0 from the last point's price on, and between two points on the line through them.
+    /// Returns what the ladder asks for if its portfolio's price is `c` grains: the first rate up to the first point's
+    /// price, 0 from the last point's price on, and between two points the value on the line through them.
     ///
-    /// That is what the demands of its orders add up to, of which at most one isn't whole. It costs one pass over the
+    /// This is the sum of its orders' demands, of which at most one isn't a whole number. Costs one pass over the
     /// points.
     pub fn value(&self, c: i128) -> LadderValue
         requires price_in_range { IsWithin (2 ^ 78) c }
@@ -76,9 +76,9 @@ impl Ladder {
         LadderValue::of_whole(0)
     }
 
-    /// How many segments the ladder has: one for each drop of the rate between two points, 1 to 32.
+    /// Returns how many segments the ladder has, 1 to 32: one for each drop of the rate between two points.
     ///
-    /// It costs one pass over the points.
+    /// Costs one pass over the points.
     pub fn segments(&self) -> u32
         ensures value { result ≡ length (segments_of self.now) }
         ensures least { 1 ≤ result }
@@ -96,10 +96,10 @@ impl Ladder {
         count
     }
 
-    /// The segment at a place, counted from 0 in ascending prices. `None` exactly where the place isn't below
+    /// Returns the segment at place `k`, counted from 0 in ascending prices, or `None` if `k` isn't below
     /// [`Ladder::segments`].
     ///
-    /// It costs one pass over the points.
+    /// Costs one pass over the points.
     pub fn segment(&self, k: u32) -> Option<Segment>
         ensures value { result ≡ slice_get (segments_of self.now) k }
         ensures none { IsNone result ↔ (length (segments_of self.now) ≤ k) }
@@ -119,11 +119,11 @@ impl Ladder {
         None
     }
 
-    /// The commands by which an account places the ladder's orders, each for a portfolio of this row: one command for
-    /// each segment, in ascending prices. The row has at most 165 entries, so that each command fits its record.
+    /// Returns the commands by which an account places the ladder's orders, all with the weight vector `row`: one command
+    /// for each segment, in ascending prices. `row` has at most 165 legs, so that each command fits its record.
     ///
-    /// At every price the demands of these orders add up to the ladder's value, and at most one of them isn't whole.
-    /// It costs two passes over the points, and a copy of the row for each command. `Memory` comes only for want of memory.
+    /// At every price the demands of these orders add up to the ladder's value, and at most one of them isn't a whole
+    /// number. Costs two passes over the points, and a copy of `row` for each command. Fails only if out of memory.
     pub fn commands(
         &self,
         alloc: Global,
@@ -142,7 +142,7 @@ impl Ladder {
         Ok(CommandList::new(commands))
     }
 
-    // The first point, and the points behind it.
+    // Returns the first point, and the points after it.
     pub(crate) fn parts(&self) -> (Point, &[Point])
         ensures parts { self.now.points ≡ result.0 ∷ result.1.now }
         ensures ladder { IsLadder self.now }
@@ -158,7 +158,7 @@ impl Ladder {
         self.turns
     }
 
-    // Appends the commands, for which there is room.
+    // Appends the ladder's commands, for which the vector has the capacity.
     fn put_commands(
         &self,
         alloc: Global,

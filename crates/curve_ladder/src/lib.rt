@@ -11,13 +11,13 @@
 //! by order, is less than one unit away from the value. Points, turns and the limits of the numbers are this project's
 //! own.
 //!
-//! [`ladder_fault`] tells what is wrong with points and turns, [`Ladder::new`] takes those that have no fault,
+//! [`ladder_fault`] finds what is wrong with points and turns, [`Ladder::new`] takes those that have no fault,
 //! [`Ladder::commands`] makes the commands that place the orders, and [`Ladder::total_rate`] finds these orders among
 //! published ones and adds up their rates. Prices of points are in ticks, prices of portfolios in grains, 2^32 to a
 //! tick. The definitions are in `specs`, one topic a file; what holds of every ladder is in [`laws`].
 //!
-//! No call but `commands` takes memory. Each goes once or twice over the points; `total_rate` also halves its way to the
-//! first order, and looks at one order for each segment.
+//! Only `commands` allocates. Each call makes one or two passes over the points; `total_rate` also finds the first
+//! order by binary search, and looks at one order for each segment.
 #![tactic(auto)]
 
 mod commands;

@@ -8,31 +8,31 @@ use std::marker::Model;
 // One tick in grains.
 const GRAINS_PER_TICK: i128 = flow_orders::GRAINS_PER_TICK as i128;
 
-/// A point of a ladder: at this price of a portfolio this rate is asked for.
+/// A point of a ladder: the rate that is asked for at a price of the portfolio.
 #[derive(Clone, Copy, PartialEq, Eq)]
 pub struct Point {
-    /// The price of one unit of the portfolio, in ticks: -2^28 to 2^28 in a lawful ladder.
+    /// The price of one unit of the portfolio, in ticks: -2^28 to 2^28 in a ladder.
     pub price: i64,
-    /// What is asked for at this price, in units of the portfolio per batch: 0 to 2^24 in a lawful ladder.
+    /// What is asked for at this price, in units of the portfolio per batch: 0 to 2^24 in a ladder.
     pub rate: u32,
 }
 
 impl Point {
-    // The price in grains.
+    // Returns the point's price in grains.
     pub(crate) fn grains(&self) -> i128
         ensures { result ≡ grains_at self.now }
     {
         i128::from(self.price) * GRAINS_PER_TICK
     }
 
-    // Whether a price in grains is below this point's.
+    // Returns whether a price in grains is below this point's.
     pub(crate) fn is_above(&self, price: i128) -> bool
         ensures { IsTrue result ↔ (price <ℤ grains_at self.now) }
     {
         price < self.grains()
     }
 
-    // How many grains the price is above another one that isn't higher.
+    // Returns how many grains this point's price is above `price`, which isn't higher.
     pub(crate) fn grains_above(&self, price: i128) -> u128
         requires { price ≤ℤ grains_at self.now }
         ensures { result ≡ distance (grains_at self.now) price }
@@ -40,7 +40,7 @@ impl Point {
         self.grains().abs_diff(price)
     }
 
-    // How many grains the next point's price is above this one's.
+    // Returns how many grains the next point's price is above this one's.
     pub(crate) fn span_to(&self, next: &Point) -> u128
         requires { grains_at self.now ≤ℤ grains_at next.now }
         ensures { result ≡ span_between self.now next.now }
@@ -49,7 +49,7 @@ impl Point {
     }
 }
 
-/// Points in the order in which they were given, lawful as a ladder or not.
+/// Points in the order in which they were given, whether they make a ladder or not.
 #[derive(Drop)]
 pub struct PointList {
     points: Vec<Point>,
@@ -65,21 +65,21 @@ impl Model for PointList {
 }
 
 impl PointList {
-    /// The points of a vector, whose memory it keeps.
+    /// Creates the list of the points of a vector, whose memory it keeps.
     pub fn new(points: Vec<Point>) -> PointList
         ensures { result ≡ points.items }
     {
         PointList { points }
     }
 
-    /// The points, without copying them.
+    /// Returns the points, without copying them.
     pub fn as_slice(&self) -> &[Point]
         ensures { result.now ≡ self.now }
     {
         self.points.as_slice()
     }
 
-    /// Gives the vector back; takes no memory.
+    /// Returns the vector, without allocating.
     pub fn into_vec(self) -> Vec<Point>
         ensures { result.items ≡ self }
     {

@@ -1,4 +1,4 @@
-//! One segment of a ladder: the order that a drop of the rate becomes.
+//! A segment of a ladder: the order that a drop of the rate becomes.
 ghost use Rattle.std.specs.Prelude.{◌≡◌, true, false, MatchOption, IfOk};
 ghost use Rattle.wire_records.specs.Commands.{Place};
 ghost use Rattle.wire_records.specs.Views.{command_in};
@@ -16,15 +16,15 @@ pub struct Segment {
     pub low: i64,
     /// The high limit price, in ticks: the price of the upper point.
     pub high: i64,
-    /// What the order asks for at most in a batch, in units of its portfolio: by how much the rate falls from the
-    /// lower point to the upper one.
+    /// The order's rate, the most that it buys in one batch, in units of its portfolio: by how much the ladder's rate
+    /// falls from the lower point to the upper one.
     pub rate: u32,
-    /// What it trades at most in all batches together, in units of its portfolio: the rate times the turns.
+    /// The order's cap, the most that it buys in all, in units of its portfolio: its rate times the ladder's `turns`.
     pub cap: u64,
 }
 
 impl Segment {
-    // The command that asks for the segment's order.
+    // Returns the command that places the segment's order, with a copy of `row`.
     pub(crate) fn command(
         &self,
         alloc: Global,
@@ -45,7 +45,7 @@ impl Segment {
     }
 }
 
-// The segment of a point and the next one, where the rate falls between them.
+// Returns the segment of a point and the next one, or `None` if the rate doesn't fall between them.
 pub(crate) fn segment_between(point: Point, next: Point, turns: u32) -> Option<Segment>
     ensures { MatchOption result (is_drop (point, next) ≡ false)
         (λ s. (is_drop (point, next) ≡ true) × (s ≡ segment_between turns (point, next))) }

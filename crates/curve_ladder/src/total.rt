@@ -5,7 +5,7 @@ ghost use Rattle.flow_orders.specs.Orders.{price_of_ticks};
 ghost use Rattle.flow_orders.specs.Trades.{trades};
 ghost use Rattle.curve_ladder.specs.Segments.{segments_of};
 ghost use Rattle.curve_ladder.specs.Totals.{IsOrderOf, AreAllThere, AreAscending, AreRoundings, total_of, IsNearValue};
-ghost use Rattle.curve_ladder.specs.Private.{StandInFront};
+ghost use Rattle.curve_ladder.specs.Private.{AreBefore};
 
 use crate::ladder::Ladder;
 use crate::segment::{Segment, segment_between};
@@ -13,23 +13,24 @@ use flow_orders::Order;
 use weight_rows::Entry;
 
 impl Ladder {
-    /// What a ladder's orders trade together in a batch, in units of their portfolio, among all orders and their rates.
+    /// Returns what the ladder's orders trade together in a batch, in units of their portfolio.
     ///
-    /// A trader asks with it what a batch gave to his curve as a whole, and an auditor whether that is what the curve asks
-    /// for: of a published batch they take the live orders before it, its prices and its rates, and compare the answer with
-    /// [`Ladder::value`] at the price of the ladder's row. It is less than one unit away from that, whatever else is traded.
+    /// A trader finds with it what a batch traded for a curve as a whole, and an auditor whether that is what the curve
+    /// asks for. They take the live orders before a published batch, its prices and its rates, and compare the result
+    /// with [`Ladder::value`] at the price of the ladder's portfolio. The two are less than one unit apart, whatever else
+    /// is traded.
     ///
-    /// Segment `k` belongs to the order with the number `first + k`. The ladder's orders are all there where for each
-    /// segment `orders` has its order, with the segment's limits and rate and with a room equal to that rate, and all
-    /// of them have one row. `None` exactly where they aren't all there.
+    /// The order of segment `k` has the number `first + k`, the segment's limits and rate, and a batch maximum equal to
+    /// that rate; all orders of the ladder have the same weight vector. The result is `None` if `orders` lacks such an
+    /// order for some segment, and only then.
     ///
-    /// `orders` are in ascending numbers, and `rates` has one rate for each of them, in units per batch, a rounding of
-    /// its demand at `prices`, in grains by the number of the asset. The prices aren't looked at: at the price that they
-    /// give the row of the ladder's orders, the answer is less than 1 away from the ladder's value. So they may be of any
-    /// size, and orders of any number, as long as each rate is such a rounding.
+    /// `orders` are in ascending numbers. `rates` has one rate for each of them, in units per batch: a rounding of the
+    /// order's demand at `prices`, in grains by the number of the asset. The prices aren't read: they only say at which
+    /// price of the portfolio the result is less than 1 away from the ladder's value. So prices may be of any size, and
+    /// there may be any number of orders, as long as each rate is such a rounding.
     ///
-    /// It halves its way to the first order, and goes twice over the points and once over as many orders as there are
-    /// segments, each with the entries of its row.
+    /// Costs a binary search for the first order, two passes over the points, and one pass over as many orders as there
+    /// are segments, with the legs of each.
     pub fn total_rate(
         &self,
         first: u64,
@@ -53,7 +54,7 @@ impl Ladder {
         self.rate_in_front(first, &orders[place..], &rates[place..], row)
     }
 
-    // What the first orders trade, where they are the ladder's, with this row.
+    // Returns what the first orders trade, or `None` if they aren't the ladder's orders with this weight vector.
     fn rate_in_front(
         &self,
         first: u64,
@@ -64,8 +65,8 @@ impl Ladder {
         requires first_in_range { first < 2 ^ 63 }
         requires enough { length (segments_of self.now) ≤ length orders.now }
         requires one_rate_each { length rates.now ≡ length orders.now }
-        ensures { MatchOption result (¬ StandInFront first row.now (segments_of self.now) orders.now)
-            (λ x. StandInFront first row.now (segments_of self.now) orders.now
+        ensures { MatchOption result (¬ AreBefore first row.now (segments_of self.now) orders.now)
+            (λ x. AreBefore first row.now (segments_of self.now) orders.now
             × (x ≡ sum (take (length (segments_of self.now)) rates.now))) }
     {
         let (mut point, rest) = self.parts();
@@ -85,7 +86,7 @@ impl Ladder {
     }
 }
 
-// The place of the first order whose number isn't below this one.
+// Returns the place of the first order whose number isn't below `number`.
 fn place_from(orders: &[Order], number: u64) -> usize
     requires { AreAscending orders.now }
     ensures within { result ≤ length orders.now }
@@ -95,7 +96,7 @@ fn place_from(orders: &[Order], number: u64) -> usize
     orders.partition_point(|order| order.number() < number)
 }
 
-// Whether an order is that of a segment, of this number and row.
+// Returns whether an order is that of a segment, with this number and weight vector.
 fn is_order_of(order: &Order, number: u64, row: &[Entry], segment: Segment) -> bool
     ensures { IsTrue result ↔ IsOrderOf number row.now segment order.now }
 {
@@ -108,7 +109,7 @@ fn is_order_of(order: &Order, number: u64, row: &[Entry], segment: Segment) -> b
     order.row().entries() == row
 }
 
-// Whether an order has the limits of a segment.
+// Returns whether an order has the limits of a segment.
 fn has_limits_of(order: &Order, segment: Segment) -> bool
     ensures { IsTrue result ↔ ((order.now.low ≡ price_of_ticks segment.low)
         × (order.now.high ≡ price_of_ticks segment.high)) }

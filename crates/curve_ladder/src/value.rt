@@ -3,8 +3,8 @@ ghost use Rattle.std.specs.Prelude.{pos, ◌≡◌, ◌+◌, ◌*◌, ◌<◌, �
 
 use crate::points::Point;
 
-/// What a ladder asks for at a price, in units of its portfolio per batch: `whole + part / over`, where
-/// `0 <= part < over`. So `whole` is the value rounded down, and the value is whole exactly where `part` is 0.
+/// What a ladder asks for at a price, in units of its portfolio per batch: `whole + part / over`, with
+/// `0 <= part < over`. So `whole` is the value rounded down, and the value is a whole number exactly if `part` is 0.
 #[derive(Clone, Copy, PartialEq, Eq)]
 pub struct LadderValue {
     /// The value rounded down, in units.
@@ -23,7 +23,7 @@ impl LadderValue {
     ghost use Rattle.flow_orders.specs.Orders.{most_ticks};
     ghost use Rattle.curve_ladder.specs.Values.{numerator, denominator, grains_at, span_between, drop_between};
 
-    // A whole value.
+    // Returns a whole number as a value.
     pub(crate) fn of_whole(rate: u32) -> LadderValue
         ensures numerator { numerator result ≡ rate }
         ensures denominator { denominator result ≡ 1 }
@@ -35,7 +35,7 @@ impl LadderValue {
         }
     }
 
-    // The value least + drop * below / span.
+    // Returns the value least + drop * below / span.
     fn of_parts(least: u32, drop: u32, below: u128, span: u128) -> LadderValue
         requires within { below ≤ span }
         requires positive { 0 < span }
@@ -52,7 +52,7 @@ impl LadderValue {
         }
     }
 
-    // The value at a price between two neighbours: on the line through them.
+    // Returns the value at a price between two neighbours, on the line through them.
     pub(crate) fn on_line(point: Point, next: Point, price: i128) -> LadderValue
         requires from { grains_at point ≤ℤ price }
         requires to { price <ℤ grains_at next }

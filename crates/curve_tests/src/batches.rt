@@ -6,10 +6,10 @@ use flow_orders::Order;
 use std::alloc::{AllocError, Global};
 use std::test::Fail;
 
-// Prices, rates, residuals and gap.
+// Prices, rates, imbalances and gap.
 type Cleared<'a> = (&'a [i64], &'a [u32], &'a [i64], i128);
 
-// The outcome, or None where a batch can't be of these orders and prices, or there is no memory.
+// Returns the outcome, or `None` if a batch can't be held of these orders and prices, or if memory ran out.
 fn outcome(alloc: Global, orders: &[Order], start: &[i64], budget: u32) -> Option<Outcome> {
     if orders.len() > 16_384
         || start.len() > 64
@@ -23,7 +23,7 @@ fn outcome(alloc: Global, orders: &[Order], start: &[i64], budget: u32) -> Optio
     clear(alloc, 1, orders, start, budget).ok()
 }
 
-// Whether the orders that are placed are all there, and clear so from these start prices.
+// Returns whether all these orders can be placed, and clear so from these start prices.
 fn get(
     alloc: Global,
     placed: &[Placed<'_>],
@@ -150,7 +150,7 @@ const BASKETS: [Placed<'static>; 4] = [
     ((1, 2), (1, 1), 0, &[(0, 1)]),
 ];
 
-// Whether the orders are all there, and are skipped from prices of 0 with this trace and these duals.
+// Returns whether all these orders can be placed, and are skipped from prices of 0 with this trace and these dual values.
 fn skips(
     alloc: Global,
     placed: &[Placed<'_>],

@@ -1,4 +1,4 @@
-//! Where a question turns from one answer to the other.
+//! At which place a question's answer changes.
 ghost use Rattle.std.specs.Prelude.{int_le};
 
 use single_bisect::{Probe, greatest_true, least_true};
@@ -43,7 +43,7 @@ impl Probe for UpTo {
 
 const END: i64 = 1 << 62;
 
-/// Both ends, the last place with the one answer and the first with the other, and the asks that are enough.
+/// Both ends, the last place with the one answer, which the next place doesn't have, and how many asks are enough.
 const CASES: [(i64, i64, i64, u64); 10] = [
     (-END, END, -END, 63),
     (-END, END, END - 1, 63),
@@ -57,7 +57,7 @@ const CASES: [(i64, i64, i64, u64); 10] = [
     (END - 3, END, END - 2, 2),
 ];
 
-// Sees to it that a case can be, and that the least place with a yes is found.
+// Aborts unless a case is possible, and the least place with a yes is found.
 fn finds_least(rt: &impl Abort, case: (i64, i64, i64, u64)) {
     let (low, high, before, asks) = case;
     assert!(rt; low >= -END && low <= before && before < high && high <= END);
@@ -73,7 +73,7 @@ fn finds_least(rt: &impl Abort, case: (i64, i64, i64, u64)) {
     assert!(rt; probe.asks - 7 <= asks, "asks from {before}");
 }
 
-// The same for the greatest one.
+// Aborts unless a case is possible, and the greatest place with a yes is found.
 fn finds_greatest(rt: &impl Abort, case: (i64, i64, i64, u64)) {
     let (low, high, before, asks) = case;
     assert!(rt; low >= -END && low <= before && before < high && high <= END);

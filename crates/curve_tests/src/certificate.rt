@@ -13,10 +13,10 @@ use flow_orders::Order;
 use std::alloc::Global;
 use std::test::Fail;
 
-// Prices, rates, residuals and gap.
+// Prices, rates, imbalances and gap.
 type Certified<'a> = (&'a [i64], &'a [u32], &'a [i64], i128);
 
-// Whether the rate is a rounding of the order's demand at the prices.
+// Returns whether the rate is a rounding of the order's demand at the prices.
 fn is_rounding(order: &Order, rate: u32, prices: &[i64]) -> bool
     requires range { All IsPrice prices.now }
     requires priced { IsPricedBy order.now.row prices.now }
@@ -25,7 +25,7 @@ fn is_rounding(order: &Order, rate: u32, prices: &[i64]) -> bool
     order.curve().is_rounded(rate, order.row().price(prices))
 }
 
-// Whether each rate is a rounding of its order's demand at the prices.
+// Returns whether each rate is a rounding of its order's demand at the prices.
 fn are_roundings(orders: &[Order], prices: &[i64], rates: &[u32]) -> bool
     requires range { All IsPrice prices.now }
     requires priced { All (λ o. IsPricedBy o.row prices.now) orders.now }
@@ -42,7 +42,7 @@ fn are_roundings(orders: &[Order], prices: &[i64], rates: &[u32]) -> bool
     true
 }
 
-// What is certified, or None where the orders, the prices or the rates can't be, or there is no memory.
+// Returns what is certified, or `None` if the orders, the prices or the rates aren't possible, or if memory ran out.
 fn certified(alloc: Global, orders: &[Order], prices: &[i64], rates: &[u32]) -> Option<Cleared> {
     if orders.len() > 16_384
         || prices.len() > 64
@@ -58,7 +58,7 @@ fn certified(alloc: Global, orders: &[Order], prices: &[i64], rates: &[u32]) -> 
     certify(alloc, orders, prices, rates).ok()
 }
 
-// Whether the orders get this certificate.
+// Returns whether the orders get this certificate.
 fn get(alloc: Global, orders: &[Order], expected: Certified<'_>) -> bool {
     let (prices, rates, residuals, gap) = expected;
     let Some(cleared) = certified(alloc, orders, prices, rates) else {

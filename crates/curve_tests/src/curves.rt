@@ -5,7 +5,7 @@ ghost use Rattle.demand_curve.specs.Demand.{IsWithin};
 use demand_curve::{Curve, PartRoundings, Roundings};
 use std::test::Fail;
 
-// The low limit, the high limit, the rate and the room of a curve.
+// The low limit, the high limit, the rate and the batch maximum of a curve.
 type Terms = (i64, i64, u32, u32);
 
 // A price, the scaled demand, the demand rounded down and up, the losses of these two, and the dual value.
@@ -49,7 +49,7 @@ const ODD: Terms = (
 
 const ODD_CUT: Terms = (-123_456_789_012_345, 987_654_321_098_765, 9_999_991, 777);
 
-// The rows were computed in fractions by another program.
+// These rows were computed in fractions by another program.
 const ROWS: [(Terms, Row); 21] = [
     // the low limit
     (
@@ -90,7 +90,7 @@ const ROWS: [(Terms, Row); 21] = [
     (BUYER, (472_446_402_560, 0, (0, 0), (0, 0), 0)),
     // a grain above the high limit
     (BUYER, (472_446_402_561, 0, (0, 0), (0, 0), 0)),
-    // a whole demand on the line
+    // a demand of whole units, on the line
     (
         BUYER,
         (
@@ -123,7 +123,7 @@ const ROWS: [(Terms, Row); 21] = [
             10_694_511_517_172,
         ),
     ),
-    // a cut at the room
+    // cut at the batch maximum
     (
         CUT,
         (
@@ -156,7 +156,7 @@ const ROWS: [(Terms, Row); 21] = [
             2_684_354_559_750,
         ),
     ),
-    // the room is 1
+    // the batch maximum is 1
     (
         LAST_UNIT,
         (
@@ -167,7 +167,7 @@ const ROWS: [(Terms, Row); 21] = [
             85_598_698_210,
         ),
     ),
-    // the widest span, half way
+    // the widest span, halfway
     (
         WIDEST,
         (
@@ -216,7 +216,7 @@ const ROWS: [(Terms, Row); 21] = [
             36_028_793_663_520_840,
         ),
     ),
-    // a seller, whose rate 2 is far off
+    // a seller, whose demand is far above 2, and almost 3
     (
         SELLER,
         (
@@ -238,7 +238,7 @@ const ROWS: [(Terms, Row); 21] = [
             2_041_178_320_251_641_130_144,
         ),
     ),
-    // odd numbers, cut at the room
+    // odd numbers, cut at the batch maximum
     (
         ODD_CUT,
         (
@@ -273,7 +273,7 @@ fn curve_of(low: i64, high: i64, rate: u32, room: u32) -> Option<Curve> {
     })
 }
 
-// None where a rounding is not taken for one, or another rate is.
+// Returns the curve's answers at a price, or `None` if a rounding isn't taken for one, or another rate is.
 fn answers_of(curve: &Curve, price: i128) -> Option<Row> {
     if price < -FARTHEST || price > FARTHEST {
         return None;
@@ -302,7 +302,7 @@ fn curves_at_prices(rt: HostRuntime) -> Result<(), Fail> {
     Ok(())
 }
 
-// Both roundings by what they are, the demand over the span, with a division each.
+// Returns both roundings by their definition, the demand over the span, with a division each.
 fn quotients(curve: &Curve, price: i128) -> (u128, u128)
     requires { IsWithin (2 ^ 78) price }
 {
@@ -333,7 +333,7 @@ fn roundings_are_quotients(rt: HostRuntime) -> Result<(), Fail> {
     Ok(())
 }
 
-// The same in parts of a unit.
+// Compares the roundings with those by their definition, in parts of a unit.
 fn rounds_in_parts(curve: &Curve, parts: u16, price: i128) -> bool {
     if parts == 0 || price < -FARTHEST || price > FARTHEST {
         return false;

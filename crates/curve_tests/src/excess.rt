@@ -5,7 +5,7 @@ use flow_orders::Order;
 use std::alloc::Global;
 use std::test::Fail;
 
-// The workspace, or None where the orders or the prices can't be, or there is no memory.
+// Returns the workspace, or `None` if the orders or the prices aren't possible, or if memory ran out.
 fn workspace<'a>(alloc: Global, orders: &'a [Order], prices: &[i64]) -> Option<Workspace<'a>> {
     if orders.len() > 16_384
         || prices.len() > 64
@@ -17,7 +17,7 @@ fn workspace<'a>(alloc: Global, orders: &'a [Order], prices: &[i64]) -> Option<W
     Workspace::new(alloc, orders, prices).ok()
 }
 
-// The excess of the asset at a price, in parts of a unit.
+// Returns the excess of the asset at a price, in parts of a unit.
 fn asked(workspace: &Workspace<'_>, parts: u16, asset: u16, price: i64) -> Option<Excess> {
     if parts == 0
         || parts > 256
@@ -29,7 +29,7 @@ fn asked(workspace: &Workspace<'_>, parts: u16, asset: u16, price: i64) -> Optio
     Some(workspace.excess_at(parts, asset, price))
 }
 
-// The excess of the asset at a price, before and after it is set, and whether the asset is settled then.
+// Returns the excess of the asset at a price, before and after the price is set, and whether the asset is settled then.
 fn moved(workspace: &mut Workspace<'_>, asset: u16, price: i64) -> Option<(Excess, Excess, bool)> {
     if usize::from(asset) >= workspace.prices().len() || price.unsigned_abs() > 1 << 62 {
         return None;
@@ -40,7 +40,7 @@ fn moved(workspace: &mut Workspace<'_>, asset: u16, price: i64) -> Option<(Exces
     Some((tried, workspace.excess(asset), settled))
 }
 
-// The spread and the steepness of the asset.
+// Returns the rounding bound and the slope bound of the asset.
 fn bounds(workspace: &Workspace<'_>, asset: u16) -> Option<(i64, i64)> {
     if usize::from(asset) >= workspace.prices().len() {
         return None;
@@ -48,7 +48,7 @@ fn bounds(workspace: &Workspace<'_>, asset: u16) -> Option<(i64, i64)> {
     Some((workspace.spread(asset), workspace.steepness(asset)))
 }
 
-// Whether the column of the asset has these places with these weights.
+// Returns whether the column of the asset has these places with these weights.
 fn has_column(workspace: &Workspace<'_>, asset: u16, cells: &[(u32, i32)]) -> bool {
     usize::from(asset) < workspace.prices().len()
         && workspace

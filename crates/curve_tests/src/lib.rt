@@ -1,8 +1,8 @@
 //! Tests of what a batch is made of, from one demand curve to an outcome: `demand_curve`, `single_bisect`,
 //! `excess_bounds`, `rate_rounding`, `coordinate_search`, `dual_value`, `batch_certificate` and `batch_engine`.
 //!
-//! A crate with tests is proved twice, so these have a crate of their own, on which none stands. The orders that most
-//! of them make are in `orders`.
+//! A crate with tests is proved twice, so these have a crate of their own, which no other depends on. Most of them make the orders of
+//! `orders`.
 #![tactic(auto)]
 
 #[cfg(test)]

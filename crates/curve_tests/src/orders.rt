@@ -1,4 +1,4 @@
-//! The orders that are placed, and whether prices may price them.
+//! The orders that tests place, and whether prices may price them.
 ghost use Rattle.std.specs.Prelude.{◌≤◌, ◌^◌, length, IsTrue, All};
 ghost use Rattle.weight_rows.specs.Rows.{IsPrice, IsPricedBy};
 ghost use Rattle.demand_curve.specs.Demand.{IsWithin};
@@ -13,7 +13,7 @@ use weight_rows::{Entry, EntryList, WeightRow, row_fault};
 // Limits in ticks, rate and cap, how much is filled, and the assets with their weights.
 pub type Placed<'a> = ((i64, i64), (u32, u64), u32, &'a [(u16, i32)]);
 
-// The farthest price at which a search may begin, in grains.
+// The price farthest from 0 at which a search may begin, in grains.
 pub const TOP: i64 = 1 << 60;
 
 pub const BUYER: Placed<'static> = ((90, 110), (1000, 10_000), 0, &[(0, 1)]);
@@ -39,7 +39,7 @@ pub const BASKET: [Placed<'static>; 3] = [
     ((-110, -90), (1000, 10_000), 0, &[(1, -1)]),
 ];
 
-// The order of this number, or None where its numbers or its row have a fault, or it can't be filled so far.
+// Returns the order of this number, or `None` if its numbers or its weight vector have a fault, or it can't be filled so far.
 fn order_of(alloc: Global, number: u64, placed: Placed<'_>) -> Result<Option<Order>, AllocError> {
     let ((low, high), (rate, cap), filled, row) = placed;
     let entries = row
@@ -60,7 +60,7 @@ fn order_of(alloc: Global, number: u64, placed: Placed<'_>) -> Result<Option<Ord
     Ok(Some(order))
 }
 
-// The orders, under the numbers from 1 on, without those that can't be.
+// Returns the orders, numbered from 1, without those that aren't possible.
 pub fn orders_of(alloc: Global, placed: &[Placed<'_>]) -> Result<Vec<Order>, AllocError> {
     let mut orders = Vec::new(alloc);
     for (place, one) in placed.iter().enumerate() {
@@ -71,7 +71,7 @@ pub fn orders_of(alloc: Global, placed: &[Placed<'_>]) -> Result<Vec<Order>, All
     Ok(orders)
 }
 
-// Whether each asset that the order names has a price.
+// Returns whether each asset that the order names has a price.
 fn is_priced(order: &Order, prices: &[i64]) -> bool
     ensures { IsTrue result → IsPricedBy order.now.row prices.now }
 {
@@ -82,28 +82,28 @@ fn is_priced(order: &Order, prices: &[i64]) -> bool
         .all(|entry| usize::from(entry.asset) < prices.len())
 }
 
-// Whether each asset that an order names has a price.
+// Returns whether each asset that an order names has a price.
 pub fn are_priced(orders: &[Order], prices: &[i64]) -> bool
     ensures { IsTrue result → All (λ o. IsPricedBy o.row prices.now) orders.now }
 {
     orders.iter().all(|order| is_priced(order, prices))
 }
 
-// Whether no price is more than 2^62 grains away from 0.
+// Returns whether all prices are within 2^62 grains of 0.
 pub fn are_prices(prices: &[i64]) -> bool
     ensures { IsTrue result → All IsPrice prices.now }
 {
     prices.iter().all(|price| price.unsigned_abs() <= 1 << 62)
 }
 
-// Whether a search may begin at these prices.
+// Returns whether a search may begin at these prices.
 pub fn are_starts(prices: &[i64]) -> bool
     ensures { IsTrue result → All (IsWithin (2 ^ 60)) prices.now }
 {
     prices.iter().all(|price| -TOP <= *price && *price <= TOP)
 }
 
-// Sees to it that these prices may price the orders.
+// Aborts unless these prices may price the orders.
 pub fn may_price(rt: &impl Abort, orders: &[Order], prices: &[i64])
     ensures few { length orders.now ≤ most_orders }
     ensures assets { length prices.now ≤ most_prices }

@@ -5,7 +5,7 @@ use std::alloc::Global;
 use std::process::Abort;
 use std::test::Fail;
 
-// A buyer and a seller of asset 0, a pair of the assets 0 and 3, and a buyer of asset 3 who may trade one unit.
+// A buyer and a seller of asset 0, a switch of the assets 0 and 3, and a buyer of asset 3 who may trade one unit.
 const FOUR: [Placed<'static>; 4] = [
     BUYER,
     SELLER,
@@ -38,7 +38,7 @@ const PAIR: [Placed<'static>; 2] = [BUYER, SELLER];
 // A buyer who may trade one unit.
 const LAST_UNIT: [Placed<'static>; 2] = [((90, 110), (1000, 1), 0, &[(0, 1)]), SELLER];
 
-// A buyer and a seller of each of three assets, a pair and a basket.
+// A buyer and a seller of each of three assets, a switch and a basket.
 const DAY: [Placed<'static>; 8] = [
     ((22_850, 23_050), (200, 900), 0, &[(0, 1)]),
     ((-23_050, -22_850), (200, 900), 0, &[(0, -1)]),
@@ -50,20 +50,20 @@ const DAY: [Placed<'static>; 8] = [
     ((122_500, 123_500), (30, 300), 0, &[(0, 1), (1, 1), (2, 1)]),
 ];
 
-// A unit is sold, and there is half of one to buy, of a portfolio of two units. A unit more would leave one over too.
+// One unit is sold, and half of one is wanted, of a portfolio of two units. With one unit more the imbalance would be one too.
 const TIE: [Placed<'static>; 2] = [
     ((-110, -90), (1000, 1), 0, &[(0, -1)]),
     ((190, 210), (1, 10), 0, &[(0, 2)]),
 ];
 
-// A unit is sold, and two orders may buy it, each half of one.
+// One unit is sold, and two orders may buy it, each half of one.
 const TURNS: [Placed<'static>; 3] = [
     ((-110, -90), (1000, 1), 0, &[(0, -1)]),
     ((90, 110), (1, 10), 0, &[(0, 1)]),
     ((90, 110), (1, 10), 0, &[(0, 1)]),
 ];
 
-// Whether the orders are all there, and get these rates.
+// Returns whether all these orders can be placed, and get these rates.
 fn get(
     rt: &impl Abort,
     alloc: Global,

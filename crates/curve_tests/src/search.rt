@@ -1,4 +1,4 @@
-//! Moves of prices, one asset at a time: single moves, searches, and walks that are made again.
+//! Moves of prices, one asset at a time: single moves, searches, and traces that are followed again.
 ghost use Rattle.std.specs.Prelude.{◌≡◌, ◌^◌, ◌<◌, ◌≤◌, ◌≤ℤ◌, ◌+ℤ◌, ◌-ℤ◌, ◌↔◌, pos, neg_ℤ, true, length, IsTrue, All};
 ghost use Rattle.weight_rows.specs.Rows.{IsPricedBy, price_of};
 ghost use Rattle.demand_curve.specs.Demand.{IsWithin};
@@ -14,7 +14,7 @@ use std::alloc::Global;
 use std::process::Abort;
 use std::test::Fail;
 
-// Whether each order names one asset.
+// Returns whether each order names one asset.
 #[tactic(auto, using(coordinate_search::proofs::Settling::single_all))]
 fn are_all_single(orders: &[Order]) -> bool
     ensures { IsTrue result → are_single orders.now ≡ true }
@@ -22,7 +22,7 @@ fn are_all_single(orders: &[Order]) -> bool
     orders.iter().all(|order| order.row().entries().len() == 1)
 }
 
-// Sees to it that a search of these orders may begin at these prices.
+// Aborts unless a search of these orders may begin at these prices.
 fn may_search(rt: &impl Abort, orders: &[Order], prices: &[i64])
     ensures few { length orders.now ≤ 16384 }
     ensures assets { length prices.now ≤ 64 }
@@ -35,7 +35,7 @@ fn may_search(rt: &impl Abort, orders: &[Order], prices: &[i64])
     assert!(rt; are_priced(orders, prices));
 }
 
-// Sees to it that these orders, each of one asset, may be settled from these prices.
+// Aborts unless these orders, each of one asset, may be settled from these prices.
 fn may_settle(rt: &impl Abort, orders: &[Order], prices: &[i64])
     ensures few { length orders.now ≤ 16384 }
     ensures assets { length prices.now ≤ 64 }
@@ -83,7 +83,7 @@ fn a_book_of_one_asset_orders_settles(rt: HostRuntime) -> Result<(), Fail> {
     Ok(())
 }
 
-// Sees to it that the price of the first asset may be moved by at most `reach`.
+// Aborts unless the price of the first asset may be moved by at most `reach`.
 fn may_move(rt: &impl Abort, work: &Workspace<'_>, reach: i64)
     ensures asset { 0 < length work.now.prices }
     ensures some { pos 1 ≤ℤ reach }
@@ -96,14 +96,14 @@ fn may_move(rt: &impl Abort, work: &Workspace<'_>, reach: i64)
     assert!(rt; is_near(work.prices()[0]));
 }
 
-// Whether a price is within 2^61 grains of 0.
+// Returns whether a price is within 2^61 grains of 0.
 fn is_near(price: i64) -> bool
     ensures { IsTrue result ↔ ((neg_ℤ (pos (2 ^ 61)) ≤ℤ price) × (price ≤ℤ pos (2 ^ 61))) }
 {
     -(1 << 61) <= price && price <= 1 << 61
 }
 
-// Moves the price of the one asset of these orders by at most `reach`, and sees to it that it ends there.
+// Moves the price of the one asset of these orders by at most `reach`, and compares where it ends.
 fn see_move(
     rt: &impl Abort,
     alloc: Global,
@@ -157,10 +157,10 @@ const FOUR_ASSETS: [Placed<'static>; 5] = [
     ((117, 153), (727, 10_000), 0, &[(2, 1), (3, 2)]),
 ];
 
-// How a search ends, its trace and its prices.
+// How many moves the search may make, what it finds, its trace and its prices.
 type Searched<'a> = (u32, Found, &'a [u8], &'a [i64]);
 
-// Searches from these prices, and sees to it that this is found.
+// Searches from these prices, and compares what is found.
 fn see_search(
     rt: &impl Abort,
     alloc: Global,

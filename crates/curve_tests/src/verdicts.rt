@@ -7,7 +7,7 @@ use batch_outcome::ClearedParts;
 use flow_orders::Order;
 use std::test::Fail;
 
-// A published clearing in memory: price and residual of each asset, number and rate of each order, and the gap.
+// A published clearing in memory: price and imbalance of each asset, number and rate of each order, and the gap.
 #[derive(Drop)]
 struct Published<'a> {
     assets: &'a [(i64, i64)],
@@ -56,10 +56,10 @@ impl<'a> ClearedParts for Published<'a> {
     }
 }
 
-// Price and residual of each asset, number and rate of each order, the gap, and the verdict on them.
+// Price and imbalance of each asset, number and rate of each order, the gap, and the verdict on them.
 type Case<'a> = (&'a [(i64, i64)], &'a [(u64, u32)], i128, Verdict);
 
-// Whether this is the verdict.
+// Returns whether this is the verdict.
 fn is_verdict(orders: &[Order], start: &[i64], case: Case<'_>) -> bool {
     let (assets, fills, gap, expected) = case;
     if orders.len() > 16_384

@@ -19,7 +19,7 @@ line-none_above t price above =
     let none : distance t.high price ≡ 0 = omega (arith, ints, distance_is t.high price) in
     rw none (omega arith)
 
--- up to the low limit, the line asks for the whole rate or more
+-- up to the low limit, the line asks for the full rate or more
 pub line-rate_below : (t : Terms) (price : ℤ) → price ≤ℤ t.low → t.rate * span t ≤ line t price
 unfolding line span
 line-rate_below t price below =
@@ -63,7 +63,7 @@ line-steep t price grains =
     near : (high : ℤ) → distance high price ≤ distance high (price +ℤ pos grains) + grains
     near high = omega (arith, ints, distance_is high price, distance_is high (price +ℤ pos grains))
 
--- nor does it lower the demand by more
+-- a grain lowers the demand by at most the rate
 pub demand-steep : (t : Terms) (price : ℤ) (grains : ℕ) → scaled_demand t price ≤ scaled_demand t (price +ℤ pos grains) + grains * t.rate
 demand-steep t price grains =
     omega (arith, scaled_demand_is t price, scaled_demand_is t (price +ℤ pos grains), line-steep t price grains)

@@ -17,7 +17,7 @@ least_by_cases high price room asked none =
     (λ cut. omega (arith, leb-true room asked cut))
     (λ free. omega (arith, leb-false room asked free)))
 
--- the demand is what the line asks for, or the room where that is less
+-- the demand is what the line asks for, or the batch maximum if that is less
 pub scaled_demand_is : (t : Terms) (price : ℤ) → scaled_demand t price ≡ min (line t price) (t.room * span t)
 unfolding scaled_demand line
 scaled_demand_is t price =

@@ -1,4 +1,4 @@
--- The distance of two prices, in the words that `omega` reads integers by.
+-- The distance of two prices, in the form in which `omega` reads integers.
 use Rattle.std.proofs.Common.{◌≡◌, ◌+◌, ◌-◌, ℤ, pos, negsuc, ◌-ℤ◌, ◌≤ℤ◌, ◌<ℤ◌, arith}
 use Rattle.std.specs.Prelude.{unsigned_abs}
 use Rattle.std.proofs.lemmas.Int.{ints}
@@ -15,11 +15,11 @@ pub distance_is : (upper lower : ℤ) → distance upper lower ≡ (up upper + d
 unfolding distance
 distance_is upper lower = omega (arith, ints, or_zero_is (upper -ℤ lower))
 
--- where the upper price is above, the distance is the size of the difference
+-- if the upper price is above, the distance is the absolute difference
 pub distance-above : (upper lower : ℤ) → lower <ℤ upper → unsigned_abs (upper -ℤ lower) ≡ distance upper lower
 distance-above upper lower h = omega (arith, ints, distance_is upper lower)
 
--- where it is not above, the distance is 0
+-- if it is not above, the distance is 0
 pub distance-not_above : (upper lower : ℤ) → upper ≤ℤ lower → 0 ≡ distance upper lower
 distance-not_above upper lower h = omega (arith, ints, distance_is upper lower)
 

@@ -40,7 +40,7 @@ demand_most : (t : Terms) (price : ℤ) → scaled_demand t price ≤ t.rate * d
 unfolding line
 demand_most t price = omega (arith, scaled_demand_is t price)
 
--- the demand is what the line asks for, or it is the room, which a/k does not pass
+-- the demand is what the line asks for, or it is the batch maximum, which a/k does not pass
 demand_cases : (t : Terms) (price : ℤ) (a k : ℕ) → a ≤ k * (t.room * span t) → (scaled_demand t price ≡ t.rate * distance t.high price) ⊎ (a ≤ k * scaled_demand t price)
 unfolding line
 demand_cases t price a k within =
@@ -65,7 +65,7 @@ formula t h price =
         let inner : up (pos 2 *ℤ (pos q *ℤ (z -ℤ c)) -ℤ pos e) + 2 * q * down (z -ℤ c) + e ≡ down (pos 2 *ℤ (pos q *ℤ (z -ℤ c)) -ℤ pos e) + 2 * q * up (z -ℤ c) = omega (arith, ints, ap (λ y. 2 * y) product.0, ap (λ y. 2 * y) product.1) in
         omega (arith, ints, ap (λ y. e * y) inner, ap (λ y. 2 * q * e * y) difference, ap (λ y. 2 * q * y) none, h)
 
--- nothing is gained where nothing is asked for
+-- nothing is gained if nothing is asked for
 none_gained : (t : Terms) (price : ℤ) → scaled_demand t price ≡ 0 → dual_floor t price ≡ 0
 unfolding dual_floor scaled_dual
 none_gained t price zero =

@@ -1,4 +1,4 @@
--- The dual value in its cases: at the room and on the line.
+-- The dual value in its cases: at the batch maximum and on the line.
 use Rattle.std.proofs.Common.{◌≡◌, ℕ, ◌-◌, ◌*◌, ◌/◌, ◌≤◌, ◌<◌, ℤ, refl, sym, ◌∙◌, arith}
 use Rattle.std.proofs.Math.Nat.{mul-div-mul_left, mul-sub, mul-le-mul_left}
 use Rattle.demand_curve.specs.Numbers.{distance, rounded_down, rounded_up}
@@ -6,7 +6,7 @@ use Rattle.demand_curve.specs.Demand.{Terms, span, line, scaled_demand, scaled_d
 use Rattle.demand_curve.proofs.Demands.{scaled_demand_is}
 use Rattle.demand_curve.proofs.Quotients.{difference_over}
 
--- the whole room, where the line asks for more
+-- the batch maximum, if the line asks for more
 room_case : (u q S D : ℕ) → 0 < S → u * S * (2 * (q * D) - u * S) / (2 * q * S) ≡ (u * D * (2 * q) - u * u * S) / (2 * q)
 room_case u q S D h =
     let product : u * S * (2 * (q * D) - u * S) ≡ S * (u * D * (2 * q) - u * u * S) =
@@ -14,7 +14,7 @@ room_case u q S D h =
     let denominator : 2 * q * S ≡ S * (2 * q) = omega arith in
     rw (product, denominator) (mul-div-mul_left (u * D * (2 * q) - u * u * S) (2 * q) h)
 
--- the dual value where the line asks for more than the room
+-- the dual value if the line asks for more than the batch maximum
 pub dual-at_room : (t : Terms) (price : ℤ) → 0 < span t → 0 < t.rate → t.room * span t < line t price → (rounded_up (t.room * t.room * span t) (2 * t.rate) ≤ t.room * distance t.high price) × (t.room * distance t.high price - rounded_up (t.room * t.room * span t) (2 * t.rate) ≡ dual_floor t price)
 unfolding dual_floor scaled_dual line
 dual-at_room t price span_least rate_least cut =
@@ -24,7 +24,7 @@ dual-at_room t price span_least rate_least cut =
     let whole : scaled_demand t price ≡ t.room * span t = omega (arith, scaled_demand_is t price, cut) in
     (parts.0, rw whole (sym parts.1 ∙ sym (room_case t.room t.rate (span t) (distance t.high price) span_least)))
 
--- the dual value where the room does not cut the line
+-- the dual value if the batch maximum does not cut the line
 pub dual-on_line : (t : Terms) (price : ℤ) → line t price ≤ t.room * span t → rounded_down (line t price * line t price) (2 * t.rate * span t) ≡ dual_floor t price
 unfolding dual_floor scaled_dual
 dual-on_line t price free =

@@ -10,7 +10,7 @@ pub span_least : (t : Terms) → IsWithinLimits t → 2 ^ 32 ≤ span t
 unfolding span
 span_least t h = omega (arith, ints, distance_is t.high t.low, h.span_least)
 
--- and at most the range of a limit
+-- the limits are at most the range of a limit apart
 pub span_most : (t : Terms) → IsWithinLimits t → span t ≤ 2 ^ 61
 unfolding span
 span_most t h = omega (arith, ints, distance_is t.high t.low, h.low_in_range, h.high_in_range)

@@ -30,7 +30,7 @@ loss_times t x price h = up_times (abs_diff (x * span t) (scaled_demand t price)
 divisor_least : (t : Terms) → IsWithinLimits t → 0 < 2 * t.rate * span t
 divisor_least t h = mul-le-mul {n₁ = 1} {m₁ = 1} (omega (arith, h.room_least, h.room_most)) (omega (arith, span_least t h))
 
--- a square that is 0 is that of 0
+-- only 0 has a square that is 0
 zero_from_square : (g : ℕ) → g * g ≤ 0 → g ≡ 0
 zero_from_square g h =
     elim (cases_lt 0 g) [
@@ -84,7 +84,7 @@ welfare_in_parts t n k m M parts =
         let sums : up (pos a *ℤ z -ℤ pos b) + a * down z + b ≡ down (pos a *ℤ z -ℤ pos b) + a * up z = omega (arith, ints) in
         rw (← same) (omega (arith, ints, ap (λ y. m * y) sums))
 
--- a rounding is the whole room, or is held against the line itself
+-- a rounding is the batch maximum, or is compared with the line itself
 rounding_cases : (t : Terms) → IsWithinLimits t → (price : ℤ) (x n k : ℕ) → IsRounding t x price → n ≤ k * t.room → (scaled_demand t price ≡ line t price) ⊎ ((x * span t ≡ scaled_demand t price) × (span t * n ≤ k * scaled_demand t price))
 rounding_cases t h price x n k rounding within =
     elim (cases_lt (t.room * span t) (line t price)) [

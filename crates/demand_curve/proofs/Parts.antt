@@ -62,9 +62,9 @@ one_part_is_a_unit t price =
     let one : 1 * scaled_demand t price ≡ scaled_demand t price = omega arith in
     (ap (λ n. rounded_down n (span t)) one, ap (λ n. rounded_up n (span t)) one)
 
--- ---- for the code that tests where the demand is cut
+-- ---- for the code that tests if the demand is cut
 
--- both roundings where the demand is whole
+-- both roundings of a demand that is a whole number
 roundings_of_whole : (parts : ℕ) (t : Terms) → IsWithinLimits t → (price : ℤ) (x : ℕ) → scaled_demand t price ≡ x * span t → (floor_in parts t price ≡ parts * x) × (ceil_in parts t price ≡ parts * x)
 roundings_of_whole parts t h price x whole =
     let positive : 0 < span t = omega (arith, span_least t h) in
@@ -81,30 +81,30 @@ parts_of_none parts t h price above =
     let none : parts * 0 ≡ 0 = omega arith in
     (both.0 ∙ none, both.1 ∙ none)
 
--- both roundings of the whole room
+-- both roundings of the batch maximum
 pub parts_of_room : (parts : ℕ) (t : Terms) → IsWithinLimits t → (price : ℤ) → price ≤ℤ t.low → (floor_in parts t price ≡ parts * t.room) × (ceil_in parts t price ≡ parts * t.room)
 parts_of_room parts t h price below = roundings_of_whole parts t h price t.room ((demand_is_cut_at_limits t h price).whole_below below)
 
--- both roundings, where the price is so many grains below the high limit
+-- both roundings at a price that is so many grains below the high limit
 pub parts_of_line : (parts : ℕ) (t : Terms) (price : ℤ) (below : ℕ) → below ≡ distance t.high price → (floor_in parts t price ≡ rounded_down (parts * min (t.rate * below) (t.room * span t)) (span t)) × (ceil_in parts t price ≡ rounded_up (parts * min (t.rate * below) (t.room * span t)) (span t))
 unfolding floor_in ceil_in line
 parts_of_line parts t price below same =
     rw (same, scaled_demand_is t price) (refl, refl)
 
--- a fraction that is no less than the room, in parts
+-- a fraction that is no less than the batch maximum, in parts
 pub parts_cut : (parts n room d : ℕ) → 0 < d → room * d ≤ n → (rounded_down (parts * min n (room * d)) d ≡ parts * room) × (rounded_up (parts * min n (room * d)) d ≡ parts * room)
 parts_cut parts n room d h cut =
     let least : min n (room * d) ≡ room * d = omega (arith, cut) in
     let same : parts * (room * d) ≡ parts * room * d = omega arith in
     rw (least, same) (mul-div_cancel (parts * room) h, up_multiple (parts * room) d h)
 
--- a fraction that is less than the room, in parts
+-- a fraction that is less than the batch maximum, in parts
 pub parts_free : (parts n room d : ℕ) → 1 ≤ parts → n < room * d → (min n (room * d) ≡ n) × (parts * n < parts * room * d)
 parts_free parts n room d some free =
     let least = mul-le-mul_left parts free in
     (omega (arith, free), omega (arith, least, some))
 
--- it fits 128 bits
+-- a fraction that is less than the batch maximum, in parts, fits 128 bits
 pub parts_fit : (parts n room d : ℕ) → parts < 2 ^ 16 → room < 2 ^ 32 → d < 2 ^ 64 → n < room * d → parts * n < 2 ^ 128
 parts_fit parts n room d few small narrow free =
     let most = mul-le room d (2 ^ 32) (2 ^ 64) (omega (arith, small)) (omega (arith, narrow)) in

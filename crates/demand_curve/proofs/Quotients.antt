@@ -14,7 +14,7 @@ down_times n d h = omega (arith, div-add-mod n d, mod-lt n h)
 pub up_times : (n d : ℕ) → 0 < d → (n ≤ rounded_up n d * d) × (rounded_up n d * d < n + d)
 up_times n d h = div_ceil_times n d h
 
--- a fraction rounded up is at most its upper number
+-- a fraction rounded up is at most its numerator
 up_most : (n d m : ℕ) → 0 < d → n ≤ m → rounded_up n d ≤ m
 up_most n d m h most = omega (arith, most, div-add-mod n d, mod-lt n h, mul-le-mul_left (n / d) h)
 
@@ -29,7 +29,7 @@ pub square_small : (n d S : ℕ) → 0 < S → n ≤ S → S ≤ 2 ^ 61 → 2 �
 square_small n d S positive near small twice =
     up_within (n * n) (d * S) (2 ^ 60) (omega (arith, mul-le-mul_left d positive, twice)) (omega (arith, mul-le n n S (2 ^ 61) near (omega (arith, near, small)), mul-le-mul_left S twice))
 
--- a square over a number, rounded up, fits 128 bits with a sign where what is squared is small
+-- a square over a number, rounded up, fits 128 bits with a sign if what is squared is small
 pub square_fits : (n d : ℕ) → n ≤ 2 ^ 61 → 0 < d → rounded_up (n * n) d < 2 ^ 127
 square_fits n d small positive = omega (arith, up_most (n * n) d (2 ^ 122) positive (mul-le n n (2 ^ 61) (2 ^ 61) small small))
 
@@ -45,7 +45,7 @@ square_of_parts e x r S k h parts =
 pub square_over : (e S k : ℕ) → 0 < S → (e / S * (e / S) * S + 2 * (e / S) * (e % S) + e % S * (e % S) / S) / k ≡ e * e / (k * S)
 square_over e S k h = square_of_parts e (e / S) (e % S) S k h (omega (arith, div-add-mod e S))
 
--- it fits 128 bits where the quotient and S are small
+-- what `square_over` computes fits 128 bits if the quotient and S are small
 pub square_parts_fit : (e S : ℕ) → 0 < S → S ≤ 2 ^ 61 → e ≤ 2 ^ 24 * S → e / S * (e / S) * S + 2 * (e / S) * (e % S) + e % S * (e % S) / S < 2 ^ 127
 square_parts_fit e S h most fits =
     let x : e / S ≤ 2 ^ 24 = div-le_of_le-mul S (omega (arith, fits)) in
@@ -54,22 +54,22 @@ square_parts_fit e S h most fits =
     div-le_of_le-mul S (omega (arith, mul-le (e % S) (e % S) S (2 ^ 61) (omega (arith, mod-lt e h)) r)) in
     omega (arith, rest, mul-le (e / S * (e / S)) S (2 ^ 48) (2 ^ 61) (mul-le (e / S) (e / S) (2 ^ 24) (2 ^ 24) x x) most, mul-le (e / S) (e % S) (2 ^ 24) (2 ^ 61) x r)
 
--- a difference over k, where the first part is g + y and g is the second rounded up
+-- a difference over k, if the first part is g + y and g is the second rounded up
 difference_from : (a g y b k : ℕ) → 0 < k → a ≡ g + y → b ≤ g * k → g * k < b + k → (a * k - b) / k ≡ y
 difference_from a g y b k h e p q = rw e (div-eq_of_lt-le k (omega arith) (omega arith))
 
--- a difference over k, where its second part is rounded up first
+-- a difference over k, if its second part is rounded up first
 pub difference_over : (a b k : ℕ) → 0 < k → b ≤ a * k → (rounded_up b k ≤ a) × ((a * k - b) / k ≡ a - rounded_up b k)
 difference_over a b k h below =
     let up = div_ceil_times b k h in
     let fits : rounded_up b k < a + 1 = lt_of_mul-lt-mul_right k (omega (arith, up)) in
     (omega (arith, fits), difference_from a (rounded_up b k) (a - rounded_up b k) b k h (omega (arith, fits)) up.0 up.1)
 
--- n / d, where n is a multiple of d, is also n / d rounded up
+-- n / d, if n is a multiple of d, is also n / d rounded up
 pub up_exact : (n d : ℕ) → n / d * d ≡ n → n / d ≡ rounded_up n d
 up_exact n d exact = omega (arith, exact, div-add-mod n d)
 
--- and else rounded up it is one more
+-- n / d rounded up is one more than rounded down, if n is not a multiple of d
 pub up_inexact : (n d : ℕ) → n / d * d ≢ n → n / d + 1 ≡ rounded_up n d
 up_inexact n d inexact = omega (arith, inexact, div-add-mod n d)
 

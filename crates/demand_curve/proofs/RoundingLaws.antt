@@ -106,19 +106,19 @@ roundings_move_little t h price grains =
     at_most_from_times (256 * floor_rate t price) (256 * ceil_rate t (price +ℤ pos grains) + grains) (span t)
     (omega (arith, roundings_enclose_demand t h price, roundings_enclose_demand t h (price +ℤ pos grains), demand_moves_little t h price grains))
 
--- ---- for the code that tests where the demand is cut
+-- ---- for the code that tests if the demand is cut
 
 -- both roundings of no demand
 pub roundings_of_none : (t : Terms) → IsWithinLimits t → (price : ℤ) → t.high ≤ℤ price → (floor_rate t price ≡ 0) × (ceil_rate t price ≡ 0)
 roundings_of_none t h price above =
     (whole_demand_is_rounded_once t h price).both_are_demand 0 (omega (arith, (demand_is_cut_at_limits t h price).none_above above))
 
--- both roundings of the whole room
+-- both roundings of the batch maximum
 pub roundings_of_room : (t : Terms) → IsWithinLimits t → (price : ℤ) → price ≤ℤ t.low → (floor_rate t price ≡ t.room) × (ceil_rate t price ≡ t.room)
 roundings_of_room t h price below =
     (whole_demand_is_rounded_once t h price).both_are_demand t.room (sym ((demand_is_cut_at_limits t h price).whole_below below))
 
--- both roundings, where the price is so many grains below the high limit
+-- both roundings at a price that is so many grains below the high limit
 pub roundings_of_line : (t : Terms) (price : ℤ) (below : ℕ) → below ≡ distance t.high price → (floor_rate t price ≡ rounded_down (min (t.rate * below) (t.room * span t)) (span t)) × (ceil_rate t price ≡ rounded_up (min (t.rate * below) (t.room * span t)) (span t))
 unfolding floor_rate ceil_rate line
 roundings_of_line t price below same =

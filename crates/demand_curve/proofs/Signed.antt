@@ -26,7 +26,7 @@ gain_sides S A B d below z c gap =
 pub scaled_gain_at_most : (S A B X d below : ℕ) (z c : ℤ) → up z + down c + below ≡ down z + up c + d → S * A * d ≤ X + S * B → (pos S *ℤ (pos A *ℤ z -ℤ pos B -ℤ pos A *ℤ c)) ≤ℤ pos X
 scaled_gain_at_most S A B X d below z c gap h = omega (arith, ints, gain_sides S A B d below z c gap, h)
 
--- S times a gain is X, where A stands with no gap below c
+-- S times a gain is X, if A is 0 or z is not below c
 pub scaled_gain_is : (S A B X d below : ℕ) (z c : ℤ) → up z + down c + below ≡ down z + up c + d → A * below ≡ 0 → S * A * d ≡ X + S * B → pos S *ℤ (pos A *ℤ z -ℤ pos B -ℤ pos A *ℤ c) ≡ pos X
 scaled_gain_is S A B X d below z c gap none h = omega (arith, ints, gain_sides S A B d below z c gap, ap (λ y. S * y) none, h)
 

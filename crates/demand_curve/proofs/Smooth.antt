@@ -1,4 +1,4 @@
--- The dual value falls by at least the move times the demand before it, less half of what the demand may move by.
+-- The dual value falls by at least the move times the demand before it, less half of the move times what the demand may move by.
 use Rattle.std.proofs.Common.{◌≡◌, ℕ, ◌+◌, ◌-◌, ◌*◌, ◌≤◌, ◌<◌, min, ◌⊎◌, inl, inr, ℤ, pos, ◌+ℤ◌, ◌-ℤ◌, ap, arith}
 use Rattle.std.proofs.Math.Nat.{mul-le-mul, mul-le-mul_left}
 use Rattle.std.proofs.lemmas.Bool.{cases_lt}
@@ -16,7 +16,7 @@ record IsDual (a room e x : ℕ) : Type 0 where
   demand : e ≡ min a room
   value : x + e * e ≡ 2 * a * e
 
--- its demand is the line or the room
+-- the demand is the line or the batch maximum
 dual_cases : (a room e x : ℕ) → IsDual a room e x → ((e ≡ a) × (x ≡ a * a) × (a ≤ room)) ⊎ ((e ≡ room) × (x + room * room ≡ 2 * a * room) × (room ≤ a))
 dual_cases a room e x d =
     elim (cases_lt room a) [
@@ -33,7 +33,7 @@ dual_cases a room e x d =
 squares_keep : (v m : ℕ) → v ≤ m → v * v ≤ m * m
 squares_keep v m h = mul-le-mul h h
 
--- where the line falls from b + m to b
+-- the line falls from b + m to b
 falls_whole : (b m room e f x y : ℕ) → IsDual (b + m) room e x → IsDual b room f y → y + 2 * e * m ≤ x + m * m
 falls_whole b m room e f x y before after =
     elim (dual_cases (b + m) room e x before) [
@@ -58,7 +58,7 @@ falls_whole b m room e f x y before after =
     from : (b r v : ℕ) → b + v ≡ r → r * r + b * b ≡ 2 * b * r + v * v
     from b r v split = rw (← split) (omega arith)
 
--- where the line falls from a by more than a
+-- the line falls from a by more than a
 falls_past : (a m room e f x y : ℕ) → a ≤ m → IsDual a room e x → IsDual 0 room f y → y + 2 * e * m ≤ x + m * m
 falls_past a m room e f x y past before after =
     let zero : f ≡ 0 = omega (arith, after.demand) in
@@ -69,7 +69,7 @@ falls_past a m room e f x y past before after =
       | inr cut ↦ rw (none, cut.0) (omega (arith, cut.1, twice_product room m, mul-le-mul_left room cut.2))
     ]
 
--- where the line rises from a to a + m
+-- the line rises from a to a + m
 rises_whole : (a m room e f x y : ℕ) → IsDual a room e x → IsDual (a + m) room f y → y ≤ x + 2 * e * m + m * m
 rises_whole a m room e f x y before after =
     elim (dual_cases a room e x before) [
@@ -97,7 +97,7 @@ rises_whole a m room e f x y before after =
     product_from : (b r m v : ℕ) → b + v ≡ r → 2 * m * r ≡ 2 * m * b + 2 * v * m
     product_from b r m v split = rw (← split) (omega arith)
 
--- where the line rises from 0 to b, by m or less
+-- the line rises from 0 to b, by m or less
 rises_past : (b m room e f x y : ℕ) → b ≤ m → IsDual 0 room e x → IsDual b room f y → y ≤ x + 2 * e * m + m * m
 rises_past b m room e f x y past before after =
     let small = squares_keep b m past in
@@ -106,7 +106,7 @@ rises_past b m room e f x y past before after =
       | inr cut ↦ omega (arith, cut.1, twice_product b room, small)
     ]
 
--- the curve's own
+-- the dual value of a curve is of that form
 dual_is : (t : Terms) (price : ℤ) → IsDual (t.rate * distance t.high price) (t.room * span t) (scaled_demand t price) (scaled_dual t price)
 unfolding line
 dual_is t price = record { demand = scaled_demand_is t price; value = dual_parts t price }

@@ -4,11 +4,11 @@ use Rattle.std.proofs.Math.Nat.{mul-le-mul_left, le_of_mul-le-mul_left}
 use Rattle.std.proofs.lemmas.Bool.{cases_lt}
 use Rattle.std.specs.Int.{abs_diff}
 
--- twice a product is at most the sum of the squares, where the second number is the first and d more
+-- twice a product is at most the sum of the squares, if the second number is the first and d more
 twice_product_from : (p d : ℕ) → 2 * p * (p + d) ≤ p * p + (p + d) * (p + d)
 twice_product_from p d = omega arith
 
--- the same for any two numbers
+-- twice a product of any two numbers is at most the sum of their squares
 pub twice_product : (p r : ℕ) → 2 * p * r ≤ p * p + r * r
 twice_product p r =
     elim (cases_lt p r) [
@@ -16,7 +16,7 @@ twice_product p r =
       | inr above ↦ let split : r + (p - r) ≡ p = omega arith in let swapped = rw split at (twice_product_from r (p - r)) in omega (arith, swapped)
     ]
 
--- the demand e is the line e0 or is cut below it: a rate a/k, which is within the room where e is cut, gains no more
+-- the demand e is the line e0 or is cut below it: a rate a/k, which is within the batch maximum if e is cut, gains no more
 pub best_rate : (e0 e a k : ℕ) → e ≤ e0 → (e ≡ e0) ⊎ (a ≤ k * e) → 2 * e0 * a * k + k * k * (e * e) ≤ k * k * (2 * e0 * e) + a * a
 best_rate e0 e a k most how =
     elim how [
@@ -58,7 +58,7 @@ loss_covers e0 e b g a k most apart how =
           rw cut.0 (omega (arith, best))
     ]
 
--- the same for rates x and n/k in units, with the demand and the line in parts of 1/S
+-- the rate x loses its square against the demand, with the rates x and n/k in units and the demand and the line in parts of 1/S
 pub loss_covers_units : (q S D e x g lost n k : ℕ) → 0 < S → e ≤ q * D → g * g + 2 * (x * S) * e ≡ x * S * (x * S) + e * e → (e ≡ q * D) ⊎ ((x * S ≡ e) × (S * n ≤ k * e)) → g * g ≤ lost * (2 * q * S) → 2 * q * D * n * k + k * k * (S * x * x) ≤ k * k * (2 * q * D * x + 2 * q * lost) + S * n * n
 loss_covers_units q S D e x g lost n k positive most apart how enough =
     le_of_mul-le-mul_left {k = S} (omega (arith, loss_covers (q * D) e (x * S) g (S * n) k most apart how, mul-le-mul_left (k * k) enough)) positive

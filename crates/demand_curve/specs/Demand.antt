@@ -1,11 +1,11 @@
--- What an order asks for at each price, what a whole rate loses against it, and what it is worth.
+-- What an order asks for at each price (its demand), what a rate in whole units loses against it, and what it is worth.
 --     Prices, losses and values are in grains, rates in whole units per batch. A demand is a fraction over the span:
---     the line and the demand are counted in parts of 1/span of a unit, so they are whole numbers, and never below 0.
+--     the line and the demand are counted in parts of 1/span of a unit, so they are integers, and never below 0.
 use Rattle.std.specs.Prelude.{ℕ, ◌+◌, ◌-◌, ◌*◌, ◌^◌, ◌<◌, ◌≤◌, ℤ, pos, neg_ℤ, ◌+ℤ◌, ◌-ℤ◌, ◌*ℤ◌, ◌≤ℤ◌, int_le, nat_le, if◌then◌else◌}
 use Rattle.std.specs.Int.{abs_diff}
 use Rattle.demand_curve.specs.Numbers.{distance, rounded_down, rounded_up}
 
--- the terms of an order: two limit prices, the rate that it asks for at most, and the room that it has left in this batch
+-- the terms of an order: its two limit prices, its rate, and its batch maximum in this batch
 pub record Terms : Type 0 where
   pub low : ℤ
   pub high : ℤ
@@ -16,11 +16,11 @@ pub record Terms : Type 0 where
 abbrev pub IsWithin : ℕ → ℤ → Type 0
 IsWithin bound z = (neg_ℤ (pos bound) ≤ℤ z) × (z ≤ℤ pos bound)
 
--- the highest rate of an order, in whole units per batch
+-- the greatest rate of an order, in whole units per batch
 abbrev pub most_rate : ℕ
 most_rate = 2 ^ 24
 
--- the limits that the terms of every order keep; by them the span is at most 2^61 grains
+-- the limits that the terms of every order are within; by them the span is at most 2^61 grains
 pub record IsWithinLimits (t : Terms) : Type 0 where
   pub low_in_range : IsWithin (2 ^ 60) t.low
   pub high_in_range : IsWithin (2 ^ 60) t.high
@@ -33,25 +33,25 @@ pub record IsWithinLimits (t : Terms) : Type 0 where
 unfoldable pub span : Terms → ℕ
 span t = distance t.high t.low
 
--- what the line through the limits asks for before the room cuts it: nothing at the high limit, the rate a span below it
+-- what the line through the limits asks for before the batch maximum cuts it: nothing at the high limit, the rate a span below it
 unfoldable pub line : Terms → ℤ → ℕ
 line t price = t.rate * distance t.high price
 
--- the same line, not cut at 0: above the high limit it asks for less than nothing
+-- what the line asks for if it is not cut at 0: less than nothing above the high limit
 unfoldable pub signed_line : Terms → ℤ → ℤ
 signed_line t price = pos t.rate *ℤ (t.high -ℤ price)
 
--- the demand: none at or above the high limit, the whole room where the line asks for that or more, else what the line asks for
+-- the demand: none at or above the high limit, the batch maximum if the line asks for that or more, else what the line asks for
 unfoldable pub scaled_demand : Terms → ℤ → ℕ
 scaled_demand t price =
     if int_le t.high price then 0 else
     (if nat_le (t.room * span t) (line t price) then t.room * span t else line t price)
 
--- the demand, rounded down
+-- the demand in whole units, rounded down
 unfoldable pub floor_rate : Terms → ℤ → ℕ
 floor_rate t price = rounded_down (scaled_demand t price) (span t)
 
--- the demand, rounded up
+-- the demand in whole units, rounded up
 unfoldable pub ceil_rate : Terms → ℤ → ℕ
 ceil_rate t price = rounded_up (scaled_demand t price) (span t)
 
@@ -63,12 +63,12 @@ floor_in parts t price = rounded_down (parts * scaled_demand t price) (span t)
 unfoldable pub ceil_in : ℕ → Terms → ℤ → ℕ
 ceil_in parts t price = rounded_up (parts * scaled_demand t price) (span t)
 
--- a whole rate that is less than 1 above the demand and less than 1 below it
+-- a rate in whole units that is less than 1 above the demand and less than 1 below it
 pub record IsRounding (t : Terms) (x : ℕ) (price : ℤ) : Type 0 where
   pub less_than_one_above : x * span t < scaled_demand t price + span t
   pub less_than_one_below : scaled_demand t price < x * span t + span t
 
--- what the whole rate x loses against the demand: the square of their distance times span / (2 * rate), rounded up
+-- what the rate x loses against the demand, in grains: the square of their distance times span / (2 * rate), rounded up
 unfoldable pub loss : Terms → ℕ → ℤ → ℕ
 loss t x price =
     let apart = abs_diff (x * span t) (scaled_demand t price) in

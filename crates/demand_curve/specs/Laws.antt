@@ -1,4 +1,4 @@
--- What holds of every demand curve. The functions of the module `laws` ensure these facts.
+-- Laws of every demand curve. The functions of the module `laws` ensure these facts.
 use Rattle.std.specs.Prelude.{◌≡◌, ℕ, ◌+◌, ◌-◌, ◌*◌, ◌^◌, ◌<◌, ◌≤◌, ◌⊎◌, ◌↔◌, ℤ, pos, ◌+ℤ◌, ◌-ℤ◌, ◌*ℤ◌, ◌≤ℤ◌}
 use Rattle.demand_curve.specs.Numbers.{distance, rounded_down, rounded_up}
 use Rattle.demand_curve.specs.Demand.{Terms, IsWithin, IsWithinLimits, span, line, signed_line, scaled_demand, floor_rate, ceil_rate, floor_in, ceil_in, IsRounding, loss, scaled_dual, dual_floor}
@@ -6,11 +6,11 @@ use Rattle.demand_curve.specs.Welfare.{scaled_welfare, scaled_gain}
 
 -- ---- the demand
 
--- the span, by the limits that all terms keep
+-- the span is 2^32 to 2^61 grains, for all terms within the limits
 abbrev pub SpanIsInRange : Type 0
 SpanIsInRange = (t : Terms) → IsWithinLimits t → (2 ^ 32 ≤ span t) × (span t ≤ 2 ^ 61)
 
--- the demand at a price: at or above the high limit, at or below the low one, where the line asks for the room or more, where it asks for no more, and anywhere
+-- the demand at a price: from the high limit on, up to the low limit, with the line above the batch maximum or below it, and in general
 pub record IsCutAtLimits (t : Terms) (price : ℤ) : Type 0 where
   pub none_above : t.high ≤ℤ price → scaled_demand t price ≡ 0
   pub whole_below : price ≤ℤ t.low → scaled_demand t price ≡ t.room * span t
@@ -18,17 +18,17 @@ pub record IsCutAtLimits (t : Terms) (price : ℤ) : Type 0 where
   pub on_line : price ≤ℤ t.high → line t price ≤ t.room * span t → pos (scaled_demand t price) ≡ signed_line t price
   pub within_room : scaled_demand t price ≤ t.room * span t
 
--- nothing is asked for from the high limit on, the whole room up to where the line asks for less, and never more than the room
+-- the demand is none from the high limit on, the batch maximum up to where the line asks for less, and never more than it
 abbrev pub DemandIsCutAtLimits : Type 0
 DemandIsCutAtLimits = (t : Terms) → IsWithinLimits t → (price : ℤ) → IsCutAtLimits t price
 
--- the demand and its roundings at two prices
+-- the demand and its roundings at the higher of two prices are at most those at the lower one
 pub record IsNoGreater (t : Terms) (lower higher : ℤ) : Type 0 where
   pub demand : scaled_demand t higher ≤ scaled_demand t lower
   pub floor : floor_rate t higher ≤ floor_rate t lower
   pub ceil : ceil_rate t higher ≤ ceil_rate t lower
 
--- demand never rises as the price rises
+-- neither the demand nor its roundings rise as the price rises
 abbrev pub DemandNeverRises : Type 0
 DemandNeverRises =
     (t : Terms) → IsWithinLimits t → (lower higher : ℤ) → lower ≤ℤ higher → IsNoGreater t lower higher
@@ -39,9 +39,9 @@ DemandMovesLittle =
     (t : Terms) → IsWithinLimits t → (price : ℤ) (grains : ℕ)
     → 256 * scaled_demand t price ≤ 256 * scaled_demand t (price +ℤ pos grains) + grains * span t
 
--- ---- its roundings
+-- ---- roundings of the demand
 
--- the demand lies between its two roundings, each of which is less than 1 away from it
+-- the demand is between its two roundings, each of which is less than 1 away from it
 pub record IsEnclosed (t : Terms) (price : ℤ) : Type 0 where
   pub floor_below : floor_rate t price * span t ≤ scaled_demand t price
   pub floor_near : scaled_demand t price < floor_rate t price * span t + span t
@@ -55,16 +55,16 @@ pub record IsEnclosed (t : Terms) (price : ℤ) : Type 0 where
 abbrev pub RoundingsEncloseDemand : Type 0
 RoundingsEncloseDemand = (t : Terms) → IsWithinLimits t → (price : ℤ) → IsEnclosed t price
 
--- the demand is the whole rate x
+-- the demand is x, a whole number of units
 abbrev pub IsDemand : Terms → ℕ → ℤ → Type 0
 IsDemand t x price = x * span t ≡ scaled_demand t price
 
--- both roundings are equal exactly where the demand is whole, and then they are the demand
+-- both roundings are equal exactly if the demand is a whole number, and then they are the demand
 pub record IsRoundedOnce (t : Terms) (price : ℤ) : Type 0 where
   pub equal_where_whole : (floor_rate t price ≡ ceil_rate t price) ↔ ((x : ℕ) × IsDemand t x price)
   pub both_are_demand : (x : ℕ) → IsDemand t x price → (floor_rate t price ≡ x) × (ceil_rate t price ≡ x)
 
--- a whole demand has one rounding
+-- a demand that is a whole number has one rounding
 abbrev pub WholeDemandIsRoundedOnce : Type 0
 WholeDemandIsRoundedOnce = (t : Terms) → IsWithinLimits t → (price : ℤ) → IsRoundedOnce t price
 
@@ -74,17 +74,17 @@ RoundingsAreFloorAndCeil =
     (t : Terms) → IsWithinLimits t → (price : ℤ) (x : ℕ)
     → IsRounding t x price ↔ ((x ≡ floor_rate t price) ⊎ (x ≡ ceil_rate t price))
 
--- a rounding does not pass the room
+-- a rounding is at most the batch maximum
 abbrev pub RoundingIsWithinRoom : Type 0
 RoundingIsWithinRoom =
     (t : Terms) → IsWithinLimits t → (price : ℤ) (x : ℕ) → IsRounding t x price → x ≤ t.room
 
--- a rounding where the demand is cut, to nothing or to the room, is the demand itself
+-- a rounding at a price at which the demand is cut, to nothing or to the batch maximum, is the demand itself
 pub record IsExactAtCuts (t : Terms) (x : ℕ) (price : ℤ) : Type 0 where
   pub none : t.high ≤ℤ price → x ≡ 0
   pub room : t.room * span t ≤ line t price → x ≡ t.room
 
--- at a cut every rounding is the demand
+-- every rounding at a price at which the demand is cut is the demand
 abbrev pub RoundingIsExactAtCuts : Type 0
 RoundingIsExactAtCuts =
     (t : Terms) → IsWithinLimits t → (price : ℤ) (x : ℕ) → IsRounding t x price → IsExactAtCuts t x price
@@ -95,9 +95,9 @@ RoundingsMoveLittle =
     (t : Terms) → IsWithinLimits t → (price : ℤ) (grains : ℕ)
     → 256 * floor_rate t price ≤ 256 * ceil_rate t (price +ℤ pos grains) + grains
 
--- ---- its roundings in parts of a unit
+-- ---- roundings of the demand in parts of a unit
 
--- the demand in parts lies between its two roundings, and so between those of the demand in whole units
+-- the demand in parts is between its two roundings, and these are between the roundings in whole units
 pub record IsEnclosedIn (parts : ℕ) (t : Terms) (price : ℤ) : Type 0 where
   pub floor_below : floor_in parts t price * span t ≤ parts * scaled_demand t price
   pub floor_near : parts * scaled_demand t price < floor_in parts t price * span t + span t
@@ -113,13 +113,13 @@ pub record IsEnclosedIn (parts : ℕ) (t : Terms) (price : ℤ) : Type 0 where
 abbrev pub PartsEncloseDemand : Type 0
 PartsEncloseDemand = (parts : ℕ) (t : Terms) → IsWithinLimits t → (price : ℤ) → IsEnclosedIn parts t price
 
--- neither rises as the price rises
+-- neither rounding in parts rises as the price rises
 abbrev pub PartsNeverRise : Type 0
 PartsNeverRise =
     (parts : ℕ) (t : Terms) → IsWithinLimits t → (lower higher : ℤ) → lower ≤ℤ higher
     → (floor_in parts t higher ≤ floor_in parts t lower) × (ceil_in parts t higher ≤ ceil_in parts t lower)
 
--- the demand in parts, rounded down, is above the demand in parts, rounded up, at a higher price by at most 1/256 of a unit for each grain between
+-- rounded down, the demand in parts is above that rounded up at a higher price by at most 1/256 of a unit for each grain between
 abbrev pub PartsMoveLittle : Type 0
 PartsMoveLittle =
     (parts : ℕ) (t : Terms) → IsWithinLimits t → (price : ℤ) (grains : ℕ)
@@ -131,7 +131,7 @@ OnePartIsAUnit = (t : Terms) (price : ℤ) → (floor_in 1 t price ≡ floor_rat
 
 -- ---- the loss
 
--- the loss is 0 exactly where the demand is whole and the rate is it
+-- the loss is 0 exactly if the rate is the demand
 abbrev pub LossIsZeroAtDemand : Type 0
 LossIsZeroAtDemand =
     (t : Terms) → IsWithinLimits t → (price : ℤ) (x : ℕ) → (loss t x price ≡ 0) ↔ IsDemand t x price
@@ -152,7 +152,7 @@ GainIsDifferenceOfSquares =
     let rest : ℤ = e0 -ℤ pos (span t * n) in
     pos (span t) *ℤ scaled_gain t n k price ≡ e0 *ℤ e0 -ℤ rest *ℤ rest
 
--- a rounding and its loss together gain at least what any rate n/k within the room gains
+-- a rounding and its loss together gain at least what any rate n/k within the batch maximum gains
 abbrev pub LossCoversBestRate : Type 0
 LossCoversBestRate =
     (t : Terms) → IsWithinLimits t → (price : ℤ) (x : ℕ) → IsRounding t x price
@@ -160,7 +160,7 @@ LossCoversBestRate =
     → scaled_gain t n k price
     ≤ℤ (pos (k * k) *ℤ (scaled_gain t x 1 price +ℤ pos (2 * t.rate * loss t x price)))
 
--- the same in parts of 1/(M * k * k) of a grain, where M is m times 2 * rate: in these the orders of a book add up
+-- `LossCoversBestRate` in parts of 1/(M * k * k) of a grain, M being m times 2 * rate: in these the orders of a book add up
 abbrev pub LossCoversBestRateInParts : Type 0
 LossCoversBestRateInParts =
     (t : Terms) → IsWithinLimits t → (price : ℤ) (x : ℕ) → IsRounding t x price
@@ -187,7 +187,7 @@ pub record HasDualValue (t : Terms) (price : ℤ) : Type 0 where
 abbrev pub DualIsByCases : Type 0
 DualIsByCases = (t : Terms) → IsWithinLimits t → (price : ℤ) → HasDualValue t price
 
--- no rate n/k within the room gains more than the dual value, and the demand itself gains it
+-- no rate n/k within the batch maximum gains more than the dual value, and the demand itself gains it
 pub record IsGreatestGain (t : Terms) (price : ℤ) : Type 0 where
   pub bound : (n k : ℕ) → n ≤ k * t.room
       → (pos (span t) *ℤ scaled_gain t n k price) ≤ℤ pos (k * k * scaled_dual t price)
@@ -198,27 +198,28 @@ pub record IsGreatestGain (t : Terms) (price : ℤ) : Type 0 where
 abbrev pub DualIsGreatestGain : Type 0
 DualIsGreatestGain = (t : Terms) → IsWithinLimits t → (price : ℤ) → IsGreatestGain t price
 
--- where the price moves, the dual value falls by at least the move times the demand after it
+-- when the price moves, the dual value falls by at least the move times the demand after it
 abbrev pub DualFallsByDemand : Type 0
 DualFallsByDemand =
     (t : Terms) → IsWithinLimits t → (before after : ℤ)
     → (pos (scaled_dual t after) +ℤ pos (2 * t.rate * scaled_demand t after) *ℤ (after -ℤ before))
     ≤ℤ pos (scaled_dual t before)
 
--- the same in parts k times as fine: with a k of its own for each order, all parts are alike and the orders of a book add up
+-- `DualFallsByDemand` in parts k times as fine: a k for each order makes the parts of all orders alike, so that they add up
 abbrev pub DualFallsInParts : Type 0
 DualFallsInParts =
     (t : Terms) → IsWithinLimits t → (before after : ℤ) (k : ℕ)
     → (pos (k * scaled_dual t after) +ℤ pos (k * (2 * t.rate * scaled_demand t after)) *ℤ (after -ℤ before))
     ≤ℤ pos (k * scaled_dual t before)
 
--- in such parts, N to a grain, the dual value is at least its whole grains, and less than a grain above them
+-- in parts of which a grain has N, the dual value is at least `dual_floor`, and less than one grain above it
 abbrev pub DualFloorInParts : Type 0
 DualFloorInParts =
     (t : Terms) → IsWithinLimits t → (price : ℤ) (k N : ℕ) → k * (2 * t.rate * span t) ≡ N → 1 ≤ N
     → (N * dual_floor t price ≤ k * scaled_dual t price) × (k * scaled_dual t price < N * dual_floor t price + N)
 
--- a price that moves by some grains lowers the dual value by at least the move times the demand before it, less half of the move times what it may change the demand by
+-- a price that moves by some grains lowers the dual value by at least the move times the demand before it, less half of the
+-- move times what it may change the demand by
 pub record IsSmooth (t : Terms) (price : ℤ) (grains : ℕ) : Type 0 where
   pub rise : scaled_dual t (price +ℤ pos grains) + 2 * t.rate * scaled_demand t price * grains ≤ scaled_dual t price + t.rate * grains * (t.rate * grains)
   pub fall : scaled_dual t (price -ℤ pos grains) ≤ scaled_dual t price + 2 * t.rate * scaled_demand t price * grains + t.rate * grains * (t.rate * grains)

@@ -1,5 +1,5 @@
 -- The welfare of one order at a rate of n/k units per batch, a fraction, and what the rate gains at a price.
---     Both are counted in parts of 1/(2 * rate * k * k) of a grain, so they are whole numbers.
+--     Both are counted in parts of 1/(2 * rate * k * k) of a grain, so they are integers.
 use Rattle.std.specs.Prelude.{ℕ, ◌*◌, ℤ, pos, ◌-ℤ◌, ◌*ℤ◌}
 use Rattle.demand_curve.specs.Demand.{Terms, span}
 

@@ -3,7 +3,7 @@
 ghost use Rattle.std.specs.Prelude.{◌≡◌, ◌<◌, ◌≤◌, ◌*◌, ◌^◌};
 ghost use Rattle.demand_curve.specs.Numbers.{distance, rounded_down};
 
-// How far the upper price is above the lower one, or 0 where it is not above.
+// Returns how far the upper price is above the lower one, or 0 if it is not above.
 #[tactic(auto, unfolding(crate::specs::Numbers::distance), using(crate::proofs::Distances::distance_steps))]
 pub(crate) fn distance(upper: i128, lower: i128) -> u128
     ensures { result ≡ distance upper lower }
@@ -15,8 +15,8 @@ pub(crate) fn distance(upper: i128, lower: i128) -> u128
     }
 }
 
-// The square of a number over the product of two others, rounded down. The square itself may not fit 128 bits: by
-// the quotient q and the remainder r of n over the span, it is (q * q * span + 2 * q * r) * span + r * r.
+// Returns the square of `n` over the product of `divisor` and `span`, rounded down. The square itself may not fit 128
+// bits: by the quotient q and the remainder r of n over the span, it is (q * q * span + 2 * q * r) * span + r * r.
 #[tactic(auto, using(crate::proofs::Quotients::square_steps))]
 pub(crate) fn floor_square_over(n: u128, span: u128, divisor: u128) -> u128
     requires span_least { 0 < span }

@@ -1,4 +1,4 @@
-//! What holds of every demand curve, for crates that reason about prices and rates.
+//! Laws of every demand curve, for crates that reason about prices and rates.
 //!
 //! Each function does nothing. Its clause is a law, stated in the crate's `specs/Laws.antt` for all terms within
 //! their limits and all prices; a caller has the law after the call. All are free.
@@ -10,8 +10,8 @@ pub fn span_is_in_range()
     ensures { SpanIsInRange }
 {}
 
-/// Nothing is asked for from the high limit on, and the whole room up to the low limit and on to where the line
-/// asks for less. From there to the high limit the demand is `rate * (high - price) / span`. It never passes the room.
+/// The demand is none from the high limit on, and the batch maximum up to the low limit and on to where the line asks
+/// for less. From there to the high limit it is `rate * (high - price) / span`. It never passes the batch maximum.
 pub fn demand_is_cut_at_limits()
     ensures { DemandIsCutAtLimits }
 {}
@@ -21,32 +21,32 @@ pub fn demand_never_rises()
     ensures { DemandNeverRises }
 {}
 
-/// A price that moves by one grain moves the demand by at most 1/256 of a unit, and so on for each grain.
+/// A price that moves by some grains moves the demand by at most 1/256 of a unit for each grain.
 pub fn demand_moves_little()
     ensures { DemandMovesLittle }
 {}
 
-/// The demand lies between its two roundings, which differ by at most one and don't pass the room.
+/// The demand is between its two roundings, which differ by at most one and don't pass the batch maximum.
 pub fn roundings_enclose_demand()
     ensures { RoundingsEncloseDemand }
 {}
 
-/// Both roundings are equal exactly where the demand is whole, and then they are the demand.
+/// Both roundings are equal exactly if the demand is a whole number, and then they are the demand.
 pub fn whole_demand_is_rounded_once()
     ensures { WholeDemandIsRoundedOnce }
 {}
 
-/// A rate is a rounding exactly where it is the demand rounded down or the demand rounded up.
+/// A rate is a rounding exactly if it is the demand rounded down or the demand rounded up.
 pub fn roundings_are_floor_and_ceil()
     ensures { RoundingsAreFloorAndCeil }
 {}
 
-/// A rounding does not pass the room.
+/// A rounding is at most the batch maximum.
 pub fn rounding_is_within_room()
     ensures { RoundingIsWithinRoom }
 {}
 
-/// Where the demand is cut, to nothing or to the room, every rounding is the demand itself.
+/// If the demand is cut, to nothing or to the batch maximum, every rounding is the demand itself.
 pub fn rounding_is_exact_at_cuts()
     ensures { RoundingIsExactAtCuts }
 {}
@@ -57,7 +57,7 @@ pub fn roundings_move_little()
     ensures { RoundingsMoveLittle }
 {}
 
-/// The demand in parts of a unit lies between its two roundings, which differ by at most one part and lie between the
+/// The demand in parts of a unit is between its two roundings, which differ by at most one part and are between the
 /// roundings in whole units.
 pub fn parts_enclose_demand()
     ensures { PartsEncloseDemand }
@@ -79,7 +79,7 @@ pub fn one_part_is_a_unit()
     ensures { OnePartIsAUnit }
 {}
 
-/// The loss is 0 exactly where the demand is whole and the rate is it.
+/// The loss is 0 exactly if the rate is the demand.
 pub fn loss_is_zero_at_demand()
     ensures { LossIsZeroAtDemand }
 {}
@@ -96,40 +96,40 @@ pub fn gain_is_difference_of_squares()
     ensures { GainIsDifferenceOfSquares }
 {}
 
-/// A rounding gains, together with its loss, at least what any rate within the room gains at that price,
-/// be it a fraction n/k.
+/// A rounding gains, together with its loss, at least what any rate within the batch maximum gains at that price,
+/// also a fraction n/k.
 pub fn loss_covers_best_rate()
     ensures { LossCoversBestRate }
 {}
 
-/// The same in the parts in which the orders of a book add up: M is any number that 2 * rate divides.
+/// [`loss_covers_best_rate`] in the parts in which the orders of a book add up: M is any number that 2 * rate divides.
 pub fn loss_covers_best_rate_in_parts()
     ensures { LossCoversBestRateInParts }
 {}
 
-/// The dual value by cases: none from the high limit on, a square on the line, and at the room what the price
+/// The dual value by cases: 0 from the high limit on, a square on the line, and at the batch maximum what the price
 /// spares less a square; and all three in one formula.
 pub fn dual_is_by_cases()
     ensures { DualIsByCases }
 {}
 
-/// The dual value is the greatest gain that a rate within the room has at that price.
+/// The dual value is the greatest gain of a rate within the batch maximum at that price.
 pub fn dual_is_greatest_gain()
     ensures { DualIsGreatestGain }
 {}
 
-/// Where the price moves, the dual value falls by at least the move times the demand after it.
+/// When the price moves, the dual value falls by at least the move times the demand after it.
 pub fn dual_falls_by_demand()
     ensures { DualFallsByDemand }
 {}
 
-/// The same in parts k times as fine, for any k: in these the orders of a book add up.
+/// [`dual_falls_by_demand`] in parts k times as fine, for any k: in these the orders of a book add up.
 pub fn dual_falls_in_parts()
     ensures { DualFallsInParts }
 {}
 
 /// In parts of which a grain has N, where N is k times the order's own `2 * rate * span`, the dual value is at
-/// least its whole grains, and less than one grain above them.
+/// least `dual_floor`, and less than one grain above it.
 pub fn dual_floor_in_parts()
     ensures { DualFloorInParts }
 {}

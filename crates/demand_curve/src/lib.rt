@@ -1,16 +1,17 @@
 //! The demand curve of one order: how much it asks for at each price of its portfolio.
 //!
-//! An order has a low and a high limit price, a rate that it asks for at most in a batch, and a room, which is
-//! the rate or what is left of its cap, whichever is less. At a price at or above the high limit it asks for
-//! nothing, at the low limit for the whole rate, and between them for `rate * (high - price) / (high - low)`,
-//! but never for more than its room. This is the piecewise linear demand of Flow Trading (Budish, Cramton, Kyle,
-//! Lee and Malec, 2023); the cut at the room, whole rates and the limits of the numbers are this project's own.
+//! An order has a low and a high limit price, a rate, which it asks for at most in a batch, and a batch maximum,
+//! which is the rate or its remaining quantity, whichever is less. At a price at or above the high limit it asks for
+//! nothing, at the low limit for the full rate, and between them for `rate * (high - price) / (high - low)`,
+//! but never for more than its batch maximum. This is the piecewise linear demand of Flow Trading (Budish, Cramton,
+//! Kyle, Lee and Malec, 2023); the cut at the batch maximum, rates in whole units and the limits of the numbers are
+//! this project's own.
 //!
 //! Prices, losses and values are in grains (2^32 of them are a tick), rates in whole units per batch. A demand is
-//! a fraction: the calls speak of the demand times the span `high - low`, which is a whole number.
+//! a fraction: the calls return the demand times the span `high - low`, which is an integer.
 //!
-//! Each call takes constant time and no memory, and always answers. All numbers on the way fit 128 bits.
-//! The definitions are in `specs/Demand.antt`, and what holds of every curve is in the module `laws`.
+//! Each call takes constant time, allocates nothing and can't fail. All numbers on the way fit 128 bits.
+//! The definitions are in `specs/Demand.antt`, and the laws of every curve are in the module `laws`.
 #![tactic(auto)]
 
 ghost use Rattle.demand_curve.specs.Demand.{IsWithinLimits};
@@ -28,13 +29,13 @@ pub use rounding::{PartRoundings, Roundings};
 /// `1 <= room <= rate <= 2^24`. Every value keeps these limits.
 #[derive(Clone, Copy, PartialEq, Eq)]
 pub struct Curve {
-    /// The low limit price, in grains: up to it the order asks for its whole room.
+    /// The low limit price, in grains: up to it the order asks for its batch maximum.
     pub low: i64,
     /// The high limit price, in grains: from it on the order asks for nothing.
     pub high: i64,
     /// What the order asks for at most in a batch, in whole units.
     pub rate: u32,
-    /// What the order may still trade in this batch, in whole units.
+    /// The batch maximum: the most that the order may still trade in this batch, in whole units.
     pub room: u32,
     ghost within_limits: { IsWithinLimits (record { low = low; high = high; rate = rate; room = room }) },
 }
@@ -45,9 +46,9 @@ impl Curve {
     ghost use Rattle.demand_curve.specs.Demand.{IsWithin, span, line, scaled_demand, floor_rate, ceil_rate, floor_in, ceil_in, IsRounding, loss, dual_floor};
     ghost use Rattle.demand_curve.specs.Curve.{terms};
 
-    /// The span `high - low`, in grains: 2^32 to 2^61.
+    /// Returns the span `high - low`, in grains: 2^32 to 2^61.
     ///
-    /// Constant time, no memory.
+    /// Takes constant time and allocates nothing.
     pub fn span(&self) -> i64
         ensures value { result ≡ pos (span (terms self.now)) }
         ensures least { pos (2 ^ 32) ≤ℤ result }
@@ -56,9 +57,9 @@ impl Curve {
         self.high - self.low
     }
 
-    /// The demand at a price, times the span: 0 to 2^85.
+    /// Returns the demand at a price, times the span: 0 to 2^85.
     ///
-    /// The price is in grains. Constant time, no memory.
+    /// The price is in grains. Takes constant time and allocates nothing.
     pub fn scaled(&self, price: i128) -> i128
         requires price_in_range { IsWithin (2 ^ 78) price }
         ensures value { result ≡ pos (scaled_demand (terms self.now) price) }
@@ -67,9 +68,9 @@ impl Curve {
         self.demand(price) as i128
     }
 
-    /// The demand at a price rounded down, in whole units per batch: at most the room.
+    /// Returns the demand at a price rounded down, in whole units per batch: at most the batch maximum.
     ///
-    /// The price is in grains. Constant time, no memory.
+    /// The price is in grains. Takes constant time and allocates nothing.
     pub fn floor_rate(&self, price: i128) -> u32
         requires { IsWithin (2 ^ 78) price }
         ensures value { result ≡ floor_rate (terms self.now) price }
@@ -78,9 +79,9 @@ impl Curve {
         self.roundings(price).floor
     }
 
-    /// The demand at a price rounded up, in whole units per batch: at most the room.
+    /// Returns the demand at a price rounded up, in whole units per batch: at most the batch maximum.
     ///
-    /// The price is in grains. Constant time, no memory.
+    /// The price is in grains. Takes constant time and allocates nothing.
     pub fn ceil_rate(&self, price: i128) -> u32
         requires { IsWithin (2 ^ 78) price }
         ensures value { result ≡ ceil_rate (terms self.now) price }
@@ -89,10 +90,10 @@ impl Curve {
         self.roundings(price).ceil
     }
 
-    /// The demand at a price rounded down and rounded up, in whole units per batch: each at most the room.
+    /// Returns the demand at a price rounded down and rounded up, in whole units per batch: each at most the batch maximum.
     ///
-    /// The price is in grains. Constant time, no memory. Both cost what either alone does: one division, and none where
-    /// the demand is cut, to nothing or to the whole room.
+    /// The price is in grains. Takes constant time and allocates nothing. Both cost what either alone does: one division,
+    /// and none if the demand is cut, to nothing or to the batch maximum.
     pub fn roundings(&self, price: i128) -> Roundings
         requires price_in_range { IsWithin (2 ^ 78) price }
         ensures floor { result.floor ≡ floor_rate (terms self.now) price }
@@ -109,10 +110,10 @@ impl Curve {
         }
     }
 
-    /// The demand at a price in parts of a unit, rounded down and rounded up: each at most the room in parts.
+    /// Returns the demand at a price in parts of a unit, rounded down and rounded up: each at most the batch maximum in parts.
     ///
-    /// The price is in grains, and there are 1 to 65,535 parts. Constant time, no memory, and one division, as for whole
-    /// units; none where the demand is cut.
+    /// The price is in grains, and there are 1 to 65,535 parts. Takes constant time and allocates nothing. It costs one
+    /// division, as for whole units, and none if the demand is cut.
     pub fn roundings_in(&self, parts: u16, price: i128) -> PartRoundings
         requires some { 1 ≤ parts }
         requires price_in_range { IsWithin (2 ^ 78) price }
@@ -130,9 +131,9 @@ impl Curve {
         }
     }
 
-    /// Whether a rate, in whole units per batch, is less than 1 above and less than 1 below the demand at a price.
+    /// Returns whether a rate, in whole units per batch, is less than 1 above and less than 1 below the demand at a price.
     ///
-    /// The price is in grains. Constant time, no memory.
+    /// The price is in grains. Takes constant time and allocates nothing.
     pub fn is_rounded(&self, x: u32, price: i128) -> bool
         requires price_in_range { IsWithin (2 ^ 78) price }
         ensures answer { IsTrue result ↔ IsRounding (terms self.now) x price }
@@ -143,10 +144,10 @@ impl Curve {
         traded < demand + span && demand < traded + span
     }
 
-    /// What a rounding loses against the demand, in grains, rounded up: 0 to 2^60.
+    /// Returns what a rounding loses against the demand, in grains, rounded up: 0 to 2^60.
     ///
-    /// With d the demand, it is `(x - d)^2 * span / (2 * rate)`. At this price x gains at most so much less than
-    /// any rate within the room. The price is in grains. Constant time, no memory.
+    /// With d the demand, it is `(x - d)^2 * span / (2 * rate)`. No rate within the batch maximum gains more at this price
+    /// than x and its loss together. The price is in grains. Takes constant time and allocates nothing.
     #[tactic(auto, using(crate::proofs::Quotients::loss_steps), unfolding(crate::specs::Demand::loss))]
     pub fn loss(&self, x: u32, price: i128) -> i128
         requires price_in_range { IsWithin (2 ^ 78) price }
@@ -159,9 +160,9 @@ impl Curve {
         (apart * apart).div_ceil(self.double_rate() * self.unsigned_span()) as i128
     }
 
-    /// The dual value at a price, in grains, rounded down: the most that the order can gain there, 0 to 2^103.
+    /// Returns the dual value at a price, in grains, rounded down: the most that the order can gain there, 0 to 2^103.
     ///
-    /// The price is in grains. Constant time, no memory.
+    /// The price is in grains. Takes constant time and allocates nothing.
     pub fn dual_floor(&self, price: i128) -> i128
         requires price_in_range { IsWithin (2 ^ 78) price }
         ensures value { result ≡ pos (dual_floor (terms self.now) price) }
@@ -174,7 +175,7 @@ impl Curve {
         }
     }
 
-    // Both roundings between the limits, where the price is so many grains below the high one.
+    // Both roundings at a price between the limits, `below_high` grains below the high one.
     #[tactic(auto, using(crate::proofs::Quotients::up_multiple))]
     fn roundings_between(&self, below_high: u64) -> Roundings
         ensures floor { let t = terms self.now in
@@ -192,7 +193,7 @@ impl Curve {
         }
     }
 
-    // Both roundings in parts between the limits, where the price is so many grains below the high one.
+    // Both roundings in parts at a price between the limits, `below_high` grains below the high one.
     fn parts_between(&self, parts: u16, below_high: u64) -> PartRoundings
         requires some { 1 ≤ parts }
         ensures floor { let t = terms self.now in
@@ -206,7 +207,7 @@ impl Curve {
         PartRoundings::of_least(parts, line, self.span() as u64, self.room)
     }
 
-    // The dual value where the line asks for more than the room.
+    // The dual value if the line asks for more than the batch maximum.
     fn dual_at_room(&self, price: i128) -> u128
         requires in_range { IsWithin (2 ^ 78) price }
         requires cut { (terms self.now).room * span (terms self.now) < line (terms self.now) price }
@@ -218,7 +219,7 @@ impl Curve {
         spared - (room * room * self.unsigned_span()).div_ceil(self.double_rate())
     }
 
-    // The dual value where the room does not cut the line. Where nothing is asked for it is 0.
+    // The dual value if the batch maximum does not cut the line. It is 0 if nothing is asked for.
     fn dual_on_line(&self, price: i128) -> u128
         requires in_range { IsWithin (2 ^ 78) price }
         requires on_line { line (terms self.now) price ≤ (terms self.now).room * span (terms self.now) }
@@ -239,7 +240,7 @@ impl Curve {
         self.line(price).min(self.room_demand())
     }
 
-    // What the line through the limits asks for, times the span, before the room cuts it.
+    // What the line through the limits asks for, times the span, before the batch maximum cuts it.
     #[tactic(auto, unfolding(crate::specs::Demand::line))]
     fn line(&self, price: i128) -> u128
         requires in_range { IsWithin (2 ^ 78) price }
@@ -249,7 +250,7 @@ impl Curve {
         u128::from(self.rate) * self.below_high(price)
     }
 
-    // The room, times the span.
+    // The batch maximum, times the span.
     fn room_demand(&self) -> u128
         ensures value { result ≡ (terms self.now).room * span (terms self.now) }
         ensures most { result ≤ 2 ^ 85 }
@@ -266,7 +267,7 @@ impl Curve {
         distance(i128::from(self.high), price)
     }
 
-    // The span, without a sign.
+    // The span, as an unsigned number.
     fn unsigned_span(&self) -> u128
         ensures value { result ≡ span (terms self.now) }
         ensures least { 2 ^ 32 ≤ result }

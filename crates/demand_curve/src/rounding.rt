@@ -3,8 +3,8 @@
 ghost use Rattle.std.specs.Prelude.{◌≡◌, ◌<◌, ◌≤◌, ◌*◌, ◌/◌, min};
 ghost use Rattle.demand_curve.specs.Numbers.{rounded_down, rounded_up};
 
-/// Both roundings of one demand, in whole units per batch. They differ by at most 1, and are equal exactly where
-/// the demand is whole.
+/// Both roundings of one demand, in whole units per batch. They differ by at most 1, and are equal exactly if
+/// the demand is a whole number.
 #[derive(Clone, Copy, PartialEq, Eq)]
 pub struct Roundings {
     /// The demand rounded down.
@@ -14,7 +14,7 @@ pub struct Roundings {
 }
 
 impl Roundings {
-    // Both roundings of a whole demand.
+    // Both roundings of a demand that is a whole number.
     pub(crate) fn of_whole(rate: u32) -> Roundings
         ensures floor { result.floor ≡ rate }
         ensures ceil { result.ceil ≡ rate }
@@ -51,7 +51,7 @@ pub struct PartRoundings {
 }
 
 impl PartRoundings {
-    // Both roundings, in parts, of the fraction n/d, or of `room` where that is less.
+    // Both roundings, in parts, of the fraction n/d, or of `room` if that is less.
     pub(crate) fn of_least(parts: u16, n: u128, d: u64, room: u32) -> PartRoundings
         requires some { 1 ≤ parts }
         requires positive { 0 < d }
@@ -96,7 +96,7 @@ impl PartRoundings {
     }
 }
 
-// n/d, rounded down. To divide 128 bits is slow, so 64 bits are divided where n fits them.
+// n/d, rounded down. Dividing 128 bits is slow, so 64 bits are divided if n fits them.
 fn quotient(n: u128, d: u64) -> u128
     requires positive { 0 < d }
     ensures value { result ≡ n / d }

@@ -1,4 +1,4 @@
--- What contracts see of a real file: whether it was opened, and its count of faults.
+-- The state of a real file in contracts: whether it was opened, and its count of faults.
 use Rattle.std.specs.Prelude.{ℕ, Bool, None}
 use Rattle.disk_edge.specs.Disks.{DiskState, IsDisk}
 
@@ -7,12 +7,12 @@ pub record FileState : Type 0 where
   pub is_open : Bool
   pub faults : ℕ
 
--- whether no file is at a path, and what is seen of the one that was opened there
+-- whether there is no file at a path, and the state of the one that was opened there
 pub record PathState : Type 0 where
   pub is_missing : Bool
   pub file : FileState
 
--- a real file as a disk: it tells no content, and a crash may leave anything
+-- a real file as a disk: its content isn't known, and a crash may leave anything
 abbrev pub file_state : FileState → DiskState
 file_state file = record {
   content = None;
@@ -22,7 +22,7 @@ file_state file = record {
   since = λ time image. Unit {0};
 }
 
--- that is a disk, of which nothing is known
+-- a real file is a disk, of which nothing is known
 pub file_is_disk : (file : FileState) → IsDisk (file_state file)
 file_is_disk file = record {
   content = tt;

@@ -7,13 +7,13 @@ ghost use Rattle.disk_edge.specs.Images.{written, TornWrite, TornCut, AddsNone, 
 #[derive(Clone, Copy, Debug, PartialEq, Eq)]
 pub struct DiskFailed;
 
-/// A file that is read and written at places, cut, and synced. Places and lengths are in bytes. Each call fails only where
-/// the count of faults rose, and leaves the count where it succeeds.
+/// A file that is read and written at places, cut, and synced. Places and lengths are in bytes. Each call fails only if
+/// the count of faults rose, and leaves the count as it was if it succeeds.
 pub trait Disk {
-    // What contracts see of it: its content where it is told, faults, a clock, and what a crash may leave.
+    // What contracts see of a disk: its content if it is known, faults, a clock, and what a crash may leave.
     ghost state: { Self → DiskState };
 
-    /// How many bytes it has. Changes nothing, also where it fails.
+    /// Returns how many bytes the disk has. Changes nothing, even if it fails.
     fn length(&mut self) -> Result<u64, DiskFailed>
         ensures length { IfOk result (λ count. IfSome (state self.old).content (λ bytes. count ≡ length bytes)) }
         ensures content { (state self.new).content ≡ (state self.old).content }
@@ -21,8 +21,8 @@ pub trait Disk {
         ensures time { Elapses (state self.old) (state self.new) }
         ensures cause { Blames (IsErr result) (state self.old).faults (state self.new).faults };
 
-    /// Fills `into` with the bytes at a place, all of which are inside. Changes nothing, also where it fails; `into` may then
-    /// hold anything.
+    /// Fills `into` with the bytes at a place, all of which are inside. Changes nothing, even if it fails; `into` may
+    /// then hold anything.
     fn read_at(&mut self, place: u64, into: &mut [u8]) -> Result<(), DiskFailed>
         requires { IfSome (state self.old).content (λ bytes. place + length into.old ≤ length bytes) }
         ensures read { OnOk result (IfSome (state self.old).content
@@ -32,9 +32,9 @@ pub trait Disk {
         ensures time { Elapses (state self.old) (state self.new) }
         ensures cause { Blames (IsErr result) (state self.old).faults (state self.new).faults };
 
-    /// Writes bytes at a place inside or at the end, over those that are there and past the end, up to 2^62 at most. Until a
-    /// sync succeeds a crash may leave any bytes in their range. A write that fails counts as made and not synced: the
-    /// content is then one of the images.
+    /// Writes bytes at a place inside or at the end, over those that are there and past the end, up to 2^62 at most.
+    /// Until a sync succeeds a crash may leave any bytes in their range. A write that fails counts as made and not
+    /// synced: the content is then one of the images.
     fn write_at(&mut self, place: u64, bytes: &[u8]) -> Result<(), DiskFailed>
         requires { IfSome (state self.old).content
             (λ held. (place ≤ length held) × (place + length bytes.now ≤ 2 ^ 62)) }
@@ -45,8 +45,8 @@ pub trait Disk {
         ensures time { Elapses (state self.old) (state self.new) }
         ensures cause { Blames (IsErr result) (state self.old).faults (state self.new).faults };
 
-    /// Takes away what is past a length, which isn't above its own. Until a sync succeeds a crash may leave some of it. A cut
-    /// that fails counts as made and not synced: the content is then one of the images.
+    /// Removes what is past a length, which isn't above the disk's own. Until a sync succeeds a crash may leave some of
+    /// it. A cut that fails counts as made and not synced: the content is then one of the images.
     fn cut(&mut self, to: u64) -> Result<(), DiskFailed>
         requires { IfSome (state self.old).content (λ bytes. to ≤ length bytes) }
         ensures cut { OnOk result
@@ -57,8 +57,8 @@ pub trait Disk {
         ensures time { Elapses (state self.old) (state self.new) }
         ensures cause { Blames (IsErr result) (state self.old).faults (state self.new).faults };
 
-    /// Makes what was written and cut outlast a crash: at Ok a crash leaves what a read gives, and nothing else. Changes no
-    /// content, also where it fails.
+    /// Makes what was written and cut outlast a crash: at Ok a crash leaves what a read gives, and nothing else.
+    /// Changes no content, even if it fails.
     fn sync(&mut self) -> Result<(), DiskFailed>
         ensures kept { OnOk result (IfSome (state self.old).content (LeavesOnly (state self.new).images)) }
         ensures content { (state self.new).content ≡ (state self.old).content }

@@ -9,8 +9,8 @@ use std::io;
 use std::marker::Model;
 use std::os::unix::fs::FileExt;
 
-/// A real file as a disk. It tells no content, and of what a crash may leave it says nothing: that its calls do to the
-/// file what those of a disk do is trusted. Over a file that couldn't be opened each call fails.
+/// A real file as a disk. Its content isn't known in contracts, and neither is what a crash may leave: that its calls
+/// do to the file what those of a disk do is trusted. Each call fails if the file couldn't be opened.
 #[derive(Drop)]
 pub struct FileDisk {
     file: Option<File>,
@@ -29,21 +29,21 @@ impl Model for FileDisk {
 impl FileDisk {
     ghost use Rattle.std.specs.Prelude.{is_some};
 
-    /// A disk over this file, or over one whose opening failed. No call has failed so far.
+    /// Makes a disk over this file, or over one whose opening failed. No call has failed so far.
     pub fn new(file: Option<File>) -> FileDisk
         ensures { result ≡ record { is_open = is_some file; faults = 0 } }
     {
         FileDisk { file, faults: 0 }
     }
 
-    // Puts a file, or one whose opening failed, in the place of its own.
+    // Replaces the file by this one, or by one whose opening failed.
     pub(crate) fn put(&mut self, file: Option<File>)
         ensures { self.new ≡ record { is_open = is_some file; faults = self.old.faults } }
     {
         self.file = file;
     }
 
-    // The answer of a call of the system. One that failed is counted.
+    // Returns the result of a call of the system. A call that failed is counted.
     fn told<T>(&mut self, answer: io::Result<T>) -> Result<T, DiskFailed>
         ensures open { self.new.is_open ≡ self.old.is_open }
         ensures cause { Blames (IsErr result) self.old.faults self.new.faults }
@@ -54,7 +54,7 @@ impl FileDisk {
         }
     }
 
-    // The answer of a call that failed, or of one over a file whose opening failed.
+    // Counts a failed call, or one over a file whose opening failed, and returns its error.
     fn refuse<T>(&mut self) -> Result<T, DiskFailed>
         ensures open { self.new.is_open ≡ self.old.is_open }
         ensures failed { IsErr result }

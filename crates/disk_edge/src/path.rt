@@ -10,9 +10,10 @@ use std::io::ErrorKind;
 use std::marker::Model;
 use std::path::{AsPath, Path};
 
-/// The file at a path as a disk. Where none is there it is an empty disk, and the first write makes the file; no other call does.
-/// It holds the file's one lock until it is dropped, so no two of these disks are over one file. Where the file can't be opened or made,
-/// or another process has the lock, each call fails, or each from that write on.
+/// The file at a path as a disk. If there is no file it is an empty disk, and the first write makes the file; no other
+/// call does. The disk holds the file's one lock until it is dropped, so no two of these disks are over one file. If
+/// the file can't be opened, or another process has the lock, each call fails; if the first write can't make and lock
+/// the file, each call from that write on.
 #[derive(Drop)]
 pub struct PathDisk<'a, R> {
     files: &'a R,
@@ -30,7 +31,7 @@ impl<'a, R> Model for PathDisk<'a, R> {
 }
 
 impl<'a, R: Files<File = File>> PathDisk<'a, R> {
-    /// A disk over the file at this path, which is opened and locked where it is there.
+    /// Makes a disk over the file at this path, which is opened and locked if it is there.
     pub fn open(files: &'a R, path: &'a str) -> PathDisk<'a, R>
         ensures { result.file.faults ≡ 0 }
     {
@@ -60,7 +61,7 @@ impl<'a, R: Files<File = File>> PathDisk<'a, R> {
     }
 }
 
-// Opens the file at this path and locks it. The name of one that is still empty is made to outlast a crash.
+// Opens the file at this path and locks it. If it is still empty, its name is synced, so that it outlasts a crash.
 fn open_locked<R: Files<File = File>>(files: &R, path: &str) -> io::Result<File> {
     let file = OpenOptions::new().read(true).write(true).open(files, path)?;
     file.try_lock()?;
@@ -70,7 +71,8 @@ fn open_locked<R: Files<File = File>>(files: &R, path: &str) -> io::Result<File>
     Ok(file)
 }
 
-// Makes a file at this path, where nothing is there, no link either, and locks it. Its name is made to outlast a crash.
+// Makes a file at this path, if nothing is there, not even a link, and locks it. Its name is synced, so that it
+// outlasts a crash.
 fn make_locked<R: Files<File = File>>(files: &R, path: &str) -> io::Result<File> {
     let file = OpenOptions::new()
         .read(true)
@@ -82,12 +84,12 @@ fn make_locked<R: Files<File = File>>(files: &R, path: &str) -> io::Result<File>
     Ok(file)
 }
 
-// Makes the names in the folder outlast a crash in which a path names a file.
+// Syncs the folder of a path, so that the names in it outlast a crash.
 fn sync_folder<R: Files<File = File>>(files: &R, path: &str) -> io::Result<()> {
     File::open(files, folder_of(path))?.sync_all()
 }
 
-// The folder in which a path names a file.
+// Returns the folder of the file that a path names.
 fn folder_of<'a>(path: &'a str) -> Path<'a> {
     match Path::new(path).parent() {
         Some(folder) if !folder.path_text().is_empty() => folder,

@@ -5,7 +5,7 @@ use std::alloc::Global;
 use std::process::Abort;
 use std::test::Fail;
 
-// A disk in memory with these bytes and so much room, calls and failing calls.
+// Returns a disk in memory with these bytes, this much room, and these calls and failing calls.
 fn disk_of(
     alloc: Global,
     bytes: &[u8],
@@ -22,13 +22,13 @@ fn disk_of(
     )?)
 }
 
-// Whether it holds these bytes, and its length is theirs.
+// Compares the bytes that the disk holds, and its length.
 fn holds(rt: &impl Abort, disk: &mut MemoryDisk, want: &[u8]) {
     assert_eq!(rt; disk.bytes(), want);
     assert_eq!(rt; disk.length(), Ok(want.len() as u64));
 }
 
-// Cuts to a length, where it has as many bytes.
+// Cuts to a length, if it has as many bytes.
 fn cut(disk: &mut MemoryDisk, to: usize) -> Result<(), DiskFailed> {
     if disk.bytes().len() < to {
         return Err(DiskFailed);
@@ -36,7 +36,7 @@ fn cut(disk: &mut MemoryDisk, to: usize) -> Result<(), DiskFailed> {
     disk.cut(to as u64)
 }
 
-// Whether at a place stand these three bytes.
+// Compares three bytes at a place.
 fn reads(rt: &impl Abort, disk: &mut MemoryDisk, place: usize, want: &[u8; 3]) {
     let mut three = [0; 3];
     if place < disk.bytes().len() && disk.bytes().len() - place >= 3 {
@@ -45,7 +45,7 @@ fn reads(rt: &impl Abort, disk: &mut MemoryDisk, place: usize, want: &[u8; 3]) {
     assert_eq!(rt; &three, want);
 }
 
-// Writes inside, over the end and behind it, a cut, and a read.
+// Writes inside, over the end and after it, a cut, and a read.
 #[test]
 fn holds_what_was_written(rt: HostRuntime) -> Result<(), Fail> {
     let alloc = rt.alloc();
@@ -76,7 +76,7 @@ fn stop_leaves_images(rt: HostRuntime) -> Result<(), Fail> {
     assert_eq!(rt; disk.bytes(), b"abx".as_slice());
     assert_eq!(rt; disk.sync(), Ok(()));
     assert_eq!(rt; disk.length(), Ok(3));
-    let wants = [
+    let allocates = [
         b"abx--".as_slice(),
         b"abx--",
         b"abxyz",
@@ -90,14 +90,14 @@ fn stop_leaves_images(rt: HostRuntime) -> Result<(), Fail> {
         let left = disk.crashed(alloc, before as u64 + 1, 1, b'-')?;
         assert_eq!(rt;
             Some(&left.as_slice()),
-            wants.get(before as usize),
+            allocates.get(before as usize),
             "call {before}"
         );
     }
     Ok(())
 }
 
-// Calls whose numbers are listed, above the most, or writes without room.
+// Calls whose numbers are listed or above the most, and writes without room.
 #[test]
 fn stated_calls_fail(rt: HostRuntime) -> Result<(), Fail> {
     let alloc = rt.alloc();

@@ -42,7 +42,7 @@ fn file_keeps_bytes(rt: HostRuntime) -> Result<(), Fail> {
     Ok(())
 }
 
-// A journal in a real file goes on when it is opened again. While one disk is over a file, another one over it fails.
+// A journal in a real file continues when it is opened again. While one disk is over a file, another one over it fails.
 #[test]
 fn file_keeps_pairs(rt: HostRuntime) -> Result<(), Fail> {
     let alloc = rt.alloc();
@@ -64,7 +64,7 @@ fn file_keeps_pairs(rt: HostRuntime) -> Result<(), Fail> {
     Ok(())
 }
 
-// Where no file can be made the first write fails, and each call from then on.
+// If no file can be made, the first write fails, and each call from then on.
 fn is_never_made<R: Files<File = File> + Abort>(rt: &R, path: &str) {
     let mut none = PathDisk::open(rt, path);
     assert_eq!(rt; none.length(), Ok(0), "{path}");
@@ -72,13 +72,13 @@ fn is_never_made<R: Files<File = File> + Abort>(rt: &R, path: &str) {
     assert_eq!(rt; none.length(), Err(DiskFailed), "{path}");
 }
 
-// While a disk is over a file another one over it fails, as one over a folder does.
+// While a disk is over a file, another one over it fails, and so does one over a folder.
 fn fails<R: Files<File = File> + Abort>(rt: &R, path: &str) {
     let mut disk = PathDisk::open(rt, path);
     assert_eq!(rt; disk.length(), Err(DiskFailed), "{path}");
 }
 
-// Whether a file holds these bytes.
+// Compares the bytes that a file holds.
 fn holds<R: Files<File = File> + AllocGlobal + Abort>(rt: &R, path: &str, want: &[u8]) {
     match fs::read(rt, path) {
         Ok(bytes) => assert_eq!(rt; bytes.as_slice(), want),
@@ -86,7 +86,7 @@ fn holds<R: Files<File = File> + AllocGlobal + Abort>(rt: &R, path: &str, want: 
     }
 }
 
-// Where no file is there the disk is empty. The first write makes the file, and nothing else does.
+// If no file is there, the disk is empty. The first write makes the file, and nothing else does.
 fn is_made_by_a_write<R: Files<File = File> + AllocGlobal + Abort>(rt: &R, path: &str) {
     let mut disk = PathDisk::open(rt, path);
     assert_eq!(rt; disk.sync(), Ok(()));
@@ -109,7 +109,7 @@ fn file_is_made_by_a_write(rt: HostRuntime) -> Result<(), Fail> {
     Ok(())
 }
 
-// A link isn't made a file, and where none can be made the write fails, and each call from then on.
+// No file is made through a link; if none can be made, the write fails, and each call from then on.
 #[test]
 fn nothing_else_is_made(rt: HostRuntime) -> Result<(), Fail> {
     symlink(&rt, "nothing", "link")?;

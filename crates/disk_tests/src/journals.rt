@@ -19,7 +19,7 @@ const FIRST: [u8; 14] = *b"\x02\0\0\0\0\x82\0\0\0\x04\0\0\0\x01";
 
 const SECOND: [u8; 14] = *b"\x02\0\0\0\0\x82\0\0\0\x04\0\0\0\x02";
 
-// A disk in memory with these bytes, and calls that fail.
+// Returns a disk in memory with these bytes, and calls that fail.
 fn disk_of(alloc: Global, bytes: &[u8], failing: &[u64]) -> Result<MemoryDisk, Fail> {
     Ok(MemoryDisk::new(
         alloc,
@@ -30,7 +30,7 @@ fn disk_of(alloc: Global, bytes: &[u8], failing: &[u64]) -> Result<MemoryDisk, F
     )?)
 }
 
-// Reads the pairs that are kept, up to a gate that isn't open, and answers how many there are, and the last byte of each.
+// Reads the kept entries, up to a commit byte that isn't set, and returns how many there are, and the last byte of each.
 fn read_kept<D: Disk>(
     alloc: Global,
     journal: &mut DiskJournal,
@@ -51,7 +51,7 @@ fn read_kept<D: Disk>(
     }
 }
 
-// Makes a new disk one of version Two, and adds a pair.
+// Makes a new disk one of version Two, and adds an entry.
 fn keep_first<D: Disk>(alloc: Global, disk: &mut D, pair: &[u8]) -> Result<(), DiskFault>
     requires new { IfSome (D.state disk.old).content (λ bytes. length bytes ≤ 9) }
 {
@@ -63,7 +63,7 @@ fn keep_first<D: Disk>(alloc: Global, disk: &mut D, pair: &[u8]) -> Result<(), D
     Ok(())
 }
 
-// Reads the pairs that a disk keeps, and adds one.
+// Reads the entries that a disk keeps, and adds one.
 fn keep_next<D: Disk>(
     alloc: Global,
     disk: &mut D,
@@ -83,8 +83,8 @@ fn keep_next<D: Disk>(
     Ok(())
 }
 
-// Opens a disk, reads the pairs that are kept, and adds one. A new disk is made one of version Two. Answers the last byte of each pair
-// that was kept.
+// Opens a disk, reads the kept entries, and adds one. A new disk is made one of version Two. Returns the last byte of each entry that
+// was kept.
 pub fn keep<D: Disk>(alloc: Global, disk: &mut D, pair: &[u8]) -> Result<Vec<u8>, DiskFault> {
     let mut lasts = Vec::new(alloc);
     match recover(disk)? {
@@ -94,7 +94,7 @@ pub fn keep<D: Disk>(alloc: Global, disk: &mut D, pair: &[u8]) -> Result<Vec<u8>
     Ok(lasts)
 }
 
-// Whether a pair is kept behind these.
+// Keeps an entry, and compares the last bytes of those before it.
 pub fn keeps<D: Disk>(rt: &impl Abort, alloc: Global, disk: &mut D, pair: &[u8], want: &[u8]) {
     match keep(alloc, disk, pair) {
         Ok(lasts) => assert_eq!(rt; lasts.as_slice(), want),
@@ -102,14 +102,14 @@ pub fn keeps<D: Disk>(rt: &impl Abort, alloc: Global, disk: &mut D, pair: &[u8],
     }
 }
 
-// Whether a disk with these bytes is refused so.
+// Compares how a disk with these bytes is refused.
 fn refuses(rt: &impl Abort, alloc: Global, bytes: &[u8], want: DiskFault) -> Result<(), Fail> {
     let mut disk = disk_of(alloc, bytes, &[])?;
     assert_eq!(rt; keep(alloc, &mut disk, &FIRST).err(), Some(want));
     Ok(())
 }
 
-// An empty disk, and then one with a pair.
+// An empty disk, and then one with an entry.
 #[test]
 fn pairs_are_kept(rt: HostRuntime) -> Result<(), Fail> {
     let alloc = rt.alloc();
@@ -124,7 +124,7 @@ fn pairs_are_kept(rt: HostRuntime) -> Result<(), Fail> {
     Ok(())
 }
 
-// A stop in each call in which the second pair is added, and a third run on what it leaves: the first pair was kept,
+// A stop in each call in which the second entry is added, and a third run on what it leaves: the first entry was kept,
 // and perhaps the second.
 #[test]
 fn stop_in_any_call(rt: HostRuntime) -> Result<(), Fail> {
@@ -173,7 +173,7 @@ fn each_call_fails(rt: HostRuntime) -> Result<(), Fail> {
     Ok(())
 }
 
-// A disk whose last byte is cut off, entries that aren't whole pairs, and disks that hold something else.
+// A disk whose last byte is cut off, stored entries that aren't complete, and disks that hold something else.
 #[test]
 fn broken_disks(rt: HostRuntime) -> Result<(), Fail> {
     let alloc = rt.alloc();
@@ -200,7 +200,7 @@ fn broken_disks(rt: HostRuntime) -> Result<(), Fail> {
     Ok(())
 }
 
-// At most nine bytes are a new disk, and a closed gate of any other byte ends a journal too.
+// At most nine bytes are a new disk, and a commit byte of any value but 1 ends a journal too.
 #[test]
 fn new_disks(rt: HostRuntime) -> Result<(), Fail> {
     let alloc = rt.alloc();

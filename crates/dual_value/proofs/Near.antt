@@ -1,4 +1,4 @@
--- The dual floor is the exact dual, rounded down order by order.
+-- The dual value is the exact one, rounded down order by order.
 use Rattle.flow_orders.proofs.DualWalks.{floors_enclose_dual}
 use Rattle.dual_value.specs.Near.{DualFloorsAreNear}
 

@@ -1,14 +1,14 @@
-//! What a book of orders gains at most at given prices.
+//! The dual value of a book: what its orders could gain at most at given prices.
 //!
 //! An order's dual value at a price of its portfolio is the most that it can gain there, by trading exactly its demand.
-//! Each legal move of an asset that isn't settled lowers the sum over a book, without rounding: `flow_orders` has that as
-//! a law. So the sum at two places of a walk says how far the walk has come; [`laws`] has how near the rounded sum is.
+//! Each valid move of an asset that isn't settled lowers the sum over a book, without rounding: `flow_orders` has that as
+//! a law. So the sum at two places of a walk shows how far the walk has come; [`laws`] has how near the rounded sum is.
 //!
-//! Prices are in grains, and 2^32 grains are a tick; there is one for each asset, by its number. Values are in grains.
+//! Prices are in grains, and a tick is 2^32 grains; there is one for each asset, by its number. Values are in grains.
 //!
 //! # Costs
 //!
-//! A call goes once over the entries of all orders and divides once for each order. No memory is taken.
+//! A call goes once over the legs of all orders and divides once for each order. It allocates nothing.
 #![tactic(auto)]
 
 ghost use Rattle.std.specs.Prelude.{◌≡◌, ◌^◌, ◌≤◌, ◌≤ℤ◌, pos, length, All};
@@ -22,7 +22,8 @@ pub mod laws;
 
 use flow_orders::Order;
 
-/// The sum of the orders' dual values at these prices, each rounded down to whole grains: 0 to 2^117.
+/// Returns the dual value of a book at these prices: the sum of the orders' dual values, each rounded down to a grain, 0 to
+/// 2^117.
 ///
 /// There are at most 16,384 orders, and `prices` has one price for each asset that they name, within 2^62 grains of 0.
 /// The sum without rounding is at least as high, by at most one grain for each order.
@@ -40,7 +41,7 @@ pub fn dual_floor(orders: &[Order], prices: &[i64]) -> i128
     sum as i128
 }
 
-// One order's dual value, rounded down.
+// Returns one order's dual value, rounded down to a grain.
 fn order_dual(order: &Order, prices: &[i64]) -> u128
     requires range { All IsPrice prices.now }
     requires priced { IsPricedBy order.now.row prices.now }

@@ -14,7 +14,7 @@ use Rattle.excess_bounds.specs.Laws.{weight_at, ColumnsListOrders}
 use Rattle.excess_bounds.proofs.ColumnSums.{cell_at}
 
 module _ (asset : ℕ) where
-  -- a cell for one of the orders, of which the first stands at a place
+  -- the cell is that of one of these orders, of which the first is at `place`
   abbrev StandsFor : ℕ → List Order → Cell → Type 0
   StandsFor place orders c = (k : ℕ) × (c.place ≡ place + k) × (c.weight ≡ weight_at orders asset k) × (c.weight ≢ pos 0)
 
@@ -33,7 +33,7 @@ module _ (asset : ℕ) where
       rw some (All-cons (StandsFor place (o ∷ orders)) (cell_at asset place o) (column_from (place + 1) orders asset) here rest))
       (cases_Bool (eqb (unsigned_abs (weight_in o.row asset)) 0))
 
-  -- an order that names the asset has its cell
+  -- an order that names the asset has a cell
   has_cell : (place : ℕ) (orders : List Order) (k : ℕ) (c : Cell) → c.place ≡ place + k → c.weight ≡ weight_at orders asset k → c.weight ≢ pos 0
       → Contains (column_from place orders asset) c
   has_cell place [] k c at is named = absurd (named is)

@@ -36,7 +36,7 @@ module _ (asset : ℕ) where
       (λ some. rw some (ap (λ cells. cell_at asset place p ∷ cells) rest))
       (cases_Bool (eqb (unsigned_abs (weight_in p.row asset)) 0))
 
-  -- the cells of the first i orders, and of one more
+  -- the cells of the first i orders and of one more
   pub cells_more : (orders : List Order) (i : ℕ) (o : Order) (cells found next : List Cell) → i < length orders → o ≡ get_or orders i o
       → cells ≡ column_of (take i orders) asset → found ≡ column_from i (o ∷ []) asset → next ≡ cells ++ found
       → next ≡ column_of (take (i + 1) orders) asset
@@ -69,7 +69,7 @@ module _ (asset : ℕ) where
       (λ some. rw some (omega (arith, rest)))
       (cases_Bool (eqb (unsigned_abs (weight_in o.row asset)) 0))
 
-  -- a sum over the column is one over the orders, where orders that don't name the asset count for nothing
+  -- a sum over the column is one over the orders, if orders that don't name the asset add 0
   pub column_sum : (f : Order → ℤ) (g : Cell → ℤ) (place : ℕ) (orders : List Order)
       → ((o : Order) → weight_in o.row asset ≡ pos 0 → f o ≡ pos 0)
       → ((k : ℕ) (o : Order) → k < length orders → g (cell_at asset (place + k) (get_or orders k o)) ≡ f (get_or orders k o))
@@ -87,7 +87,7 @@ module _ (asset : ℕ) where
       (λ some. rw some (omega (arith, ints, here, rest)))
       (cases_Bool (eqb (unsigned_abs (weight_in o.row asset)) 0))
 
-  -- the same of numbers that are never negative
+  -- a sum of numbers that are never negative, over the column and over the orders
   sum_of_weights : (f : ℤ → ℕ) → f (pos 0) ≡ 0 → (orders : List Order) → sum_by (λ c. f c.weight) (column_of orders asset) ≡ sum_by (λ o. f (weight_in o.row asset)) orders
   sum_of_weights f nothing orders =
       let over = int_sum_by-pos (λ (c : Cell). f c.weight) (column_of orders asset) in

@@ -33,7 +33,7 @@ pub quotes_more : (prices : List ℤ) (orders : List Order) (i : ℕ) (o : Order
 quotes_more prices orders i o q quotes next within here before is more =
     more ∙ rw (before, is) (ap (λ x. map (quote_at prices) (take i orders) ++ quote_at prices x ∷ []) here ∙ sym (map_more (quote_at prices) orders i o within))
 
--- what is written over a whole list
+-- a list written over a whole list
 pub written_back : {X : Type 0} (n : ℕ) (new old : List X) → length new ≡ n → length old ≡ n → take n (new ++ drop (length new) old) ≡ new
 written_back n new old is was =
     let rest : drop (length new) old ≡ [] = drop_all (length new) old (omega (arith, is, was)) in
@@ -46,14 +46,14 @@ module _ (orders : List Order) (prices : List ℤ) (quotes : List Quote) (column
   quote_is : (k : ℕ) (o : Order) → k < length orders → quote_in quotes k ≡ quote_at prices (get_or orders k o)
   quote_is k o inside = ap (λ qs. quote_in qs k) kept.quoted ∙ get_or-map (quote_at prices) orders k o no_quote inside
 
-  -- no column is too long, and no weight in it too large
+  -- each column is one
   pub is_column : IsColumn (column_of orders asset)
   is_column = record {
     few = omega (arith, column_length asset 0 orders, kept.priced.few);
     light = all_cells asset is_light 0 orders (λ k o inside. weights_are_small (get_or orders k o).row asset (kept.priced.each k o inside).row);
   }
 
-  -- the orders of the column are there
+  -- the orders of the column have quotes
   pub are_there : All (λ c. c.place < length quotes) (column_of orders asset)
   are_there =
       let count : length quotes ≡ length orders = ap length kept.quoted ∙ length-map orders (quote_at prices) in
@@ -69,13 +69,13 @@ module _ (orders : List Order) (prices : List ℤ) (quotes : List Quote) (column
           range = price_is_bounded o.row (set prices asset price) order.row (All-set IsPrice prices asset price in_range kept.priced.range);
         }
 
-    -- their prices stay in range
+    -- the prices of the column's orders stay in range
     pub stay_in_range : All (StaysInRange quotes amount) (column_of orders asset)
     stay_in_range =
         all_cells asset (StaysInRange quotes amount) 0 orders
         (λ k o inside. let f = follows k o inside in let at : 0 + k ≡ k = omega arith in rw (at, quote_is k o inside) (rw f.price at f.range))
 
-    -- a sum of parts over the column is that over the orders at the next prices
+    -- a sum of parts over the column is that over the orders, at the next prices
     sum_is : (part : ℤ → Terms → ℤ → ℤ) → ((t : Terms) (c : ℤ) → part (pos 0) t c ≡ pos 0)
         → int_sum_by (λ c. part c.weight (quote_in quotes c.place).terms ((quote_in quotes c.place).price +ℤ c.weight *ℤ amount)) (column_of orders asset)
         ≡ int_sum_by (λ o. part (weight_in o.row asset) (terms_of o) (price_for (set prices asset price) o)) orders
@@ -120,7 +120,7 @@ module _ (orders : List Order) (prices : List ℤ) (quotes : List Quote) (column
   pub own_in_range : IsPrice (price_of prices asset)
   own_in_range = kept.priced.range asset (pos 0) there
 
-  -- the sums at the prices themselves
+  -- a sum of parts over the column is that over the orders, at the prices themselves
   sum_now : (part : ℤ → Terms → ℤ → ℤ) → ((t : Terms) (c : ℤ) → part (pos 0) t c ≡ pos 0)
       → int_sum_by (λ c. part c.weight (quote_in quotes c.place).terms (quote_in quotes c.place).price) (column_of orders asset)
       ≡ int_sum_by (λ o. part (weight_in o.row asset) (terms_of o) (price_for prices o)) orders

@@ -1,4 +1,4 @@
--- The columns of all assets grow order by order, and entry by entry.
+-- The columns of all assets grow order by order, and leg by leg.
 use Rattle.std.proofs.Common.{◌≡◌, ◌≢◌, ⊎_elim, ℕ, suc, ◌+◌, ◌<◌, ◌≤◌, pos, false, eqb, List, [], ◌∷◌, ◌++◌, length, map, set, take, get_or, refl, ap, sym, ◌∙◌, append_assoc, append-nil, length-take, arith}
 use Rattle.std.specs.Prelude.{if◌then◌else◌, unsigned_abs, All, AllPairs}
 use Rattle.std.specs.List.{range_with_len}
@@ -8,14 +8,14 @@ use Rattle.std.proofs.lemmas.List.{ext_get_or, get_or-set_same, get_or-set_other
 use Rattle.std.proofs.lemmas.List.FromFn.{length-map-range_with_len, get_or-map-range_with_len, map-range_with_len_more}
 use Rattle.std.proofs.lemmas.List.Kept.{AllPairs-from_increasing}
 use Rattle.weight_rows.specs.declared.entries.Entry.{Entry}
-use Rattle.weight_rows.specs.Rows.{IsLawfulRow, IsLawfulWeight, assets_of, weight_in}
+use Rattle.weight_rows.specs.Rows.{IsWeightVector, IsLawfulWeight, assets_of, weight_in}
 use Rattle.flow_orders.specs.Orders.{Order}
 use Rattle.excess_bounds.specs.declared.columns.Cell.{Cell}
 use Rattle.excess_bounds.specs.Columns.{column_of}
 use Rattle.excess_bounds.specs.Private.{listed}
 use Rattle.excess_bounds.proofs.ColumnSums.{cells_more, column_length}
 
--- lists over a range agree where their members do
+-- lists over a range are equal if their members are
 map_alike : {X : Type 0} (f g : ℕ → X) (n : ℕ) → ((a : ℕ) → a < n → f a ≡ g a) → map f (range_with_len 0 n) ≡ map g (range_with_len 0 n)
 map_alike f g n same =
     let count = length-map-range_with_len f 0 n in
@@ -43,12 +43,12 @@ set_alike f g n i x there here others =
     (eqb_tells a i))
 
 module _ (place : ℕ) where
-  -- the cells of an asset in a row
+  -- the cells of an asset in a weight vector
   abbrev cells_in : List Entry → ℕ → List Cell
   cells_in [] asset = []
   cells_in (e ∷ row) asset = if eqb e.asset asset then record { place = place; weight = e.weight } ∷ cells_in row asset else cells_in row asset
 
-  -- a row adds to the column of each asset the cells of the asset
+  -- an order adds its cells of each asset to the column of the asset
   listed_is : (row : List Entry) (f : ℕ → List Cell) (n : ℕ) → All (λ (e : Entry). e.asset < n) row
       → listed place row (map f (range_with_len 0 n)) ≡ map (λ a. f a ++ cells_in row a) (range_with_len 0 n)
   listed_is [] f n there = map_alike f (λ a. f a ++ []) n (λ a inside. sym (append-nil (f a)))
@@ -70,7 +70,7 @@ module _ (place : ℕ) where
       (cases_Bool (eqb e.asset a))) in
       rw now (rw one (rest ∙ alike))
 
-  -- no entry names this asset
+  -- no leg names this asset
   none_in : (row : List Entry) (asset : ℕ) → ((k d : ℕ) → k < length row → get_or (assets_of row) k d ≢ asset) → (cells_in row asset ≡ []) × (weight_in row asset ≡ pos 0)
   unfolding weight_in
   none_in [] asset absent = (refl, refl)
@@ -78,7 +78,7 @@ module _ (place : ℕ) where
       let other : e.asset ≢ asset = absent 0 0 (omega arith) in
       rw (ne_eqb e.asset asset other) (none_in row asset (λ k d within. absent (suc k) d (omega (arith, within))))
 
-  -- a row of ascending assets has one cell of each asset that it names
+  -- legs of ascending assets have one cell for each asset that they name
   ascending_cells : (row : List Entry) (asset : ℕ) → AllPairs (λ (a : ℕ) (b : ℕ). a < b) (assets_of row) → All (λ (e : Entry). IsLawfulWeight e.weight) row
       → cells_in row asset ≡ (if eqb (unsigned_abs (weight_in row asset)) 0 then [] else record { place = place; weight = weight_in row asset } ∷ [])
   unfolding weight_in
@@ -95,9 +95,9 @@ module _ (place : ℕ) where
       (λ other. rw other.0 rest)
       (eqb_tells e.asset asset)
 
--- the columns of the first i orders, and of one more
+-- the columns of the first i orders and of one more
 pub columns_more : (orders : List Order) (i n : ℕ) (o : Order) (columns next : List (List Cell)) → i < length orders → o ≡ get_or orders i o
-    → IsLawfulRow o.row → All (λ (e : Entry). e.asset < n) o.row
+    → IsWeightVector o.row → All (λ (e : Entry). e.asset < n) o.row
     → columns ≡ map (column_of (take i orders)) (range_with_len 0 n) → next ≡ listed i o.row columns → next ≡ map (column_of (take (i + 1) orders)) (range_with_len 0 n)
 columns_more orders i n o columns next within here lawful there before more =
     more ∙ ap (listed i o.row) before ∙ listed_is i o.row (column_of (take i orders)) n there
@@ -106,7 +106,7 @@ columns_more orders i n o columns next within here lawful there before more =
     let found = ascending_cells i o.row a (AllPairs-from_increasing (assets_of o.row) lawful.ascending) lawful.weights in
     cells_more a orders i o (column_of (take i orders) a) (cells_in i o.row a) (column_of (take i orders) a ++ cells_in i o.row a) within here refl found refl)
 
--- columns of the first i orders have i cells at most
+-- columns of the first i orders have at most i cells
 pub columns_short : (orders : List Order) (i n : ℕ) (columns : List (List Cell)) → columns ≡ map (column_of (take i orders)) (range_with_len 0 n) → All (λ (c : List Cell). length c ≤ i) columns
 columns_short orders i n columns is =
     rw is
@@ -114,7 +114,7 @@ columns_short orders i n columns is =
     let within : k < n = omega (arith, inside, length-map-range_with_len (column_of (take i orders)) 0 n) in
     rw (get_or-map-range_with_len (column_of (take i orders)) 0 n k k d within (omega arith)) (omega (arith, column_length k 0 (take i orders), length-take i orders)))
 
--- the columns of n assets before any order, and of one more
+-- empty columns of n assets and of one more
 pub none_more : (n : ℕ) (column : List Cell) (columns next : List (List Cell)) → columns ≡ map (column_of []) (range_with_len 0 n) → column ≡ [] → next ≡ columns ++ column ∷ []
     → next ≡ map (column_of []) (range_with_len 0 (n + 1))
 none_more n column columns next before is more = more ∙ rw (before, is) (sym (map-range_with_len_more (column_of []) 0 n n (omega arith)))

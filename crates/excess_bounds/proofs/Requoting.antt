@@ -13,13 +13,13 @@ use Rattle.excess_bounds.specs.Columns.{column_from}
 use Rattle.excess_bounds.specs.Quotes.{Quote, quote_at}
 use Rattle.excess_bounds.specs.Private.{quote_in, no_quote, requoted, CanRequote}
 
--- an order's price as the price of an asset moves by an amount
+-- an order's price moves with an asset's price: by its weight times the amount
 pub record Follows (prices next : List ℤ) (asset : ℕ) (amount : ℤ) (o : Order) : Type 0 where
   pub price : price_for next o ≡ price_for prices o +ℤ weight_in o.row asset *ℤ amount
   pub range : unsigned_abs (price_for next o) ≤ 2 ^ 78
 
 module _ (amount : ℤ) where
-  -- the first order of a column is requoted behind those before it
+  -- the first order of a column is requoted after the quotes before it
   requote_first : (before rest end : List Quote) (q next : Quote) (place : ℕ) (w : ℤ) (cells : List Cell) → length before ≡ place → unsigned_abs (q.price +ℤ w *ℤ amount) ≤ 2 ^ 78
       → next ≡ record { terms = q.terms; price = q.price +ℤ w *ℤ amount }
       → CanRequote (before ++ next ∷ rest) cells amount × (requoted (before ++ next ∷ rest) cells amount ≡ end)
@@ -46,7 +46,7 @@ module _ (amount : ℤ) where
       let inside = now.1.0 in
       rw (is, get_or_default quotes (get_or cells i d).place e no_quote inside) (now.0, now.1.2)
 
-  -- what can be requoted is there
+  -- the next order to be requoted has a quote
   pub requote_inside : (quotes : List Quote) (cells : List Cell) (i : ℕ) (d : Cell) → i < length cells → CanRequote quotes (drop i cells) amount → (get_or cells i d).place < length quotes
   requote_inside quotes cells i d within can = (rw (drop_more cells i d within) at can).0
 
@@ -67,7 +67,7 @@ module _ (prices next : List ℤ) (asset : ℕ) (amount : ℤ) where
   moved : (o : Order) → Follows prices next asset amount o → quote_at next o ≡ record { terms = terms_of o; price = price_for prices o +ℤ weight_in o.row asset *ℤ amount }
   moved o follows = ap (λ price. record { terms = terms_of o; price = price }) follows.price
 
-  -- behind orders that have their next prices, those of a column are requoted one after the other
+  -- after orders that have their next prices, those of a column are requoted one by one
   pub column_requoted : (before : List Quote) (orders : List Order) (place : ℕ) → length before ≡ place
       → ((k : ℕ) (o : Order) → k < length orders → Follows prices next asset amount (get_or orders k o))
       → CanRequote (before ++ map (quote_at prices) orders) (column_from place orders asset) amount

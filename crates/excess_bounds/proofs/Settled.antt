@@ -1,11 +1,11 @@
--- Where an asset is settled, by its excess and its steepness.
+-- Whether an asset is settled, by its excess and its slope bound.
 use Rattle.std.proofs.Common.{◌≡◌, ◌↔◌, ℕ, ℤ, pos, ◌≤ℤ◌, Bool, false, IsTrue, List}
 use Rattle.std.specs.Prelude.{neg_ℤ}
 use Rattle.flow_orders.specs.Orders.{Order}
 use Rattle.flow_orders.specs.Excess.{low_excess, high_excess, steepness, is_unsettled}
 use Rattle.flow_orders.proofs.Moving.{settled_is, is_settled}
 
--- a test of both bounds tells whether the asset is settled
+-- a test of both bounds decides whether the asset is settled
 pub settled_where : (orders : List Order) (prices : List ℤ) (asset : ℕ) (near : Bool) (low high steep : ℤ)
     → low ≡ low_excess orders prices asset → high ≡ high_excess orders prices asset → steep ≡ pos (steepness orders asset)
     → IsTrue near ↔ ((low ≤ℤ steep) × (neg_ℤ steep ≤ℤ high)) → IsTrue near ↔ (is_unsettled orders prices asset ≡ false)

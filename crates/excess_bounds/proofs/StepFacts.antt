@@ -1,4 +1,4 @@
--- Steps between two amounts: what they ask for together, and what is left of them as the amounts come nearer.
+-- Steps between two amounts: what they ask for together, and which remain as the amounts come nearer.
 use Rattle.std.proofs.Common.{◌≡◌, inl, inr, ⊎_elim, ℕ, zero, suc, ◌+◌, ◌-◌, ◌*◌, ◌^◌, ◌≤◌, ◌<◌, ℤ, pos, negsuc, ◌+ℤ◌, ◌*ℤ◌, ◌≤ℤ◌, Bool, true, false, List, [], ◌∷◌, ◌++◌, length, map, take, drop, set, get_or, append_assoc, refl, ap, sym, subst, ◌∙◌, length-append, arith}
 use Rattle.std.specs.Prelude.{unsigned_abs, All, int_lt, if◌then◌else◌}
 use Rattle.std.specs.Ordering.{int_eq}
@@ -44,12 +44,12 @@ falls_to s m n h =
     let whole : m + (n - m) ≡ n = omega (arith, h) in
     rw whole at (part_falls s m (n - m))
 
--- and no order asks for less than its room allows
+-- no order asks for less than the least that its batch maximum allows
 least_below : (parts : ℕ) (w : ℤ) (t : Terms) → IsWithinLimits t → (c : ℤ) → part_by_sign w 0 (parts * t.room) ≤ℤ low_part_in parts w t c
 least_below parts (pos n) t h c = omega (arith, ints)
 least_below parts (negsuc n) t h c = omega (arith, ints, mul-le-mul_left (suc n) (parts_enclose_demand parts t h c).within_room)
 
--- of its parts of a unit one is that of a demand rounded down, and no other is more than that of one rounded up
+-- the demand in parts, rounded down, is at most one part of the demand rounded down and the other parts of the demand rounded up
 floor_most : (others : ℕ) (t : Terms) → IsWithinLimits t → (c : ℤ) → floor_in (suc others) t c ≤ floor_rate t c + others * ceil_rate t c
 floor_most others t h c =
     let whole = roundings_enclose_demand t h c in
@@ -62,7 +62,7 @@ ceil_least others t h c =
     at_most_from_times (ceil_rate t c + others * floor_rate t c) (ceil_in (suc others) t c) (span t)
     (omega (arith, (parts_enclose_demand (suc others) t h c).ceil_above, whole.ceil_near, mul-le-mul_left others whole.floor_below))
 
--- so whole units tell the most that it asks for
+-- the demand in whole units bounds what an order asks for in parts
 most_above : (others : ℕ) (w : ℤ) (t : Terms) → IsWithinLimits t → (c : ℤ)
     → low_part_in (suc others) w t c ≤ℤ part_by_sign w (floor_rate t c + others * ceil_rate t c) (ceil_rate t c + others * floor_rate t c)
 most_above others (pos n) t h c = omega (arith, ints, mul-le-mul_left n (floor_most others t h c))
@@ -137,7 +137,7 @@ closed_high low high mid s from to step =
 
 -- ---- all steps
 
--- where a step asks for the same at both ends it does so between them
+-- a step that asks for the same at both ends asks for that between them
 constant : (low high m : ℕ) (s : Step) → low ≤ m → m ≤ high → IsStep low high s → int_eq s.first s.last ≡ true → part_after m s ≡ s.first
 constant low high m s from to step same =
     let both : s.first ≡ s.last = (Decides-int_eq s.first s.last).0 same in
@@ -203,7 +203,7 @@ module _ (asked : ℕ → ℤ) where
     room = omega (arith, before.room, step.small.first, unsigned_abs-add rest s.first);
   }
 
-  -- and one that may ask for less at the high end
+  -- an order more that may ask for less at the high end
   pub add_open : (next : ℕ → ℤ) (steps : List Step) (rest : ℤ) (most low high : ℕ) (s : Step) → IsNarrowed asked steps rest most low high → IsStep low high s
       → ((m : ℕ) → next m ≡ asked m +ℤ part_after m s) → IsNarrowed next (steps ++ s ∷ []) rest (most + 1) low high
   add_open next steps rest most low high s before step more = record {
@@ -212,7 +212,7 @@ module _ (asked : ℕ → ℤ) where
     room = omega (arith, before.room, length-append steps (s ∷ []));
   }
 
-  -- the ends come nearer, and steps that are closed leave
+  -- the bracket is narrowed, and steps that are closed leave
   closing : (steps : List Step) (rest : ℤ) (most low high mid : ℕ) (is_low : Bool) (from to : ℕ) → IsNarrowed asked steps rest most low high
       → low ≤ from → to ≤ high → ((s : Step) → IsStep low high s → IsStep from to (closed is_low (looked mid s)))
       → IsNarrowed asked (still_open (map (closed is_low) (map (looked mid) steps))) (rest +ℤ settled_sum (map (closed is_low) (map (looked mid) steps))) most from to
@@ -230,7 +230,7 @@ module _ (asked : ℕ → ℤ) where
         room = omega (arith, before.room, count, open_room from to next each, unsigned_abs-add rest (settled_sum next));
       }
 
-  -- a turn: an amount is looked at, and becomes an end of the bracket
+  -- an amount is looked at, and becomes an end of the bracket
   pub one_turn : (bound : ℤ) (reach most : ℕ) (steps next : List Step) (rest sum after : ℤ) (low high mid : ℕ) (is_low : Bool) (b : Bracket)
       → IsNarrowed asked steps rest most low high → IsBracket asked bound reach low high → low < mid → mid < high
       → sum ≡ int_sum_by (part_after mid) steps → is_low ≡ int_lt bound (rest +ℤ sum)
@@ -266,7 +266,7 @@ module _ (asked : ℕ → ℤ) where
   none_narrowed high steps none nothing =
       rw none (record { sum = λ m from to. nothing m; each = λ k d inside. absurd (omega (arith, inside)); room = omega arith })
 
-  -- what is asked for alike has the same brackets
+  -- two functions that agree up to the reach have the same brackets
   pub same_bracket : (other : ℕ → ℤ) (bound : ℤ) (reach low high : ℕ) → ((m : ℕ) → m ≤ reach → asked m ≡ other m) → IsBracket asked bound reach low high → IsBracket other bound reach low high
   same_bracket other bound reach low high same b = record {
     some = b.some;
@@ -281,7 +281,7 @@ with_order false low mid high b is above below = rw is (omega (arith, above))
 
 -- ---- the loops
 
--- what stands at a place, in a loop that changes one member after the other
+-- the member at a place, in a loop that changes one after the other
 pub mixed_at : {X : Type 0} (f : X → X) (xs ys : List X) (i : ℕ) (d : X) → i < length xs → ys ≡ map f (take i xs) ++ drop i xs → get_or ys i d ≡ get_or xs i d
 mixed_at f xs ys i d within is =
     let count : length (map f (take i xs)) ≡ i = omega (arith, length-map (take i xs) f, length-take i xs, within) in
@@ -291,7 +291,7 @@ turned_place : (falls : Bool) (c : Cell) → (turned falls c).place ≡ c.place
 turned_place true c = refl
 turned_place false c = refl
 
--- the step of one cell more
+-- the step of one more cell
 pub begin_more : (parts : ℕ) (quotes : List Quote) (falls : Bool) (cells : List Cell) (i : ℕ) (d t : Cell) (reach : ℕ) (steps next : List Step) (s : Step) (q : Quote)
     → 1 ≤ parts → parts ≤ 256 → i < length cells → All (λ c. c.place < length quotes) cells → All (CanMove quotes falls reach) cells
     → IsNarrowed (asked_after parts quotes falls (take i cells)) steps (pos 0) i 0 reach
@@ -314,7 +314,7 @@ begin_more parts quotes falls cells i d t reach steps next s q some few within t
     let part : part_after m s ≡ low_after parts quotes (pos m) (turned falls c) = step.1 m ∙ rw (quote, t_is) refl in
     int_sum_by_more (λ c. low_after parts quotes (pos m) (turned falls c)) cells i d within ∙ ap (λ x. asked_after parts quotes falls (take i cells) m +ℤ x) (sym part)))
 
--- the steps before a place are kept where they are open
+-- of the steps before a place, those that are open are kept
 pub record IsClosing (is_low : Bool) (steps now : List Step) (kept at : ℕ) (rest : ℤ) : Type 0 where
   pub opened : take kept now ++ still_open (map (closed is_low) (drop at now)) ≡ still_open (map (closed is_low) steps)
   pub sum : rest +ℤ settled_sum (map (closed is_low) (drop at now)) ≡ settled_sum (map (closed is_low) steps)

@@ -10,7 +10,7 @@ use Rattle.list_sums.proofs.SumLemmas.{int_sum_by_more}
 use Rattle.flow_orders.specs.Orders.{most_orders}
 
 module _ {X : Type 0} where
-  -- the sum of the parts of the first i, each of which is at most so large
+  -- the sum of the first i parts, each of which is at most `most`
   pub record IsSumBefore (most : ℕ) (f : X → ℤ) (xs : List X) (i : ℕ) (total : ℤ) : Type 0 where
     pub value : total ≡ int_sum_by f (take i xs)
     pub bound : unsigned_abs total ≤ i * most

@@ -4,7 +4,7 @@ use Rattle.weight_rows.specs.Rows.{weight_in}
 use Rattle.flow_orders.specs.Orders.{Order}
 use Rattle.excess_bounds.specs.declared.columns.Cell.{Cell}
 
--- of orders at the places from `place` on, those that name an asset, with its weight in each
+-- the cells of an asset, of orders at the places from `place` on: the place of each order that names it, with its weight there
 abbrev pub column_from : ℕ → List Order → ℕ → List Cell
 column_from place [] asset = []
 column_from place (o ∷ orders) asset =

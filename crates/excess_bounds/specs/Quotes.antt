@@ -1,10 +1,10 @@
--- What contracts see of an order at a price of its portfolio.
+-- An order at a price of its portfolio, as contracts see it.
 use Rattle.std.specs.Prelude.{ℤ, List, map}
 use Rattle.demand_curve.specs.Demand.{Terms}
 use Rattle.flow_orders.specs.Orders.{Order, terms_of}
 use Rattle.flow_orders.specs.Excess.{price_for}
 
--- an order at some price of its portfolio
+-- the terms of an order's curve, with a price of its portfolio in grains
 pub record Quote : Type 0 where
   pub terms : Terms
   pub price : ℤ

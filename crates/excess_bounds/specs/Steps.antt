@@ -1,4 +1,4 @@
--- The steps of orders between two amounts by which the price of an asset moves, for private functions.
+-- Definitions for private functions: what orders ask for between two amounts by which the price of an asset moves.
 use Rattle.std.specs.Prelude.{◌≡◌, ℕ, ◌+◌, ◌*◌, ◌^◌, ◌≤◌, ℤ, pos, neg_ℤ, ◌+ℤ◌, ◌*ℤ◌, ◌≤ℤ◌, unsigned_abs, Bool, if◌then◌else◌, List, [], ◌∷◌, length, All}
 use Rattle.std.specs.Ordering.{int_eq}
 use Rattle.list_sums.specs.Sums.{int_sum_by}
@@ -14,27 +14,27 @@ use Rattle.excess_bounds.specs.Private.{low_after, StaysInRange}
 abbrev pub part_after : ℕ → Step → ℤ
 part_after amount s = low_part_in s.parts s.weight (terms s.curve) (s.price +ℤ s.weight *ℤ pos amount)
 
--- a step that was looked at after an amount
+-- a step after an amount was looked at
 abbrev pub looked : ℕ → Step → Step
 looked amount s = record { curve = s.curve; price = s.price; parts = s.parts; weight = s.weight; pull = s.pull; first = s.first; last = s.last; here = part_after amount s }
 
--- a step whose low end, or high end, is what was looked at last
+-- a step after the amount that was looked at last became its low end, or its high end
 abbrev pub closed : Bool → Step → Step
 closed is_low s =
     if is_low then record { curve = s.curve; price = s.price; parts = s.parts; weight = s.weight; pull = s.pull; first = s.here; last = s.last; here = s.here } else
     record { curve = s.curve; price = s.price; parts = s.parts; weight = s.weight; pull = s.pull; first = s.first; last = s.here; here = s.here }
 
--- the steps that may still ask for less at the high end than at the low one
+-- the steps that ask for more at the low end than at the high one
 abbrev pub still_open : List Step → List Step
 still_open [] = []
 still_open (s ∷ steps) = if int_eq s.first s.last then still_open steps else s ∷ still_open steps
 
--- what the others ask for together
+-- what the steps that ask for the same at both ends ask for together
 abbrev pub settled_sum : List Step → ℤ
 settled_sum [] = pos 0
 settled_sum (s ∷ steps) = if int_eq s.first s.last then s.first +ℤ settled_sum steps else settled_sum steps
 
--- there are 1 to 256 parts, no weight is too large, and the price stays in range up to an amount
+-- a step can be looked at after an amount: it has 1 to 256 parts and no large weight, and the price stays in range
 pub record CanLook (amount : ℕ) (s : Step) : Type 0 where
   pub some : 1 ≤ s.parts
   pub few : s.parts ≤ 256
@@ -48,7 +48,7 @@ pub record IsSmall (s : Step) : Type 0 where
   pub last : unsigned_abs s.last ≤ 2 ^ 44
   pub here : unsigned_abs s.here ≤ 2 ^ 44
 
--- a step after amounts from a low one to a high one
+-- a step for amounts from `low` to `high`: after each of them it asks for at most its first and at least its last
 pub record IsStep (low high : ℕ) (s : Step) : Type 0 where
   pub some : 1 ≤ s.parts
   pub few : s.parts ≤ 256
@@ -57,13 +57,13 @@ pub record IsStep (low high : ℕ) (s : Step) : Type 0 where
   pub within : (m : ℕ) → low ≤ m → m ≤ high → (s.last ≤ℤ part_after m s) × (part_after m s ≤ℤ s.first)
   pub small : IsSmall s
 
--- what is asked for after each amount between the two is that of the steps, and the rest; `most` orders stand behind both
+-- after each amount between both ends, what is asked for is the rest and what the steps ask for; both are of at most `most` orders
 pub record IsNarrowed (asked : ℕ → ℤ) (steps : List Step) (rest : ℤ) (most low high : ℕ) : Type 0 where
   pub sum : (m : ℕ) → low ≤ m → m ≤ high → asked m ≡ rest +ℤ int_sum_by (part_after m) steps
   pub each : All (IsStep low high) steps
   pub room : unsigned_abs rest + length steps * 2 ^ 44 ≤ most * 2 ^ 44
 
--- a cell, or where the price falls the one of the opposite weight
+-- a cell, with the opposite weight if the price falls
 abbrev pub turned : Bool → Cell → Cell
 turned falls c = if falls then record { place = c.place; weight = neg_ℤ c.weight } else c
 
@@ -71,6 +71,6 @@ turned falls c = if falls then record { place = c.place; weight = neg_ℤ c.weig
 abbrev pub asked_after : ℕ → List Quote → Bool → List Cell → ℕ → ℤ
 asked_after parts quotes falls cells amount = int_sum_by (λ c. low_after parts quotes (pos amount) (turned falls c)) cells
 
--- the price of a cell's order stays in range up to a reach
+-- the price of a cell's order stays in range for amounts up to `reach`
 abbrev pub CanMove : List Quote → Bool → ℕ → Cell → Type 0
 CanMove quotes falls reach c = (m : ℕ) → m ≤ reach → StaysInRange quotes (pos m) (turned falls c)

@@ -21,7 +21,7 @@ pub struct Cell {
 }
 
 impl Cell {
-    // The cell, or where the price falls the one of the opposite weight.
+    // Returns the cell, with the opposite weight if the price falls.
     pub(crate) fn turned(self, falls: bool) -> Cell
         requires { unsigned_abs self.weight ≤ most_weight }
         ensures cell { result ≡ turned falls self }
@@ -38,7 +38,7 @@ impl Cell {
     }
 }
 
-// The cells of one asset, with the sums of their absolute weights and of the squares of these.
+// The cells of one asset, with the sum of their absolute weights and the sum of the squares of these.
 #[derive(Drop)]
 pub(crate) struct Column {
     cells: Vec<Cell>,
@@ -60,7 +60,7 @@ impl Model for Column {
 }
 
 impl Column {
-    // A column of no order.
+    // Returns a column without cells. It allocates nothing.
     fn new(alloc: Global) -> Column
         ensures { result ≡ [] }
     {
@@ -71,7 +71,7 @@ impl Column {
         }
     }
 
-    // Adds a cell behind the others.
+    // Appends a cell. It may allocate; if that fails, the column is left without the cell.
     fn add(&mut self, cell: Cell) -> Result<(), AllocError>
         requires room { length self.old < 2 ^ 20 }
         requires light { unsigned_abs cell.weight ≤ most_weight }
@@ -90,7 +90,7 @@ impl Column {
         self.cells.as_slice()
     }
 
-    // The sum of the absolute weights.
+    // Returns the sum of the absolute weights.
     pub(crate) fn spread(&self) -> i64
         ensures value { result ≡ pos (spread_in self.now) }
         ensures most { result ≤ℤ pos (length self.now * 2 ^ 12) }
@@ -98,7 +98,7 @@ impl Column {
         self.spread as i64
     }
 
-    // The sum of their squares, divided by 256 and rounded up.
+    // Returns the sum of the squared weights, divided by 256 and rounded up.
     #[tactic(auto, unfolding(crate::specs::Private::steepness_in))]
     pub(crate) fn steepness(&self) -> i64
         ensures value { result ≡ pos (steepness_in self.now) }
@@ -108,7 +108,7 @@ impl Column {
     }
 }
 
-// The column of each asset. It costs one pass over the entries of all orders.
+// Returns the column of each asset. It costs one pass over the legs of all orders, and may run out of memory.
 pub(crate) fn columns_of(
     alloc: Global,
     orders: &[Order],
@@ -125,7 +125,7 @@ pub(crate) fn columns_of(
     Ok(columns)
 }
 
-// So many columns without cells.
+// Returns `count` columns without cells.
 fn no_cells(alloc: Global, count: usize) -> Result<Vec<Column>, AllocError>
     ensures { IfOk result (λ columns. columns.items ≡ map (column_of []) (range_with_len 0 count)) }
 {
@@ -136,7 +136,7 @@ fn no_cells(alloc: Global, count: usize) -> Result<Vec<Column>, AllocError>
     Ok(columns)
 }
 
-// Adds an order at a place to the column of each asset that it names.
+// Appends an order at a place to the column of each asset that it names.
 fn list(columns: &mut [Column], order: &Order, place: u32) -> Result<(), AllocError>
     requires place { place < most_orders }
     requires there { All (λ e. e.asset < length columns.old) order.now.row }
@@ -153,7 +153,7 @@ fn list(columns: &mut [Column], order: &Order, place: u32) -> Result<(), AllocEr
     Ok(())
 }
 
-// The absolute weight of a cell.
+// Returns the absolute weight of a cell.
 fn size(cell: Cell) -> u64
     requires { unsigned_abs cell.weight ≤ most_weight }
     ensures value { result ≡ unsigned_abs cell.weight }

@@ -1,4 +1,4 @@
-//! How far the price of an asset has to move, narrowed down.
+//! Narrows down how far the price of an asset has to move.
 //!
 //! As a price moves, what an order asks for of the asset never grows: it falls in steps. Between two amounts most orders
 //! soon ask for the same at both ends, and aren't looked at again.
@@ -15,7 +15,7 @@ use crate::quotes::Quote;
 use crate::steps::Step;
 
 /// Two amounts, in grains, between which the move of a price ends: after the low one it has to go on, and after the high
-/// one it has ended, or it can't go further.
+/// one it has ended or can't go further.
 #[derive(Clone, Copy)]
 pub struct Bracket {
     /// The low amount: 0, or it is known that the move goes on.
@@ -24,18 +24,18 @@ pub struct Bracket {
     pub high: u64,
 }
 
-// What steps ask for together, in parts of a unit, and how fast that falls: 2^40 times the parts for each grain, about.
+// What steps ask for together, in parts of a unit, and how fast that falls: about 2^40 times the parts per grain.
 #[derive(Clone, Copy)]
 struct Seen {
     sum: i64,
     slope: u64,
 }
 
-// A bracket is narrowed down at most so often. Each other time at least it is halved.
+// How many amounts narrowing looks at, at most. If one doesn't halve the bracket, the next one does.
 const MOST_TURNS: u32 = 160;
 
-// Narrows down after which amount, of at most `reach`, the orders of a column ask for no more than the bound, both in parts of
-// a unit.
+// Narrows down after which amount, of at most `reach`, the orders of a column ask for no more than the bound, both in parts
+// of a unit.
 pub(crate) fn narrow(
     parts: u16,
     quotes: &[Quote],
@@ -97,7 +97,7 @@ impl Bracket {
     }
 }
 
-// By how much what is asked for differs from the bound, and a little more, so that guesses go a little too far.
+// Returns how far what is asked for is from the bound, and a little more, so that guesses go a little too far.
 fn missing(asked: i64, bound: i64) -> u64 {
     asked.abs_diff(bound).saturating_add(8)
 }
@@ -108,7 +108,7 @@ fn is_above(asked: i64, bound: i64) -> bool
     bound < asked
 }
 
-// The steps of a column's orders before the move, and what they do.
+// Fills `steps` with the steps of a column's orders before the move, and returns what they ask for.
 fn begin(
     parts: u16,
     quotes: &[Quote],
@@ -139,7 +139,7 @@ fn begin(
     Seen { sum, slope }
 }
 
-// Looks at what each step asks for after an amount.
+// Looks at what each step asks for after an amount, and returns the sum.
 fn ask(steps: &mut Vec<Step>, amount: u64) -> Seen
     requires few { length steps.old.items ≤ most_orders }
     requires each { All (CanLook amount) steps.old.items }
@@ -160,8 +160,8 @@ fn ask(steps: &mut Vec<Step>, amount: u64) -> Seen
     Seen { sum, slope }
 }
 
-// Takes what was looked at last as an end of the bracket, and lets those steps go that ask for the same at both ends. The
-// answer is what these ask for together.
+// Takes the amount that was looked at last as an end of the bracket, removes the steps that ask for the same at both ends,
+// and returns what these ask for together.
 fn close(steps: &mut Vec<Step>, is_low: bool) -> i64
     requires few { length steps.old.items ≤ most_orders }
     requires each { All IsSmall steps.old.items }
@@ -184,18 +184,18 @@ fn close(steps: &mut Vec<Step>, is_low: bool) -> i64
     rest
 }
 
-// Which amount to look at next: one so far from an end of the bracket, or its middle.
+// Which amount to look at next: one at a distance from an end of the bracket, or its middle.
 #[derive(Clone, Copy)]
 struct Guess {
     is_from_low: bool,
-    // 1 at least.
+    // The distance in grains, at least 1.
     far: u64,
     halves: bool,
     ghost some: { 0 < far },
 }
 
 impl Guess {
-    // Where so much is missing at the low end.
+    // Returns the first guess, for this much missing at the low end.
     fn from_low(missing: u64, slope: u64) -> Guess {
         Guess {
             is_from_low: true,
@@ -204,8 +204,8 @@ impl Guess {
         }
     }
 
-    // After a bracket has become a smaller one, at the end of which so much is missing, or too much. Where it was not halved
-    // the next one is.
+    // Returns the next guess, after a bracket was narrowed at an end at which this much is missing, or too much. If the
+    // bracket wasn't halved, the next guess halves it.
     fn next(before: Bracket, next: Bracket, is_from_low: bool, missing: u64, slope: u64) -> Guess
         requires before { before.low ≤ before.high }
         requires next { next.low ≤ next.high }
@@ -217,7 +217,7 @@ impl Guess {
         }
     }
 
-    // An amount between both ends. Where the guess is beyond the reach, it is the last one before it.
+    // Returns an amount between both ends. If the guess is beyond the reach, that is the last one before it.
     fn amount(self, bracket: Bracket, reach: u64) -> u64
         requires { bracket.low + 1 < bracket.high }
         ensures above { bracket.low < result }
@@ -236,7 +236,7 @@ impl Guess {
     }
 }
 
-// Twice the grains over which so much less is asked for, 1 to 2^62.
+// Returns twice the grains over which this much less is asked for, 1 to 2^62.
 fn distance(missing: u64, slope: u64) -> u64
     ensures { 0 < result }
 {

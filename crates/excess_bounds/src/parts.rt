@@ -1,4 +1,4 @@
-//! What orders ask for of an asset, rounded both ways, in whole units or in parts of one.
+//! What orders ask for of an asset, rounded down and up, in whole units or in parts of one.
 ghost use Rattle.std.specs.Prelude.{◌≡◌, ◌+◌, ◌-◌, ◌*◌, ◌^◌, ◌<◌, ◌≤◌, ◌+ℤ◌, ◌*ℤ◌, length, unsigned_abs, All};
 ghost use Rattle.list_sums.specs.Sums.{int_sum_by};
 ghost use Rattle.weight_rows.specs.Rows.{most_weight};
@@ -10,8 +10,8 @@ use crate::columns::Cell;
 use crate::quotes::Quote;
 use demand_curve::{PartRoundings, Roundings};
 
-/// How much of an asset orders ask for, bought less sold, in whole units or in parts of one: at least the low bound and at
-/// most the high one. The low bound rounds purchases down and sales up, the high one the other way round.
+/// The excess demand for an asset, bought less sold, in whole units or in parts of one: at least the low bound and at most
+/// the high one. The low bound rounds purchases down and sales up, the high bound purchases up and sales down.
 #[derive(Clone, Copy, PartialEq, Eq)]
 pub struct Excess {
     /// The low bound.
@@ -20,7 +20,7 @@ pub struct Excess {
     pub high: i64,
 }
 
-// The excess of the asset of a column, in units.
+// Returns the excess of a column's asset, in units.
 pub(crate) fn excess_of(quotes: &[Quote], cells: &[Cell]) -> Excess
     requires column { IsColumn cells.now }
     requires there { All (λ c. c.place < length quotes.now) cells.now }
@@ -39,7 +39,7 @@ pub(crate) fn excess_of(quotes: &[Quote], cells: &[Cell]) -> Excess
     Excess { low, high }
 }
 
-// The excess of the asset of a column in parts of a unit, once its price has moved by an amount.
+// Returns the excess of a column's asset in parts of a unit, after its price has moved by an amount.
 pub(crate) fn excess_after(parts: u16, quotes: &[Quote], cells: &[Cell], amount: i128) -> Excess
     requires some { 1 ≤ parts }
     requires few { parts ≤ 256 }
@@ -62,7 +62,7 @@ pub(crate) fn excess_after(parts: u16, quotes: &[Quote], cells: &[Cell], amount:
     Excess { low, high }
 }
 
-// What the order of a cell asks for of the cell's asset, in units.
+// Returns what a cell's order asks for of the cell's asset, in units.
 fn part_now(quotes: &[Quote], cell: Cell) -> Excess
     requires there { cell.place < length quotes.now }
     requires light { unsigned_abs cell.weight ≤ most_weight }
@@ -74,7 +74,7 @@ fn part_now(quotes: &[Quote], cell: Cell) -> Excess
     part_of(cell.weight, quotes[cell.place as usize].demand())
 }
 
-// What it asks for in parts of a unit, once the asset's price has moved by an amount.
+// Returns what a cell's order asks for of the cell's asset in parts of a unit, after its price has moved by an amount.
 fn part_after(parts: u16, quotes: &[Quote], cell: Cell, amount: i128) -> Excess
     requires some { 1 ≤ parts }
     requires few { parts ≤ 256 }
@@ -91,7 +91,7 @@ fn part_after(parts: u16, quotes: &[Quote], cell: Cell, amount: i128) -> Excess
     part_in(cell.weight, quote.demand_after(parts, cell.weight, amount))
 }
 
-// What an order asks for of an asset of this weight, in units.
+// Returns what an order with this demand asks for of an asset of this weight, in units.
 fn part_of(weight: i32, demand: Roundings) -> Excess
     requires weight { unsigned_abs weight ≤ most_weight }
     requires floor { demand.floor ≤ most_rate }
@@ -107,7 +107,7 @@ fn part_of(weight: i32, demand: Roundings) -> Excess
     }
 }
 
-// What it asks for in parts of a unit.
+// Returns what an order with this demand in parts of a unit asks for of an asset of this weight, in parts.
 fn part_in(weight: i32, demand: PartRoundings) -> Excess
     requires weight { unsigned_abs weight ≤ most_weight }
     requires floor { demand.floor ≤ 256 * most_rate }
@@ -123,7 +123,7 @@ fn part_in(weight: i32, demand: PartRoundings) -> Excess
     }
 }
 
-// A weight times a rate: the first one where the weight buys, the second where it sells.
+// Returns a weight times a rate in units: `bought` if the weight buys, `sold` if it sells.
 fn units(weight: i32, bought: u32, sold: u32) -> i64
     requires weight { unsigned_abs weight ≤ most_weight }
     requires bought { bought ≤ most_rate }
@@ -134,7 +134,7 @@ fn units(weight: i32, bought: u32, sold: u32) -> i64
     i64::from(weight) * i64::from(if weight < 0 { sold } else { bought })
 }
 
-// The same of rates in parts of a unit.
+// Returns a weight times a rate in parts of a unit: `bought` if the weight buys, `sold` if it sells.
 fn units_in(weight: i32, bought: u64, sold: u64) -> i64
     requires weight { unsigned_abs weight ≤ most_weight }
     requires bought { bought ≤ 256 * most_rate }
@@ -145,7 +145,7 @@ fn units_in(weight: i32, bought: u64, sold: u64) -> i64
     i64::from(weight) * (if weight < 0 { sold } else { bought }) as i64
 }
 
-// The low part of an asset of this weight.
+// Returns the low part of an asset of this weight, in parts of a unit.
 pub(crate) fn low_parts(weight: i32, demand: PartRoundings) -> i64
     requires weight { unsigned_abs weight ≤ most_weight }
     requires floor { demand.floor ≤ 256 * most_rate }
@@ -156,8 +156,8 @@ pub(crate) fn low_parts(weight: i32, demand: PartRoundings) -> i64
     units_in(weight, demand.floor, demand.ceil)
 }
 
-// The most that an order of this demand, in units, asks for of an asset of this weight, in parts: of one unit it may ask for
-// less than a whole one. With one part it is the low part.
+// Returns the most that an order with this demand, in units, asks for of an asset of this weight, in parts: of one unit it
+// may ask for less than all parts. With one part it is the low part.
 pub(crate) fn most_parts(parts: u16, weight: i32, demand: Roundings) -> i64
     requires some { 1 ≤ parts }
     requires few { parts ≤ 256 }
@@ -174,7 +174,7 @@ pub(crate) fn most_parts(parts: u16, weight: i32, demand: Roundings) -> i64
     )
 }
 
-// One unit's part of the first rate, and all other parts of the second.
+// Returns the parts of one part at the first rate and of all others at the second.
 fn in_parts(parts: u16, first: u32, others: u32) -> u64
     requires some { 1 ≤ parts }
     requires few { parts ≤ 256 }
@@ -186,7 +186,7 @@ fn in_parts(parts: u16, first: u32, others: u32) -> u64
     u64::from(first) + u64::from(parts - 1) * u64::from(others)
 }
 
-// The least that an order of this room, in units, asks for of an asset of this weight, in parts.
+// Returns the least that an order with this batch maximum, in units, asks for of an asset of this weight, in parts.
 pub(crate) fn least_parts(parts: u16, weight: i32, room: u32) -> i64
     requires few { parts ≤ 256 }
     requires weight { unsigned_abs weight ≤ most_weight }
@@ -197,7 +197,7 @@ pub(crate) fn least_parts(parts: u16, weight: i32, room: u32) -> i64
     units_in(weight, 0, u64::from(parts) * u64::from(room))
 }
 
-// The price of a portfolio after that of an asset of this weight has moved by an amount.
+// Returns the price of a portfolio after the price of an asset of this weight has moved by an amount.
 pub(crate) fn price_after(price: i128, weight: i32, amount: i128) -> i128
     requires price { unsigned_abs price ≤ 2 ^ 78 }
     requires weight { unsigned_abs weight ≤ most_weight }
@@ -207,7 +207,7 @@ pub(crate) fn price_after(price: i128, weight: i32, amount: i128) -> i128
     price + cost(weight, amount)
 }
 
-// What so many units cost.
+// Returns what this many units cost.
 fn cost(weight: i32, amount: i128) -> i128
     requires weight { unsigned_abs weight ≤ most_weight }
     requires amount { unsigned_abs amount ≤ 2 ^ 63 }

@@ -19,7 +19,7 @@ use flow_orders::Order;
 use std::alloc::{AllocError, Global};
 use std::marker::Model;
 
-/// An order at some price of its portfolio, with its demand there. Whoever has it needn't compute either again.
+/// An order at some price of its portfolio, with its demand there, so that neither is computed again.
 ///
 /// Contracts see the terms of its curve, and the price.
 #[derive(Drop)]
@@ -27,7 +27,7 @@ pub struct Quote {
     curve: Curve,
     price: i128,
     demand: Roundings,
-    // How fast the demand falls where it isn't cut: 2^40 times the units for each grain, rounded down.
+    // How fast the demand falls if it isn't cut: 2^40 times the units per grain, rounded down.
     pull: u32,
 }
 
@@ -68,7 +68,7 @@ impl Quote {
         }
     }
 
-    // An order at the prices of the assets.
+    // Returns an order at the prices of the assets.
     fn of(order: &Order, prices: &[i64]) -> Quote
         requires range { All IsPrice prices.now }
         requires priced { IsPricedBy order.now.row prices.now }
@@ -78,14 +78,14 @@ impl Quote {
         Quote::at(order.curve(), order.row().price(prices))
     }
 
-    /// The demand curve of the order. Constant time, as the other calls.
+    /// Returns the demand curve of the order. Like the other calls, it takes constant time.
     pub fn curve(&self) -> Curve
         ensures { terms result ≡ self.now.terms }
     {
         self.curve
     }
 
-    /// The price of the order's portfolio, in grains.
+    /// Returns the price of the order's portfolio, in grains.
     pub fn price(&self) -> i128
         ensures value { result ≡ self.now.price }
         ensures bound { unsigned_abs result ≤ 2 ^ 78 }
@@ -93,7 +93,7 @@ impl Quote {
         self.price
     }
 
-    /// The demand at the price, rounded down and up, in whole units per batch.
+    /// Returns the demand at the price, rounded down and up, in whole units per batch.
     pub fn demand(&self) -> Roundings
         ensures floor { result.floor ≡ floor_rate self.now.terms self.now.price }
         ensures ceil { result.ceil ≡ ceil_rate self.now.terms self.now.price }
@@ -103,7 +103,7 @@ impl Quote {
         self.demand
     }
 
-    // The demand in parts of a unit, after the price of an asset of this weight has moved by an amount.
+    // Returns the demand in parts of a unit, after the price of an asset of this weight has moved by an amount.
     pub(crate) fn demand_after(&self, parts: u16, weight: i32, amount: i128) -> PartRoundings
         requires some { 1 ≤ parts }
         requires few { parts ≤ 256 }
@@ -119,7 +119,7 @@ impl Quote {
             .roundings_in(parts, price_after(self.price, weight, amount))
     }
 
-    // The order after the price of a cell's asset has moved by an amount.
+    // Returns the order after the price of a cell's asset has moved by an amount.
     fn after(&self, cell: Cell, amount: i128) -> Quote
         requires light { unsigned_abs cell.weight ≤ most_weight }
         requires amount { unsigned_abs amount ≤ 2 ^ 63 }
@@ -133,8 +133,8 @@ impl Quote {
         )
     }
 
-    // The step of the order for a cell's asset, before a move. What it asks for in parts is told by whole units here, without
-    // a division.
+    // Returns the order's step for a cell's asset, before a move. What it asks for in parts is bounded by whole units here,
+    // without a division.
     pub(crate) fn step(&self, parts: u16, cell: Cell) -> Step
         requires some { 1 ≤ parts }
         requires few { parts ≤ 256 }
@@ -162,18 +162,18 @@ impl Quote {
     }
 }
 
-// How fast a demand falls where it isn't cut.
+// Returns how fast a demand falls if it isn't cut: 2^40 times the units per grain, about.
 fn pull_of(curve: &Curve) -> u32 {
     let span = curve.span() as u64;
     let pull = (u64::from(curve.rate) << 22) / (span >> 18).max(1);
     pull.min(u64::from(u32::MAX)) as u32
 }
 
-/// Each order at these prices, in grains by the assets' numbers: at most 64, within 2^62 of 0, and each asset that an order
-/// names has one. There are at most 16,384 orders.
+/// Returns each order at these prices, in grains by the assets' numbers: at most 64, within 2^62 of 0, and each asset that
+/// an order names has one. There are at most 16,384 orders.
 ///
-/// It goes once over the entries of all orders, divides at most once an order, and takes memory once, 64 bytes for each
-/// order; the one fault is that there is none.
+/// It goes once over the legs of all orders, divides at most once for each order, and allocates once, 64 bytes for each
+/// order; it fails only if it runs out of memory.
 pub fn quotes_of(alloc: Global, orders: &[Order], prices: &[i64]) -> Result<Vec<Quote>, AllocError>
     requires few { length orders.now ≤ most_orders }
     requires assets { length prices.now ≤ most_prices }
@@ -188,7 +188,7 @@ pub fn quotes_of(alloc: Global, orders: &[Order], prices: &[i64]) -> Result<Vec<
     Ok(quotes)
 }
 
-// Moves the price of a column's asset by an amount: the orders of the column alone have another price then.
+// Moves the price of a column's asset by an amount: the orders of the column get another price, and no others.
 pub(crate) fn requote(quotes: &mut [Quote], cells: &[Cell], amount: i128)
     requires light { All (λ c. unsigned_abs c.weight ≤ most_weight) cells.now }
     requires amount { unsigned_abs amount ≤ 2 ^ 63 }

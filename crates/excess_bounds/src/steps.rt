@@ -1,4 +1,4 @@
-//! The steps of one order as the price of an asset moves.
+//! What one order asks for of an asset, step by step, as the asset's price moves.
 ghost use Rattle.std.specs.Prelude.{◌≡◌, ◌^◌, ◌≤◌, ◌<◌, ◌+ℤ◌, ◌*ℤ◌, pos, unsigned_abs};
 ghost use Rattle.std.specs.Ordering.{int_eq};
 ghost use Rattle.weight_rows.specs.Rows.{most_weight};
@@ -11,23 +11,23 @@ use demand_curve::Curve;
 #[derive(Clone, Copy)]
 pub(crate) struct Step {
     pub(crate) curve: Curve,
-    // The price of its portfolio before the move.
+    // The price of the order's portfolio before the move.
     pub(crate) price: i128,
-    // In so many parts of a unit it counts what it asks for.
+    // How many parts of a unit amounts are counted in.
     pub(crate) parts: u16,
-    // The asset's weight, turned where the asset's price falls.
+    // The asset's weight, negated if the asset's price falls.
     pub(crate) weight: i32,
-    // How fast the demand falls where it isn't cut.
+    // How fast the demand falls if it isn't cut.
     pub(crate) pull: u32,
-    // It asks for at most so much after the low amount, in parts, and for at least so much after the high one.
+    // The most that it asks for after the low amount, in parts, and the least that it asks for after the high one.
     pub(crate) first: i64,
     pub(crate) last: i64,
-    // What it asks for after the amount that was looked at last.
+    // What it asks for after the amount that was looked at last, in parts.
     pub(crate) here: i64,
 }
 
 impl Step {
-    // The step with what it asks for after an amount.
+    // Returns the step with what it asks for after an amount.
     pub(crate) fn looked(self, amount: u64) -> Step
         requires can { CanLook amount self }
         requires amount { amount ≤ 2 ^ 62 }
@@ -40,7 +40,7 @@ impl Step {
         }
     }
 
-    // What it asks for after an amount.
+    // Returns what it asks for after an amount, in parts.
     fn parts_after(&self, amount: u64) -> i64
         requires can { CanLook amount self.now }
         requires amount { amount ≤ 2 ^ 62 }
@@ -51,7 +51,7 @@ impl Step {
         low_parts(self.weight, self.curve.roundings_in(self.parts, price))
     }
 
-    // What was looked at last, taken as an end of the bracket.
+    // Returns the step with the amount that was looked at last as an end of the bracket.
     pub(crate) fn closed(self, is_low: bool) -> Step
         ensures { result ≡ closed is_low self }
     {
@@ -68,14 +68,14 @@ impl Step {
         }
     }
 
-    // Whether it asks for the same at both ends.
+    // Returns whether it asks for the same at both ends.
     pub(crate) fn is_closed(&self) -> bool
         ensures { result ≡ int_eq self.now.first self.now.last }
     {
         self.first == self.last
     }
 
-    // How fast what it asks for falls, where it asks for so many parts: not at all where that is cut.
+    // Returns how fast what it asks for falls when it asks for so many parts; 0 if the demand is cut there.
     fn pull_at(&self, asked: i64) -> u64 {
         let size = u64::from(self.weight.unsigned_abs()).wrapping_mul(u64::from(self.parts));
         let full = size.wrapping_mul(u64::from(self.curve.room));

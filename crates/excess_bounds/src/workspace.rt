@@ -1,4 +1,4 @@
-//! The orders of a batch and the prices of its search.
+//! The orders of a batch, and the prices of its search.
 ghost use Rattle.std.specs.Prelude.{◌≡◌, ◌*◌, ◌^◌, ◌<◌, ◌≤◌, ◌≤ℤ◌, ◌+ℤ◌, ◌-ℤ◌, ◌↔◌, pos, neg_ℤ, false, length, slice_set, unsigned_abs, map, All, IsTrue, IfOk};
 ghost use Rattle.std.specs.List.{range_with_len};
 ghost use Rattle.weight_rows.specs.Rows.{IsPrice, IsPricedBy, price_of};
@@ -28,7 +28,7 @@ use std::marker::Model;
 pub struct Workspace<'a> {
     orders: &'a [Order],
     prices: Vec<i64>,
-    // The order at each place, at the prices.
+    // Each order at the prices, in order.
     quotes: Vec<Quote>,
     // The column of each asset.
     columns: Vec<Column>,
@@ -62,9 +62,9 @@ impl<'a> Workspace<'a> {
     ghost use Rattle.excess_bounds.specs.Workspace.{ArePriced, AreQuoted};
     ghost use Rattle.excess_bounds.specs.Quotes.{quotes_at};
 
-    /// The state at the start of a search: the prices, in grains by the assets' numbers, are copied. It costs one pass over
-    /// the entries of all orders. `Memory` comes only where there is none for prices, orders or
-    /// columns.
+    /// Returns the state at the start of a search, with a copy of the prices, in grains by the assets' numbers. It costs one
+    /// pass over the legs of all orders. It fails with `Memory` if there is none for prices, orders, columns or
+    /// steps.
     pub fn new(alloc: Global, orders: &'a [Order], prices: &[i64]) -> Result<Workspace<'a>, Memory>
         requires few { length orders.now ≤ most_orders }
         requires assets { length prices.now ≤ most_prices }
@@ -86,7 +86,7 @@ impl<'a> Workspace<'a> {
         })
     }
 
-    /// The column of an asset: the places of the orders that name it, ascending, with its weight in each. Constant
+    /// Returns the column of an asset: the places of the orders that name it, ascending, with its weight in each. Constant
     /// time.
     pub fn column(&self, asset: u16) -> &[Cell]
         requires { asset < length self.now.prices }
@@ -95,7 +95,7 @@ impl<'a> Workspace<'a> {
         self.cells(asset)
     }
 
-    // The same, with what holds of each column.
+    // Returns the column of an asset as [`Workspace::column`] does, and ensures `IsColumn`.
     fn cells(&self, asset: u16) -> &[Cell]
         requires { asset < length self.now.prices }
         ensures value { result.now ≡ column_of self.now.orders asset }
@@ -104,7 +104,7 @@ impl<'a> Workspace<'a> {
         self.columns[usize::from(asset)].cells()
     }
 
-    /// The prices, in grains, by the assets' numbers.
+    /// Returns the prices, in grains by the assets' numbers.
     pub fn prices(&self) -> &[i64]
         ensures value { result.now ≡ self.now.prices }
         ensures priced { ArePriced self.now.orders self.now.prices }
@@ -112,14 +112,14 @@ impl<'a> Workspace<'a> {
         self.prices.as_slice()
     }
 
-    /// Each order at the prices, in their order. Constant time.
+    /// Returns each order at the prices, in order. Constant time.
     pub fn quotes(&self) -> &[Quote]
         ensures { result.now ≡ quotes_at self.now.orders self.now.prices }
     {
         self.quotes.as_slice()
     }
 
-    /// Gives away the prices, and each order at them. Nothing is copied.
+    /// Gives away the prices, and each order at them. It copies nothing.
     pub fn into_quoted(self) -> Quoted
         ensures prices { result.prices.items ≡ self.entry.prices }
         ensures quoted { AreQuoted self.entry.orders result.prices.items result.quotes.items }
@@ -130,7 +130,7 @@ impl<'a> Workspace<'a> {
         }
     }
 
-    /// The excess of an asset at the prices, in units: both bounds are within 2^50 of 0. It costs one pass over the
+    /// Returns the excess of an asset at the prices, in units: both bounds are within 2^50 of 0. It costs one pass over the
     /// asset's column, without a division.
     pub fn excess(&self, asset: u16) -> Excess
         requires { asset < length self.now.prices }
@@ -142,8 +142,9 @@ impl<'a> Workspace<'a> {
         excess_of(&self.quotes, self.cells(asset))
     }
 
-    /// The excess of an asset with this one price in place, in parts of a unit, 1 to 256 of them: both bounds are within 2^58
-    /// of 0. The prices stay. It costs one pass over the asset's column, with at most one division for each order.
+    /// Returns the excess of an asset with this price in place of its own, in parts of a unit, 1 to 256 of them: both bounds
+    /// are within 2^58 of 0. The prices stay. It costs one pass over the asset's column, with at most one division for each
+    /// order.
     pub fn excess_at(&self, parts: u16, asset: u16, price: i64) -> Excess
         requires some { 1 ≤ parts }
         requires few { parts ≤ 256 }
@@ -164,10 +165,10 @@ impl<'a> Workspace<'a> {
         )
     }
 
-    /// Two amounts between which a rise of an asset's price by at most `reach` grains ends: where its low excess in parts of a
-    /// unit, 1 to 256 of them, is no longer above the steepness in parts, or after `reach`. They lie side by side in all cases
-    /// tried; the contract doesn't say so. It costs two passes over the asset's column, each with at most one division for each
-    /// order, and passes over ever fewer orders of it.
+    /// Returns two amounts between which a rise of an asset's price by at most `reach` grains ends: when its low excess in
+    /// parts of a unit, 1 to 256 of them, is no longer above the slope bound in parts, or after `reach`. They are one apart in
+    /// all cases tried; the contract doesn't say so. It costs two passes over the asset's column, each with at most one
+    /// division for each order, and then passes over ever fewer of its orders.
     pub fn narrow_rise(&mut self, parts: u16, asset: u16, reach: u64) -> Bracket
         requires some_parts { 1 ≤ parts }
         requires few_parts { parts ≤ 256 }
@@ -191,7 +192,9 @@ impl<'a> Workspace<'a> {
         )
     }
 
-    /// The same of a fall, which ends where the high excess is no longer below minus the steepness.
+    /// Returns two amounts between which a fall of an asset's price by at most `reach` grains ends: when its high excess in
+    /// parts of a unit, 1 to 256 of them, is no longer below minus the slope bound in parts, or after `reach`. They are one
+    /// apart in all cases tried; the contract doesn't say so. It costs as much as [`Workspace::narrow_rise`].
     pub fn narrow_fall(&mut self, parts: u16, asset: u16, reach: u64) -> Bracket
         requires some_parts { 1 ≤ parts }
         requires few_parts { parts ≤ 256 }
@@ -215,7 +218,8 @@ impl<'a> Workspace<'a> {
         )
     }
 
-    /// The spread of an asset, in units: the sum of its absolute weights in all orders, at most 2^26. Constant time.
+    /// Returns the rounding bound of an asset, in units: the sum of its absolute weights in all orders, at most 2^26.
+    /// Constant time.
     pub fn spread(&self, asset: u16) -> i64
         requires { asset < length self.now.prices }
         ensures value { result ≡ pos (spread self.now.orders asset) }
@@ -224,8 +228,8 @@ impl<'a> Workspace<'a> {
         self.columns[usize::from(asset)].spread()
     }
 
-    /// The steepness of an asset, in units, at most 2^30: a grain of its price moves what the orders ask for of it by at most
-    /// as much. Constant time.
+    /// Returns the slope bound of an asset, in units, at most 2^30: a grain of its price moves its true excess by no more than
+    /// that. Constant time.
     pub fn steepness(&self, asset: u16) -> i64
         requires { asset < length self.now.prices }
         ensures value { result ≡ pos (steepness self.now.orders asset) }
@@ -234,7 +238,7 @@ impl<'a> Workspace<'a> {
         self.columns[usize::from(asset)].steepness()
     }
 
-    /// The steepness of an asset in parts of a unit, at most 256 of them. Constant time.
+    /// Returns the slope bound of an asset in parts of a unit, at most 256 of them. Constant time.
     pub fn steepness_in(&self, parts: u16, asset: u16) -> i64
         requires few { parts ≤ 256 }
         requires asset { asset < length self.now.prices }
@@ -244,8 +248,8 @@ impl<'a> Workspace<'a> {
         i64::from(parts) * self.steepness(asset)
     }
 
-    /// Whether an asset is settled at the prices: its low excess is at most its steepness, and its high excess at least
-    /// minus that. It costs one pass over the asset's column, without a division.
+    /// Returns whether an asset is settled at the prices: its low excess is at most its slope bound, and its high excess at
+    /// least minus that. It costs one pass over the asset's column, without a division.
     pub fn is_settled(&self, asset: u16) -> bool
         requires { asset < length self.now.prices }
         ensures { IsTrue result ↔ (is_unsettled self.now.orders self.now.prices asset ≡ false) }
@@ -253,7 +257,7 @@ impl<'a> Workspace<'a> {
         is_near(self.excess(asset), self.steepness(asset))
     }
 
-    // By how much the price of an asset differs from its own one.
+    // Returns how far a price is above the asset's price, in grains.
     fn amount(&self, asset: u16, price: i64) -> i128
         requires asset { asset < length self.now.prices }
         requires price { IsPrice price }
@@ -263,7 +267,7 @@ impl<'a> Workspace<'a> {
         i128::from(price) - i128::from(self.price(asset))
     }
 
-    // The price of an asset.
+    // Returns the price of an asset, in grains.
     fn price(&self, asset: u16) -> i64
         requires { asset < length self.now.prices }
         ensures value { result ≡ price_of self.now.prices asset }
@@ -290,7 +294,7 @@ impl<'a> Workspace<'a> {
     }
 }
 
-// Whether the low bound is at most the steepness, and the high one at least minus that.
+// Returns whether the low bound is at most the slope bound, and the high one at least minus that.
 fn is_near(excess: Excess, steepness: i64) -> bool
     requires { unsigned_abs steepness ≤ 2 ^ 38 }
     ensures { IsTrue result ↔ ((excess.low ≤ℤ steepness) × (neg_ℤ steepness ≤ℤ excess.high)) }

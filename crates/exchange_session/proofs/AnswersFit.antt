@@ -1,4 +1,4 @@
--- The answer to a record of a sound market fits its widths, while the numbers of orders do.
+-- The answer to a record of a consistent market fits its widths, while the numbers of orders do.
 use Rattle.std.proofs.Common.{◌≡◌, ◌+◌, ◌^◌, ◌<◌, ◌≤◌, ℕ, ℤ, pos, negsuc, List, [], ◌∷◌, length, Option, Some, None, Result, Ok, Err, refl, ap, arith}
 use Rattle.std.specs.Prelude.{All, unsigned_abs, slice_index_or}
 use Rattle.std.proofs.lemmas.Int.{ints}
@@ -12,19 +12,19 @@ use Rattle.wire_records.specs.declared.reply.Refusal.{Refusal}
 use Rattle.wire_records.specs.declared.command.BodyFault.{BodyFault}
 use Rattle.weight_rows.specs.Rows.{IsPrice}
 use Rattle.demand_curve.specs.Demand.{IsWithin}
-use Rattle.flow_orders.specs.Outcomes.{Outcome, Cleared, Skipped, IsRightOutcome}
-use Rattle.own_rule.specs.Own.{IsOwnOutcome}
+use Rattle.flow_orders.specs.Outcomes.{Outcome, Cleared, Skipped, IsAdmissibleOutcome}
+use Rattle.canonical_rule.specs.Canonical.{IsCanonicalOutcome}
 use Rattle.journal_records.specs.Replies.{answer_record, IsReply, IsAnswer, most_reply_body}
 use Rattle.journal_records.specs.Pairs.{IsPair}
 use Rattle.journal_records.proofs.Spelled.{plain_short, batch_short}
-use Rattle.journal_records.proofs.OutcomesFit.{right_outcomes_fit}
-use Rattle.market_rules.specs.Market.{Market, IsSound, parts_of, start_prices}
+use Rattle.journal_records.proofs.OutcomesFit.{admissible_outcomes_fit}
+use Rattle.market_rules.specs.Market.{Market, IsConsistent, parts_of, start_prices}
 use Rattle.market_rules.specs.Step.{FirstRefusal, Accepts, Answers, Serves, ServesRead, after_batch}
 use Rattle.market_rules.specs.Journal.{Step, Follows}
 use Rattle.market_rules.proofs.Accepted.{past_unless}
 use Rattle.market_rules.proofs.Versions.{some_parts}
-use Rattle.market_rules.proofs.LawProofs.{steps_keep_soundness}
-use Rattle.own_journals.proofs.OwnIsLegal.{own_served_is_right}
+use Rattle.market_rules.proofs.LawProofs.{steps_keep_consistency}
+use Rattle.canonical_journals.proofs.CanonicalIsLegal.{canonical_served_is_admissible}
 use Rattle.market_rules.proofs.Starts.{start_within}
 use Rattle.exchange_session.proofs.Writable.{few_start_prices}
 
@@ -42,12 +42,12 @@ is_price : (z : ℤ) → IsWithin (2 ^ 60) z → IsPrice z
 is_price (pos n) within = omega (arith, ints, within.1)
 is_price (negsuc n) within = omega (arith, ints, within.0)
 
-batch_fits : (m : Market) (budget : ℕ) (outcome : Outcome) → IsSound m → FirstRefusal m (RunBatch budget) None → m.next_order < 2 ^ 64 → IsRightOutcome (parts_of m.version) m.orders (start_prices m) budget outcome
+batch_fits : (m : Market) (budget : ℕ) (outcome : Outcome) → IsConsistent m → FirstRefusal m (RunBatch budget) None → m.next_order < 2 ^ 64 → IsAdmissibleOutcome (parts_of m.version) m.orders (start_prices m) budget outcome
     → Fits (Batch (m.batches + 1) outcome)
-batch_fits m budget outcome sound none next right =
-    let fit = right_outcomes_fit (parts_of m.version) (some_parts m.version) m.orders (start_prices m) budget (m.batches + 1) outcome (λ k d inside. (sound.live k d inside).order) sound.few_orders
-    (λ k d inside. omega (arith, (sound.live k d inside).numbered.1, next)) (few_start_prices m sound) (λ k d inside. is_price (slice_index_or (start_prices m) k d) (start_within m k d inside))
-    (past_unless none).0.1 (omega (arith, sound.few_batches)) right
+batch_fits m budget outcome consistent none next right =
+    let fit = admissible_outcomes_fit (parts_of m.version) (some_parts m.version) m.orders (start_prices m) budget (m.batches + 1) outcome (λ k d inside. (consistent.live k d inside).order) consistent.few_orders
+    (λ k d inside. omega (arith, (consistent.live k d inside).numbered.1, next)) (few_start_prices m consistent) (λ k d inside. is_price (slice_index_or (start_prices m) k d) (start_within m k d inside))
+    (past_unless none).0.1 (omega (arith, consistent.few_batches)) right
     in
     record { widths = fit.0; short = batch_short (m.batches + 1) outcome fit.0 fit.1 }
 
@@ -57,64 +57,64 @@ batch_numbers_none m (Cleared c) = refl
 batch_numbers_none m (Skipped s) = refl
 
 -- the number of the next order never falls
-accepted_rise : (m : Market) (c : Command) (a : Answer Outcome) (n : Market) → Accepts IsRightOutcome m c a n → m.next_order ≤ n.next_order
+accepted_rise : (m : Market) (c : Command) (a : Answer Outcome) (n : Market) → Accepts IsAdmissibleOutcome m c a n → m.next_order ≤ n.next_order
 accepted_rise m (RunBatch budget) a n accepts = omega (arith, ap (λ (x : Market). x.next_order) accepts.2.1, batch_numbers_none m accepts.0)
 accepted_rise m command a n accepts = omega (arith, ap (λ (x : Market). x.next_order) accepts.1)
 
-accepted_fits : (m : Market) (c : Command) (a : Answer Outcome) (n : Market) → IsSound m → FirstRefusal m c None → Accepts IsRightOutcome m c a n → n.next_order < 2 ^ 64 → Fits a
-accepted_fits m (AddAsset ticker) a n sound none accepts next = rw accepts.0 (plain_fits (reply.Asset (length m.tickers)) (omega (arith, sound.tickers.few)))
-accepted_fits m OpenAccount a n sound none accepts next = rw accepts.0 (plain_fits (reply.Account _) (omega (arith, sound.few_accounts)))
-accepted_fits m (Place last r) a n sound none accepts next = rw accepts.0 (plain_fits (reply.Order m.next_order) (omega (arith, ap (λ (x : Market). x.next_order) accepts.1, next)))
-accepted_fits m (RunBatch budget) a n sound none accepts next =
+accepted_fits : (m : Market) (c : Command) (a : Answer Outcome) (n : Market) → IsConsistent m → FirstRefusal m c None → Accepts IsAdmissibleOutcome m c a n → n.next_order < 2 ^ 64 → Fits a
+accepted_fits m (AddAsset ticker) a n consistent none accepts next = rw accepts.0 (plain_fits (reply.Asset (length m.tickers)) (omega (arith, consistent.tickers.few)))
+accepted_fits m OpenAccount a n consistent none accepts next = rw accepts.0 (plain_fits (reply.Account _) (omega (arith, consistent.few_accounts)))
+accepted_fits m (Place last r) a n consistent none accepts next = rw accepts.0 (plain_fits (reply.Order m.next_order) (omega (arith, ap (λ (x : Market). x.next_order) accepts.1, next)))
+accepted_fits m (RunBatch budget) a n consistent none accepts next =
     let outcome = accepts.0 in
     let before : m.next_order < 2 ^ 64 = omega (arith, ap (λ (x : Market). x.next_order) accepts.2.1, batch_numbers_none m outcome, next) in
-    rw accepts.2.0 (batch_fits m budget outcome sound none before accepts.1)
-accepted_fits m command a n sound none accepts next = rw accepts.0 (plain_fits reply.Done tt)
+    rw accepts.2.0 (batch_fits m budget outcome consistent none before accepts.1)
+accepted_fits m command a n consistent none accepts next = rw accepts.0 (plain_fits reply.Done tt)
 
-served_fits : (m : Market) (c : Command) (a : Answer Outcome) (n : Market) → IsSound m → Serves IsRightOutcome m c a n → n.next_order < 2 ^ 64 → Fits a
-served_fits m c a n sound serves next = by_first serves.first serves.refused serves.answered
+served_fits : (m : Market) (c : Command) (a : Answer Outcome) (n : Market) → IsConsistent m → Serves IsAdmissibleOutcome m c a n → n.next_order < 2 ^ 64 → Fits a
+served_fits m c a n consistent serves next = by_first serves.first serves.refused serves.answered
   where
-    by_first : (first : Option Refusal) → FirstRefusal m c first → Answers IsRightOutcome m c first a n → Fits a
+    by_first : (first : Option Refusal) → FirstRefusal m c first → Answers IsAdmissibleOutcome m c first a n → Fits a
     by_first (Some r) refused answered = rw answered.0 (plain_fits (reply.Refused r) tt)
-    by_first None refused answered = accepted_fits m c a n sound refused answered next
+    by_first None refused answered = accepted_fits m c a n consistent refused answered next
 
-read_fits : (m : Market) (read : Result Command BodyFault) (a : Answer Outcome) (n : Market) → IsSound m → ServesRead IsRightOutcome m read a n → n.next_order < 2 ^ 64 → Fits a
-read_fits m (Ok c) a n sound served next = served_fits m c a n sound served next
-read_fits m (Err why) a n sound served next = rw served.0 (plain_fits (reply.Refused _) tt)
+read_fits : (m : Market) (read : Result Command BodyFault) (a : Answer Outcome) (n : Market) → IsConsistent m → ServesRead IsAdmissibleOutcome m read a n → n.next_order < 2 ^ 64 → Fits a
+read_fits m (Ok c) a n consistent served next = served_fits m c a n consistent served next
+read_fits m (Err why) a n consistent served next = rw served.0 (plain_fits (reply.Refused _) tt)
 
-read_rise : (m : Market) (read : Result Command BodyFault) (a : Answer Outcome) (n : Market) → ServesRead IsRightOutcome m read a n → m.next_order ≤ n.next_order
+read_rise : (m : Market) (read : Result Command BodyFault) (a : Answer Outcome) (n : Market) → ServesRead IsAdmissibleOutcome m read a n → m.next_order ≤ n.next_order
 read_rise m (Err why) a n served = omega (arith, ap (λ (x : Market). x.next_order) served.1)
 read_rise m (Ok c) a n served = by_first served.first served.answered
   where
-    by_first : (first : Option Refusal) → Answers IsRightOutcome m c first a n → m.next_order ≤ n.next_order
+    by_first : (first : Option Refusal) → Answers IsAdmissibleOutcome m c first a n → m.next_order ≤ n.next_order
     by_first (Some r) answered = omega (arith, ap (λ (x : Market). x.next_order) answered.1)
     by_first None answered = accepted_rise m c a n answered
 
--- what is read is answered as any right outcome would allow
-read_right : (m : Market) (read : Result Command BodyFault) (a : Answer Outcome) (n : Market) → IsSound m → ServesRead IsOwnOutcome m read a n → ServesRead IsRightOutcome m read a n
-read_right m (Ok c) a n sound served = own_served_is_right m c a n sound served
-read_right m (Err why) a n sound served = served
+-- what is read is answered as the rule of admissible outcomes allows
+read_right : (m : Market) (read : Result Command BodyFault) (a : Answer Outcome) (n : Market) → IsConsistent m → ServesRead IsCanonicalOutcome m read a n → ServesRead IsAdmissibleOutcome m read a n
+read_right m (Ok c) a n consistent served = canonical_served_is_admissible m c a n consistent served
+read_right m (Err why) a n consistent served = served
 
--- the pair of a record that is short enough
-pub pair_fits : (old : Market) (asked : Record) (answer : Answer Outcome) (new : Market) → IsSound old → IsRecord most_body asked → Step IsReadAs IsOwnOutcome old asked answer new → new.next_order < 2 ^ 64
+-- the entry of a record that is short enough fits its widths
+pub pair_fits : (old : Market) (asked : Record) (answer : Answer Outcome) (new : Market) → IsConsistent old → IsRecord most_body asked → Step IsReadAs IsCanonicalOutcome old asked answer new → new.next_order < 2 ^ 64
     → IsPair (record { asked = asked; answer = answer })
-pair_fits old asked answer new sound short step next =
-    let fits = read_fits old step.read answer new sound (read_right old step.read answer new sound step.served) next in
+pair_fits old asked answer new consistent short step next =
+    let fits = read_fits old step.read answer new consistent (read_right old step.read answer new consistent step.served) next in
     record { asked = short; answer = fits.widths; answered = fits.short }
 
--- pairs that answer such records, one after the other
-pub pairs_fit : (old : Market) (pairs : List (Pair Record Outcome)) (new : Market) → IsSound old → All (λ (p : Pair Record Outcome). IsRecord most_body p.asked) pairs → Follows IsReadAs IsOwnOutcome old pairs new
+-- entries that answer such records, one after the other, fit their widths
+pub pairs_fit : (old : Market) (pairs : List (Pair Record Outcome)) (new : Market) → IsConsistent old → All (λ (p : Pair Record Outcome). IsRecord most_body p.asked) pairs → Follows IsReadAs IsCanonicalOutcome old pairs new
     → (old.next_order ≤ new.next_order) × (new.next_order < 2 ^ 64 → All IsPair pairs)
-pairs_fit old [] new sound short follows = (omega (arith, ap (λ (x : Market). x.next_order) follows), λ next. All-nil IsPair)
-pairs_fit old (pair ∷ pairs) new sound short (between, step, follows) =
+pairs_fit old [] new consistent short follows = (omega (arith, ap (λ (x : Market). x.next_order) follows), λ next. All-nil IsPair)
+pairs_fit old (pair ∷ pairs) new consistent short (between, step, follows) =
     let asked = λ (p : Pair Record Outcome). IsRecord most_body p.asked in
-    let right : Step IsReadAs IsRightOutcome old pair.asked pair.answer between = record { read = step.read; spelled = step.spelled; served = read_right old step.read pair.answer between sound step.served } in
-    let rest = pairs_fit between pairs new (steps_keep_soundness.1 old pair.asked pair.answer between sound right).0 (All-tail asked pair pairs short) follows in
+    let right : Step IsReadAs IsAdmissibleOutcome old pair.asked pair.answer between = record { read = step.read; spelled = step.spelled; served = read_right old step.read pair.answer between consistent step.served } in
+    let rest = pairs_fit between pairs new (steps_keep_consistency.1 old pair.asked pair.answer between consistent right).0 (All-tail asked pair pairs short) follows in
     let rise = read_rise old right.read pair.answer between right.served in (
       omega (arith, rise, rest.0),
-      λ next. All-cons IsPair pair pairs (pair_fits old pair.asked pair.answer between sound (All-head asked pair pairs short) step (omega (arith, rest.0, next))) (rest.1 next),
+      λ next. All-cons IsPair pair pairs (pair_fits old pair.asked pair.answer between consistent (All-head asked pair pairs short) step (omega (arith, rest.0, next))) (rest.1 next),
     )
 
--- and of one with a plain reply
+-- an entry with a plain reply to such a record fits its widths
 pub plain_pair_fits : (asked : Record) (r : Reply) → IsRecord most_body asked → IsAnswer (Plain r) → IsPair (record { asked = asked; answer = Plain r })
 plain_pair_fits asked r short fits = record { asked = short; answer = fits; answered = plain_short r }

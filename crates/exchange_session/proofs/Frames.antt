@@ -1,4 +1,4 @@
--- What stands at the front of the rest of a command file.
+-- What the rest of a command file begins with.
 use Rattle.std.proofs.Common.{◌≡◌, ◌+◌, ◌-◌, ◌<◌, ◌≤◌, ℕ, List, [], ◌++◌, length, drop, ap, length-append, arith}
 use Rattle.wire_records.specs.Records.{Record, IsRecord, StatesLength, HasNoFront, spelling}
 use Rattle.wire_records.specs.Formats.{StatesOver}
@@ -6,11 +6,11 @@ use Rattle.wire_records.proofs.Fronts.{no_front-from_few, states_none-from_few, 
 use Rattle.wire_records.proofs.Spelled.{length-spelling}
 use Rattle.journal_records.specs.Pairs.{plain_room}
 
--- where a record's pair has no room with a plain reply, the room is that of fewer than 1,042 bytes
+-- a buffer too short for a record's entry with a plain reply has room for fewer than 1,042 bytes
 pub few_room : (r : Record) (capacity len : ℕ) → IsRecord 1024 r → capacity < len + plain_room r → capacity - len < 1042
 few_room r capacity len fits short = omega (arith, length-spelling r, fits.body, short)
 
--- a record at the front of bytes leaves as many fewer, and takes five at least
+-- a record that is a prefix of bytes leaves as many fewer, and takes five at least
 pub record_within : (bytes : List ℕ) (r : Record) (taken : ℕ) → taken ≡ length (spelling r) → bytes ≡ spelling r ++ drop taken bytes → (taken ≤ length bytes) × (5 ≤ taken)
 record_within bytes r taken size front = (omega (arith, size, ap length front, length-append (spelling r) (drop taken bytes)), omega (arith, size, length-spelling r))
 

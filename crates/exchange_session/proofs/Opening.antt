@@ -11,7 +11,7 @@ use Rattle.word_driver.specs.Private.{OpensAt}
 use Rattle.exchange_session.specs.Serving.{HasNumbers}
 use Rattle.exchange_session.specs.Running.{run}
 
--- it is at the empty market of the version, and has written the magic of a journal of the version
+-- a run that has opened is at the empty market of the version, and has written the magic of a journal of the version
 pub opens_at : (version : Version) (bytes body : List ℕ) (market : Market) (text : List ℕ) → BeginsWith commands.magics bytes version body → market ≡ empty_market version → text ≡ journal_magic_of version
     → OpensAt run empty_market bytes market (HasNumbers market) text
 opens_at version bytes body market text begins is opening =

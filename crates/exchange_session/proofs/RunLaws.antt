@@ -1,4 +1,4 @@
--- A run comes to one end and one text, keeps the promises of the exchange, and is without an end for no bytes.
+-- A run has one end and one text, the journal of its records, and has an end for all bytes.
 use Rattle.std.proofs.Common.{◌≡◌, ℕ, List, [], ◌∷◌, ◌++◌, map, All, Result, Ok, Err, inl, inr, refl, sym, ap, subst, ◌∙◌, arith}
 use Rattle.std.specs.List.{flat_map}
 use Rattle.std.proofs.lemmas.List.Elements.{All-nil, All-cons, All-head, All-tail}
@@ -16,18 +16,16 @@ use Rattle.wire_records.proofs.RecordCode.{commands_readable}
 use Rattle.file_units.specs.Inputs.{HasLongest}
 use Rattle.file_units.proofs.Longest.{record_or_over, over_stays}
 use Rattle.flow_orders.specs.Outcomes.{Outcome}
-use Rattle.own_rule.specs.Own.{IsOwnOutcome}
+use Rattle.canonical_rule.specs.Canonical.{IsCanonicalOutcome}
 use Rattle.journal_records.specs.Pairs.{pair_spelling}
 use Rattle.journal_records.specs.Formats.{journal_magic_of}
-use Rattle.market_rules.specs.Market.{Market, IsSound, empty_market}
+use Rattle.market_rules.specs.Market.{Market, IsConsistent, empty_market}
 use Rattle.market_rules.specs.Journal.{IsAnswered}
-use Rattle.own_journals.proofs.OneOwnJournal.{own_step}
-use Rattle.own_journals.proofs.OwnServed.{step_is_there}
-use Rattle.market_rules.proofs.LawProofs.{journals_hold_deposits, steps_keep_soundness}
-use Rattle.own_journals.proofs.LawProofs.{own_journals_are_legal}
+use Rattle.canonical_journals.proofs.OneCanonicalJournal.{own_step}
+use Rattle.canonical_journals.proofs.CanonicalServed.{step_is_there}
+use Rattle.market_rules.proofs.LawProofs.{journals_hold_deposits, steps_keep_consistency}
+use Rattle.canonical_journals.proofs.LawProofs.{canonical_journals_are_legal}
 use Rattle.market_rules.proofs.Versions.{follows_version}
-use Rattle.market_rules.proofs.Promised.{legal_journal_keeps_promises}
-use Rattle.own_journals.proofs.OwnPromises.{own_journal_clears_near}
 use Rattle.word_driver.specs.Word.{Goes}
 use Rattle.word_driver.specs.Laws.{IsExact, IsKept, IsNotDenied, HasNext}
 use Rattle.word_driver.proofs.Denying.{not_denied, follows}
@@ -41,7 +39,7 @@ use Rattle.exchange_session.proofs.AnswersFit.{pair_fits, pairs_fit}
 short : StatesOver 1024 [] → ⊥
 short over = states_none-from_few over.0 [] (omega arith) over.1
 
--- one record has one answer by the own rule, and makes one market
+-- one record has one answer by the canonical rule, and makes one market
 one_answer : (s : Market) (u : Record) (t r : Market) (x y : List ℕ) → AnswersOne s u t x → AnswersOne s u r y → (t ≡ r) × (x ≡ y)
 one_answer s u t r x y a b =
     let one = own_step IsReadAs reading_unique s u a.answer b.answer t r a.step b.step in
@@ -71,10 +69,10 @@ run_is_exact = record {
   closes_or_stops = λ s b x y closes stops. stops;
 }
 
--- the pairs that answer records
+-- the entries that answer records
 pub record Answers (start : Market) (records : List Record) (market : Market) (text : List ℕ) : Type 0 where
   pub pairs : List (Pair Record Outcome)
-  pub answered : IsAnswered IsReadAs IsOwnOutcome start records pairs market
+  pub answered : IsAnswered IsReadAs IsCanonicalOutcome start records pairs market
   pub spelled : text ≡ flat_map pair_spelling pairs
 
 answers : (start market : Market) (records : List Record) (text : List ℕ) → Goes run start records market text → Answers start records market text
@@ -93,15 +91,15 @@ answers start market (r ∷ records) text goes =
 pub run_version : (start market : Market) (records : List Record) (text : List ℕ) → Goes run start records market text → market.version ≡ start.version
 run_version start market records text goes =
     let so = answers start market records text goes in
-    follows_version IsOwnOutcome IsReadAs start so.pairs market so.answered.steps
+    follows_version IsCanonicalOutcome IsReadAs start so.pairs market so.answered.steps
 
--- and leads to a sound one
-run_is_sound : (version : Version) (records : List Record) (market : Market) (text : List ℕ) → Goes run (empty_market version) records market text → IsSound market
-run_is_sound version records market text goes =
+-- a run from an empty market leads to a consistent one
+run_is_consistent : (version : Version) (records : List Record) (market : Market) (text : List ℕ) → Goes run (empty_market version) records market text → IsConsistent market
+run_is_consistent version records market text goes =
     let so = answers (empty_market version) market records text goes in
-    (journals_hold_deposits (empty_market version) so.pairs market (steps_keep_soundness.0 version) (own_journals_are_legal version records so.pairs market so.answered).steps).sound
+    (journals_hold_deposits (empty_market version) so.pairs market (steps_keep_consistency.0 version) (canonical_journals_are_legal version records so.pairs market so.answered).steps).consistent
 
--- the records of pairs are as short as those that they answer
+-- the records of entries are as short as those that they answer
 each_short : (pairs : List (Pair Record Outcome)) → All (IsRecord 1024) (map (λ (p : Pair Record Outcome). p.asked) pairs) → All (λ (p : Pair Record Outcome). IsRecord 1024 p.asked) pairs
 each_short [] each = All-nil (λ (p : Pair Record Outcome). IsRecord 1024 p.asked)
 each_short (pair ∷ pairs) each =
@@ -112,15 +110,11 @@ pub run_is_kept : IsKept run empty_market
 run_is_kept version records market text each goes =
     let start = empty_market version in
     let so = answers start market records text goes in
-    let legal = (own_journals_are_legal version records so.pairs market so.answered).steps in
-    let sound = steps_keep_soundness.0 version in
+    let consistent = steps_keep_consistency.0 version in
     subst (λ (v : Version). Journals v records market (journal_magic_of v ++ text)) (sym (run_version start market records text goes)) (record {
       pairs = so.pairs;
       journal_of = so.answered;
-      deposits = journals_hold_deposits start so.pairs market sound legal;
-      keeps = legal_journal_keeps_promises start so.pairs market sound legal;
-      near = own_journal_clears_near start so.pairs market sound so.answered.steps;
-      fits = (pairs_fit start so.pairs market sound (each_short so.pairs (rw so.answered.asked each)) so.answered.steps).1;
+      fits = (pairs_fit start so.pairs market consistent (each_short so.pairs (rw so.answered.asked each)) so.answered.steps).1;
       spelled = ap (λ xs. journal_magic_of version ++ xs) so.spelled;
     })
 
@@ -130,7 +124,7 @@ run_is_kept version records market text each goes =
 abbrev pub CanBeRead : Record → Type 0
 CanBeRead asked = (version : Version) → (read : Result Command BodyFault) × IsReadAs version asked read
 
--- no record is without a reading in a version: it spells a command, or its tag is none, or its body is bad
+-- a record can be read in each version: it encodes a command, or its tag is none, or its body is bad
 read_in : (version : Version) (asked : Record) → IsNotDenied ((read : Result Command BodyFault) × IsReadAs version asked read)
 read_in version asked none = none (Err UnknownTag, λ tag. none (Err BadBody, (tag, λ command spells. none (Ok command, (tag, spells)))))
 
@@ -145,14 +139,14 @@ can_be_read asked none =
     read_in One asked (λ one. read_in Two asked (λ two. read_in Three asked (λ three.
     none (of_all (λ version. (read : Result Command BodyFault) × IsReadAs version asked read) one two three))))
 
--- so each that is short enough has a step, from any sound market
-pub has_step : (s : Market) (asked : Record) → IsSound s → IsRecord 1024 asked → CanBeRead asked → (t : Market) × (text : List ℕ) × AnswersOne s asked t text
-has_step s asked sound short readable =
+-- each record that is short enough has a step, from any consistent market
+pub has_step : (s : Market) (asked : Record) → IsConsistent s → IsRecord 1024 asked → CanBeRead asked → (t : Market) × (text : List ℕ) × AnswersOne s asked t text
+has_step s asked consistent short readable =
     let there = step_is_there IsReadAs CanBeRead (λ version r some. some version) s asked readable in
-    (there.1, pair_spelling (record { asked = asked; answer = there.0 }), record { answer = there.0; step = there.2; fits = pair_fits s asked there.0 there.1 sound short there.2; spelled = refl })
+    (there.1, pair_spelling (record { asked = asked; answer = there.0 }), record { answer = there.0; step = there.2; fits = pair_fits s asked there.0 there.1 consistent short there.2; spelled = refl })
 
 pub run_has_next : HasNext run empty_market
 run_has_next = record {
-  some_step = λ version records s x asked goes lawful. follows (λ readable. not_denied (inl (has_step s asked (run_is_sound version records s x goes) lawful readable))) (can_be_read asked);
+  some_step = λ version records s x asked goes lawful. follows (λ readable. not_denied (inl (has_step s asked (run_is_consistent version records s x goes) lawful readable))) (can_be_read asked);
   some_close = λ version records s x goes. not_denied (inl ([], refl));
 }

@@ -1,4 +1,4 @@
--- Words that only private functions of a session use: what a record asks for, and what of a batch can be written.
+-- Definitions that only private functions of a session use: what a record asks for, and what of a batch can be written.
 use Rattle.std.specs.Prelude.{◌≡◌, ◌<◌, ◌≤◌, ℕ, List, length, None, Ok}
 use Rattle.wire_records.specs.Records.{Record}
 use Rattle.wire_records.specs.Commands.{RunBatch, Plain}
@@ -7,7 +7,7 @@ use Rattle.flow_orders.specs.Orders.{Order}
 use Rattle.flow_orders.specs.Outcomes.{most_budget}
 use Rattle.batch_outcome.specs.declared.outcome.Outcome.{Outcome}
 use Rattle.batch_outcome.specs.declared.outcome.Outcome.TheVariants as parts
-use Rattle.own_rule.specs.Own.{IsOwnOutcome}
+use Rattle.canonical_rule.specs.Canonical.{IsCanonicalOutcome}
 use Rattle.market_rules.specs.Market.{Market, most_batches}
 use Rattle.market_rules.specs.Step.{FirstRefusal}
 use Rattle.market_rules.specs.Journal.{Step}
@@ -20,12 +20,12 @@ pub record AsksBatch (old : Market) (asked : Record) (budget : ℕ) : Type 0 whe
   pub first : FirstRefusal old (RunBatch budget) None
   pub more : old.batches < most_batches
 
--- it got a plain reply, or it asks for a batch
+-- the record got a plain reply by a step of the market, or it asks for a batch, and the market is as before
 abbrev pub IsAsked : Market → Record → Market → Asked → Type 0
-IsAsked old asked new (asks.Plain reply) = Step IsReadAs IsOwnOutcome old asked (Plain reply) new
+IsAsked old asked new (asks.Plain reply) = Step IsReadAs IsCanonicalOutcome old asked (Plain reply) new
 IsAsked old asked new (asks.Batch budget) = AsksBatch old asked budget × (new ≡ old)
 
--- an outcome of a batch of these orders that the program writes: a clearing with one rate for each order and one residual
+-- an outcome of a batch of these orders that can be written: a clearing with one rate for each order and one imbalance
 -- for each of at most 64 prices, or a skip of at most as many moves as a budget may have
 abbrev pub IsWritable : List Order → Outcome → Type 0
 IsWritable orders (parts.Cleared c) = (length c.rates ≡ length orders) × (length c.residuals ≡ length c.prices) × (length c.prices ≤ 64)

@@ -1,10 +1,10 @@
-//! A batch: its outcome, the pair that tells it, and its settlement.
+//! A batch: its outcome, the entry that states it, and its settlement.
 ghost use Rattle.std.specs.Prelude.{◌≡◌, ◌++◌, ◌+◌, ◌<◌, ◌≤◌, ℕ, true, List, None, Ok, IfOk, OnErr, OnOk, length, vec_capacity};
 ghost use Rattle.wire_records.specs.Records.{IsRecord, most_body};
 ghost use Rattle.wire_records.specs.Commands.{RunBatch, Batch};
 ghost use Rattle.wire_records.specs.Versions.{IsReadAs};
 ghost use Rattle.flow_orders.specs.Orders.{most_orders};
-ghost use Rattle.own_rule.specs.Own.{IsOwnOutcome};
+ghost use Rattle.canonical_rule.specs.Canonical.{IsCanonicalOutcome};
 ghost use Rattle.batch_outcome.specs.Published.{outcome_of};
 ghost use Rattle.journal_records.specs.Pairs.{pair_spelling};
 ghost use Rattle.market_rules.specs.Market.{most_batches, parts_of, start_prices};
@@ -21,10 +21,10 @@ use market_core::Market;
 use std::alloc::Global;
 use wire_records::{Memory, RecordView};
 
-// The outcome of a batch that is allowed.
+// Returns the canonical outcome of a batch that is allowed.
 fn outcome_for(alloc: Global, market: &mut Market, budget: u32) -> Result<Outcome, Memory>
     requires first { FirstRefusal market.old (RunBatch budget) None }
-    ensures own { IfOk result (λ outcome. IsOwnOutcome (parts_of market.old.version) market.old.orders
+    ensures own { IfOk result (λ outcome. IsCanonicalOutcome (parts_of market.old.version) market.old.orders
         (start_prices market.old) budget (outcome_of market.old.orders outcome)) }
     ensures settles { IfOk result (MaySettle market.old) }
     ensures writable { IfOk result (IsWritable market.old.orders) }
@@ -35,7 +35,7 @@ fn outcome_for(alloc: Global, market: &mut Market, budget: u32) -> Result<Outcom
     clear(alloc, parts, market.orders(), start.as_slice(), budget)
 }
 
-// Appends the pair of a batch.
+// Appends the entry of a batch.
 fn write_outcome(
     asked: &RecordView<'_>,
     batch: u32,
@@ -58,7 +58,7 @@ fn write_outcome(
     }
 }
 
-// Holds a batch that is allowed: its pair is written, and then it is settled.
+// Holds a batch that is allowed: appends its entry, and then settles it.
 pub(crate) fn hold_batch(
     alloc: Global,
     market: &mut Market,

@@ -1,6 +1,6 @@
-//! A session of the exchange: command records in, pairs of a journal out.
+//! A session of the exchange: command records in, entries of a journal out.
 //!
-//! A [`Session`] holds the market from record to record. Each record gets one pair, which is a step of the market.
+//! A [`Session`] holds the market from record to record. Each record gets one entry, which is a step of the market.
 #![tactic(auto)]
 
 mod batch;

@@ -1,4 +1,4 @@
-//! `run` as a word: records in, pairs out.
+//! `run` as a subcommand: records in, entries out.
 ghost use Rattle.std.specs.Prelude.{◌≡◌, ℕ};
 ghost use Rattle.wire_records.specs.declared.version.Version.TheVariants.{One};
 ghost use Rattle.market_rules.specs.Market.{empty_market};
@@ -13,8 +13,8 @@ use std::alloc::Global;
 use wire_records::{MOST_RECORD, command_version};
 use word_driver::{Halt, Never, ServesWord};
 
-/// A run: it serves the records of a command file, one after the other, over a session of its own, whose market is of the
-/// file's version. Only the pair of a batch makes the buffer grow.
+/// A run: it serves the records of a command file, one after the other, over a session of its own, whose market is of
+/// the file's version. Only the entry of a batch makes the buffer grow.
 #[derive(Drop)]
 pub struct Run {
     alloc: Global,
@@ -22,7 +22,7 @@ pub struct Run {
 }
 
 impl Run {
-    /// A run that hasn't begun. Takes no memory.
+    /// Makes a run that hasn't begun. Takes no memory.
     pub fn new(alloc: Global) -> Run
         ensures { ⟦<Run as ServesWord>⟧.is_new result }
     {
@@ -32,7 +32,7 @@ impl Run {
         }
     }
 
-    /// A run that has begun, and continues with this session. Takes no memory.
+    /// Makes a run that has begun, and continues with this session. Takes no memory.
     pub fn over(alloc: Global, session: Session) -> Run
         ensures state { ⟦<Run as ServesWord>⟧.state result ≡ session }
         ensures ready { (left : ℕ) → HasNumbers session left → ⟦<Run as ServesWord>⟧.is_ready result left }

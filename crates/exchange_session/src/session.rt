@@ -1,11 +1,11 @@
-//! One command record, and the pair that it gives.
+//! One command record, and the entry that it gets.
 ghost use Rattle.std.specs.Prelude.{◌≡◌, ◌++◌, ◌+◌, ◌-◌, ◌^◌, ◌<◌, ◌≤◌, ◌⊎◌, ℕ, List, [], length, IfOk, OnErr, OnOk, vec_len, vec_capacity};
 ghost use Rattle.wire_records.specs.Commands.{Plain};
 ghost use Rattle.wire_records.specs.Versions.{IsReadAs};
 ghost use Rattle.journal_records.specs.Pairs.{plain_room};
-ghost use Rattle.own_rule.specs.Own.{IsOwnOutcome};
+ghost use Rattle.canonical_rule.specs.Canonical.{IsCanonicalOutcome};
 ghost use Rattle.market_rules.specs.Journal.{Step};
-ghost use Rattle.market_rules.specs.Wanting.{RecordMayWant};
+ghost use Rattle.market_rules.specs.Allocating.{RecordMayAllocate};
 ghost use Rattle.exchange_session.specs.Private.{IsAsked};
 
 use crate::batch::hold_batch;
@@ -31,18 +31,18 @@ impl Model for Session {
     ghost view = { λ session. session.market };
 }
 
-// What a record asks for: a plain reply, which is given, or a batch with this budget, which is allowed.
+// What a record asks for: a plain reply, which was given, or a batch with this budget, which is allowed.
 enum Asked {
     Plain(Reply),
     Batch(u32),
 }
 
-// The reply to a record, or the batch that it asks for.
+// Returns the reply to a record, or the batch that it asks for.
 fn reply_to(market: &mut Market, asked: &RecordView<'_>) -> Result<Asked, Memory>
     requires next { market.old.next_order + 1 < 2 ^ 64 }
     ensures step { IfOk result (IsAsked market.old asked.now market.new) }
     ensures stays { OnErr result (market.new ≡ market.old) }
-    ensures wanted { OnErr result (RecordMayWant market.old asked.now) }
+    ensures wanted { OnErr result (RecordMayAllocate market.old asked.now) }
 {
     match market.read(asked) {
         Ok(CommandView::RunBatch { budget }) => match market.batch_allowed(budget) {
@@ -57,19 +57,20 @@ fn reply_to(market: &mut Market, asked: &RecordView<'_>) -> Result<Asked, Memory
 impl Session {
     ghost use Rattle.wire_records.specs.Records.{IsRecord, most_body};
     ghost use Rattle.wire_records.specs.declared.version.Version.TheVariants.{One};
-    ghost use Rattle.market_rules.specs.Market.{empty_market, IsSound};
+    ghost use Rattle.market_rules.specs.Market.{empty_market, IsConsistent};
     ghost use Rattle.wire_records.specs.Formats.{commands};
     ghost use Rattle.file_units.specs.Units.{IsTaken, StaysReady};
-    ghost use Rattle.exchange_session.specs.Serving.{AnswersOne, Puts, HasNumbers, WantsNext};
+    ghost use Rattle.exchange_session.specs.Serving.{AnswersOne, Puts, HasNumbers, AllocatesNext};
 
-    /// A session over the empty market of version One. Takes no memory.
+    /// Makes a session over the empty market of version One. Takes no memory.
     pub fn new(alloc: Global) -> Session
         ensures { result ≡ empty_market One }
     {
         Session::over(Market::new(alloc))
     }
 
-    /// A session over this market: it serves the records that come next, of the market's version. Takes no memory.
+    /// Makes a session over this market: it serves the records that come next, of the market's version. Takes no
+    /// memory.
     pub fn over(market: Market) -> Session
         ensures { result ≡ market }
     {
@@ -77,32 +78,35 @@ impl Session {
         Session { alloc, market }
     }
 
-    /// The market after the records that were served.
+    /// Returns the market after the records that were served.
     pub fn market(&self) -> &Market
         ensures value { result.now ≡ self.now }
-        ensures sound { IsSound self.now }
+        ensures consistent { IsConsistent self.now }
     {
-        // Called for its contract: the market is sound.
-        let _sound = self.market.accounts();
+        // Called for its contract: the market is consistent.
+        let _consistent = self.market.accounts();
         &self.market
     }
 
-    /// The same, as a market of its own.
+    /// Returns the market after the records that were served, and ends the session.
     pub fn into_market(self) -> Market
         ensures { result ≡ self }
     {
         self.market
     }
 
-    /// Serves one record, and appends its pair: the record as it was given, and the record of its one answer. The cost is that of the
-    /// record, however many accounts and orders there are, for a cancel on average; but for a batch, which closes the gaps that cancelled
-    /// orders left, goes over all live orders, and for each move of a price over those that name its asset. The record's body has at most
-    /// 1,024 bytes, and the number that the next order gets is below 2^64 - 1; so the pair is one that a journal may have.
+    /// Serves one record, and appends its entry: the record as it was given, and the record of its one answer. The
+    /// record's body has at most 1,024 bytes, and the number that the next order gets is below 2^64 - 1; so the entry
+    /// is one that a journal may have.
     ///
-    /// The room of a pair with a plain reply is taken first, and that of a batch's pair before the market changes. After
-    /// `Memory` market and bytes are as before, and `out` has the room that it had or more; it comes only where that room was
-    /// less than that of a pair with a plain reply, or where the command adds an asset, an account or an order or holds a batch
-    /// and no refusal holds.
+    /// The cost is that of the record, however many accounts and orders there are, for a cancel on average. A batch
+    /// also closes the gaps that cancelled orders left, goes over all live orders, and for each move of a price over
+    /// those with a leg of its asset.
+    ///
+    /// The capacity for an entry with a plain reply is reserved first, and that for a batch's entry before the market
+    /// changes. After `Memory` market and bytes are as before, and `out` has at least the capacity that it had.
+    /// `Memory` comes only if that capacity was less than an entry with a plain reply needs, or if the command adds an
+    /// asset, an account or an order or holds a batch and no refusal holds.
     pub fn serve(&mut self, asked: &RecordView<'_>, out: &mut Vec<u8>) -> Result<(), Memory>
         requires short { IsRecord most_body asked.now }
         requires next { self.old.next_order + 1 < 2 ^ 64 }
@@ -110,7 +114,7 @@ impl Session {
             × (out.new.items ≡ out.old.items ++ text)) }
         ensures stays { OnErr result ((self.new ≡ self.old) × (out.new.items ≡ out.old.items)) }
         ensures wanted { OnErr result ((vec_capacity out.old < vec_len out.old + plain_room asked.now)
-            ⊎ RecordMayWant self.old asked.now) }
+            ⊎ RecordMayAllocate self.old asked.now) }
         ensures room { vec_capacity out.old ≤ vec_capacity out.new }
     {
         reserve_plain(asked, out)?;
@@ -120,13 +124,13 @@ impl Session {
         }
         Ok(())
     }
-    /// Serves the record at the front of the bytes of a command file, if a whole one stands there, puts its pair into an
-    /// empty buffer, and answers what stood there, as whoever goes through the records asks for it. Nothing is done where no
-    /// whole record stands there, and the cost is that of [`Session::serve`].
+    /// Serves the record that begins the bytes of a command file, if it is complete, puts its entry into an empty
+    /// buffer, and returns what the bytes begin with, as a loop over the records asks for it. If there is no complete
+    /// record, nothing is done; else the cost is that of [`Session::serve`].
     ///
-    /// After `Memory` market and buffer are as before, but that the buffer may have more room; it comes only at a whole record,
-    /// where the buffer had less room than 1,042 bytes, as many as the longest pair with a plain reply has, or where the record
-    /// may want memory.
+    /// After `Memory` market and buffer are as before, except that the buffer may have more capacity. `Memory` comes
+    /// only at a complete record, and only if the buffer had less capacity than 1,042 bytes, the length of the longest
+    /// entry with a plain reply, or if the record may allocate.
     pub fn serve_next(&mut self, bytes: &[u8], out: &mut Vec<u8>) -> Result<Front, Memory>
         requires ready { (left : ℕ) × (length bytes.now ≤ left) × HasNumbers self.old left }
         requires empty { out.old.items ≡ [] }
@@ -134,7 +138,7 @@ impl Session {
         ensures stays { IfOk result (λ front. (left : ℕ) → length bytes.now ≤ left → HasNumbers self.old left →
             StaysReady (HasNumbers self.new) front left) }
         ensures same { OnErr result ((self.new ≡ self.old) × (out.new.items ≡ [])) }
-        ensures wanted { OnErr result (WantsNext self.old bytes.now (vec_capacity out.old - vec_len out.old)) }
+        ensures wanted { OnErr result (AllocatesNext self.old bytes.now (vec_capacity out.old - vec_len out.old)) }
         ensures room { vec_capacity out.old ≤ vec_capacity out.new }
     {
         match next_record(bytes, MOST_BODY) {

@@ -17,6 +17,6 @@ reads_alike format P Q place bytes units ending same reads = record {
   ends = ends_alike format P Q reads.rest _ ending same reads.ends;
 }
 
--- where the ending is the end of the input, it has no more
+-- if the ending is the end of the input, it has no more
 pub no_more_at_end : {V U : Type 0} (format : Format V U) (More : Type 0) (place : ℕ) (bytes : List ℕ) (units : List U) → ReadsOn format place More bytes units End → ¬ More
 no_more_at_end format More place bytes units reads = reads.ends.1

@@ -1,4 +1,4 @@
--- What going through the units of an input has done so far, and what it comes to.
+-- What taking the units of an input has done so far, and what it results in.
 use Rattle.std.proofs.Common.{◌≡◌, ◌≢◌, ◌+◌, ◌-◌, ◌<◌, ◌≤◌, ℕ, List, [], ◌∷◌, ◌++◌, IsTrue, false, Option, Some, None, IfSome, Ok, Err, length, take, drop, refl, sym, ap, subst, ◌∙◌, inl, inr, append_assoc, append-nil, length-append, arith, rules}
 use Rattle.std.specs.Prelude.{All}
 use Rattle.std.proofs.Math.Seq.{take-append-add}
@@ -28,7 +28,7 @@ Takes-nothing : (told : Option (List ℕ)) → Takes told told []
 Takes-nothing None = tt
 Takes-nothing (Some left) = refl
 
--- where no unit is seen, nor that one states too much, fewer bytes are held than the longest has
+-- if the held bytes begin with no unit, nor with an overlong one, they are fewer than the longest unit has
 pub fewer_than_room : {V U : Type 0} (format : Format V U) (room : ℕ) (held : List ℕ) → HasLongest format room → AreBytes held → BeginsWithNone format.units held → (¬ format.IsOverlong held) → length held < room
 fewer_than_room format room held longest bytes none short =
     elim (cases_lt (length held) room) [
@@ -36,13 +36,13 @@ fewer_than_room format room held longest bytes none short =
       | inr not ↦ absurd (short (longest.seen held bytes (omega (arith, not)) none))
     ]
 
--- what is held stands within the limit
+-- what is held is within the limit
 pub within_limit : (place held limit : ℕ) (over : Option InputEnd) → IsWithin place held limit over → place + held ≤ limit
 within_limit place held limit None within = within
 within_limit place held limit (Some Source) within = within
 within_limit place held limit (Some Limit) within = omega (arith, within)
 
--- where more is held, less may be read
+-- if more is held, less may still be read
 pub falls : (a b : WindowState) (x y : Option (List ℕ)) → Fills a b x y → length a.held < length b.held → IsWithin b.place (length b.held) b.limit b.over
     → (b.limit - b.place) + (b.limit - (b.place + length b.held)) < (a.limit - a.place) + (a.limit - (a.place + length a.held))
 falls a b x y fills longer inside =
@@ -50,7 +50,7 @@ falls a b x y fills longer inside =
     let limit : b.limit ≡ a.limit = ap (λ (w : WindowState). w.limit) fills.holds in
     omega (arith, place, limit, longer, within_limit b.place (length b.held) b.limit b.over inside)
 
--- where the input has more than the limit, what is held as before comes to it
+-- if the input has more than the limit and no more is held than before, the held bytes reach the limit
 pub limit_reached : (a b : WindowState) (x y : Option (List ℕ)) → Fills a b x y → b.held ≡ a.held → b.over ≡ Some Limit → IsWithin b.place (length b.held) b.limit b.over → a.place + length a.held ≡ a.limit
 limit_reached a b x y fills same over inside =
     let place : b.place ≡ a.place = ap (λ (w : WindowState). w.place) fills.holds in
@@ -58,12 +58,12 @@ limit_reached a b x y fills same over inside =
     let full : b.place + length b.held ≡ b.limit = subst (λ (o : Option InputEnd). IsWithin b.place (length b.held) b.limit o) over inside in
     omega (arith, place, limit, full, ap length same)
 
--- nothing joined what is held as before
+-- nothing was appended if the held bytes are as before
 none_joined : (held joined : List ℕ) → held ++ joined ≡ held → joined ≡ []
 none_joined held [] same = refl
 none_joined held (x ∷ joined) same = absurd (omega (arith, ap length same, length-append held (x ∷ joined)))
 
--- behind what stands within the limit, more is considered
+-- bytes within the limit, and those considered after them
 pub considered : (limit : ℕ) (xs ys : List ℕ) → length xs ≤ limit → take limit (xs ++ ys) ≡ xs ++ take (limit - length xs) ys
 considered limit xs ys within =
     let parts : limit ≡ length xs + (limit - length xs) = omega (arith, within) in
@@ -72,12 +72,12 @@ considered limit xs ys within =
 take_nothing : (n : ℕ) → take {A = ℕ} n [] ≡ []
 take_nothing n = search rules
 
--- what is known goes on behind what was seen
+-- what is known begins with what was seen
 known_more : (held taken : List ℕ) (after : Option (List ℕ)) → (more : List ℕ) × (held ++ known taken after ≡ (held ++ taken) ++ more)
 known_more held taken None = ([], sym (append-nil (held ++ taken)))
 known_more held taken (Some left) = (left, sym (append_assoc held taken left))
 
--- nothing more is known where nothing is left
+-- nothing more is known if nothing is left
 known_all : (held taken : List ℕ) (after : Option (List ℕ)) → IfSome after (λ left. left ≡ []) → held ++ known taken after ≡ held ++ taken
 known_all held taken None none = refl
 known_all held taken (Some left) none = ap (λ xs. held ++ (taken ++ xs)) none ∙ ap (λ xs. held ++ xs) (append-nil taken)
@@ -171,17 +171,17 @@ module _ {V U S O : Type 0} (format : Format V U) (Steps : S → U → S → O �
           ready = subst (λ (n : ℕ). Ready n) (ap (λ n. n - now.place) (sym limit) ∙ ap (λ n. next.limit - n) (sym place)) (stays (now.limit - now.place) (omega (arith, within)) so.ready);
         }
 
-    -- ---- where it ends
+    -- ---- how it ends
 
     module _ {F : Type 0} (Breaks : S → U → F → O → O → Type 0) (IsReady : ℕ → Type 0) (so : HasGone rest faults IsReady first now from source old middle before between) (within : now.place + length now.held ≤ now.limit) where
-      -- how many bytes may be considered from where the window was first
+      -- what was seen is within the bytes that may be considered from the window's first place on
       seen_within : length (first.held ++ so.taken) ≤ first.limit - first.place
       seen_within = omega (arith, within, so.reached, so.limit, ap length so.whole, length-append (spell_all format.units so.units) now.held)
 
       few_taken : length first.held + length so.taken ≤ (first.limit - first.place) + 1
       few_taken = omega (arith, seen_within, length-append first.held so.taken)
 
-      -- what is considered are the units, what is held, and more
+      -- the bytes that are considered are the units, the held bytes, and more
       considered_from : (after : Option (List ℕ)) → (more : List ℕ) × (take (first.limit - first.place) (first.held ++ known so.taken after) ≡ spell_all format.units so.units ++ (now.held ++ more))
       considered_from after =
           let behind = known_more first.held so.taken after in
@@ -191,7 +191,7 @@ module _ {V U S O : Type 0} (format : Format V U) (Steps : S → U → S → O �
                 ∙ ap (λ xs. xs ++ more) so.whole ∙ append_assoc (spell_all format.units so.units) now.held more,
           )
 
-      -- what was seen is the front of it
+      -- what was seen is a prefix of the bytes that are considered
       front_seen : (after : Option (List ℕ)) → take (length (first.held ++ so.taken)) (take (first.limit - first.place) (first.held ++ known so.taken after)) ≡ spell_all format.units so.units ++ now.held
       front_seen after =
           let bytes = considered_from after in
@@ -199,7 +199,7 @@ module _ {V U S O : Type 0} (format : Format V U) (Steps : S → U → S → O �
           ap (take (length (first.held ++ so.taken))) (bytes.1 ∙ sym (append_assoc (spell_all format.units so.units) now.held bytes.0))
           ∙ take_at (spell_all format.units so.units ++ now.held) bytes.0 (length (first.held ++ so.taken)) (sym size)
 
-      -- the unit that is held states too much
+      -- the held bytes begin with a unit that states a body above its limit
       pub gone_overlong : HasLongest format first.room → (new : S) (after : O) → new ≡ middle → after ≡ between → format.IsOverlong now.held → GoesFrom format Steps Breaks first (rest from) (rest source) (Ok (Torn now.place)) old new before after
       gone_overlong longest new after state output over =
           let bytes = considered_from (rest source) in
@@ -224,7 +224,7 @@ module _ {V U S O : Type 0} (format : Format V U) (Steps : S → U → S → O �
             );
           }
 
-      -- it broke off
+      -- taking a unit broke off
       pub gone_broken : (fault : F) (new : S) (after : O) → length now.held ≤ now.room → BreaksOff format Breaks now.held middle fault between after → GoesFrom format Steps Breaks first (rest from) (rest source) (Err (Broken fault)) old new before after
       gone_broken fault new after few off =
           let bytes = considered_from (rest source) in
@@ -254,7 +254,7 @@ module _ {V U S O : Type 0} (format : Format V U) (Steps : S → U → S → O �
           }
 
       module _ (next : WindowState) (now_source : R) (fills : Fills now next (rest source) (rest now_source)) (same : next.held ≡ now.held) (new : S) (after : O) (state : new ≡ middle) (output : after ≡ between) (none : BeginsWithNone format.units now.held) (short : ¬ format.IsOverlong now.held) where
-        -- nothing was read besides the byte past the limit
+        -- nothing was read except for the byte past the limit
         past_alone : Takes (rest from) (rest now_source) (so.taken ++ fills.past)
         past_alone =
             let nothing = none_joined now.held fills.joined (sym (ap (λ (w : WindowState). w.held) fills.holds) ∙ same) in
@@ -340,7 +340,7 @@ module _ {V U S O : Type 0} (format : Format V U) (Steps : S → U → S → O �
             );
           }
 
-          -- or within one
+          -- the input ends within a unit
           pub gone_torn : now.held ≢ [] → GoesFrom format Steps Breaks first (rest from) (rest now_source) (Ok (Torn now.place)) old new before after
           gone_torn some = record {
             taken = so.taken;

@@ -1,4 +1,4 @@
--- In how many bytes it is seen whether a record stands at the front, or states too long a body.
+-- How many bytes show whether they begin with a record, or with one that states too long a body.
 use Rattle.std.proofs.Common.{◌≡◌, ◌+◌, ◌-◌, ◌<◌, ◌≤◌, ◌^◌, ◌⊎◌, ℕ, List, ◌++◌, length, take, drop, inl, inr, append_assoc, sym, ap, ◌∙◌, arith}
 use Rattle.std.proofs.lemmas.Bool.{cases_lt}
 use Rattle.std.proofs.lemmas.List.{take-append-drop, length-take}
@@ -39,7 +39,7 @@ stated_length bytes are long =
       whole = joined_head bytes first.1 second.1 first.0 second.0 first.5 second.5;
     }
 
--- where so many bytes are there, a record stands at the front, or too long a body is stated
+-- if there are so many bytes, they begin with a record, or with one that states too long a body
 pub record_or_over : (limit : ℕ) (bytes : List ℕ) → AreBytes bytes → 5 + limit ≤ length bytes → StatesOver limit bytes ⊎ ((first : Record) × (rest : List ℕ) × BeginsWith (records limit) bytes first rest × AreBytes rest)
 unfolding spelling
 record_or_over limit bytes are long =

@@ -1,4 +1,4 @@
--- What going through units has done so far, and what it comes to.
+-- What taking units has done so far, and what it results in.
 use Rattle.std.proofs.Common.{◌≡◌, ◌+◌, ◌-◌, ◌<◌, ◌≤◌, ℕ, List, [], ◌∷◌, ◌++◌, length, drop, refl, sym, ap, ◌∙◌, append_assoc, length-append, arith}
 use Rattle.std.specs.Prelude.{All}
 use Rattle.std.proofs.lemmas.List.{drop-drop, flat_map_more, length-drop}
@@ -30,7 +30,7 @@ module _ {V U S O : Type 0} (format : Format V U) (Steps : S → U → S → O �
     ready = ready;
   }
 
-  -- units lead on by one more
+  -- one more unit is taken
   pub leads_more : (old middle new : S) (before between after : O) (units : List U) (unit : U) → Leads format Steps old before units middle between → Steps middle unit new between after → Leads format Steps old before (units ++ unit ∷ []) new after
   leads_more old middle new before between after [] unit leads step = rw (← leads.0, ← leads.1) (new, after, step, (refl, refl))
   leads_more old middle new before between after (u ∷ units) unit leads step = (leads.0, leads.1, leads.2, leads_more leads.0 middle new leads.1 between after units unit leads.3 step)

@@ -1,4 +1,4 @@
--- Going through the units of an input that is read as they are taken.
+-- Reading the units of an input one after the other, which is read as they are taken.
 use Rattle.std.specs.Prelude.{◌≡◌, ◌+◌, ◌-◌, ◌<◌, ◌≤◌, ℕ, List, [], ◌++◌, length, take, Option, Some, None, IfSome, Result, Ok, Err}
 use Rattle.flow_io.specs.Streams.{Takes}
 use Rattle.flow_io.specs.Windows.{WindowState}
@@ -12,21 +12,21 @@ use Rattle.file_units.specs.declared.input.TakeFault.{TakeFault}
 use Rattle.file_units.specs.declared.input.TakeFault.TheVariants.{Read, Broken}
 use Rattle.file_units.specs.Units.{ending_of, GoesToEnd, GoesToBreak}
 
--- In so many bytes it is seen whether a unit stands at the front or states too much. What states too much does so whatever follows,
--- and is no unit.
+-- Any `most` bytes show whether they begin with a unit, or with one that states a body above its limit. The latter stays so
+-- whatever follows, and is no unit.
 pub record HasLongest {V U : Type 0} (format : Format V U) (most : ℕ) : Type 0 where
   pub seen : (bytes : List ℕ) → AreBytes bytes → most ≤ length bytes → BeginsWithNone format.units bytes → format.IsOverlong bytes
   pub stays : (bytes more : List ℕ) → format.IsOverlong bytes → format.IsOverlong (bytes ++ more)
   pub none : (bytes : List ℕ) → format.IsOverlong bytes → BeginsWithNone format.units bytes
 
--- the bytes that were taken of a source, and those that it has left, where it tells them
+-- the bytes that were taken from a source, followed by those that it has left, if these are known
 abbrev pub known : List ℕ → Option (List ℕ) → List ℕ
 known taken None = taken
 known taken (Some left) = taken ++ left
 
 module _ {V U S O F : Type 0} (format : Format V U) (Steps : S → U → S → O → O → Type 0) (Breaks : S → U → F → O → O → Type 0) where
-  -- All units within so many bytes were taken, or taking them broke off: no more than the room and one byte are taken behind the
-  -- units before. Where a read failed, all units of the bytes seen so far were taken.
+  -- All units within the limit were taken, or taking them broke off, and then at most `room` bytes and one more were seen after the
+  -- units before. If a read failed, all units of the bytes seen so far were taken.
   abbrev pub GoesBy : (limit place room : ℕ) → List ℕ → Option (List ℕ) → List ℕ → Result Ending (TakeFault F) → S → S → O → O → Type 0
   GoesBy limit place room seen after all (Ok ending) old new before now =
       GoesToEnd format Steps place (limit < length all) (take limit all) (ending_of ending) old new before now × (ending ≡ End → IfSome after (λ left. left ≡ []))
@@ -34,7 +34,7 @@ module _ {V U S O F : Type 0} (format : Format V U) (Steps : S → U → S → O
   GoesBy limit place room seen after all (Err (Broken fault)) old new before now =
       (goes : GoesToBreak format Steps Breaks (take limit all) fault old before now) × (length seen ≤ length (spell_all format.units goes.units) + (room + 1))
 
-  -- The bytes that a window held, and those that were taken of its source, went by: within its limit, and one byte more at most.
+  -- The units of the bytes that a window held, and of those taken from its source, were taken: within its limit, and at most one byte more.
   pub record GoesFrom (window : WindowState) (before after : Option (List ℕ)) (result : Result Ending (TakeFault F)) (old new : S) (out now : O) : Type 0 where
     pub taken : List ℕ
     pub takes : Takes before after taken

@@ -1,4 +1,4 @@
--- Going through the units of a file: what is done with each, and how that ends.
+-- Taking the units of a file one after the other: what is done with each, and how that ends.
 use Rattle.std.specs.Prelude.{◌≡◌, ◌≢◌, ◌-◌, ◌<◌, ℕ, List, [], ◌∷◌, ◌++◌, length, drop, All}
 use Rattle.wire_records.specs.Grammars.{BeginsWithNone, spell_all}
 use Rattle.wire_records.specs.Reading.{Format, ReadsOn}
@@ -8,15 +8,15 @@ use Rattle.file_units.specs.declared.units.Front.TheVariants.{Taken, NoBytes, Ov
 use Rattle.file_units.specs.declared.units.Ending.{Ending}
 use Rattle.file_units.specs.declared.units.Ending.TheVariants.{End, Torn, TooLong}
 
--- the ending of a reading that an answer stands for
+-- the ending of a reading, as the definitions of `wire_records` have it
 abbrev pub ending_of : Ending → reading.Ending
 ending_of End = reading.End
 ending_of (Torn place) = reading.Torn place
 ending_of TooLong = reading.TooLong
 
--- a format; what taking a unit makes of a state, and of an output besides
+-- a format, and what taking a unit does to a state and to an output
 module _ {V U S O : Type 0} (format : Format V U) (Steps : S → U → S → O → O → Type 0) where
-  -- A whole unit stands at the front of the bytes, and was taken.
+  -- The bytes begin with a complete unit, and it was taken.
   pub record TakesOne (taken : ℕ) (bytes : List ℕ) (old new : S) (before after : O) : Type 0 where
     pub unit : U
     pub lawful : format.units.IsLawful unit
@@ -25,32 +25,32 @@ module _ {V U S O : Type 0} (format : Format V U) (Steps : S → U → S → O �
     pub front : bytes ≡ format.units.spell unit ++ drop taken bytes
     pub step : Steps old unit new before after
 
-  -- No whole unit stands there, and nothing was done.
+  -- The bytes begin with no complete unit, and nothing was done.
   pub record TakesNone (bytes : List ℕ) (old new : S) (before after : O) : Type 0 where
     pub none : BeginsWithNone format.units bytes
     pub state : new ≡ old
     pub output : after ≡ before
 
-  -- by what stands there
+  -- what was taken and done, by what the bytes begin with
   abbrev pub IsTaken : Front → List ℕ → S → S → O → O → Type 0
   IsTaken (Taken n) bytes old new before after = TakesOne n bytes old new before after
   IsTaken NoBytes bytes old new before after = TakesNone bytes old new before after × (bytes ≡ []) × (¬ format.IsOverlong bytes)
   IsTaken Overlong bytes old new before after = TakesNone bytes old new before after × format.IsOverlong bytes
   IsTaken Short bytes old new before after = TakesNone bytes old new before after × (bytes ≢ []) × (¬ format.IsOverlong bytes)
 
-  -- units lead, one after the other, from a state and an output to others
+  -- taking units, one after the other, leads from a state and an output to others
   abbrev pub Leads : S → O → List U → S → O → Type 0
   Leads old before [] new after = (new ≡ old) × (after ≡ before)
   Leads old before (unit ∷ units) new after = (next : S) × (between : O) × Steps old unit next before between × Leads next between units new after
 
-  -- All whole units were taken, and so the reading ends.
+  -- All complete units were taken, and the reading ends so.
   pub record GoesToEnd (place : ℕ) (More : Type 0) (bytes : List ℕ) (ending : reading.Ending) (old new : S) (before after : O) : Type 0 where
     pub units : List U
     pub reads : ReadsOn format place More bytes units ending
     pub leads : Leads old before units new after
 
 module _ {V U S O F : Type 0} (format : Format V U) (Breaks : S → U → F → O → O → Type 0) where
-  -- Taking the unit at the front breaks off with a fault.
+  -- Taking the unit that the bytes begin with breaks off with a fault.
   pub record BreaksOff (bytes : List ℕ) (old : S) (fault : F) (before after : O) : Type 0 where
     pub unit : U
     pub rest : List ℕ
@@ -70,7 +70,7 @@ module _ {V U S O F : Type 0} (format : Format V U) (Steps : S → U → S → O
     pub leads : Leads format Steps old before units middle between
     pub breaks : BreaksOff format Breaks left middle fault between after
 
--- what can take units while so many bytes are left still can, behind the unit that was taken
+-- a taker that is ready while so many bytes are left still is, after the unit that was taken
 abbrev pub StaysReady : (ℕ → Type 0) → Front → ℕ → Type 0
 StaysReady IsReady (Taken n) left = IsReady (left - n)
 StaysReady IsReady NoBytes left = IsReady left

@@ -1,4 +1,4 @@
-//! The loop over the units of an input that is read as they are taken.
+//! The loop over the units of an input, more of which is read as they are taken.
 ghost use Rattle.std.specs.Prelude.{◌≡◌, ◌-◌, ◌<◌, Some, None, [], length, Err, IfOk, OnErr, IfSome, IsErr};
 ghost use Rattle.flow_io.specs.Faults.{Blames};
 ghost use Rattle.flow_io.specs.Windows.{Fills, IsWithin};
@@ -18,7 +18,7 @@ pub enum TakeFault<F> {
     Broken(F),
 }
 
-// The bytes that a window holds, with what their type says of them as a clause.
+// Returns the bytes that a window holds, with what their type says of them as a clause.
 fn bytes_of(held: &[u8]) -> &[u8]
     ensures value { result.now ≡ held.now }
     ensures bytes { AreBytes held.now }
@@ -26,7 +26,7 @@ fn bytes_of(held: &[u8]) -> &[u8]
     held
 }
 
-// Reads once more behind the held bytes, of which there are fewer than the room.
+// Reads more bytes after the held ones, of which there are fewer than the window can hold.
 fn read_on<S: Source>(window: &mut Window, source: &mut S) -> Result<Filled, ReadFailed>
     requires room { length window.old.held < window.old.room }
     requires same { window.old.over ≡ Some source_end → IfSome (S.rest source.old) (λ left. left ≡ []) }
@@ -43,11 +43,11 @@ fn read_on<S: Source>(window: &mut Window, source: &mut S) -> Result<Filled, Rea
     window.fill(source, want)
 }
 
-/// Takes the units of an input from the held bytes of a window on, one after the other, and answers how the reading ends,
-/// or why it broke off. The source is read only where no whole unit is held, and then once: so each unit that has come is
+/// Takes the units of an input one after the other, from the held bytes of a window on, and returns how the reading ends,
+/// or why it broke off. The source is read only if no complete unit is held, and then once: so each unit that has come is
 /// taken before more is asked for.
 ///
-/// The window has room for the longest unit. Each unit is looked at where it lies, and again for each read that ended
+/// The window has to hold the longest unit. Each unit is looked at in place, and again for each read that ended
 /// within it.
 pub fn take_from<S: Source, O, T: TakesUnits<O>>(
     window: &mut Window,

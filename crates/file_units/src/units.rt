@@ -4,16 +4,16 @@ ghost use Rattle.wire_records.specs.Reading.{Format};
 ghost use Rattle.wire_records.specs.declared.version.Version.{Version};
 ghost use Rattle.file_units.specs.Units.{ending_of, IsTaken, StaysReady, BreaksOff, GoesToEnd, GoesToBreak};
 
-/// What stands at the front of the rest of a file, once a whole unit there has been taken.
+/// What the rest of a file begins with, once a complete unit there has been taken.
 #[derive(Clone, Copy, Debug, PartialEq, Eq)]
 pub enum Front {
-    /// A whole unit of so many bytes, at least one, which was taken.
+    /// A complete unit of so many bytes, at least one, which was taken.
     Taken(usize),
     /// No bytes.
     NoBytes,
     /// The first unit states a body above its limit.
     Overlong,
-    /// The first unit isn't all there.
+    /// The first unit isn't complete.
     Short,
 }
 
@@ -22,13 +22,13 @@ pub enum Front {
 pub enum Ending {
     /// With the input.
     End,
-    /// Before a unit that isn't whole and begins at this byte of the file, from 0.
+    /// Before a unit that is truncated or states a body above its limit, and begins at this byte of the file, from 0.
     Torn(u64),
     /// At the limit: the input has more.
     TooLong,
 }
 
-/// What is done with the units of one kind of file. Its state goes on from unit to unit, and each may change an output.
+/// What is done with the units of one kind of file. A state is carried from unit to unit, and each may change an output.
 pub trait TakesUnits<O> {
     ghost use Rattle.std.specs.Prelude.{ℕ};
 
@@ -49,7 +49,7 @@ pub trait TakesUnits<O> {
     // It can take units while no more than so many bytes are left.
     ghost is_ready: { Self → ℕ → Type 0 };
 
-    /// Takes the unit at the front of the bytes, if a whole one stands there.
+    /// Takes the unit that the bytes begin with, if it is complete.
     fn take(&mut self, bytes: &[u8], out: &mut O) -> Result<Front, Self::Fault>
         requires ready { (left : ℕ) × (length bytes.now ≤ left) × is_ready self.old left }
         ensures taken { IfOk result (λ front. IsTaken format steps front bytes.now (state self.old) (state self.new) out.old out.new) }
@@ -57,8 +57,8 @@ pub trait TakesUnits<O> {
         ensures broken { IfErr result (λ fault. BreaksOff format breaks bytes.now (state self.old) fault out.old out.new) };
 }
 
-/// Takes the units that stand in the bytes of a file from a place on, one after the other, and answers how the reading ends,
-/// or why it broke off. `more` says whether the input has bytes behind these.
+/// Takes the units in the bytes of a file, from a place on, one after the other, and returns how the reading ends,
+/// or why it broke off. `more` says whether the input has bytes after these.
 pub fn take_units<O, T: TakesUnits<O>>(
     bytes: &[u8],
     start: usize,

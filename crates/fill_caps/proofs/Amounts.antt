@@ -6,7 +6,7 @@ use mir.Val.{hbits}
 use Rattle.std.proofs.lemmas.Int.{ints, fits_signed_from_abs}
 use Rattle.flow_accounts.specs.Balances.{Account, units_in}
 
--- a number with its sign turned
+-- a number negated
 abbrev pub turned : Width → ℤ → ℤ
 turned w z = to_z w (of_z w (pos 0 -ℤ to_z w (of_z w z)))
 
@@ -15,7 +15,7 @@ turned_is w z fits small =
     let turned_fits : FitsSigned w (pos 0 -ℤ z) = fits_signed_from_abs w (pos 0 -ℤ z) (omega (arith, ints, small)) in
     rw (to_z-of_z fits, to_z-of_z turned_fits)
 
--- what is added with its sign turned is taken away
+-- adding a negated amount takes it away
 pub taken_away : (w : Width) (held z amount : ℤ) → FitsSigned w z → unsigned_abs z < 2 ^ hbits w → z ≡ amount → held +ℤ turned w z ≡ held -ℤ amount
 taken_away w held z amount fits small is = omega (arith, ints, turned_is w z fits small, is)
 
@@ -23,7 +23,7 @@ taken_away w held z amount fits small is = omega (arith, ints, turned_is w z fit
 abbrev pub gone : ℤ → ℤ → ℤ
 gone held now = to_z w128 (of_z w128 (to_z w128 (of_z w128 held) -ℤ to_z w128 (of_z w128 now)))
 
--- where this came, that much is gone
+-- `came` was added to what was held, and `gone` is minus that
 pub record IsGone (held now came : ℤ) : Type 0 where
   pub fits : FitsSigned w128 (to_z w128 (of_z w128 held) -ℤ to_z w128 (of_z w128 now))
   pub value : gone held now ≡ pos 0 -ℤ came
@@ -34,11 +34,11 @@ gone_is held now came held_fits now_fits is small =
     let fits : FitsSigned w128 (pos 0 -ℤ came) = fits_signed_from_abs w128 (pos 0 -ℤ came) (omega (arith, ints, small)) in
     record { fits = rw (to_z-of_z held_fits, to_z-of_z now_fits, difference) fits; value = rw (to_z-of_z held_fits, to_z-of_z now_fits, difference) (to_z-of_z fits) }
 
--- the units of an entry whose weight was passed on
+-- the units of a leg whose weight was passed on
 pub amount_is : (units weight : ℤ) (rate : ℕ) → FitsSigned w32 weight → units ≡ to_z w32 (of_z w32 weight) *ℤ pos rate → units ≡ weight *ℤ pos rate
 amount_is units weight rate fits is = is ∙ ap (λ w. w *ℤ pos rate) (to_z-of_z fits)
 
--- the exchange after one entry, as the code computes it
+-- the exchange after one leg, as the code computes it
 pub exchange_is : (e : Account) (asset : ℕ) (amount price units read cost : ℤ) → FitsSigned w64 units → unsigned_abs units ≤ 2 ^ 36 → units ≡ amount → read ≡ price → unsigned_abs price ≤ 2 ^ 62 → FitsSigned w128 cost
     → cost ≡ to_z w64 (of_z w64 units) *ℤ to_z w64 (of_z w64 read)
     → ◌≡◌ {A = Account} (record { money = e.money +ℤ to_z w128 (of_z w128 cost); units = set e.units asset (units_in e asset +ℤ turned w64 units) })

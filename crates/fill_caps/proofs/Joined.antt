@@ -8,7 +8,7 @@ use Rattle.std.proofs.lemmas.Bool.Decides.{eqb_tells}
 use Rattle.std.proofs.lemmas.List.Elements.{All-cons, All-nil}
 use Rattle.std.proofs.Math.IntN.{*ℤ-zero}
 use Rattle.list_sums.specs.Sums.{int_sum_by}
-use Rattle.weight_rows.specs.Rows.{IsLawfulRow, IsPricedBy, IsPrice, weight_in, price_of, portfolio_price}
+use Rattle.weight_rows.specs.Rows.{IsWeightVector, IsPricedBy, IsPrice, weight_in, price_of, portfolio_price}
 use Rattle.list_sums.proofs.Products.{*ℤ-add, unsigned_abs-mul_le}
 use Rattle.list_sums.proofs.SumLemmas.{int_sum_by-add, int_sum_by-same, int_sum_by-append, int_sum_by-zeros, unsigned_abs-int_sum_by}
 use Rattle.weight_rows.proofs.RowLemmas.{price_is_bounded}
@@ -25,15 +25,15 @@ use Rattle.flow_orders.proofs.OwnSums.{own_sum-append}
 use Rattle.fill_caps.proofs.Needs.{own_not_negative}
 use Rattle.fill_caps.proofs.Totals.{money_by_account, units_by_account}
 
--- what the residuals cost is what all trades paid
-pub cost_is_paid : (prices : List ℤ) (ts : List Trade) → All (λ t. IsLawfulRow t.order.row) ts → All (λ t. IsPricedBy t.order.row prices) ts → int_sum_by (paid prices) ts ≡ residual_cost prices ts
+-- what the imbalances cost is what all trades paid
+pub cost_is_paid : (prices : List ℤ) (ts : List Trade) → All (λ t. IsWeightVector t.order.row) ts → All (λ t. IsPricedBy t.order.row prices) ts → int_sum_by (paid prices) ts ≡ residual_cost prices ts
 cost_is_paid prices ts lawful priced = costs_by_asset (λ (t : Trade). t.order.row) (λ t. pos t.traded) prices ts lawful priced
 
--- the residuals of trades one after the other add up
+-- the imbalances of two lists of trades add up
 pub residual-append : (ts us : List Trade) (asset : ℕ) → residual (ts ++ us) asset ≡ residual ts asset +ℤ residual us asset
 residual-append ts us asset = int_sum_by-append (received asset) ts us
 
--- and so does what they cost
+-- the costs of the imbalances of two lists of trades add up
 pub residual_cost-append : (prices : List ℤ) (ts us : List Trade) → residual_cost prices (ts ++ us) ≡ residual_cost prices ts +ℤ residual_cost prices us
 residual_cost-append prices ts us =
     let assets = range_with_len 0 (length prices) in
@@ -58,7 +58,7 @@ own_of_one : {X : Type 0} (whose : X → ℕ) (f : X → ℤ) (account : ℕ) (x
 own_of_one whose f account x = omega (arith, ints)
 
 -- one trade: its account pays and receives, no other account changes, and the exchange takes the other side
-pub settles_one : (prices : List ℤ) (t : Trade) (old new : Balances) (exchange_old exchange_new : Account) → IsLawfulRow t.order.row → IsPricedBy t.order.row prices
+pub settles_one : (prices : List ℤ) (t : Trade) (old new : Balances) (exchange_old exchange_new : Account) → IsWeightVector t.order.row → IsPricedBy t.order.row prices
     → account_count new ≡ account_count old → new.credits ≡ old.credits → new.total_money ≡ old.total_money → new.total_units ≡ old.total_units
     → money_of new (trader t) ≡ money_of old (trader t) -ℤ paid prices t
     → ((other : ℕ) → IsAccount old other → other ≢ trader t → money_of new other ≡ money_of old other)
@@ -93,7 +93,7 @@ settles_one prices t old new exchange_old exchange_new lawful priced accounts cr
       omega (arith, ints, none, units_others account asset there is_asset (λ same. other.1 (sym same))))
       (eqb_tells (trader t) account);
   exchange_money =
-      let cost = cost_is_paid prices (t ∷ []) (All-cons (λ t. IsLawfulRow t.order.row) t [] lawful (All-nil (λ t. IsLawfulRow t.order.row))) (All-cons (λ t. IsPricedBy t.order.row prices) t [] priced (All-nil (λ t. IsPricedBy t.order.row prices))) in
+      let cost = cost_is_paid prices (t ∷ []) (All-cons (λ t. IsWeightVector t.order.row) t [] lawful (All-nil (λ t. IsWeightVector t.order.row))) (All-cons (λ t. IsPricedBy t.order.row prices) t [] priced (All-nil (λ t. IsPricedBy t.order.row prices))) in
       omega (arith, ints, exchange_money, cost);
   exchange_units = λ asset is_asset. omega (arith, ints, exchange_units asset is_asset);
 }
@@ -119,7 +119,7 @@ settles_more prices ts us old now new exchange_old exchange_now exchange_new fir
       omega (arith, ints, first.exchange_units asset is_asset, second.exchange_units asset asset_now, residual-append ts us asset);
 }
 
-module _ (prices : List ℤ) (ts : List Trade) (few : length ts ≤ 16384) (lawful : All (λ t. IsLawfulRow t.order.row) ts) (slow : All (λ t. t.traded ≤ 2 ^ 24) ts) where
+module _ (prices : List ℤ) (ts : List Trade) (few : length ts ≤ 16384) (lawful : All (λ t. IsWeightVector t.order.row) ts) (slow : All (λ t. t.traded ≤ 2 ^ 24) ts) where
   -- any part of a batch moves at most 2^116 grains in all
   pub part_money_is_small : All IsPrice prices → unsigned_abs (int_sum_by (paid prices) ts) ≤ 2 ^ 116
   part_money_is_small bounded =
@@ -128,7 +128,7 @@ module _ (prices : List ℤ) (ts : List Trade) (few : length ts ≤ 16384) (lawf
       let all = unsigned_abs-int_sum_by (paid prices) (2 ^ 24 * 2 ^ 78) ts each in
       omega (arith, all, few)
 
-  -- and at most 2^50 units of an asset
+  -- any part of a batch moves at most 2^50 units of an asset
   pub part_units_are_small : (asset : ℕ) → unsigned_abs (residual ts asset) ≤ 2 ^ 50
   part_units_are_small asset =
       let each : All (λ t. unsigned_abs (received asset t) ≤ 4096 * 2 ^ 24) ts = λ k d inside.
@@ -159,7 +159,7 @@ pub record OweLittle (b : Balances) : Type 0 where
   pub money : (account : ℕ) → IsAccount b account → neg_ℤ (pos (2 ^ 72)) ≤ℤ money_of b account
   pub units : (account asset : ℕ) → IsAccount b account → IsAsset b asset → neg_ℤ (pos (2 ^ 40)) ≤ℤ units_of b account asset
 
--- as where the needs of orders are covered, and no credit is above the highest
+-- no account owes more if its orders' needs are covered and no credit is above the highest
 pub owe_little : (b : Balances) (orders : List Order) → CoversNeeds b orders → account_count b ≤ 65536
     → ((account : ℕ) → IsAccount b account → money_credit_of b account ≤ most_credit)
     → ((account asset : ℕ) → IsAccount b account → IsAsset b asset → unit_credit_of b account asset ≤ most_credit) → OweLittle b
@@ -176,13 +176,13 @@ module _ (b : Balances) (owe : OweLittle b) where
       let most = le-range_sum (λ k. money_of b k) (2 ^ 72) 1 (account_count b) account there.0 (omega (arith, there.1)) (λ k low high. owe.money k (low, omega (arith, high))) in
       omega (arith, ints, most, sums, money_by_account b, owe.few)
 
-  -- nor more units of an asset
+  -- one account has no more units of an asset than the total less what the exchange has, and what all accounts owe
   pub units_are_bounded : (asset : ℕ) → IsAsset b asset → (exchange total : ℤ) → units_of_all b asset +ℤ exchange ≡ total → (account : ℕ) → IsAccount b account → units_of b account asset ≤ℤ (total -ℤ exchange +ℤ pos (2 ^ 56))
   units_are_bounded asset is_asset exchange total sums account there =
       let most = le-range_sum (λ k. units_of b k asset) (2 ^ 40) 1 (account_count b) account there.0 (omega (arith, there.1)) (λ k low high. owe.units k asset (low, omega (arith, high)) is_asset) in
       omega (arith, ints, most, sums, units_by_account b asset, owe.few)
 
-  -- so balances fit while the exchange is within 2^123 grains and 2^55 units, and a part of a batch moved it
+  -- balances fit while the exchange was within 2^123 grains and 2^55 units before a part of a batch moved it
   pub money_fits : (before now total : ℤ) → money_of_all b +ℤ now ≡ total → total ≤ℤ pos (2 ^ 100) → unsigned_abs before ≤ 2 ^ 123 → unsigned_abs (now -ℤ before) ≤ 2 ^ 116 → (account : ℕ) → IsAccount b account → IsMoneyBalance (money_of b account)
   money_fits before now total sums limited near moved account there =
       (owe.money account there, omega (arith, ints, money_is_bounded now total sums account there, limited, near, moved))
@@ -191,7 +191,7 @@ module _ (b : Balances) (owe : OweLittle b) where
   units_fit asset is_asset before now total sums limited near moved account there =
       (owe.units account asset there is_asset, omega (arith, ints, units_are_bounded asset is_asset now total sums account there, limited, near, moved))
 
--- the residuals of orders with one rate each, in the words of the chosen rates
+-- the imbalances of orders with one rate each, as a sum over pairs of order and rate
 pub residual-trades : (orders : List Order) (rates : List ℕ) (asset : ℕ) → residual (trades orders rates) asset ≡ int_sum_by (λ pair. weight_in pair.0.row asset *ℤ pos pair.1) (zip orders rates)
 residual-trades [] rates asset = refl
 residual-trades (o ∷ orders) [] asset = refl

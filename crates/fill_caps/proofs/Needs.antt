@@ -13,7 +13,7 @@ use Rattle.demand_curve.specs.Demand.{IsWithinLimits, IsRounding}
 use Rattle.demand_curve.specs.Numbers.{or_zero}
 use Rattle.demand_curve.proofs.RoundingLaws.{rounding_is_within_room, rounding_is_exact_at_cuts}
 use Rattle.flow_accounts.specs.Balances.{Account, Credit, Balances, IsAccount, IsAsset, no_credit, credit_in}
-use Rattle.flow_orders.specs.Orders.{Order, left_of, terms_of, money_need, sold, unit_need, own_sum}
+use Rattle.flow_orders.specs.Orders.{Order, remaining_quantity, terms_of, money_need, sold, unit_need, own_sum}
 use Rattle.flow_orders.specs.Trades.{Trade, paid, received, trader, after_fill, is_live, staying}
 use Rattle.fill_caps.specs.Settles.{Settles}
 use Rattle.flow_orders.proofs.TradeFacts.{before_fills, after_fills, IsAllowed}
@@ -34,7 +34,7 @@ or_zero_is : (z : ℤ) → or_zero z ≡ up z - down z
 or_zero_is (pos n) = omega arith
 or_zero_is (negsuc n) = omega arith
 
--- what x units cost below a limit is at most what they cost at the limit, or at 0 where that is negative
+-- what x units cost below a limit is at most what they cost at the limit, or at 0 if that is negative
 pub cost_at_most : (x : ℕ) (price high : ℤ) → (0 < x → price <ℤ high) → (pos x *ℤ price) ≤ℤ pos (or_zero high * x)
 cost_at_most zero price high below = omega (arith, ints, zero-*ℤ price)
 cost_at_most (suc n) price high below =
@@ -44,7 +44,7 @@ cost_at_most (suc n) price high below =
 -- what an order still needs of money, with what it paid, is at most what it needed
 pub money_need_falls : (prices : List ℤ) (t : Trade) → IsAllowed prices t → pos (money_need (after_fill t)) ≤ℤ (pos (money_need (t.order)) -ℤ paid prices t)
 money_need_falls prices t allowed =
-    let left : left_of t.order ≡ left_of (after_fill t) + t.traded = omega (arith, allowed.within) in
+    let left : remaining_quantity t.order ≡ remaining_quantity (after_fill t) + t.traded = omega (arith, allowed.within) in
     omega (arith, ints, ap (λ y. or_zero t.order.high * y) left, cost_at_most t.traded (portfolio_price t.order.row prices) t.order.high allowed.below_high)
 
 unit_step : (w : ℤ) (x left now : ℕ) → left ≡ now + x → pos (sold w * now) ≤ℤ (pos (sold w * left) +ℤ w *ℤ pos x)
@@ -54,7 +54,7 @@ unit_step (negsuc n) x left now e = omega (arith, ints, ap (λ y. (n + 1) * y) e
 -- what an order still needs of an asset is at most what it needed, with what it received
 pub unit_need_falls : (prices : List ℤ) (asset : ℕ) (t : Trade) → IsAllowed prices t → pos (unit_need asset (after_fill t)) ≤ℤ (pos (unit_need asset (t.order)) +ℤ received asset t)
 unit_need_falls prices asset t allowed =
-    unit_step (weight_in t.order.row asset) t.traded (left_of t.order) (left_of (after_fill t)) (omega (arith, allowed.within))
+    unit_step (weight_in t.order.row asset) t.traded (remaining_quantity t.order) (remaining_quantity (after_fill t)) (omega (arith, allowed.within))
 
 module _ {X : Type 0} (whose : X → ℕ) (f g h : X → ℤ) where
   -- an account's own sum of terms that are at most a difference, or a sum
@@ -137,12 +137,12 @@ cond_zero true m none = ap pos none
 cond_zero false m none = refl
 
 -- an order at its cap needs nothing
-full_needs_nothing : (account n : ℕ) (o : Order) → is_live o ≡ false → cond (eqb (o.account) account) (pos (n * left_of o)) (pos 0) ≡ pos 0
+full_needs_nothing : (account n : ℕ) (o : Order) → is_live o ≡ false → cond (eqb (o.account) account) (pos (n * remaining_quantity o)) (pos 0) ≡ pos 0
 full_needs_nothing account n o full =
-    let none : left_of o ≡ 0 = omega (arith, ltb-false o.filled o.cap full) in
-    cond_zero (eqb (o.account) account) (n * left_of o) (omega (arith, ap (λ y. n * y) none))
+    let none : remaining_quantity o ≡ 0 = omega (arith, ltb-false o.filled o.cap full) in
+    cond_zero (eqb (o.account) account) (n * remaining_quantity o) (omega (arith, ap (λ y. n * y) none))
 
--- so it may leave
+-- accounts also cover the needs of the live orders alone
 pub needs_of_live : (b : Balances) (orders : List Order) → CoversNeeds b orders → CoversNeeds b (filter is_live orders)
 needs_of_live b orders covers = record {
   money = λ account there. rw (int_sum_by-filter (λ o. cond (eqb (o.account) account) (pos (money_need o)) (pos 0)) is_live orders (λ o full. full_needs_nothing account (or_zero o.high) o full)) (covers.money account there);

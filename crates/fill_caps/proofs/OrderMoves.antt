@@ -1,11 +1,11 @@
--- One order is settled: what its calls want, and what it comes to.
+-- One order is settled: what the calls require, and what they result in.
 use Rattle.std.proofs.Common.{◌≡◌, ℕ, ◌+◌, ◌^◌, ◌≤◌, ℤ, pos, ◌+ℤ◌, ◌-ℤ◌, ◌*ℤ◌, ◌≤ℤ◌, ◌<ℤ◌, List, [], ◌∷◌, ◌-◌, ap, sym, subst, ◌∙◌, FitsSigned, arith}
 use Rattle.std.specs.Prelude.{All, unsigned_abs, slice_index_or}
 use Rattle.std.specs.Int.{w128}
 use Rattle.std.proofs.lemmas.Int.{ints}
 use Rattle.list_sums.proofs.Products.{unsigned_abs-mul_le}
 use Rattle.weight_rows.specs.declared.entries.Entry.{Entry}
-use Rattle.weight_rows.specs.Rows.{IsLawfulRow, IsPricedBy, IsPrice, weight_in, portfolio_price}
+use Rattle.weight_rows.specs.Rows.{IsWeightVector, IsPricedBy, IsPrice, weight_in, portfolio_price}
 use Rattle.weight_rows.proofs.RowLemmas.{price_is_bounded}
 use Rattle.weight_rows.proofs.RowLawProofs.{weights_are_small}
 use Rattle.demand_curve.specs.Demand.{IsRounding}
@@ -53,7 +53,7 @@ module _ (prices : List ℤ) (o : Order) (x : ℕ) (is : IsOrder o) (rounding : 
         omega (arith, ints, paid_small range, amount_is, most),
       )
 
-  -- and can give
+  -- an account that covers what the order needs can give its units
   pub units_stay : (asset : ℕ) (held : ℤ) (credit : ℕ) → pos (unit_need asset o) ≤ℤ (held +ℤ pos credit) → held ≤ℤ pos (2 ^ 61)
       → (pos 0 ≤ℤ (held +ℤ pos credit +ℤ received asset trade)) × ((held +ℤ received asset trade) <ℤ pos (2 ^ 62))
   units_stay asset held credit covered most =
@@ -63,7 +63,7 @@ module _ (prices : List ℤ) (o : Order) (x : ℕ) (is : IsOrder o) (rounding : 
         omega (arith, ints, small, most),
       )
 
-  -- once its row was moved it can pay
+  -- once the units of the legs are moved, the account can pay
   pub can_pay : All IsPrice prices → (old mid : Balances) (row : List Entry) (account : ℕ) (exchange_old exchange_new : Account) (amount : ℤ) → account ≡ o.account → MovesRow prices account x row old mid exchange_old exchange_new
       → pos (money_need o) ≤ℤ money_with_credit old o.account → money_of old o.account ≤ℤ pos (2 ^ 123 + 2 ^ 117) → amount ≡ pos 0 -ℤ paid prices trade
       → (pos 0 ≤ℤ (money_with_credit mid account +ℤ amount)) × ((money_of mid account +ℤ amount) <ℤ pos (2 ^ 124))
@@ -78,10 +78,10 @@ module _ (prices : List ℤ) (o : Order) (x : ℕ) (is : IsOrder o) (rounding : 
   can_give b row account row_is account_is covered most asset is_asset =
       rw (account_is, row_is) (units_stay asset (units_of b o.account asset) (unit_credit_of b o.account asset) (covered asset is_asset) (most asset is_asset))
 
-module _ (prices : List ℤ) (t : Trade) (old mid new : Balances) (amount : ℤ) (exchange_old exchange_new : Account) (lawful : IsLawfulRow t.order.row) (priced : IsPricedBy t.order.row prices)
+module _ (prices : List ℤ) (t : Trade) (old mid new : Balances) (amount : ℤ) (exchange_old exchange_new : Account) (lawful : IsWeightVector t.order.row) (priced : IsPricedBy t.order.row prices)
     (there : IsAccount old (trader t)) (amount_is : amount ≡ pos 0 -ℤ paid prices t) (moves : MovesRow prices (trader t) t.traded t.order.row old mid exchange_old exchange_new)
     (pays_is : new ≡ move_money mid (trader t) amount) where
-  -- the row is moved, and then the account pays
+  -- the units of the legs are moved, and then the account pays
   moves_and_pays : Settles prices (t ∷ []) old (move_money mid (trader t) amount) exchange_old exchange_new
   moves_and_pays =
       let still : IsAccount mid (trader t) = (there.0, omega (arith, there.1, moves.accounts)) in
@@ -97,7 +97,7 @@ module _ (prices : List ℤ) (t : Trade) (old mid new : Balances) (amount : ℤ)
   trade_settles : Settles prices (t ∷ []) old new exchange_old exchange_new
   trade_settles = subst (λ (b : Balances). Settles prices (t ∷ []) old b exchange_old exchange_new) (sym pays_is) moves_and_pays
 
-pub order_settles : (prices : List ℤ) (o : Order) (x : ℕ) (amount : ℤ) (row : List Entry) (account : ℕ) (old mid new : Balances) (exchange_old exchange_new : Account) → IsLawfulRow o.row → IsPricedBy o.row prices → IsAccount old o.account
+pub order_settles : (prices : List ℤ) (o : Order) (x : ℕ) (amount : ℤ) (row : List Entry) (account : ℕ) (old mid new : Balances) (exchange_old exchange_new : Account) → IsWeightVector o.row → IsPricedBy o.row prices → IsAccount old o.account
     → row ≡ o.row → account ≡ o.account → amount ≡ pos 0 -ℤ paid prices (record { order = o; traded = x }) → MovesRow prices account x row old mid exchange_old exchange_new → new ≡ move_money mid account amount
     → Settles prices (record { order = o; traded = x } ∷ []) old new exchange_old exchange_new
 order_settles prices o x amount row account old mid new exchange_old exchange_new lawful priced there row_is account_is amount_is moves new_is =

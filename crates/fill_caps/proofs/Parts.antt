@@ -1,11 +1,11 @@
--- A first part of a batch is settled, and the next order's turn is it.
+-- The first orders of a batch are settled, and the next one follows.
 use Rattle.std.proofs.Common.{◌≡◌, ℕ, zero, suc, ◌+◌, ◌-◌, ◌^◌, ◌≤◌, ◌<◌, ℤ, pos, ◌+ℤ◌, ◌≤ℤ◌, List, [], ◌∷◌, ◌++◌, take, drop, length, get_or, cond, eqb, refl, ap, sym, subst, ◌∙◌, arith}
 use Rattle.std.specs.Prelude.{All, slice_index_or, unsigned_abs}
 use Rattle.std.proofs.lemmas.Int.{ints}
 use Rattle.std.proofs.lemmas.Bool.{eq-eqb}
 use Rattle.std.proofs.lemmas.List.{take_more, take_all, take-append-drop, drop_more, map-append, length-map, length-take}
 use Rattle.std.proofs.lemmas.List.Elements.{All-take, All-append, All-cons, All-nil}
-use Rattle.weight_rows.specs.Rows.{IsLawfulRow, IsPricedBy, IsPrice}
+use Rattle.weight_rows.specs.Rows.{IsWeightVector, IsPricedBy, IsPrice}
 use Rattle.demand_curve.specs.Demand.{IsRounding}
 use Rattle.demand_curve.proofs.RoundingLaws.{rounding_is_within_room}
 use Rattle.flow_accounts.specs.Balances.{Account, Balances, IsAccount, IsAsset, asset_count, money_of, units_of, money_with_credit, units_with_credit, units_in, total_units_of}
@@ -27,7 +27,7 @@ use Rattle.fill_caps.proofs.Settled.{settled_balances_are_one, settled_exchange_
 use Rattle.fill_caps.proofs.SettledBalances.{settles, settled_units_count, exchange_units_count}
 use Rattle.fill_caps.proofs.Totals.{money_kept, units_kept}
 
--- what is asked of a batch before it is settled
+-- what a batch must satisfy before it is settled
 pub record IsReady (prices : List ℤ) (orders : List Order) (rates : List ℕ) (b : Balances) (exchange : Account) : Type 0 where
   pub few : length orders ≤ 16384
   pub one_rate_each : length rates ≡ length orders
@@ -68,7 +68,7 @@ get_or-trades (e ∷ orders) [] i d o x count inside = absurd (omega (arith, cou
 get_or-trades (e ∷ orders) (y ∷ rates) zero d o x count inside = refl
 get_or-trades (e ∷ orders) (y ∷ rates) (suc i) d o x count inside = get_or-trades orders rates i d o x (omega (arith, count)) (omega (arith, inside))
 
--- it is the turn of an order and its rate
+-- the order at place i and its rate
 pub record IsTurn (orders : List Order) (rates : List ℕ) (i : ℕ) (o : Order) (x : ℕ) : Type 0 where
   pub inside : i < length (trades orders rates)
   pub at : get_or (trades orders rates) i (record { order = o; traded = x }) ≡ record { order = o; traded = x }
@@ -111,7 +111,7 @@ module _ (prices : List ℤ) (orders : List Order) (rates : List ℕ) (old : Bal
     part_allowed : All (IsAllowed prices) part
     part_allowed k d inside = rounding_is_allowed prices (slice_index_or part k d) (before.orders k d inside).terms (part_roundings k d inside)
 
-    part_lawful : All (λ t. IsLawfulRow t.order.row) part
+    part_lawful : All (λ t. IsWeightVector t.order.row) part
     part_lawful k d inside = (before.orders k d inside).row
 
     part_slow : All (λ t. t.traded ≤ 2 ^ 24) part
@@ -203,7 +203,7 @@ module _ (prices : List ℤ) (orders : List Order) (rates : List ℕ) (old : Bal
           let sums : units_of_all now asset +ℤ units_in exchange_now asset ≡ total_units_of now asset = omega (arith, ints, units_held asset was, ready.total_units asset was, same) in
           omega (arith, ints, units_are_bounded now owe asset is_asset (units_in exchange_now asset) (total_units_of now asset) sums o.account account_there, exchange_units_near asset was, (unit_total now asset before.lawful is_asset).1)
 
-      -- so there is room for it
+      -- the next order can be settled
       pub has_room : HasRoom o now exchange_now
       has_room = record {
         money_covered = money_covered;
@@ -214,7 +214,7 @@ module _ (prices : List ℤ) (orders : List Order) (rates : List ℕ) (old : Bal
         exchange_units = λ asset is_asset. omega (arith, exchange_units_near asset (asset_old asset is_asset));
       }
 
-      -- and one more is settled
+      -- once it is settled, so are the first i + 1 trades
       pub IsSettledTo-more : (new : Balances) (exchange_new : Account) (j : ℕ) → j ≡ i + 1 → Settles prices (here ∷ []) now new exchange_now exchange_new → IsOrder o → AreLawful new → length exchange_new.units ≡ length exchange_now.units
           → IsSettledTo prices ts old new exchange_old exchange_new j
       IsSettledTo-more new exchange_new j next settled is lawful same_count =

@@ -1,4 +1,4 @@
--- The entries of a row are settled one after the other.
+-- The legs of a weight vector are settled one by one.
 use Rattle.std.proofs.Common.{◌≡◌, ◌≢◌, ℕ, suc, ◌+◌, ◌-◌, ◌*◌, ◌^◌, ◌≤◌, ◌<◌, ℤ, pos, ◌+ℤ◌, ◌-ℤ◌, ◌*ℤ◌, List, [], ◌∷◌, drop, length, get_or, set, refl, ap, sym, subst, ◌∙◌, ⊎_elim, FitsSigned, ne_eqb, arith}
 use Rattle.std.specs.Prelude.{All, unsigned_abs}
 use Rattle.std.specs.Int.{w64, w128}
@@ -11,7 +11,7 @@ use Rattle.std.proofs.lemmas.List.Kept.{AllPairs-from_increasing}
 use Rattle.list_sums.proofs.Products.{*ℤ-add, *ℤ-assoc, unsigned_abs-mul_le}
 use Rattle.list_sums.proofs.SumLemmas.{unsigned_abs-int_sum_by}
 use Rattle.weight_rows.specs.declared.entries.Entry.{Entry}
-use Rattle.weight_rows.specs.Rows.{assets_of, IsLawfulRow, IsLawfulWeight, IsPrice, weight_in, price_of, portfolio_price}
+use Rattle.weight_rows.specs.Rows.{assets_of, IsWeightVector, IsLawfulWeight, IsPrice, weight_in, price_of, portfolio_price}
 use Rattle.weight_rows.proofs.RowLemmas.{weight_in-here, weight_in-later, weight_in-none, asset_at, length-assets_of, price_is_bounded}
 use Rattle.weight_rows.proofs.RowLawProofs.{weights_are_small}
 use Rattle.flow_accounts.specs.Balances.{Account, Credit, Balances, IsAccount, IsAsset, account_count, asset_count, money_of, units_of, units_in, no_credit, credit_in, unit_credit_of, move_units}
@@ -20,8 +20,8 @@ use Rattle.flow_accounts.proofs.Moves.{units_move}
 use Rattle.fill_caps.specs.Moves.{MovesRow}
 use Rattle.fill_caps.specs.Room.{MayChangeUnits}
 
--- ---- what is left of a row
--- no later entry names the asset of an earlier one
+-- ---- the rest of a weight vector
+-- no later leg names the asset of an earlier one
 absent_later : (row : List Entry) (asset : ℕ) → All (λ e. asset < e.asset) row → weight_in row asset ≡ pos 0
 unfolding weight_in
 absent_later [] asset above = refl
@@ -29,7 +29,7 @@ absent_later (e ∷ row) asset above =
     let later : asset < e.asset = above 0 e (omega arith) in
     rw (ne_eqb e.asset asset (λ same. omega (arith, later, same))) (absent_later row asset (λ k d inside. above (suc k) d (omega (arith, inside))))
 
--- the price of what is left of a row
+-- the price of the rest of a weight vector
 price_left : (row : List Entry) (prices : List ℤ) (i : ℕ) (d : Entry) → i < length row → portfolio_price (drop i row) prices ≡ (get_or row i d).weight *ℤ price_of prices (get_or row i d).asset +ℤ portfolio_price (drop (i + 1) row) prices
 unfolding portfolio_price
 price_left row prices i d inside = at_drop_more (λ r. portfolio_price r prices) row i d inside
@@ -43,8 +43,8 @@ price_is_small : (prices : List ℤ) (asset : ℕ) → All IsPrice prices → un
 price_is_small prices asset range =
     ⊎_elim (λ inside. range asset (pos 0) inside) (λ past. rw (get_or_past prices asset (pos 0) past) (omega arith)) (cases_lt asset (length prices))
 
--- what is left of a row costs little too
-price_left_small : (row : List Entry) (prices : List ℤ) (i : ℕ) → IsLawfulRow row → All IsPrice prices → unsigned_abs (portfolio_price (drop i row) prices) ≤ 2 ^ 78
+-- the rest of a weight vector costs little too
+price_left_small : (row : List Entry) (prices : List ℤ) (i : ℕ) → IsWeightVector row → All IsPrice prices → unsigned_abs (portfolio_price (drop i row) prices) ≤ 2 ^ 78
 unfolding portfolio_price
 price_left_small row prices i lawful range =
     let weights = All-drop (λ (e : Entry). IsLawfulWeight e.weight) i row lawful.weights in
@@ -54,11 +54,11 @@ price_left_small row prices i lawful range =
     let sum = unsigned_abs-int_sum_by (λ (e : Entry). e.weight *ℤ price_of prices e.asset) (4096 * 2 ^ 62) (drop i row) each in
     omega (arith, sum, length-drop i row, lawful.few)
 
-module _ (row : List Entry) (i : ℕ) (d : Entry) (lawful : IsLawfulRow row) (inside : i < length row) where
+module _ (row : List Entry) (i : ℕ) (d : Entry) (lawful : IsWeightVector row) (inside : i < length row) where
   abbrev entry : Entry
   entry = get_or row i d
 
-  -- no later entry names the asset of the one whose turn it is
+  -- no later leg names the asset of this one
   gone : weight_in (drop (i + 1) row) entry.asset ≡ pos 0
   gone = absent_later (drop (i + 1) row) entry.asset (λ k e within.
       let ascend = AllPairs-from_increasing (assets_of row) lawful.ascending in
@@ -66,12 +66,12 @@ module _ (row : List Entry) (i : ℕ) (d : Entry) (lawful : IsLawfulRow row) (in
       let below : get_or (assets_of row) i 0 < get_or (assets_of row) (i + 1 + k) 0 = ascend i (i + 1 + k) 0 (omega arith) (omega (arith, there, length-assets_of row)) in
       omega (arith, below, asset_at row i d inside, asset_at row (i + 1 + k) e there, ap (λ (x : Entry). x.asset) (get_or-drop (i + 1) row k e)))
 
-  -- its weight
+  -- the weight of this leg's asset in the rest of the weight vector
   here : weight_in (drop i row) entry.asset ≡ entry.weight
   here = weight_in-here row i entry.asset d inside refl
 
--- ---- the state before an entry's turn
--- moving what is left of the row from here comes to what moving the whole row does
+-- ---- the state before a leg is moved
+-- moving the remaining legs from here results in what moving all legs does
 pub record IsMovedTo (prices : List ℤ) (account rate : ℕ) (row : List Entry) (old now : Balances) (exchange_old exchange_now : Account) (i : ℕ) : Type 0 where
   pub lawful : AreLawful now
   pub accounts : account_count now ≡ account_count old
@@ -120,7 +120,7 @@ IsMovedTo-all prices account rate row old new exchange_old exchange_new i all mo
     }
 
 module _ (prices : List ℤ) (account rate : ℕ) (row : List Entry) (old now : Balances) (exchange_old exchange_now : Account) (i : ℕ) (d : Entry)
-    (lawful : IsLawfulRow row) (inside : i < length row) (before : IsMovedTo prices account rate row old now exchange_old exchange_now i) where
+    (lawful : IsWeightVector row) (inside : i < length row) (before : IsMovedTo prices account rate row old now exchange_old exchange_now i) where
   abbrev turn : Entry
   turn = get_or row i d
 
@@ -148,7 +148,7 @@ module _ (prices : List ℤ) (account rate : ℕ) (row : List Entry) (old now : 
   exchange_money_then : exchange_now.money +ℤ cost +ℤ pos rate *ℤ portfolio_price (drop (i + 1) row) prices ≡ exchange_old.money +ℤ pos rate *ℤ portfolio_price row prices
   exchange_money_then = omega (arith, ints, cost_splits, before.exchange_money)
 
-  -- what the entry's calls want
+  -- what the calls for this leg require
   pub units_stay : MayChangeUnits old account turn.asset (weight_in row turn.asset *ℤ pos rate) → MayChangeUnits now account turn.asset amount
   units_stay may =
       let credit : unit_credit_of now account turn.asset ≡ unit_credit_of old account turn.asset = ap (λ (l : List Credit). credit_in (get_or l (account - 1) (no_credit 0)) turn.asset) before.credits in
@@ -165,7 +165,7 @@ module _ (prices : List ℤ) (account rate : ℕ) (row : List Entry) (old now : 
       let left = unsigned_abs-mul_le (pos rate) (portfolio_price (drop (i + 1) row) prices) (2 ^ 24) (2 ^ 78) slow (price_left_small row prices (i + 1) lawful range) in
       fits_signed_from_abs w128 _ (omega (arith, ints, exchange_money_then, all, left, near))
 
-  -- and what holds after them
+  -- the state after this leg is moved
   pub IsMovedTo-more : (new : Balances) (exchange_new : Account) → IsAccount old account → IsAsset old turn.asset → length exchange_old.units ≡ asset_count old
       → AreLawful new → new ≡ move_units now account turn.asset amount
       → exchange_new ≡ record { money = exchange_now.money +ℤ cost; units = set exchange_now.units turn.asset (units_in exchange_now turn.asset -ℤ amount) }

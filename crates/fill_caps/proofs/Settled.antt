@@ -1,4 +1,4 @@
--- What is settled is determined, and what becomes of the orders.
+-- Settlement is determined, and what becomes of the orders.
 use Rattle.std.proofs.Common.{◌≡◌, ℕ, suc, zero, ◌+◌, ◌-◌, ◌≤◌, ◌<◌, ℤ, pos, List, [], ◌∷◌, length, get_or, ap, refl, sym, ◌∙◌, arith}
 use Rattle.std.specs.Prelude.{All, slice_index_or}
 use Rattle.std.specs.List.{AllPairs}
@@ -43,7 +43,7 @@ module _ (prices : List ℤ) (ts : List Trade) (old new other : Balances) (excha
       ∙ ap (λ m. record { accounts = other.accounts; credits = other.credits; total_money = m; total_units = new.total_units }) (one.total_money ∙ sym two.total_money)
       ∙ ap (λ u. record { accounts = other.accounts; credits = other.credits; total_money = other.total_money; total_units = u }) (one.total_units ∙ sym two.total_units)
 
-  -- so is the exchange's account
+  -- the exchange's account after settling is determined
   pub settled_exchange_is_one : Settles prices ts old new exchange_old exchange_new → Settles prices ts old other exchange_old exchange_other
       → length exchange_new.units ≡ asset_count old → length exchange_other.units ≡ asset_count old
       → exchange_new ≡ exchange_other

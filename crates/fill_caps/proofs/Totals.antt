@@ -6,7 +6,7 @@ use Rattle.std.proofs.lemmas.Int.{ints}
 use Rattle.std.proofs.lemmas.List.{get_or_default}
 use Rattle.list_sums.specs.Sums.{int_sum_by}
 use Rattle.list_sums.proofs.SumLemmas.{int_sum_by-add, int_sum_by-places, int_sum_by-range, int_sum_by-sub}
-use Rattle.weight_rows.specs.Rows.{IsLawfulRow, IsPricedBy}
+use Rattle.weight_rows.specs.Rows.{IsWeightVector, IsPricedBy}
 use Rattle.flow_accounts.specs.Balances.{Account, Balances, IsAccount, IsAsset, account_count, empty_account, money_of, units_of, units_in}
 use Rattle.flow_accounts.specs.Sums.{money_of_all, units_of_all}
 use Rattle.flow_orders.specs.Trades.{Trade, paid, received, trader}
@@ -41,7 +41,7 @@ sum_changes whose f before now n xs there changes =
 module _ (prices : List ℤ) (ts : List Trade) (old new : Balances) (exchange_old exchange_new : Account) where
   -- accounts and exchange hold as much money as before
   pub money_kept : Settles prices ts old new exchange_old exchange_new
-      → All (λ t. IsAccount old (trader t)) ts → All (λ t. IsLawfulRow t.order.row) ts → All (λ t. IsPricedBy t.order.row prices) ts
+      → All (λ t. IsAccount old (trader t)) ts → All (λ t. IsWeightVector t.order.row) ts → All (λ t. IsPricedBy t.order.row prices) ts
       → money_of_all new +ℤ exchange_new.money ≡ money_of_all old +ℤ exchange_old.money
   money_kept settles there lawful priced =
       let costs = costs_by_asset (λ (t : Trade). t.order.row) (λ t. pos t.traded) prices ts lawful priced in
@@ -51,7 +51,7 @@ module _ (prices : List ℤ) (ts : List Trade) (old new : Balances) (exchange_ol
       let same_count = ap (λ n. int_sum_by (λ account. money_of new account) (range_with_len 1 n)) settles.accounts in
       omega (arith, ints, money_by_account old, money_by_account new, same_count, moved, costs, settles.exchange_money)
 
-  -- and as many units of each asset
+  -- accounts and exchange hold as many units of each asset as before
   pub units_kept : Settles prices ts old new exchange_old exchange_new
       → All (λ t. IsAccount old (trader t)) ts → (asset : ℕ) → IsAsset old asset
       → units_of_all new asset +ℤ units_in exchange_new asset ≡ units_of_all old asset +ℤ units_in exchange_old asset

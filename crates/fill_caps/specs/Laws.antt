@@ -10,7 +10,7 @@ abbrev pub SettledBalancesSettle : Type 0
 SettledBalancesSettle = (prices : List ℤ) (ts : List Trade) (b : Balances) (exchange : Account)
     → Settles prices ts b (settled_balances prices ts b) exchange (settled_exchange prices ts b exchange)
 
--- and nothing else does, where each account has one balance for each asset
+-- no other balances settle the same trades, if each account has one balance for each asset
 abbrev pub SettlementIsDetermined : Type 0
 SettlementIsDetermined = (prices : List ℤ) (ts : List Trade) (old new other : Balances) (exchange_old exchange_new exchange_other : Account)
     → Settles prices ts old new exchange_old exchange_new → Settles prices ts old other exchange_old exchange_other

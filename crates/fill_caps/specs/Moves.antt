@@ -1,11 +1,11 @@
--- What the entries of one order's row move between the order's account and the exchange.
+-- What the legs of one order move between its account and the exchange.
 use Rattle.std.specs.Prelude.{◌≡◌, ◌≢◌, ℕ, ℤ, pos, ◌+ℤ◌, ◌-ℤ◌, ◌*ℤ◌, List, length}
 use Rattle.weight_rows.specs.declared.entries.Entry.{Entry}
 use Rattle.weight_rows.specs.Rows.{weight_in, portfolio_price}
 use Rattle.flow_accounts.specs.Balances.{Account, Balances, IsAccount, IsAsset, account_count, money_of, units_of, units_in}
 use Rattle.flow_accounts.specs.Lawful.{AreLawful}
 
--- the account has each asset's weight times the rate more; the exchange has as much less, and gets what that costs; nothing else changes
+-- the account gets each asset's weight times the rate in units; the exchange gives them and gets their cost; nothing else changes
 pub record MovesRow (prices : List ℤ) (account rate : ℕ) (row : List Entry) (old new : Balances) (exchange_old exchange_new : Account) : Type 0 where
   pub lawful : AreLawful new
   pub accounts : account_count new ≡ account_count old

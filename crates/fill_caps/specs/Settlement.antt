@@ -16,7 +16,7 @@ settled_account prices ts b account = record (account_of b account) {
 abbrev pub settled_balances : List ℤ → List Trade → Balances → Balances
 settled_balances prices ts b = record b { accounts = map (settled_account prices ts b) (range_with_len 1 (account_count b)) }
 
--- the exchange after the batch: it takes the other side of the residuals
+-- the exchange's account after the batch: it takes the other side of each asset's imbalance, and is paid its cost
 abbrev pub settled_exchange : List ℤ → List Trade → Balances → Account → Account
 settled_exchange prices ts b exchange = record exchange {
   money = exchange.money +ℤ residual_cost prices ts;

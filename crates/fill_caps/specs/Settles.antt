@@ -4,7 +4,7 @@ use Rattle.flow_accounts.specs.Balances.{Account, Balances, IsAccount, IsAsset, 
 use Rattle.flow_orders.specs.Orders.{own_sum}
 use Rattle.flow_orders.specs.Trades.{Trade, trader, paid, received, residual, residual_cost}
 
--- each account pays for its own trades and receives their units; the exchange takes the other side of the residuals; no credit and no total changes
+-- each account pays for its own trades and gets their units; the exchange takes the other side of the imbalances; no credit or total changes
 pub record Settles (prices : List ℤ) (ts : List Trade) (old new : Balances) (exchange_old exchange_new : Account) : Type 0 where
   pub accounts : account_count new ≡ account_count old
   pub credits : new.credits ≡ old.credits

@@ -1,7 +1,7 @@
-//! What the entries of an order's row move.
+//! What the legs of an order move.
 ghost use Rattle.std.specs.Prelude.{◌≡◌, ℕ, ◌<◌, ◌≤◌, ◌^◌, pos, ◌+ℤ◌, ◌-ℤ◌, ◌*ℤ◌, length, slice_set, unsigned_abs, All, FitsSigned};
 ghost use Rattle.std.specs.Int.{w64, w128};
-ghost use Rattle.weight_rows.specs.Rows.{IsLawfulRow, IsLawfulWeight, IsPrice, price_of, weight_in};
+ghost use Rattle.weight_rows.specs.Rows.{IsWeightVector, IsLawfulWeight, IsPrice, price_of, weight_in};
 ghost use Rattle.demand_curve.specs.Demand.{most_rate};
 ghost use Rattle.flow_accounts.specs.Balances.{IsAccount, IsAsset, asset_count, move_units, units_in};
 ghost use Rattle.flow_accounts.specs.Lawful.{AreLawful};
@@ -12,7 +12,8 @@ use flow_accounts::Accounts;
 use residual_account::ResidualAccount;
 use weight_rows::Entry;
 
-/// Gives the account each asset's weight times the rate in units. The exchange gives them, and gets what they cost.
+/// Adds to the account each asset's weight times `rate`, in units. The exchange gives them, and gets what they cost;
+/// the account doesn't pay yet.
 pub(crate) fn settle_entries(
     accounts: &mut Accounts,
     exchange: &mut ResidualAccount,
@@ -23,7 +24,7 @@ pub(crate) fn settle_entries(
 )
     requires lawful { AreLawful accounts.old }
     requires account { IsAccount accounts.old account }
-    requires row { IsLawfulRow entries.now }
+    requires row { IsWeightVector entries.now }
     requires assets { All (λ e. IsAsset accounts.old e.asset) entries.now }
     requires one_price_each { length prices.now ≡ asset_count accounts.old }
     requires range { All IsPrice prices.now }
@@ -76,7 +77,7 @@ fn settle_entry(
     exchange.add(entry.asset, -units, cost);
 }
 
-// The units that an entry of this weight brings at this rate.
+// Returns the units that a leg of this weight brings at this rate.
 fn units_for(weight: i32, rate: u32) -> i64
     requires weight { IsLawfulWeight weight }
     requires rate { rate ≤ most_rate }
@@ -86,7 +87,7 @@ fn units_for(weight: i32, rate: u32) -> i64
     i64::from(weight) * i64::from(rate)
 }
 
-// What so many units cost, in grains.
+// Returns what `units` cost at `price`, in grains.
 fn cost_of(units: i64, price: i64) -> i128
     ensures { result ≡ units *ℤ price }
 {

@@ -6,7 +6,7 @@ pub fn settled_balances_settle()
     ensures { SettledBalancesSettle }
 {}
 
-/// What settling trades makes of accounts and exchange is determined by what it says account by account.
+/// Only one state of the accounts settles given trades.
 pub fn settlement_is_determined()
     ensures { SettlementIsDetermined }
 {}

@@ -18,15 +18,15 @@ use flow_accounts::Accounts;
 use flow_orders::Order;
 use residual_account::ResidualAccount;
 
-/// Settles a cleared batch: each order trades its rate at the prices, and the exchange takes the other side of what
-/// is left over or lacking of each asset.
+/// Settles a cleared batch: each order trades its rate at the prices, and the exchange takes the other side of each
+/// asset's imbalance.
 ///
 /// There is one price for each asset, in grains and within 2^62 of 0, and one rate for each order, in units, less than
-/// 1 apart from the order's demand at the prices. All orders' accounts and assets are there, and what each account holds,
-/// with its credit, covers what its orders need. Accounts and exchange together hold the totals. The exchange's account
-/// isn't far from 0: within 2^123 - 2^99 grains, and 2^55 - 2^31 units of each asset.
+/// 1 apart from the order's demand at the prices. All orders' accounts and assets exist, and what each account holds,
+/// with its credit, covers what its orders reserve. Accounts and exchange together hold the totals. The exchange's
+/// account isn't far from 0: within 2^123 - 2^99 grains, and 2^55 - 2^31 units of each asset.
 ///
-/// The orders themselves stay as they are. It costs one pass over the entries of all orders.
+/// The orders themselves don't change. Costs one pass over the legs of all orders.
 pub fn settle(
     accounts: &mut Accounts,
     exchange: &mut ResidualAccount,
@@ -67,7 +67,7 @@ pub fn settle(
     }
 }
 
-// Settles one order: each entry of its row is moved, and its account pays what the exchange got for them.
+// Settles one order: its account gets the units of each leg, and pays what the exchange got for them.
 fn settle_order(
     accounts: &mut Accounts,
     exchange: &mut ResidualAccount,

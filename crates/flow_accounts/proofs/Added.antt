@@ -1,4 +1,4 @@
--- What the fields of an `Accounts` stand for at first, and after an asset or an account was added.
+-- The balances that the fields of an `Accounts` represent at first, and after an asset or an account was added.
 use Rattle.std.proofs.Common.{◌≡◌, ℕ, ◌+◌, ◌<◌, ◌≤◌, ℤ, pos, List, [], ◌∷◌, ◌++◌, length, map, take, replicate, refl, ap, sym, subst, ◌∙◌, arith}
 use Rattle.std.proofs.lemmas.List.{take_more, length-take-le, get_or-take, get_or_default, get_or-replicate, length-replicate, map_push, same_lists}
 use Rattle.std.proofs.lemmas.List.Elements.{All-push, All-weaker, All-nil, recursion_from_All}

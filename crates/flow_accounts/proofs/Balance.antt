@@ -24,7 +24,7 @@ credit_place b account lawful there = omega (arith, lawful.one_credit_each, ther
 pub lawful_credit : (b : Balances) (account : ℕ) → AreLawful b → IsAccount b account → IsLawfulCredit (asset_count b) (credit_of b account)
 lawful_credit b account lawful there = lawful.credits (account - 1) (no_credit 0) (credit_place b account lawful there)
 
--- no credit is above the highest
+-- no credit is above the greatest one
 pub money_credit_most : (b : Balances) (account : ℕ) → AreLawful b → IsAccount b account → money_credit_of b account ≤ most_credit
 money_credit_most b account lawful there = (lawful_credit b account lawful there).ticks
 

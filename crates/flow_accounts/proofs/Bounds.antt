@@ -1,4 +1,4 @@
--- Sums bound balances, and so changes that are accepted fit.
+-- Sums bound balances, and so accepted changes fit.
 use Rattle.std.proofs.Common.{ℕ, zero, suc, ◌-◌, ◌*◌, ◌^◌, ◌<◌, ℤ, pos, ◌+ℤ◌, ◌≤ℤ◌, List, [], ◌∷◌, length, get_or, sym, subst, arith}
 use Rattle.std.specs.Prelude.{neg_ℤ}
 use Rattle.std.specs.List.{AllByRecursion}
@@ -12,18 +12,18 @@ use Rattle.flow_accounts.proofs.Balance.{money_balance, unit_balance, unit_total
 
 -- terms that aren't below minus c
 module _ {X : Type 0} (f : X → ℤ) (c : ℕ) where
-  -- their sum isn't below minus c for each
+  -- their sum isn't below minus c for each of them
   sum_least : (xs : List X) → AllByRecursion (λ x. neg_ℤ (pos c) ≤ℤ f x) xs → neg_ℤ (pos (c * length xs)) ≤ℤ int_sum_by f xs
   sum_least [] all = omega (arith, ints)
   sum_least (x ∷ xs) all = omega (arith, ints, all.0, sum_least xs all.1)
 
-  -- one of them is at most their sum and c for each
+  -- one of them is at most their sum and c for each of them
   pub at_most_sum : (xs : List X) (i : ℕ) (d : X) → AllByRecursion (λ x. neg_ℤ (pos c) ≤ℤ f x) xs → i < length xs → f (get_or xs i d) ≤ℤ (int_sum_by f xs +ℤ pos (c * length xs))
   at_most_sum [] i d all within = absurd (omega arith)
   at_most_sum (x ∷ xs) zero d all within = omega (arith, ints, sum_least xs all.1)
   at_most_sum (x ∷ xs) (suc i) d all within = omega (arith, ints, all.0, at_most_sum xs i d all.1 (omega arith))
 
--- a lawful account owes no more units of an asset than the highest credit
+-- a lawful account owes no more units of an asset than the greatest credit
 units_least : (assets asset : ℕ) (a : Account) → IsLawfulAccount assets a → asset < assets → neg_ℤ (pos most_credit) ≤ℤ units_in a asset
 units_least assets asset a lawful is_asset = (lawful.units asset (pos 0) (subst (λ n. asset < n) (sym lawful.one_each) is_asset)).0
 

@@ -1,4 +1,4 @@
--- What credits that are given change, and that balances stay lawful while they move and while credit is given.
+-- What setting a credit changes, and that balances stay lawful when they change and when a credit is set.
 use Rattle.std.proofs.Common.{◌≡◌, ℕ, ◌-◌, ◌^◌, ◌<◌, ◌≤◌, ℤ, pos, ◌+ℤ◌, ◌≤ℤ◌, ◌<ℤ◌, set, refl, ap, sym, subst, ⊎_elim, ◌∙◌, arith}
 use Rattle.std.proofs.lemmas.Int.{ints}
 use Rattle.std.proofs.lemmas.Bool.{cases_eq}
@@ -42,7 +42,7 @@ unit_credit_is_set b account asset units lawful there is_asset =
 
 -- ---- what stays lawful
 
--- a balance that stays within its credit isn't below minus the highest one
+-- a balance that stays within its credit isn't below minus the greatest one
 pub money_after : (b : Balances) (account : ℕ) (amount : ℤ) → AreLawful b → IsAccount b account → pos 0 ≤ℤ (money_with_credit b account +ℤ amount)
     → (money_of b account +ℤ amount) <ℤ pos (2 ^ 124) → IsMoneyBalance (money_of b account +ℤ amount)
 money_after b account amount lawful there within fits = (omega (arith, ints, within, money_credit_most b account lawful there), fits)

@@ -1,4 +1,4 @@
--- Accounts that are opened and assets that are added keep balances lawful.
+-- Opening accounts and adding assets keeps balances lawful.
 use Rattle.std.proofs.Common.{◌≡◌, ℕ, ◌+◌, ◌<◌, ◌≤◌, pos, ◌≤ℤ◌, refl, ap, sym, subst, ⊎_elim, ◌∙◌, arith}
 use Rattle.std.proofs.lemmas.Bool.{cases_lt}
 use Rattle.std.proofs.lemmas.List.{length_push, length-map, length-replicate}

@@ -1,4 +1,4 @@
--- What the fields of an `Accounts` stand for while one account is written.
+-- The balances that the fields of an `Accounts` represent while one account is written.
 use Rattle.std.proofs.Common.{◌≡◌, ◌≢◌, ℕ, ◌-◌, ◌^◌, ◌<◌, ℤ, pos, ◌+ℤ◌, ◌≤ℤ◌, ◌<ℤ◌, length, map, take, get_or, set, refl, ap, sym, subst, ◌∙◌, arith}
 use Rattle.std.proofs.lemmas.Int.{ints}
 use Rattle.std.proofs.Math.Seq.{take-set-lt, map-set_same}
@@ -41,7 +41,7 @@ module _ (a : Inside) (account : ℕ) (h : Holding) (kept : AreKept a) (there : 
   credit_of-in : credit_of (balances_in a) account ≡ credit_line_in a.assets h
   credit_of-in = get_or-map (credit_line_in a.assets) a.accounts.items (account - 1) h (no_credit 0) (place_within a account there) ∙ ap (credit_line_in a.assets) (sym read)
 
-  -- a holding takes its place, and what is shown then is lawful
+  -- an account is written, and the balances are lawful then
   kept_written : (new : Holding) (b : Balances) → HasSpare a.assets new.units → HasSpareCredit a.assets new.unit_credits → balances_in (written a account new) ≡ b → AreLawful b → StandsFor (written a account new) b
   kept_written new b spare spare_credit shown lawful = record {
     kept = record {
@@ -54,11 +54,11 @@ module _ (a : Inside) (account : ℕ) (h : Holding) (kept : AreKept a) (there : 
     shown = shown;
   }
 
-  -- a holding with the same credit line leaves all credit lines as they were
+  -- writing an account with the same credit line leaves all credit lines as they were
   credits_same : (new : Holding) → new.money_credit ≡ h.money_credit → new.unit_credits ≡ h.unit_credits → map (credit_line_in a.assets) (set a.accounts.items (account - 1) new) ≡ map (credit_line_in a.assets) a.accounts.items
   credits_same new money units = map-set_same (credit_line_in a.assets) a.accounts.items (account - 1) new h (rw (money, units) (ap (credit_line_in a.assets) read))
 
-  -- its money is changed, where the code computes z
+  -- the money of an account is changed, and the code computes z
   money_moved : (x z : ℤ) → pos 0 ≤ℤ (money_with_credit (balances_in a) account +ℤ x) → (money_of (balances_in a) account +ℤ x) <ℤ pos (2 ^ 124) → (IsMoneyBalance h.money → IsMoneyBalance (h.money +ℤ x) → z ≡ h.money +ℤ x) → StandsFor (written a account (record h { money = z })) (move_money (balances_in a) account x)
   money_moved x z within fits computed =
       let after : IsMoneyBalance (h.money +ℤ x) = subst (λ (o : Account). IsMoneyBalance (o.money +ℤ x)) account_of-in (money_after (balances_in a) account x kept.lawful there within fits) in
@@ -72,7 +72,7 @@ module _ (a : Inside) (account : ℕ) (h : Holding) (kept : AreKept a) (there : 
       let in_use : asset < a.assets = subst (λ n. asset < n) (asset_count-in a kept) is_asset in
       rw get_or-take at (lawful_read.units asset (pos 0) (subst (λ n. asset < n) (sym lawful_read.one_each) is_asset))
 
-  -- its units of an asset are changed, where the code computes z
+  -- the units of an asset in an account are changed, and the code computes z
   units_moved : (asset : ℕ) (x z : ℤ) → IsAsset (balances_in a) asset → pos 0 ≤ℤ (units_with_credit (balances_in a) account asset +ℤ x) → (units_of (balances_in a) account asset +ℤ x) <ℤ pos (2 ^ 62)
       → (IsUnitBalance (get_or h.units asset (pos 0)) → IsUnitBalance (get_or h.units asset (pos 0) +ℤ x) → z ≡ get_or h.units asset (pos 0) +ℤ x) → StandsFor (written a account (record h { units = set h.units asset z })) (move_units (balances_in a) account asset x)
   units_moved asset x z is_asset within fits computed =
@@ -89,14 +89,14 @@ module _ (a : Inside) (account : ℕ) (h : Holding) (kept : AreKept a) (there : 
   accounts_same : (new : Holding) → new.money ≡ h.money → new.units ≡ h.units → map (account_in a.assets) (set a.accounts.items (account - 1) new) ≡ map (account_in a.assets) a.accounts.items
   accounts_same new money units = map-set_same (account_in a.assets) a.accounts.items (account - 1) new h (rw (money, units) (ap (account_in a.assets) read))
 
-  -- its credit in money is given
+  -- the credit of an account in money is set
   money_credit_given : (ticks : ℕ) (reserved : ℤ) → pos 0 ≤ℤ reserved → AcceptsMoneyCredit (balances_in a) account ticks reserved → StandsFor (written a account (record h { money_credit = ticks })) (set_money_credit (balances_in a) account ticks)
   money_credit_given ticks reserved positive accepted =
       kept_written (record h { money_credit = ticks }) (set_money_credit (balances_in a) account ticks) spare_read spare_credit_read
       (rw (accounts_same (record h { money_credit = ticks }) refl refl, map-set, credit_of-in) refl)
       (credits_keep_law.money (balances_in a) account ticks reserved positive kept.lawful accepted)
 
-  -- its credit in an asset is given
+  -- the credit of an account in an asset is set
   unit_credit_given : (asset units : ℕ) (reserved : ℤ) → pos 0 ≤ℤ reserved → AcceptsUnitCredit (balances_in a) account asset units reserved
       → StandsFor (written a account (record h { unit_credits = set h.unit_credits asset units })) (set_unit_credit (balances_in a) account asset units)
   unit_credit_given asset units reserved positive accepted =
@@ -135,7 +135,7 @@ module _ (a : Inside) (b : Balances) (account : ℕ) (h : Holding) (kept : AreKe
       let P : Balances → Type 0 = λ b. IsAccount b account → AcceptsUnitCredit b account asset units reserved → StandsFor (written a account (record h { unit_credits = set h.unit_credits asset units })) (set_unit_credit b account asset units) in
       subst P view_is (λ there accepted. unit_credit_given a account h kept there read asset units reserved positive accepted) there accepted
 
-  -- its money before and after a change that is allowed
+  -- the money of an account before and after a change that is allowed
   pub money_changed : (x : ℤ) → pos 0 ≤ℤ (money_with_credit b account +ℤ x) → (money_of b account +ℤ x) <ℤ pos (2 ^ 124) → IsMoneyBalance h.money × IsMoneyBalance (h.money +ℤ x)
   money_changed x within fits =
       let P : Balances → Type 0 = λ b. IsAccount b account → pos 0 ≤ℤ (money_with_credit b account +ℤ x) → (money_of b account +ℤ x) <ℤ pos (2 ^ 124) → IsMoneyBalance h.money × IsMoneyBalance (h.money +ℤ x) in
@@ -144,7 +144,7 @@ module _ (a : Inside) (b : Balances) (account : ℕ) (h : Holding) (kept : AreKe
         subst (λ (o : Account). IsMoneyBalance (o.money +ℤ x)) (account_of-in a account h kept there read) (money_after (balances_in a) account x kept.lawful there within fits),
       )) there within fits
 
-  -- and its units
+  -- the units of an asset in an account before and after a change that is allowed
   pub units_changed : (asset : ℕ) (x : ℤ) → IsAsset b asset → pos 0 ≤ℤ (units_with_credit b account asset +ℤ x) → (units_of b account asset +ℤ x) <ℤ pos (2 ^ 62)
       → IsUnitBalance (get_or h.units asset (pos 0)) × IsUnitBalance (get_or h.units asset (pos 0) +ℤ x)
   units_changed asset x is_asset within fits =
@@ -154,7 +154,7 @@ module _ (a : Inside) (b : Balances) (account : ℕ) (h : Holding) (kept : AreKe
       let shown : IsUnitBalance (get_or (take a.assets h.units) asset (pos 0) +ℤ x) = subst (λ (o : Account). IsUnitBalance (get_or o.units asset (pos 0) +ℤ x)) (account_of-in a account h kept there read) (units_after (balances_in a) account asset x kept.lawful there is_asset within fits) in
       (unit_before a account h kept there read asset is_asset, rw get_or-take at shown)) there is_asset within fits
 
-  -- the credit that was read
+  -- the credit in an asset that was read
   pub credit_read : (asset : ℕ) → IsAsset b asset → get_or h.unit_credits asset 0 ≡ unit_credit_of b account asset
   credit_read asset is_asset =
       let P : Balances → Type 0 = λ b. IsAccount b account → IsAsset b asset → get_or h.unit_credits asset 0 ≡ unit_credit_of b account asset in
@@ -168,7 +168,7 @@ module _ (a : Inside) (b : Balances) (account : ℕ) (h : Holding) (kept : AreKe
       let P : Balances → Type 0 = λ b. IsAccount b account → h.money_credit ≡ money_credit_of b account in
       subst P view_is (λ there. sym (ap (λ (c : Credit). c.ticks) (credit_of-in a account h kept there read))) there
 
--- no balance and its credit are more than so much together
+-- no balance of money and its credit are more than 2^125 grains together
 pub money_reach : (a : Inside) (b : Balances) (account : ℕ) → AreKept a → balances_in a ≡ b → IsAccount b account → money_with_credit b account ≤ℤ pos (2 ^ 125)
 money_reach a b account kept view_is there =
     let lawful = subst AreLawful view_is kept.lawful in

@@ -3,7 +3,7 @@ use Rattle.std.proofs.Common.{◌≡◌, ℕ, zero, suc, ◌≤◌, ℤ, pos, Li
 use Rattle.std.proofs.lemmas.Bool.{cases_lt}
 use Rattle.std.proofs.lemmas.List.{get_or-replicate, get_or_past, length-replicate}
 
--- what is asked of an element at any place, also past the end
+-- a function of the element at any place, also past the end
 module _ {X Y : Type 0} (g : X → Y) where
   pub get_or-push_same : (xs : List X) (y d : X) (i : ℕ) → g y ≡ g d → g (get_or (xs ++ y ∷ []) i d) ≡ g (get_or xs i d)
   get_or-push_same [] y d zero same = same
@@ -27,7 +27,7 @@ module _ {X Y : Type 0} (g : X → Y) where
 pub zero_at : (n k : ℕ) → get_or (replicate n (pos 0)) k (pos 0) ≡ pos 0
 zero_at n k = ⊎_elim (λ below. get_or-replicate n k (pos 0) (pos 0) below) (λ past. get_or_past (replicate n (pos 0)) k (pos 0) (subst (λ m. m ≤ k) (sym (length-replicate n (pos 0))) past)) (cases_lt k n)
 
--- a zero at the end is what was there before
+-- a zero that is pushed changes no element
 pub zero_pushed : (xs : List ℤ) (k : ℕ) → get_or (xs ++ pos 0 ∷ []) k (pos 0) ≡ get_or xs k (pos 0)
 zero_pushed [] zero = refl
 zero_pushed [] (suc k) = refl

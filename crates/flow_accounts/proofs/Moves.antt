@@ -12,7 +12,7 @@ use Rattle.flow_accounts.proofs.Balance.{lawful_account, lawful_credit}
 use Rattle.list_sums.proofs.SumLemmas.{int_sum_by-push, int_sum_by-set, int_sum_by-set_same, int_sum_by-map_same, int_sum_by-zeros}
 use Rattle.flow_accounts.proofs.ListLemmas.{get_or-push_same, get_or-map_same, get_or-set_kept, zero_at, zero_pushed}
 
--- an account's place
+-- an account that is there has its place
 place : (b : Balances) (account : ℕ) → IsAccount b account → account - 1 < length b.accounts
 place b account there = omega arith
 
@@ -20,7 +20,7 @@ place b account there = omega arith
 account_of-set : (b : Balances) (account : ℕ) (a : Account) → IsAccount b account → get_or (set b.accounts (account - 1) a) (account - 1) (empty_account 0) ≡ a
 account_of-set b account a there = get_or-set_same b.accounts (account - 1) a (empty_account 0) (place b account there)
 
--- another account
+-- an account other than the one that was written
 account_of-set_other : (b : Balances) (account other : ℕ) (a : Account) → IsAccount b account → IsAccount b other → other ≢ account → get_or (set b.accounts (account - 1) a) (other - 1) (empty_account 0) ≡ account_of b other
 account_of-set_other b account other a there other_there differs = get_or-set_other b.accounts (account - 1) (other - 1) a (empty_account 0) (λ e. differs (omega arith))
 
@@ -39,7 +39,7 @@ money_moves b account amount there =
       unit_sums = λ asset. int_sum_by-set_same (λ (x : Account). units_in x asset) b.accounts (account - 1) new (empty_account 0) (place b account there) refl;
     }
 
--- the same fields, with the total changed too
+-- money and its total are changed
 pub money_changes : MoneyChanges
 money_changes b account amount there =
     let moves = money_moves b account amount there in
@@ -101,13 +101,13 @@ units_change b account asset amount lawful there is_asset =
       },
     )
 
--- no credits at each place, and past their end
+-- zeros are 0 at each place, and past their end
 pub none_at : (n k : ℕ) → ◌≡◌ {A = ℕ} (get_or (replicate n 0) k 0) 0
 none_at n k =
     let none : ℕ = 0 in
     ⊎_elim (λ below. get_or-replicate n k none none below) (λ past. get_or_past (replicate n none) k none (subst (λ m. m ≤ k) (sym (length-replicate n none)) past)) (cases_lt k n)
 
--- an account opened changes no balance and no credit
+-- opening an account changes no balance and no credit
 pub opened_kept : (b : Balances) → KeepsBalances b (open_account b)
 opened_kept b =
     let new = empty_account (asset_count b) in
@@ -137,11 +137,11 @@ accounts_open_empty b lawful =
       unit_credits = λ asset. ap (λ (c : Credit). credit_in c asset) last_credit ∙ none_at (asset_count b) asset;
     }
 
--- a place for no credit at the end changes no credit
+-- a zero that is pushed changes no credit
 none_pushed : (xs : List ℕ) (k : ℕ) → get_or (xs ++ 0 ∷ []) k 0 ≡ get_or xs k 0
 none_pushed xs k = get_or-push_same (λ (u : ℕ). u) xs 0 0 k refl
 
--- an asset added changes no balance and no credit
+-- adding an asset changes no balance and no credit
 pub asset_kept : (b : Balances) → KeepsBalances b (add_asset b)
 asset_kept b =
     let same : (s : ℕ) (a : Account) → units_in (with_asset a) s ≡ units_in a s = λ s a. zero_pushed a.units s in

@@ -1,4 +1,4 @@
--- Places that are filled one after another, and accounts that are made one after another.
+-- Places that are filled one after another, and accounts that are read one after another.
 use Rattle.std.proofs.Common.{◌≡◌, ◌≢◌, ◌∙◌, ℕ, ◌+◌, ◌-◌, ◌<◌, ◌≤◌, ◌++◌, [], ◌∷◌, ℤ, pos, List, Option, Some, length, map, take, get_or, set, refl, ap, sym, subst, arith}
 use Rattle.std.specs.Prelude.{SomeIff}
 use Rattle.std.proofs.lemmas.List.{get_or-set_other, get_or-set_same, length-map, length-set, length-take-le, map_push, take-set, take_all, take_more, take_more_same}
@@ -11,7 +11,7 @@ use Rattle.flow_accounts.specs.Places.{account_in, credit_line_in, balances_in, 
 use Rattle.flow_accounts.specs.Parts.{ArePlacesOf, IsHoldingOf, AreHoldingsOf}
 use Rattle.flow_accounts.proofs.Standing.{StandsFor}
 
--- what is read where something is there
+-- the value that is read, if something is there
 pub read_value : {T : Type 0} (o : Option T) (P : Type 0) (v x : T) → SomeIff o P v → o ≡ Some x → x ≡ v
 read_value o P v x is some = (subst (λ s. SomeIff s P v) some is).1
 
@@ -29,7 +29,7 @@ place_filled k units places v there few is done =
     }
 
 module _ (b : Balances) (lawful : AreLawful b) where
-  -- one more account
+  -- one more account is read
   pub holding_added : (k : ℕ) (holdings : List Holding) (h : Holding) → k < account_count b → AreHoldingsOf b k holdings → IsHoldingOf b (k + 1) h → AreHoldingsOf b (k + 1) (holdings ++ h ∷ [])
   holding_added k holdings h there done is =
       let line : k < length b.credits = omega (arith, lawful.one_credit_each) in
@@ -43,7 +43,7 @@ module _ (b : Balances) (lawful : AreLawful b) where
         spare_credits = All-push (λ (h : Holding). HasSpareCredit (asset_count b) h.unit_credits) holdings h done.spare_credits is.spare_credit;
       }
 
-  -- all accounts, and the totals
+  -- all accounts and the totals are read
   pub all_restored : (a : Inside) → a.assets ≡ asset_count b → a.total_money ≡ b.total_money → ArePlacesOf (asset_count b) b.total_units a.total_units → AreHoldingsOf b (account_count b) a.accounts.items → StandsFor a b
   all_restored a assets money totals holdings =
       let shown : balances_in a ≡ b =

@@ -1,4 +1,4 @@
--- What the fields of an `Accounts` stand for when the total of an asset is written.
+-- The balances that the fields of an `Accounts` represent when the total of an asset is written.
 use Rattle.std.proofs.Common.{◌≡◌, ◌≢◌, ℕ, ◌<◌, ℤ, set, refl, sym, subst, ◌∙◌, arith}
 use Rattle.std.proofs.Math.Seq.{take-set-lt}
 use Rattle.std.proofs.lemmas.List.{get_or-set_other, length-set}
@@ -40,7 +40,7 @@ total_shown a asset z kept is_asset total =
       shown = shown;
     }
 
--- the total of an asset is written, where the code computes z
+-- the total of an asset is written, and the code computes z
 pub total_written : (a : Inside) (b : Balances) (asset : ℕ) (total z : ℤ) → AreKept a → balances_in a ≡ b → IsAsset b asset → IsUnitTotal total → z ≡ total → StandsFor (record a { total_units = set a.total_units asset z }) (record b { total_units = set b.total_units asset total })
 total_written a b asset total z kept view_is is_asset fits is =
     let P : Balances → ℤ → Type 0 = λ b z. IsAsset b asset → StandsFor (record a { total_units = set a.total_units asset z }) (record b { total_units = set b.total_units asset total }) in

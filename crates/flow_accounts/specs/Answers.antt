@@ -1,12 +1,12 @@
--- Which answer a call gets. The causes of a call's faults and of its acceptance exclude one
--- another, and one of them always holds: so each answer comes exactly where its cause holds.
+-- Which result a call has. The causes of a call's faults and of its acceptance exclude one another, and one of them
+-- always holds: so each result comes exactly if its cause holds. Only opening an account may run out of memory besides.
 use Rattle.std.specs.Prelude.{◌≡◌, ℕ, ◌<◌, ◌≤◌, ℤ, pos, ◌+ℤ◌, ◌-ℤ◌, ◌≤ℤ◌, ◌<ℤ◌}
 use Rattle.flow_accounts.specs.declared.fault.AccountFault.{AccountFault}
 use Rattle.flow_accounts.specs.declared.fault.AccountFault.TheVariants.{NoAccount, NoAsset, Zero, TotalLimit, Full, NotFree, CreditLimit, InUse, Memory}
 use Rattle.flow_accounts.specs.Balances.{Balances, IsAccount, IsAsset, account_count, grains, money_of, units_of, total_units_of}
 use Rattle.flow_accounts.specs.Lawful.{most_accounts, most_credit, money_limit, unit_limit}
 
--- why no account is opened: as many as there may be are there, or else there is no memory
+-- why no account is opened: there are as many as there may be, or else memory ran out
 abbrev pub RefusesAccount : Balances → AccountFault → Type 0
 RefusesAccount b Full = account_count b ≡ most_accounts
 RefusesAccount b Memory = account_count b < most_accounts
@@ -104,13 +104,13 @@ RefusesUnitWithdrawal b account asset units reserved CreditLimit = ⊥
 RefusesUnitWithdrawal b account asset units reserved (InUse used) = ⊥
 RefusesUnitWithdrawal b account asset units reserved Memory = ⊥
 
--- a credit in money is given: its account is there, it isn't above its limit, and with the balance it covers what is reserved
+-- a credit in money is accepted: its account is there, it isn't above its limit, and with the balance it covers what is reserved
 pub record AcceptsMoneyCredit (b : Balances) (account ticks : ℕ) (reserved : ℤ) : Type 0 where
   pub account_there : IsAccount b account
   pub within_limit : ticks ≤ most_credit
   pub covers : reserved ≤ℤ (money_of b account +ℤ grains ticks)
 
--- why a credit in money isn't given
+-- why a credit in money isn't accepted
 abbrev pub RefusesMoneyCredit : Balances → ℕ → ℕ → ℤ → AccountFault → Type 0
 RefusesMoneyCredit b account ticks reserved NoAccount = ¬ IsAccount b account
 RefusesMoneyCredit b account ticks reserved CreditLimit = IsAccount b account × (most_credit < ticks)
@@ -123,14 +123,15 @@ RefusesMoneyCredit b account ticks reserved Full = ⊥
 RefusesMoneyCredit b account ticks reserved (NotFree free) = ⊥
 RefusesMoneyCredit b account ticks reserved Memory = ⊥
 
--- a credit in an asset is given
+-- a credit in an asset is accepted: its account and asset are there, it isn't above its limit, and with the balance it covers
+-- what is reserved
 pub record AcceptsUnitCredit (b : Balances) (account asset units : ℕ) (reserved : ℤ) : Type 0 where
   pub account_there : IsAccount b account
   pub asset_there : IsAsset b asset
   pub within_limit : units ≤ most_credit
   pub covers : reserved ≤ℤ (units_of b account asset +ℤ pos units)
 
--- why a credit in an asset isn't given
+-- why a credit in an asset isn't accepted
 abbrev pub RefusesUnitCredit : Balances → ℕ → ℕ → ℕ → ℤ → AccountFault → Type 0
 RefusesUnitCredit b account asset units reserved NoAccount = ¬ IsAccount b account
 RefusesUnitCredit b account asset units reserved NoAsset = IsAccount b account × (¬ IsAsset b asset)

@@ -1,4 +1,4 @@
--- The balances of all accounts, and what a command makes of them.
+-- The balances of all accounts, and what each command does to them.
 use Rattle.std.specs.Prelude.{ℕ, ◌-◌, ◌*◌, ◌^◌, ◌<◌, ◌≤◌, ℤ, pos, ◌+ℤ◌, List, [], ◌∷◌, ◌++◌, length, map, replicate, slice_index_or, slice_set}
 
 -- an account: its money in grains, and its units of each asset
@@ -47,7 +47,7 @@ grains ticks = pos (2 ^ 32 * ticks)
 abbrev pub empty_account : ℕ → Account
 empty_account assets = record { money = pos 0; units = replicate assets (pos 0) }
 
--- the account of a number that is there
+-- the account with this number, which has to be there
 abbrev pub account_of : Balances → ℕ → Account
 account_of b account = slice_index_or b.accounts (account - 1) (empty_account 0)
 
@@ -55,7 +55,7 @@ account_of b account = slice_index_or b.accounts (account - 1) (empty_account 0)
 abbrev pub money_of : Balances → ℕ → ℤ
 money_of b account = (account_of b account).money
 
--- the units of an asset in an account
+-- the units of an asset in one account
 abbrev pub units_in : Account → ℕ → ℤ
 units_in a asset = slice_index_or a.units asset (pos 0)
 
@@ -63,11 +63,11 @@ units_in a asset = slice_index_or a.units asset (pos 0)
 abbrev pub units_of : Balances → ℕ → ℕ → ℤ
 units_of b account asset = units_in (account_of b account) asset
 
--- a credit line of zeros
+-- a credit line that allows nothing
 abbrev pub no_credit : ℕ → Credit
 no_credit assets = record { ticks = 0; units = replicate assets 0 }
 
--- the credit line of an account
+-- the credit line of the account with this number, which has to be there
 abbrev pub credit_of : Balances → ℕ → Credit
 credit_of b account = slice_index_or b.credits (account - 1) (no_credit 0)
 
@@ -87,7 +87,7 @@ unit_credit_of b account asset = credit_in (credit_of b account) asset
 abbrev pub money_with_credit : Balances → ℕ → ℤ
 money_with_credit b account = money_of b account +ℤ grains (money_credit_of b account)
 
--- the units of an asset that an account may use for its orders
+-- the units of an asset that an account may use for its orders: what it holds, and its credit
 abbrev pub units_with_credit : Balances → ℕ → ℕ → ℤ
 units_with_credit b account asset = units_of b account asset +ℤ pos (unit_credit_of b account asset)
 
@@ -95,22 +95,22 @@ units_with_credit b account asset = units_of b account asset +ℤ pos (unit_cred
 abbrev pub total_units_of : Balances → ℕ → ℤ
 total_units_of b asset = slice_index_or b.total_units asset (pos 0)
 
--- an account of zeros is appended, its credit line included
+-- the balances after one more account was opened: it holds nothing and has no credit
 abbrev pub open_account : Balances → Balances
 open_account b = record b {
   accounts = b.accounts ++ empty_account (asset_count b) ∷ [];
   credits = b.credits ++ no_credit (asset_count b) ∷ [];
 }
 
--- an account after an asset was appended
+-- an account after one more asset was added, of which it holds no unit
 abbrev pub with_asset : Account → Account
 with_asset a = record a { units = a.units ++ pos 0 ∷ [] }
 
--- a credit line after an asset was appended
+-- a credit line after one more asset was added, of which it allows no unit
 abbrev pub with_credit_place : Credit → Credit
 with_credit_place c = record c { units = c.units ++ 0 ∷ [] }
 
--- an asset is appended, of which all balances, all credits and the total are 0
+-- the balances after one more asset was added, of which all balances, all credits and the total are 0
 abbrev pub add_asset : Balances → Balances
 add_asset b = record {
   accounts = map with_asset b.accounts;
@@ -119,37 +119,37 @@ add_asset b = record {
   total_units = b.total_units ++ pos 0 ∷ [];
 }
 
--- the money of an account changes by the amount, and no total does
+-- the balances after the money of an account changed by the amount, in grains; the total stays
 abbrev pub move_money : Balances → ℕ → ℤ → Balances
 move_money b account amount =
     let a = account_of b account in
     record b { accounts = slice_set b.accounts (account - 1) (record a { money = a.money +ℤ amount }) }
 
--- the units of an account change by the amount, and no total does
+-- the balances after the units of an asset in an account changed by the amount; the total stays
 abbrev pub move_units : Balances → ℕ → ℕ → ℤ → Balances
 move_units b account asset amount =
     let a = account_of b account in
     let units = slice_set a.units asset (units_of b account asset +ℤ amount) in
     record b { accounts = slice_set b.accounts (account - 1) (record a { units = units }) }
 
--- the money of an account and the total of money change by the amount
+-- the balances after the money of an account and the total of money changed by the amount, in grains
 abbrev pub change_money : Balances → ℕ → ℤ → Balances
 change_money b account amount =
     record (move_money b account amount) { total_money = b.total_money +ℤ amount }
 
--- the units of an account and the asset's total change by the amount
+-- the balances after the units of an asset in an account and the asset's total changed by the amount
 abbrev pub change_units : Balances → ℕ → ℕ → ℤ → Balances
 change_units b account asset amount =
     record (move_units b account asset amount) {
       total_units = slice_set b.total_units asset (total_units_of b asset +ℤ amount);
     }
 
--- an account's credit in money is this many ticks
+-- the balances after an account's credit in money was set, in ticks
 abbrev pub set_money_credit : Balances → ℕ → ℕ → Balances
 set_money_credit b account ticks =
     record b { credits = slice_set b.credits (account - 1) (record (credit_of b account) { ticks = ticks }) }
 
--- an account's credit in an asset is this many units
+-- the balances after an account's credit in an asset was set, in units
 abbrev pub set_unit_credit : Balances → ℕ → ℕ → ℕ → Balances
 set_unit_credit b account asset units =
     let c = credit_of b account in

@@ -1,4 +1,4 @@
--- What an operation on the balances changes, and what it leaves.
+-- What an operation on the balances changes, and what it leaves as it was.
 use Rattle.std.specs.Prelude.{◌≡◌, ◌≢◌, ℕ, ◌+◌, ℤ, pos, ◌+ℤ◌}
 use Rattle.flow_accounts.specs.Balances.{Balances, IsAccount, account_count, asset_count, money_of, units_of, money_credit_of, unit_credit_of, total_units_of}
 use Rattle.flow_accounts.specs.Sums.{money_of_all, units_of_all}
@@ -12,8 +12,8 @@ pub record KeepsBalances (old new : Balances) : Type 0 where
   pub money_sum : money_of_all new ≡ money_of_all old
   pub unit_sums : (asset : ℕ) → units_of_all new asset ≡ units_of_all old asset
 
--- one account has the amount of money more, so all accounts together have it more, and no other
--- balance and no credit changes
+-- one balance of money rises by the amount, and with it the sum over all accounts; no other balance and no credit
+-- changes
 pub record ChangesMoneyOf (account : ℕ) (amount : ℤ) (old new : Balances) : Type 0 where
   pub credits : new.credits ≡ old.credits
   pub accounts : account_count new ≡ account_count old
@@ -25,8 +25,8 @@ pub record ChangesMoneyOf (account : ℕ) (amount : ℤ) (old new : Balances) : 
   pub money_sum : money_of_all new ≡ money_of_all old +ℤ amount
   pub unit_sums : (asset : ℕ) → units_of_all new asset ≡ units_of_all old asset
 
--- one account has the amount of units of one asset more, so all accounts together have it more, and
--- no other balance and no credit changes
+-- one balance of units rises by the amount, and with it the sum of the asset over all accounts; no other balance and
+-- no credit changes
 pub record ChangesUnitsOf (account asset : ℕ) (amount : ℤ) (old new : Balances) : Type 0 where
   pub credits : new.credits ≡ old.credits
   pub accounts : account_count new ≡ account_count old
@@ -46,7 +46,7 @@ pub record ChangesTotalOf (asset : ℕ) (amount : ℤ) (old new : Balances) : Ty
   pub others : (s : ℕ) → s ≢ asset → total_units_of new s ≡ total_units_of old s
   pub money : new.total_money ≡ old.total_money
 
--- one more account is there, which holds nothing and has no credit
+-- there is one more account, which holds nothing and has no credit
 pub record OpensAccount (old new : Balances) : Type 0 where
   pub kept : KeepsBalances old new
   pub accounts : account_count new ≡ account_count old + 1
@@ -56,7 +56,7 @@ pub record OpensAccount (old new : Balances) : Type 0 where
   pub money_credit : money_credit_of new (account_count new) ≡ 0
   pub unit_credits : (asset : ℕ) → unit_credit_of new (account_count new) asset ≡ 0
 
--- one more asset is there, of which nobody holds a unit or has credit
+-- there is one more asset, of which nobody holds a unit or has credit
 pub record AddsAsset (old new : Balances) : Type 0 where
   pub kept : KeepsBalances old new
   pub accounts : account_count new ≡ account_count old
@@ -67,7 +67,7 @@ pub record AddsAsset (old new : Balances) : Type 0 where
   pub total : total_units_of new (asset_count old) ≡ pos 0
   pub totals : (asset : ℕ) → total_units_of new asset ≡ total_units_of old asset
 
--- one account has this credit in money, and nothing else changes
+-- one account's credit in money is set, in ticks, and nothing else changes
 pub record SetsMoneyCreditOf (account ticks : ℕ) (old new : Balances) : Type 0 where
   pub accounts : new.accounts ≡ old.accounts
   pub total_money : new.total_money ≡ old.total_money
@@ -76,7 +76,7 @@ pub record SetsMoneyCreditOf (account ticks : ℕ) (old new : Balances) : Type 0
   pub others : (other : ℕ) → IsAccount old other → other ≢ account → money_credit_of new other ≡ money_credit_of old other
   pub unit_credits : (any asset : ℕ) → unit_credit_of new any asset ≡ unit_credit_of old any asset
 
--- one account has this credit in one asset, and nothing else changes
+-- one account's credit in one asset is set, in units, and nothing else changes
 pub record SetsUnitCreditOf (account asset units : ℕ) (old new : Balances) : Type 0 where
   pub accounts : new.accounts ≡ old.accounts
   pub total_money : new.total_money ≡ old.total_money

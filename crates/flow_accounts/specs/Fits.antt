@@ -1,4 +1,4 @@
--- Which changes keep balances and totals within the widths that they are kept in.
+-- Which changes keep balances and totals within the ranges of the integers that hold them.
 use Rattle.std.specs.Prelude.{ℕ, ◌^◌, ℤ, pos, neg_ℤ, ◌+ℤ◌, ◌≤ℤ◌, ◌<ℤ◌}
 use Rattle.flow_accounts.specs.Balances.{Balances, grains, money_of, units_of, total_units_of}
 use Rattle.flow_accounts.specs.Answers.{AcceptsMoneyDeposit, AcceptsUnitDeposit, AcceptsMoneyWithdrawal, AcceptsUnitWithdrawal}

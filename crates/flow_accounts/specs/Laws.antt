@@ -1,4 +1,4 @@
--- What holds of the operations on balances. The module `laws` has a function for each of these.
+-- Laws of the operations on balances. The module `laws` has a function for each of these.
 use Rattle.std.specs.Prelude.{◌≡◌, ℕ, ◌^◌, ℤ, pos, neg_ℤ, ◌+ℤ◌, ◌≤ℤ◌}
 use Rattle.flow_accounts.specs.Balances.{Balances, IsAccount, IsAsset, grains, money_of, units_of, money_credit_of, unit_credit_of, no_balances, open_account, add_asset, move_money, move_units, change_money, change_units, set_money_credit, set_unit_credit}
 use Rattle.flow_accounts.specs.Changes.{OpensAccount, AddsAsset, ChangesMoneyOf, ChangesUnitsOf, ChangesTotalOf, SetsMoneyCreditOf, SetsUnitCreditOf}
@@ -11,34 +11,34 @@ use Rattle.flow_accounts.specs.Sums.{TotalsAreSums, money_of_all, units_of_all}
 abbrev pub AccountsOpenEmpty : Type 0
 AccountsOpenEmpty = (b : Balances) → AreLawful b → OpensAccount b (open_account b)
 
--- of an asset that is added nobody holds a unit or has credit, and no balance, credit or sum changes
+-- nobody holds a unit of an asset that is added or has credit in it, and no balance, credit or sum changes
 abbrev pub AssetsStartAtZero : Type 0
 AssetsStartAtZero = (b : Balances) → AreLawful b → AddsAsset b (add_asset b)
 
--- money moved changes one balance by the amount, and so the sum
+-- moving money changes one balance by the amount, and so the sum over all accounts
 abbrev pub MoneyMoves : Type 0
 MoneyMoves = (b : Balances) (account : ℕ) (amount : ℤ) → IsAccount b account →
     ChangesMoneyOf account amount b (move_money b account amount)
 
--- units moved change one balance by the amount, and so the sum of their asset
+-- moving units changes one balance by the amount, and so the sum of their asset
 abbrev pub UnitsMove : Type 0
 UnitsMove = (b : Balances) (account asset : ℕ) (amount : ℤ) →
     AreLawful b → IsAccount b account → IsAsset b asset →
     ChangesUnitsOf account asset amount b (move_units b account asset amount)
 
--- a change of money changes one balance by the amount, and so the sum
+-- a deposit or withdrawal of money changes one balance by the amount, and so the sum over all accounts
 abbrev pub MoneyChanges : Type 0
 MoneyChanges = (b : Balances) (account : ℕ) (amount : ℤ) → IsAccount b account →
     ChangesMoneyOf account amount b (change_money b account amount)
 
--- a change of units changes one balance and one total by the amount, and so the sum of the asset
+-- a deposit or withdrawal of units changes one balance and one total by the amount, and so the sum of the asset
 abbrev pub UnitsChange : Type 0
 UnitsChange = (b : Balances) (account asset : ℕ) (amount : ℤ) →
     AreLawful b → IsAccount b account → IsAsset b asset →
     ChangesUnitsOf account asset amount b (change_units b account asset amount) ×
     ChangesTotalOf asset amount b (change_units b account asset amount)
 
--- totals that are sums stay so through openings, new assets, deposits and withdrawals
+-- totals that are the sums over all accounts stay so through openings, new assets, deposits and withdrawals
 pub record TotalsStaySums : Type 0 where
   pub none : TotalsAreSums no_balances
   pub opened : (b : Balances) → TotalsAreSums b → TotalsAreSums (open_account b)
@@ -49,24 +49,24 @@ pub record TotalsStaySums : Type 0 where
       AreLawful b → IsAccount b account → IsAsset b asset →
       TotalsAreSums b → TotalsAreSums (change_units b account asset amount)
 
--- a credit in money that is given changes nothing else
+-- setting a credit in money changes nothing else
 abbrev pub MoneyCreditIsSet : Type 0
 MoneyCreditIsSet = (b : Balances) (account ticks : ℕ) → AreLawful b → IsAccount b account →
     SetsMoneyCreditOf account ticks b (set_money_credit b account ticks)
 
--- a credit in an asset that is given changes nothing else
+-- setting a credit in an asset changes nothing else
 abbrev pub UnitCreditIsSet : Type 0
 UnitCreditIsSet = (b : Balances) (account asset units : ℕ) → AreLawful b → IsAccount b account → IsAsset b asset →
     SetsUnitCreditOf account asset units b (set_unit_credit b account asset units)
 
--- a credit that is accepted keeps balances lawful
+-- balances stay lawful when an accepted credit is set
 pub record CreditsKeepLaw : Type 0 where
   pub money : (b : Balances) (account ticks : ℕ) (reserved : ℤ) → pos 0 ≤ℤ reserved →
       AreLawful b → AcceptsMoneyCredit b account ticks reserved → AreLawful (set_money_credit b account ticks)
   pub units : (b : Balances) (account asset units : ℕ) (reserved : ℤ) → pos 0 ≤ℤ reserved →
       AreLawful b → AcceptsUnitCredit b account asset units reserved → AreLawful (set_unit_credit b account asset units)
 
--- no account owes more than its credit, and so one without credit has nothing less than nothing
+-- no balance is below minus its account's credit; without credit none is negative
 pub record NoBalanceIsBelowItsCredit : Type 0 where
   pub money : (b : Balances) (account : ℕ) → AreLawful b → IsAccount b account →
       neg_ℤ (grains (money_credit_of b account)) ≤ℤ money_of b account
@@ -77,17 +77,17 @@ pub record NoBalanceIsBelowItsCredit : Type 0 where
   pub no_unit_credit : (b : Balances) (account asset : ℕ) → AreLawful b → IsAccount b account → IsAsset b asset → unit_credit_of b account asset ≡ 0 →
       pos 0 ≤ℤ units_of b account asset
 
--- no account has more than all accounts together and all that they may owe: 2^88 grains, and 2^56 units of an asset
+-- no account holds more than all accounts together and the most that they may owe: 2^88 grains, and 2^56 units of an asset
 pub record SumsBoundBalances : Type 0 where
   pub money : (b : Balances) (account : ℕ) → AreLawful b → IsAccount b account →
       money_of b account ≤ℤ (money_of_all b +ℤ pos (2 ^ 88))
   pub units : (b : Balances) (account asset : ℕ) → AreLawful b → IsAccount b account → IsAsset b asset →
       units_of b account asset ≤ℤ (units_of_all b asset +ℤ pos (2 ^ 56))
 
--- where all accounts together are near the totals, each change that is accepted fits
+-- if what all accounts hold together is near the totals, each change that is accepted fits
 abbrev pub ChangesFitNearSums : Type 0
 ChangesFitNearSums = (b : Balances) → AreLawful b → SumsAreNearTotals b → AcceptedChangesFit b
 
--- where the totals are the sums, each change that is accepted fits
+-- if the totals are the sums over all accounts, each change that is accepted fits
 abbrev pub ChangesFitAtSums : Type 0
 ChangesFitAtSums = (b : Balances) → AreLawful b → TotalsAreSums b → AcceptedChangesFit b

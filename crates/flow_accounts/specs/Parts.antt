@@ -1,4 +1,4 @@
--- Balances that are read number by number, and what the fields of an `Accounts` are made of them.
+-- Balances that are read number by number, and how the fields of an `Accounts` are made from them.
 use Rattle.std.specs.Prelude.{◌≡◌, ℕ, ◌+◌, ◌<◌, ◌≤◌, ℤ, pos, List, length, map, take, slice_index_or}
 use Rattle.std.specs.List.{All}
 use Rattle.flow_accounts.specs.declared.Holding.{Holding}
@@ -11,24 +11,24 @@ pub record HasOneOfEach (b : Balances) : Type 0 where
   pub lines : length b.credits ≡ account_count b
   pub credits : All (λ (c : Credit). length c.units ≡ asset_count b) b.credits
 
--- the places for units of which the first hold the first of these numbers, and the others 0
+-- the array of an account's units: the first `count` places hold the first of these numbers, and the others 0
 pub record ArePlacesOf (count : ℕ) (units places : List ℤ) : Type 0 where
   pub spare : HasSpare count places
   pub first : take count places ≡ take count units
 
--- the same of places for credits
+-- the array of an account's unit credits: the first `count` places hold the first of these numbers, and the others 0
 pub record AreCreditPlacesOf (count : ℕ) (units places : List ℕ) : Type 0 where
   pub spare : HasSpareCredit count places
   pub first : take count places ≡ take count units
 
--- what is kept of an account
+-- what the fields hold of one account
 pub record IsHoldingOf (b : Balances) (account : ℕ) (h : Holding) : Type 0 where
   pub held : account_in (asset_count b) h ≡ account_of b account
   pub credit : credit_line_in (asset_count b) h ≡ credit_of b account
   pub spare : HasSpare (asset_count b) h.units
   pub spare_credit : HasSpareCredit (asset_count b) h.unit_credits
 
--- what is kept of the first accounts, in their order
+-- what the fields hold of the first `count` accounts, in their order
 pub record AreHoldingsOf (b : Balances) (count : ℕ) (holdings : List Holding) : Type 0 where
   pub accounts : map (account_in (asset_count b)) holdings ≡ take count b.accounts
   pub credits : map (credit_line_in (asset_count b)) holdings ≡ take count b.credits

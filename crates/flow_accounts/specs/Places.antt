@@ -1,5 +1,5 @@
--- What the fields of an `Accounts` stand for. Each account and the totals have a place for units for each asset that there may be,
--- of which as many as there are assets are in use.
+-- The balances that the fields of an `Accounts` represent. Each account and the totals have a place for the units of each asset
+-- that there may be. As many places as there are assets are in use, and the others are 0.
 use Rattle.std.specs.Prelude.{◌≡◌, ℕ, ◌≤◌, ℤ, pos, List, length, map, take, slice_index_or}
 use Rattle.std.specs.List.{All}
 use Rattle.flow_accounts.specs.declared.Holding.{Holding}
@@ -7,15 +7,15 @@ use Rattle.flow_accounts.specs.declared.Accounts.TheInside.{Inside}
 use Rattle.flow_accounts.specs.Balances.{Account, Credit, Balances}
 use Rattle.flow_accounts.specs.Lawful.{most_assets, AreLawful}
 
--- an account, of whose places for units the first are in use
+-- an account, whose first places for units are in use
 abbrev pub account_in : ℕ → Holding → Account
 account_in assets h = record { money = h.money; units = take assets h.units }
 
--- its credit line
+-- the credit line of an account, whose first places for unit credits are in use
 abbrev pub credit_line_in : ℕ → Holding → Credit
 credit_line_in assets h = record { ticks = h.money_credit; units = take assets h.unit_credits }
 
--- the balances that the fields stand for
+-- the balances that the fields represent
 abbrev pub balances_in : Inside → Balances
 balances_in a = record {
   accounts = map (account_in a.assets) a.accounts.items;
@@ -24,17 +24,17 @@ balances_in a = record {
   total_units = take a.assets a.total_units;
 }
 
--- there is a place for each asset that there may be, and those that aren't in use are 0
+-- there is a place for the units of each asset that there may be, and the places that aren't in use are 0
 pub record HasSpare (assets : ℕ) (places : List ℤ) : Type 0 where
   pub places_made : length places ≡ most_assets
   pub zero_beyond : (k : ℕ) → assets ≤ k → slice_index_or places k (pos 0) ≡ pos 0
 
--- the same of places for credits
+-- there is a place for the unit credit in each asset that there may be, and the places that aren't in use are 0
 pub record HasSpareCredit (assets : ℕ) (places : List ℕ) : Type 0 where
   pub places_made : length places ≡ most_assets
   pub zero_beyond : (k : ℕ) → assets ≤ k → slice_index_or places k 0 ≡ 0
 
--- what the fields keep
+-- the invariant of the fields
 pub record AreKept (a : Inside) : Type 0 where
   pub lawful : AreLawful (balances_in a)
   pub few_assets : a.assets ≤ most_assets

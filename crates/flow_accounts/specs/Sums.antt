@@ -7,7 +7,7 @@ use Rattle.flow_accounts.specs.Balances.{Balances, units_in, total_units_of}
 abbrev pub money_of_all : Balances → ℤ
 money_of_all b = int_sum_by (λ a. a.money) b.accounts
 
--- the units of an asset that all accounts hold
+-- the units of an asset that all accounts hold together
 abbrev pub units_of_all : Balances → ℕ → ℤ
 units_of_all b asset = int_sum_by (λ a. units_in a asset) b.accounts
 

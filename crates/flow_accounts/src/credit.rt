@@ -8,7 +8,7 @@ impl Accounts {
     ghost use Rattle.flow_accounts.specs.Lawful.{AreLawful, most_credit};
     ghost use Rattle.flow_accounts.specs.Answers.{AcceptsMoneyCredit, RefusesMoneyCredit, AcceptsUnitCredit, RefusesUnitCredit};
 
-    /// An account's credit in money, in ticks, or `None` exactly where the account isn't there.
+    /// Returns an account's credit in money, in ticks, or `None` exactly if the account isn't there.
     pub fn money_credit(&self, account: u32) -> Option<u64>
         ensures { SomeIff result (IsAccount self.now account) (money_credit_of self.now account) }
     {
@@ -19,7 +19,7 @@ impl Accounts {
         }
     }
 
-    /// An account's credit in an asset, in units, or `None` exactly where the account or the asset isn't there.
+    /// Returns an account's credit in an asset, in units, or `None` exactly if the account or the asset isn't there.
     pub fn unit_credit(&self, account: u32, asset: u16) -> Option<u64>
         ensures { SomeIff result (IsAccount self.now account × IsAsset self.now asset)
             (unit_credit_of self.now account asset) }
@@ -49,9 +49,9 @@ impl Accounts {
     /// Gives an account this credit in money, in place of the one that it had. `reserved` is what the account's orders
     /// may still need of its money, in grains: from 0 to the balance and the credit that it had.
     ///
-    /// The first of these that holds refuses it, and then nothing changes: `NoAccount`, where the account isn't there;
-    /// `CreditLimit`, for more than 2^40 ticks; `InUse`, where the credit is below what is reserved less the balance,
-    /// in grains, which it carries.
+    /// The first of these that holds refuses it, and then nothing changes: `NoAccount` if the account isn't there;
+    /// `CreditLimit` for more than 2^40 ticks; `InUse` if the credit is below what is reserved less the balance, which
+    /// `InUse` carries, in grains.
     pub fn set_money_credit(
         &mut self,
         account: u32,
@@ -74,9 +74,9 @@ impl Accounts {
     /// Gives an account this credit in an asset, in place of the one that it had. `reserved` is what the account's
     /// orders may still need of the asset, in units: from 0 to the balance and the credit that it had.
     ///
-    /// The first of these that holds refuses it, and then nothing changes: `NoAccount` and `NoAsset`, where the account
-    /// or the asset isn't there; `CreditLimit`, for more than 2^40 units; `InUse`, where the credit is below what is
-    /// reserved less the balance, which it carries.
+    /// The first of these that holds refuses it, and then nothing changes: `NoAccount` and `NoAsset` if the account
+    /// or the asset isn't there; `CreditLimit` for more than 2^40 units; `InUse` if the credit is below what is
+    /// reserved less the balance, which `InUse` carries, in units.
     pub fn set_unit_credit(
         &mut self,
         account: u32,
@@ -98,7 +98,7 @@ impl Accounts {
         Ok(())
     }
 
-    /// The fault that [`Accounts::set_money_credit`] would answer, if any. `reserved` is as there. Nothing changes.
+    /// Returns the fault that [`Accounts::set_money_credit`] would return, if any, with the same `reserved`. Nothing changes.
     pub fn money_credit_fault(
         &self,
         account: u32,
@@ -124,7 +124,7 @@ impl Accounts {
         Ok(())
     }
 
-    /// The fault that [`Accounts::set_unit_credit`] would answer, if any. `reserved` is as there. Nothing changes.
+    /// Returns the fault that [`Accounts::set_unit_credit`] would return, if any, with the same `reserved`. Nothing changes.
     pub fn unit_credit_fault(
         &self,
         account: u32,

@@ -9,13 +9,13 @@ impl Accounts {
     ghost use Rattle.flow_accounts.specs.Answers.{AcceptsMoneyDeposit, RefusesMoneyDeposit, AcceptsUnitDeposit, RefusesUnitDeposit};
     ghost use Rattle.flow_accounts.specs.Fits.{MoneyFits, UnitsFit};
 
-    /// Deposits ticks: the account's money and the total of money grow by them.
+    /// Deposits ticks: the account's money and the total of money rise by them.
     ///
-    /// The first of these that holds refuses it, and then nothing changes: `NoAccount`, where the
-    /// account isn't there; `Zero`, for 0 ticks; `TotalLimit`, where the total would pass 2^100
-    /// grains. The caller sees to it that a deposit that isn't refused leaves the balance below
-    /// 2^124 grains: [`laws::changes_fit_at_sums`](crate::laws::changes_fit_at_sums) has why it
-    /// does where the total is the sum of all balances.
+    /// The first of these that holds refuses it, and then nothing changes: `NoAccount` if the
+    /// account isn't there; `Zero` for 0 ticks; `TotalLimit` if the total would pass 2^100
+    /// grains. The caller has to ensure that a deposit that isn't refused leaves the balance below
+    /// 2^124 grains. If the total is the sum of all balances, it does:
+    /// [`laws::changes_fit_at_sums`](crate::laws::changes_fit_at_sums).
     pub fn deposit_money(&mut self, account: u32, ticks: u64) -> Result<(), AccountFault>
         requires fits { AcceptsMoneyDeposit self.old account ticks →
             MoneyFits self.old account (grains ticks) }
@@ -30,11 +30,11 @@ impl Accounts {
         Ok(())
     }
 
-    /// Deposits units of an asset: the account's units and the asset's total grow by them.
+    /// Deposits units of an asset: the account's units and the asset's total rise by them.
     ///
     /// The first of these that holds refuses it, and then nothing changes: `NoAccount` and
-    /// `NoAsset`, where the account or the asset isn't there; `Zero`, for 0 units; `TotalLimit`,
-    /// where the asset's total would pass 2^60 units. The caller sees to it that a deposit that
+    /// `NoAsset` if the account or the asset isn't there; `Zero` for 0 units; `TotalLimit`
+    /// if the asset's total would pass 2^60 units. The caller has to ensure that a deposit that
     /// isn't refused leaves the balance below 2^62 units, as for [`Accounts::deposit_money`].
     pub fn deposit_units(
         &mut self,
@@ -55,7 +55,7 @@ impl Accounts {
         Ok(())
     }
 
-    /// The grains that [`Accounts::deposit_money`] would add, or the fault that it would answer. Nothing changes.
+    /// Returns the grains that [`Accounts::deposit_money`] would add, or the fault that it would return. Nothing changes.
     pub fn money_deposit(&self, account: u32, ticks: u64) -> Result<i128, AccountFault>
         ensures accepted { IsOk result ↔ AcceptsMoneyDeposit self.now account ticks }
         ensures refused { IfErr result (RefusesMoneyDeposit self.now account ticks) }
@@ -75,7 +75,7 @@ impl Accounts {
         Ok(amount)
     }
 
-    /// The units that [`Accounts::deposit_units`] would add, or the fault that it would answer. Nothing changes.
+    /// Returns the units that [`Accounts::deposit_units`] would add, or the fault that it would return. Nothing changes.
     pub fn unit_deposit(&self, account: u32, asset: u16, units: u64) -> Result<i64, AccountFault>
         ensures accepted { IsOk result ↔ AcceptsUnitDeposit self.now account asset units }
         ensures refused { IfErr result (RefusesUnitDeposit self.now account asset units) }

@@ -14,16 +14,16 @@ pub enum AccountFault {
     Zero,
     /// The total after the deposit would pass its limit.
     TotalLimit,
-    /// As many accounts as there may be are there.
+    /// There are as many accounts as there may be.
     Full,
     /// The withdrawal is above what is free: the balance less what is reserved, in grains or units, which is negative
-    /// where credit is in use.
+    /// if credit is in use.
     NotFree(i128),
     /// The credit is above 2^40 ticks or units.
     CreditLimit,
-    /// The credit is below what is in use of it, what is reserved less the balance, in grains or units.
+    /// The credit is below what is in use of it: what is reserved less the balance, in grains or units.
     InUse(i128),
-    /// There is no memory for another account.
+    /// Out of memory for another account.
     Memory,
 }
 

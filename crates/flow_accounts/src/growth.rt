@@ -9,7 +9,7 @@ impl Accounts {
     ghost use Rattle.flow_accounts.specs.Answers.{RefusesAccount};
 
     /// Adds an asset, of which all balances, all credits and the total are 0. Its number is the count of assets
-    /// before. It grows nothing: each account has the place already.
+    /// before. It allocates nothing: each account has the place already.
     pub fn add_asset(&mut self)
         requires { asset_count self.old < most_assets }
         ensures added { self.new ≡ add_asset self.old }
@@ -18,10 +18,10 @@ impl Accounts {
         self.assets += 1;
     }
 
-    /// Opens an account that holds nothing and has no credit, and answers its number, which is the new count of
+    /// Opens an account that holds nothing and has no credit, and returns its number, which is the new count of
     /// accounts.
     ///
-    /// `Full` exactly where 65,536 accounts are there; else `Memory` where there is no room for one
+    /// `Full` comes exactly if there are 65,536 accounts; else `Memory` if memory runs out for one
     /// more. No other fault comes, and after a fault nothing has changed.
     pub fn add_account(&mut self) -> Result<u32, AccountFault>
         ensures number { IfOk result (λ number. number ≡ account_count self.old + 1) }
@@ -44,7 +44,7 @@ impl Accounts {
         Ok(count + 1)
     }
 
-    /// Whether 65,536 accounts are there, so that no more are opened.
+    /// Returns whether there are 65,536 accounts, so that no more are opened.
     pub fn is_full(&self) -> bool
         ensures full { IsTrue result ↔ (account_count self.now ≡ most_accounts) }
         ensures lawful { AreLawful self.now }

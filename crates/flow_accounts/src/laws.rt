@@ -8,22 +8,22 @@ pub fn accounts_open_empty()
     ensures { AccountsOpenEmpty }
 {}
 
-/// Of an asset that is added nobody holds a unit or has credit, and no balance, credit or sum changes.
+/// Nobody holds a unit of an asset that is added or has credit in it, and no balance, credit or sum changes.
 pub fn assets_start_at_zero()
     ensures { AssetsStartAtZero }
 {}
 
-/// Money moved changes one balance by the amount, and so the sum over all accounts.
+/// Moving money changes one balance by the amount, and so the sum over all accounts.
 pub fn money_moves()
     ensures { MoneyMoves }
 {}
 
-/// Units moved change one balance by the amount, and so the sum of their asset.
+/// Moving units changes one balance by the amount, and so the sum of their asset.
 pub fn units_move()
     ensures { UnitsMove }
 {}
 
-/// A deposit or withdrawal of money changes one balance by the amount, and so the sum.
+/// A deposit or withdrawal of money changes one balance by the amount, and so the sum over all accounts.
 pub fn money_changes()
     ensures { MoneyChanges }
 {}
@@ -40,38 +40,38 @@ pub fn totals_stay_sums()
     ensures { TotalsStaySums }
 {}
 
-/// A credit in money that is given changes nothing else.
+/// Setting a credit in money changes nothing else.
 pub fn money_credit_is_set()
     ensures { MoneyCreditIsSet }
 {}
 
-/// A credit in an asset that is given changes nothing else.
+/// Setting a credit in an asset changes nothing else.
 pub fn unit_credit_is_set()
     ensures { UnitCreditIsSet }
 {}
 
-/// A credit that is accepted keeps balances lawful.
+/// Balances stay lawful when an accepted credit is set.
 pub fn credits_keep_law()
     ensures { CreditsKeepLaw }
 {}
 
-/// No account owes more than its credit, and so one without credit has nothing less than nothing.
+/// No balance is below minus its account's credit; without credit none is negative.
 pub fn no_balance_is_below_its_credit()
     ensures { NoBalanceIsBelowItsCredit }
 {}
 
-/// No account has more than all accounts together and all that they may owe: 2^88 grains, and 2^56 units of an asset.
+/// No account holds more than all accounts together and the most that they may owe: 2^88 grains, and 2^56 units of an asset.
 pub fn sums_bound_balances()
     ensures { SumsBoundBalances }
 {}
 
-/// Where all accounts together hold at most 2^123 grains, and 2^61 units of an asset, more than the
+/// If all accounts together hold at most 2^123 grains, and 2^61 units of an asset, more than the
 /// totals, each deposit and withdrawal that is accepted fits.
 pub fn changes_fit_near_sums()
     ensures { ChangesFitNearSums }
 {}
 
-/// Where the totals are the sums over all accounts, each deposit and withdrawal that is accepted
+/// If the totals are the sums over all accounts, each deposit and withdrawal that is accepted
 /// fits.
 pub fn changes_fit_at_sums()
     ensures { ChangesFitAtSums }

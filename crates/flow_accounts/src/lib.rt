@@ -7,24 +7,24 @@
 //!
 //! An account may get credit, in money and in each asset, for what its orders need: a balance may
 //! then fall to minus its credit, and never below. A withdrawal doesn't use credit. A total may be
-//! negative: what an account gained in a settlement it may withdraw, though nobody deposited it.
-//! Whoever settles only among the accounts keeps each total equal to the sum of its balances, by
+//! negative: an account may withdraw what it gained in a settlement, though nobody deposited it.
+//! Who settles only among the accounts keeps each total equal to the sum of its balances, by
 //! the [`laws`].
 //!
 //! # Limits
 //!
 //! There are at most 65,536 accounts and 64 assets. No deposit takes the total of money above 2^100
 //! grains, or that of an asset above 2^60 units. A balance stays below 2^124 grains or 2^62 units,
-//! a total above -2^124 grains or -2^62 units; the calls state what their callers have to see to
+//! and a total above -2^124 grains or -2^62 units; the calls state what their callers have to ensure
 //! for that.
 //!
 //! # Costs
 //!
-//! Every call takes the same time however many accounts and assets there are, but that opening an
-//! account sometimes moves all of them to a larger block. An account takes 1,056 bytes, with the
-//! places for all 64 assets in it. The block doubles as it grows, so it has up to twice the bytes
+//! Every call takes the same time however many accounts and assets there are, except that opening an
+//! account sometimes moves all of them to a larger block. An account takes 1,056 bytes, which include
+//! the places for all 64 assets. The block doubles as it grows, so it has up to twice the bytes
 //! of its accounts, and 66 MiB for 65,536 of them; while it is moved, the smaller one is there too.
-//! Nothing but [`Accounts::add_account`] and [`Accounts::restore`] takes memory.
+//! Only [`Accounts::add_account`] and [`Accounts::restore`] allocate.
 //!
 //! [`Accounts::restore`] makes accounts with all their balances at once, read through [`AccountParts`].
 #![tactic(auto)]
@@ -56,20 +56,20 @@ pub const MOST_ACCOUNTS: u32 = 65_536;
 /// How many assets there may be.
 pub const MOST_ASSETS: u16 = 64;
 
-/// The places of a list by assets: one for each asset that there may be.
+/// The length of an array by assets: one place for each asset that there may be.
 pub const PLACES: usize = MOST_ASSETS as usize;
 
-/// No credit is above this, in ticks or units.
+/// The greatest credit, in ticks or units.
 pub const MOST_CREDIT: u64 = 1 << 40;
 
-/// No deposit takes the total of money above this, in grains.
+/// The limit of the total of money, in grains: no deposit takes it above this.
 pub const MONEY_LIMIT: i128 = 1 << 100;
 
-/// No deposit takes the total of an asset above this, in units.
+/// The limit of the total of an asset, in units: no deposit takes it above this.
 pub const UNIT_LIMIT: i128 = 1 << 60;
 
-// What an account holds, and its credits: in whole ticks and in units. Of the places for units and for their credits as
-// many are in use as there are assets; the others are 0.
+// What an account holds, in grains and in units, and its credits, in whole ticks and in units. As many places for units
+// and for unit credits are in use as there are assets; the others are 0.
 #[derive(Clone, Copy)]
 struct Holding {
     money: i128,
@@ -108,7 +108,7 @@ impl Accounts {
     ghost use Rattle.flow_accounts.specs.Balances.{no_balances, account_count, asset_count, IsAccount, IsAsset, money_of, units_of, total_units_of};
     ghost use Rattle.flow_accounts.specs.Lawful.{AreLawful, IsMoneyTotal};
 
-    /// No account and no asset, with a total of 0. It takes no memory: `alloc` is for the accounts
+    /// Makes accounts without any account or asset, and with totals of 0. It allocates nothing: `alloc` is for the accounts
     /// that are opened later.
     pub fn new(alloc: Global) -> Accounts
         ensures empty { result ≡ no_balances }
@@ -122,7 +122,7 @@ impl Accounts {
         }
     }
 
-    /// How many accounts there are, at most 65,536. They are numbered from 1 to this.
+    /// Returns how many accounts there are, at most 65,536. They are numbered from 1 to this.
     pub fn count(&self) -> u32
         ensures count { result ≡ account_count self.now }
         ensures lawful { AreLawful self.now }
@@ -130,7 +130,7 @@ impl Accounts {
         self.accounts.len() as u32
     }
 
-    /// How many assets there are, at most 64. They are numbered from 0.
+    /// Returns how many assets there are, at most 64. They are numbered from 0.
     pub fn assets(&self) -> u16
         ensures count { result ≡ asset_count self.now }
         ensures lawful { AreLawful self.now }
@@ -138,7 +138,7 @@ impl Accounts {
         self.assets
     }
 
-    /// The money of an account in grains, or `None` exactly where the account isn't there.
+    /// Returns the money of an account in grains, or `None` exactly if the account isn't there.
     pub fn money(&self, account: u32) -> Option<i128>
         ensures { SomeIff result (IsAccount self.now account) (money_of self.now account) }
     {
@@ -149,7 +149,7 @@ impl Accounts {
         }
     }
 
-    /// The units of an asset that an account holds, or `None` exactly where the account or the
+    /// Returns the units of an asset that an account holds, or `None` exactly if the account or the
     /// asset isn't there.
     pub fn units(&self, account: u32, asset: u16) -> Option<i64>
         ensures { SomeIff result (IsAccount self.now account × IsAsset self.now asset)
@@ -162,7 +162,7 @@ impl Accounts {
         }
     }
 
-    /// All deposits of money less all withdrawals, in grains. It is at most 2^100, above -2^124,
+    /// Returns all deposits of money less all withdrawals, in grains. It is at most 2^100, above -2^124,
     /// and may be negative.
     pub fn total_money(&self) -> i128
         ensures total { result ≡ self.now.total_money }
@@ -171,7 +171,7 @@ impl Accounts {
         self.total_money
     }
 
-    /// All deposits of an asset less all withdrawals, in units, or `None` exactly where the asset
+    /// Returns all deposits of an asset less all withdrawals, in units, or `None` exactly if the asset
     /// isn't there. It is at most 2^60, above -2^62, and may be negative.
     pub fn total_units(&self, asset: u16) -> Option<i64>
         ensures { SomeIff result (IsAsset self.now asset) (total_units_of self.now asset) }

@@ -7,7 +7,7 @@ use crate::{Accounts, PLACES};
 // One tick in grains.
 const GRAINS_PER_TICK: i128 = 1 << 32;
 
-/// Whole ticks in grains, of which a tick has 2^32.
+/// Returns whole ticks in grains: a tick is 2^32 grains.
 pub fn grains_of(ticks: u64) -> i128
     ensures { result ≡ grains ticks }
 {
@@ -73,7 +73,7 @@ impl Accounts {
         self.total_units[asset as usize]
     }
 
-    // What an account holds of money less what is reserved, in grains; below 0 where credit is in use.
+    // What an account holds of money less what is reserved, in grains; below 0 if credit is in use.
     pub(crate) fn money_free(&self, account: u32, reserved: i128) -> i128
         requires account { IsAccount self.now account }
         requires not_negative { pos 0 ≤ℤ reserved }
@@ -93,7 +93,7 @@ impl Accounts {
         reserved - self.money_held(account)
     }
 
-    // The same of the units of an asset.
+    // What an account holds of an asset less what is reserved, in units; below 0 if credit is in use.
     pub(crate) fn units_free(&self, account: u32, asset: u16, reserved: i128) -> i128
         requires account { IsAccount self.now account }
         requires asset { IsAsset self.now asset }
@@ -115,7 +115,7 @@ impl Accounts {
         reserved - i128::from(self.units_held(account, asset))
     }
 
-    // Changes the money of an account and the total.
+    // Changes the money of an account and the total of money by the amount, in grains.
     pub(crate) fn change_money(&mut self, account: u32, amount: i128)
         requires account { IsAccount self.old account }
         requires within_credit { pos 0 ≤ℤ (money_with_credit self.old account +ℤ amount) }
@@ -129,7 +129,7 @@ impl Accounts {
         self.set_total_money(total);
     }
 
-    // Changes the units of an account and the total of the asset.
+    // Changes the units of an asset in an account and the asset's total by the amount.
     pub(crate) fn change_units(&mut self, account: u32, asset: u16, amount: i64)
         requires account { IsAccount self.old account }
         requires asset { IsAsset self.old asset }

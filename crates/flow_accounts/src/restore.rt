@@ -1,4 +1,4 @@
-//! Accounts that are made with all their balances at once.
+//! Making accounts with all their balances at once.
 ghost use Rattle.std.specs.Prelude.{◌≡◌, IfOk};
 ghost use Rattle.flow_accounts.specs.Balances.{IsAccount, account_count, asset_count, account_of, credit_of};
 ghost use Rattle.flow_accounts.specs.Lawful.{AreLawful};
@@ -10,11 +10,11 @@ use out_of_memory::Memory;
 use std::alloc::{AllocError, Global};
 
 impl Accounts {
-    /// Accounts with all balances, credits and totals that are read of `parts`, which are within the limits: no account
-    /// owes more than its credit.
+    /// Makes accounts with all balances, credits and totals that are read from `parts`. These have to be within the limits,
+    /// and no balance below minus its credit.
     ///
-    /// It reads each number once, and takes memory once, 1,056 bytes for each account; `Memory` comes only where there is
-    /// none.
+    /// It reads each number once, and allocates once, 1,056 bytes for each account; `Memory` comes only if that allocation
+    /// fails.
     pub fn restore<P: AccountParts>(alloc: Global, parts: &P) -> Result<Accounts, Memory>
         requires lawful { AreLawful (P.balances parts.now) }
         ensures restored { IfOk result (λ accounts. accounts ≡ P.balances parts.now) }
@@ -29,7 +29,7 @@ impl Accounts {
     }
 }
 
-// What is kept of each account.
+// Reads what is kept of each account.
 fn holdings_of<P: AccountParts>(alloc: Global, parts: &P) -> Result<Vec<Holding>, AllocError>
     requires lawful { AreLawful (P.balances parts.now) }
     ensures { IfOk result (λ holdings.
@@ -43,7 +43,7 @@ fn holdings_of<P: AccountParts>(alloc: Global, parts: &P) -> Result<Vec<Holding>
     Ok(holdings)
 }
 
-// What is kept of an account.
+// Reads what is kept of one account.
 fn holding_of<P: AccountParts>(parts: &P, account: u32) -> Holding
     requires lawful { AreLawful (P.balances parts.now) }
     requires account { IsAccount (P.balances parts.now) account }
@@ -57,7 +57,7 @@ fn holding_of<P: AccountParts>(parts: &P, account: u32) -> Holding
     }
 }
 
-// The units of each asset that an account holds.
+// Reads the units of each asset that an account holds.
 fn units_of<P: AccountParts>(parts: &P, account: u32) -> [i64; PLACES]
     requires lawful { AreLawful (P.balances parts.now) }
     requires account { IsAccount (P.balances parts.now) account }
@@ -71,7 +71,7 @@ fn units_of<P: AccountParts>(parts: &P, account: u32) -> [i64; PLACES]
     units
 }
 
-// The credit of an account in each asset.
+// Reads the credit of an account in each asset.
 fn credits_of<P: AccountParts>(parts: &P, account: u32) -> [u64; PLACES]
     requires lawful { AreLawful (P.balances parts.now) }
     requires account { IsAccount (P.balances parts.now) account }
@@ -85,7 +85,7 @@ fn credits_of<P: AccountParts>(parts: &P, account: u32) -> [u64; PLACES]
     credits
 }
 
-// The total of each asset.
+// Reads the total of each asset.
 fn totals_of<P: AccountParts>(parts: &P) -> [i64; PLACES]
     requires lawful { AreLawful (P.balances parts.now) }
     ensures { ArePlacesOf (asset_count (P.balances parts.now))

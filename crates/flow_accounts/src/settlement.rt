@@ -7,7 +7,7 @@ impl Accounts {
     ghost use Rattle.flow_accounts.specs.Lawful.{AreLawful};
 
     /// Changes the money of an account by so many grains, which may be negative, when a batch is
-    /// settled. It doesn't fall below minus the account's credit. The total stays.
+    /// settled. The balance may not fall below minus the account's credit. The total stays.
     pub fn add_money(&mut self, account: u32, amount: i128)
         requires account { IsAccount self.old account }
         requires within_credit { pos 0 ≤ℤ (money_with_credit self.old account +ℤ amount) }
@@ -20,7 +20,7 @@ impl Accounts {
     }
 
     /// Changes the units of an asset in an account by the amount, which may be negative, when a
-    /// batch is settled. The total stays.
+    /// batch is settled. The balance may not fall below minus the account's credit in the asset. The total stays.
     pub fn add_units(&mut self, account: u32, asset: u16, amount: i64)
         requires account { IsAccount self.old account }
         requires asset { IsAsset self.old asset }

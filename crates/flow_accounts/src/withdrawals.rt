@@ -3,7 +3,7 @@ ghost use Rattle.std.specs.Prelude.{◌≡◌, ◌<◌, ◌^◌, ◌↔◌, IsOk
 use crate::places::grains_of;
 use crate::{AccountFault, Accounts};
 
-// A change by so many units less.
+// The change of a balance from which so many units are taken.
 fn less(units: u64) -> i64
     requires { units < 2 ^ 62 }
     ensures { result ≡ neg_ℤ (pos units) }
@@ -20,9 +20,9 @@ impl Accounts {
     /// Withdraws ticks: the account's money and the total of money fall by them. `reserved` is what
     /// the account's orders may still need of its money, in grains: from 0 to the balance and the credit.
     ///
-    /// The first of these that holds refuses it, and then nothing changes: `NoAccount`, where the
-    /// account isn't there; `Zero`, for 0 ticks; `NotFree`, where the ticks are above the grains
-    /// that are free, the balance less `reserved`, which it carries. The caller sees to it that a
+    /// The first of these that holds refuses it, and then nothing changes: `NoAccount` if the
+    /// account isn't there; `Zero` for 0 ticks; `NotFree` if the ticks are above the grains
+    /// that are free, the balance less `reserved`, which `NotFree` carries. The caller has to ensure that a
     /// withdrawal that isn't refused leaves the total above -2^124 grains, as for
     /// [`Accounts::deposit_money`].
     pub fn withdraw_money(
@@ -51,9 +51,9 @@ impl Accounts {
     /// balance and the credit.
     ///
     /// The first of these that holds refuses it, and then nothing changes: `NoAccount` and
-    /// `NoAsset`, where the account or the asset isn't there; `Zero`, for 0 units; `NotFree`, where
-    /// they are above the units that are free, the balance less `reserved`, which it carries. The
-    /// caller sees to it that a withdrawal that isn't refused leaves the asset's total above -2^62
+    /// `NoAsset` if the account or the asset isn't there; `Zero` for 0 units; `NotFree` if
+    /// they are above the units that are free, the balance less `reserved`, which `NotFree` carries. The
+    /// caller has to ensure that a withdrawal that isn't refused leaves the asset's total above -2^62
     /// units.
     pub fn withdraw_units(
         &mut self,
@@ -78,8 +78,8 @@ impl Accounts {
         Ok(())
     }
 
-    /// The grains that [`Accounts::withdraw_money`] would add, which are negative, or the fault that it would
-    /// answer. `reserved` is as there, in grains: from 0 to the balance and the credit. Nothing changes.
+    /// Returns the grains that [`Accounts::withdraw_money`] would add, which are negative, or the fault that it would
+    /// return. `reserved` is in grains: from 0 to the balance and the credit. Nothing changes.
     pub fn money_withdrawal(
         &self,
         account: u32,
@@ -107,8 +107,8 @@ impl Accounts {
         Ok(-amount)
     }
 
-    /// The units that [`Accounts::withdraw_units`] would add, which are negative, or the fault that it would
-    /// answer. `reserved` is as there, in units: from 0 to the balance and the credit. Nothing changes.
+    /// Returns the units that [`Accounts::withdraw_units`] would add, which are negative, or the fault that it would
+    /// return. `reserved` is in units: from 0 to the balance and the credit. Nothing changes.
     pub fn unit_withdrawal(
         &self,
         account: u32,

@@ -7,20 +7,23 @@ pub(crate) struct Asked {
     pub(crate) words: Vec<String>,
     pub(crate) limit: Option<u64>,
     pub(crate) piece: u64,
-    // The calls that fail, counted from 1, and 0 where none does.
+    // The read that fails, counted from 1; 0 if none does.
     pub(crate) read: u64,
+    // The write to the output that fails, counted from 1; 0 if none does.
     pub(crate) out: u64,
+    // The write to standard error that fails, counted from 1; 0 if none does.
     pub(crate) notes: u64,
-    // Of these first calls each fails in turn, and 0 where none does.
+    // How many of the first reads fail, each in turn; 0 if none does.
     pub(crate) reads: u64,
+    // How many of the first writes to the output fail, each in turn; 0 if none does.
     pub(crate) outs: u64,
     pub(crate) rows: u64,
-    // Whether it is told how many bytes are left in the source.
+    // Whether the number of bytes left in the source is printed.
     pub(crate) left: bool,
 }
 
 impl Asked {
-    // No words, and what holds without options.
+    // No words, and the defaults of all options.
     pub(crate) fn new(alloc: Global) -> Asked {
         Asked {
             words: Vec::new(alloc),

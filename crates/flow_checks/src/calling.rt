@@ -6,12 +6,13 @@ use flow_io::read_all;
 use memory_streams::{MemorySink, MemorySource};
 use std::alloc::Global;
 
-// More bytes than a case writes to out, and than it has on notes.
+// More bytes than a case writes to the output.
 const MOST_OUT: usize = 1 << 21;
 
+// More bytes than a case writes to standard error.
 const MOST_NOTES: usize = 64;
 
-// The call that fails, if one does.
+// Returns the call that fails, if one does.
 fn failing(alloc: Global, call: u64) -> Option<Vec<u64>> {
     let mut calls = Vec::new(alloc);
     if call > 0 {
@@ -34,7 +35,7 @@ fn call(
     }
 }
 
-// How many bytes are left in the source, where that is asked for or nothing was to be read.
+// Returns how many bytes are left in the source, if that is asked for or nothing should have been read.
 fn left_in(
     alloc: Global,
     asked: &Asked,
@@ -48,7 +49,7 @@ fn left_in(
     Some(None)
 }
 
-// Makes the call with these sinks, and appends what it comes to.
+// Makes the call with these sinks, and appends its result.
 fn put_call_with(
     alloc: Global,
     asked: &Asked,
@@ -72,7 +73,7 @@ fn put_call_of(alloc: Global, asked: &Asked, input: Vec<u8>, rows: &mut String) 
     put_call_with(alloc, asked, &mut source, &mut out, &mut notes, rows)
 }
 
-// How a call ended, and what stands in its sinks.
+// How a call ended, and what its sinks hold.
 #[derive(Drop)]
 struct Ended {
     status: Status,
@@ -80,7 +81,7 @@ struct Ended {
     notes: MemorySink,
 }
 
-// Makes the call with this read and this write to out failing, which are 0 where none does.
+// Makes the call with this read and this write to the output failing; 0 if none does.
 fn end_of(alloc: Global, asked: &Asked, input: &[u8], read: u64, write: u64) -> Option<Ended> {
     let piece = asked.piece.max(1) as usize;
     let mut bytes = Vec::new(alloc);
@@ -92,7 +93,7 @@ fn end_of(alloc: Global, asked: &Asked, input: &[u8], read: u64, write: u64) -> 
     Some(Ended { status, out, notes })
 }
 
-// Appends how a call ended, and how much stands in out, a front of the whole or other bytes.
+// Appends how a call ended, and how many bytes it wrote, a prefix of `whole` or other bytes.
 fn put_ended(ended: &Ended, whole: &[u8], rows: &mut String) -> Option<()> {
     let out = ended.out.bytes();
     let is_front = whole.starts_with(out);
@@ -105,7 +106,7 @@ fn put_ended(ended: &Ended, whole: &[u8], rows: &mut String) -> Option<()> {
     )
 }
 
-// Appends what the call comes to where none fails, and then for each of the reads and of the writes that fail in turn.
+// Appends the result of the call if nothing fails, and then for each of the reads and of the writes that fail in turn.
 fn put_calls_of(alloc: Global, asked: &Asked, input: &[u8], rows: &mut String) -> Option<()> {
     let all = end_of(alloc, asked, input, 0, 0)?;
     put_ended(&all, all.out.bytes(), rows)?;
@@ -128,7 +129,7 @@ fn put_calls_of(alloc: Global, asked: &Asked, input: &[u8], rows: &mut String) -
     Some(())
 }
 
-// Appends what the call of a case comes to.
+// Appends the result of a case's call.
 pub(crate) fn put_call(
     alloc: Global,
     words: &str,

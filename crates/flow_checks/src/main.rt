@@ -1,5 +1,5 @@
-//! Whole calls of the exchange over a source and sinks in memory: a call on each line of standard input, and what it comes
-//! to on standard output. A case more costs no proof.
+//! Complete calls of the exchange over a source and sinks in memory: one call on each line of standard input, and its result on standard
+//! output. One more case costs no proof.
 //!
 //! A line is a remark, a name for bytes, or a case, as `check_lines` says; remarks are passed on as they are. A case is
 //! `WORDS OPTIONS: PIECES`: the words of the command line, with `''` for an empty one, and the bytes of the input. An option
@@ -9,10 +9,10 @@
 //! |---|---|
 //! | `limit=N` | the most bytes of input that are considered; without it `flow` is called, and with it `flow_limited` |
 //! | `piece=N` | a read gives at most so many bytes; else 65,536 |
-//! | `read=N`, `out=N`, `notes=N` | the read, the write to out or the write to notes that fails, counted from 1 |
-//! | `reads=N`, `outs=N` | the call is made once, and then once more for each of the first N reads, and of the first N writes to out, which fails in it. Of each call is printed how it ends and how much stands in out, where that isn't a front of what the first call wrote as `other bytes`, and not what it is |
-//! | `rows=N` | of the records in out only the last N are told; else 64 |
-//! | `left=1` | it is told how many bytes are left in the source |
+//! | `read=N`, `out=N`, `notes=N` | the read, the write to the output or the write to standard error that fails, counted from 1 |
+//! | `reads=N`, `outs=N` | the call is made once, and then once more for each of the first N reads, and of the first N writes to the output, which fails in it. Of each call is printed how it ends and how many bytes it wrote, as `other bytes` if these are no prefix of what the first call wrote, and not the bytes themselves |
+//! | `rows=N` | of the records in the output only the last N are printed; else 64 |
+//! | `left=1` | the number of bytes left in the source is printed |
 //!
 //! A write that fails writes the first half of its bytes. So
 //!
@@ -21,9 +21,9 @@
 //! run limit=40 rows=2: 'FLOWCMD1' 3x$account
 //! ```
 //!
-//! runs a command file of three accounts. Printed are words and options, the number that the program would exit with, how
-//! many bytes stand in out, for a faulty command line how many are left in the source, and the line on notes, if there is
-//! one. Then come the rows of out: lines where it is a text, and else its magic and its records.
+//! runs a command file of three accounts. Printed are words and options, the number that the program would exit with, how many bytes were
+//! written, for a faulty command line how many are left in the source, and the line on standard error, if there is one. Then come the
+//! rows of the output: lines if it is a text, and else its magic and its records.
 //!
 //! ```text
 //! run limit=40 rows=2: 0, 50 bytes
@@ -35,7 +35,7 @@
 //! The case `statuses:` is no call: it prints the number and the line of each way in which the program can end, with 1 for
 //! what is counted there.
 //!
-//! What stands in `stdout` comes from the formats of the files and the rules of the market, by hand; the numbers of batches
+//! What is in `stdout` comes from the formats of the files and the rules of the market, by hand; the numbers of batches
 //! are computed outside.
 #![tactic(auto)]
 
@@ -48,7 +48,7 @@ use check_lines::{Line, Names};
 use std::alloc::Global;
 use std::io;
 
-// What a case comes to, or `None` where it is faulty or there is no memory.
+// Returns the result of a case, or `None` if it is faulty or memory ran out.
 fn told_of(alloc: Global, words: &str, input: Vec<u8>) -> Option<String> {
     let mut rows = format!(in alloc; "{words}:").ok()?;
     match words {
@@ -58,7 +58,7 @@ fn told_of(alloc: Global, words: &str, input: Vec<u8>) -> Option<String> {
     Some(rows)
 }
 
-// What a line comes to, in the same way.
+// Returns the result of a line, or `None` if it is faulty or memory ran out.
 fn told(alloc: Global, names: &mut Names, line: &str) -> Option<String> {
     match names.read(line)? {
         Line::Remark => format!(in alloc; "{line}\n").ok(),

@@ -31,7 +31,7 @@ fn put_status(alloc: Global, status: Status, rows: &mut String) -> Option<()> {
     rows.push('\n').ok()
 }
 
-// Appends the number and the line of each.
+// Appends the number and the line of each status.
 pub(crate) fn put_all(alloc: Global, rows: &mut String) -> Option<()> {
     rows.push('\n').ok()?;
     for status in STATUSES {

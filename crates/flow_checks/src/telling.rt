@@ -1,8 +1,8 @@
-//! How the end of a call is told, and what stands in out.
+//! How the end of a call is printed, and what it wrote.
 use check_lines::{put_file, put_records, put_rows, put_text};
 use std::alloc::Global;
 
-// Appends the line on notes, if there is one.
+// Appends the line on standard error, if there is one.
 pub(crate) fn put_line(notes: &[u8], rows: &mut String) -> Option<()> {
     if notes.is_empty() {
         return Some(());
@@ -14,7 +14,7 @@ pub(crate) fn put_line(notes: &[u8], rows: &mut String) -> Option<()> {
     write!(rows, ", {line}").ok()
 }
 
-// Appends the number of the status, how much stands in out and is left in the source, and the line on notes.
+// Appends the number of the status, how many bytes were written and are left in the source, and the line on standard error.
 pub(crate) fn put_end(
     exit: u8,
     written: usize,
@@ -30,7 +30,7 @@ pub(crate) fn put_end(
     rows.push('\n').ok()
 }
 
-// Appends the number of the status, how much stands in out, whether that is a front of the whole, and the line on notes.
+// Appends the number of the status, how many bytes were written, whether they are a prefix, and the line on standard error.
 pub(crate) fn put_front(
     exit: u8,
     written: usize,
@@ -45,7 +45,7 @@ pub(crate) fn put_front(
     rows.push('\n').ok()
 }
 
-// Appends the rows of what stands in out: a checkpoint, another file, records, or a text.
+// Appends the rows of the output: a checkpoint, another file, records, or a text.
 pub(crate) fn put_out(alloc: Global, out: &[u8], most: usize, rows: &mut String) -> Option<()> {
     if out.starts_with(b"FLOWSNP1") {
         return put_rows(alloc, out, rows);

@@ -1,4 +1,4 @@
-//! The program `flow`: its words, standard input, output and error, given to the exchange, and for the words `keep FILE` that file.
+//! The program `flow`: gives its words and standard streams to the exchange, and for the words `keep FILE` that file too.
 #![tactic(auto)]
 
 use disk_edge::PathDisk;
@@ -10,7 +10,7 @@ use std::io::ErrorKind;
 use std::process::ExitCode;
 use std::{env, io};
 
-// The words after the program's name. One that isn't text makes a faulty command line.
+// Returns the words after the program's name. A word that isn't text makes the command line faulty.
 fn words(rt: &HostRuntime) -> Result<Vec<String>, Status> {
     match env::args(rt) {
         Ok(args) => args
@@ -22,8 +22,8 @@ fn words(rt: &HostRuntime) -> Result<Vec<String>, Status> {
     }
 }
 
-// Folders in the places of standard streams that are closed, so that no file which is opened then comes there, and is read or written
-// as that stream. A folder can't be: such a read or write still fails.
+// Opens folders in the places of standard streams that are closed, so that no file that is opened later gets such a place, and is read
+// or written as that stream. A read or write of a folder still fails.
 fn hold_places(rt: &HostRuntime) -> [io::Result<File>; 3] {
     [
         File::open(rt, "/"),

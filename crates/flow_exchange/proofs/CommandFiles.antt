@@ -1,4 +1,4 @@
--- A command file states a length above any record's, and so begins no pair.
+-- A command file states a length above any record's, and so begins no entry.
 use Rattle.std.proofs.Common.{ℕ, List, ◌∷◌, ◌++◌, refl, arith}
 use Rattle.wire_records.specs.Records.{head, StatesLength, most_body}
 use Rattle.wire_records.specs.Grammars.{BeginsWithNone}

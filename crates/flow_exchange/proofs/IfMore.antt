@@ -1,4 +1,4 @@
--- What a word comes to of first bytes if more follow is what it comes to where their number is the limit, whatever follows.
+-- What first bytes result in if more follow is what they result in when their number is the limit, whatever follows.
 use Rattle.std.proofs.Common.{◌≡◌, ◌+◌, ◌<◌, ◌↔◌, ℕ, List, [], ◌∷◌, ◌++◌, Ok, Err, length, take, inl, inr, append-nil, length-append, refl, sym, ap, ◌∙◌, subst, arith}
 use Rattle.std.proofs.Math.Seq.{take-append-add}
 use Rattle.std.proofs.lemmas.List.{take_at}
@@ -65,7 +65,7 @@ module _ {U S B : Type 0} (w : Word U S B) (start : Version → S) where
       comes_alike w (length first < length all) (Unit {0}) (to.1, to.0) start first ended text
       (subst (λ (xs : List ℕ). Comes w start xs (length first < length all) ended text) (take_at first (next ∷ behind) (length first) refl) comes)
 
-  -- what was written where memory was wanted is what the bytes before come to if more follow
+  -- what was written when memory ran out is what the bytes before result in if more follow
   pub lacks_begins : IsExact w → (limit : ℕ) (bytes : List ℕ) (text : List ℕ) → (task w start).Lacks limit bytes text → (n : ℕ) × (task w start).Begins limit bytes n text
   lacks_begins exact limit bytes text (version, body, behind, magic, is, (on, kept)) =
       let spell = w.format.magics.spell version in

@@ -1,11 +1,13 @@
 pub mod Outcomes
 pub mod RunWord
 mod RunPieces
-pub mod FileOf
 pub mod IfMore
+pub mod HistoryOf
+pub mod CanonicallyKept
+pub mod HistoryIfMore
 pub mod Words
 pub mod Pace
-pub mod JournalForms
+pub mod HistoryForms
 pub mod ExplainForm
 pub mod EncodeForm
 pub mod CommandFiles

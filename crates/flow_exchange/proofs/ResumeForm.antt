@@ -1,7 +1,7 @@
 -- A resumption does what the clauses of the program say.
 use Rattle.std.proofs.Common.{◌≡◌, ◌<◌, ◌⊎◌, ℕ, List, [], ◌∷◌, ◌++◌, Option, Err, length, take, inl, inr, append-nil, append_assoc, length-append, refl, sym, ap, ◌∙◌, subst, arith}
 use Rattle.std.proofs.lemmas.List.{take_at}
-use Rattle.flow_io.specs.Streams.{GrowsByFront}
+use Rattle.flow_io.specs.Streams.{GrowsByPrefix}
 use Rattle.flow_io.proofs.Growth.{Grows-nothing}
 use Rattle.wire_records.specs.Records.{Record}
 use Rattle.wire_records.specs.Grammars.{spell_all}
@@ -30,7 +30,7 @@ use Rattle.flow_exchange.specs.Program.{ComesToIfMore, GetsTo}
 use Rattle.flow_exchange.proofs.Words.{IsOwn, IsForm, Unwritten, nothing_is_front}
 use Rattle.flow_exchange.proofs.CommandFiles.{command_files_begin_no_pair}
 
--- What stands first, whatever command file stands behind it.
+-- The bytes begin with what is resumed from, whatever follows it.
 pub record HasFront (bytes : List ℕ) (origin : Origin) (market : Market) (place : ℕ) (rest : List ℕ) : Type 0 where
   pub front : List ℕ
   pub whole : bytes ≡ front ++ rest
@@ -48,7 +48,7 @@ front_of bytes Checkpoint market place rest is = record {
   stands = λ body. record { checkpoint = is.checkpoint; is_one = is.is_one; whole = refl; ends = is.ends };
 }
 
--- what first bytes come to if more follow
+-- what first bytes result in if more follow
 if_more : (first text : List ℕ) → ((More : Type 0) → More → Resumes More first (Err TooLong) text) → ComesToIfMore Resume first text
 if_more first text resumes = λ next more.
     let all = first ++ next ∷ more in
@@ -56,7 +56,7 @@ if_more first text resumes = λ next more.
     let taken = sym (take_at first (next ∷ more) (length first) refl) in
     (answer.TooLong (length first), (Err TooLong, subst (λ (xs : List ℕ). Resumes (length first < length all) xs (Err TooLong) text) taken (resumes (length first < length all) longer), refl))
 
--- the pairs of the first records are what the bytes up to behind them come to
+-- the bytes up to the end of the first records result in the entries of these
 gets : (limit : ℕ) (bytes : List ℕ) (records : List Record) (left : List ℕ) (new : Market) (text : List ℕ) → ResumesFirst (take limit bytes) records left new text → GetsTo Resume limit bytes text
 gets limit bytes records left new text at =
     let magic = command_magic_of at.market.version in
@@ -89,7 +89,7 @@ lacks : (limit : ℕ) (bytes : List ℕ) (text : List ℕ) → (text ≡ []) ⊎
 lacks limit bytes text (inl none) = inl none
 lacks limit bytes text (inr short) = inr (gets limit bytes short.records short.left short.new text short.first)
 
--- after a fault of out: without bytes there is nothing to go on from
+-- after a failed write of the output: without bytes there is nothing to resume from
 no_bytes : ComesToIfMore Resume [] []
 no_bytes = λ next more. (
   answer.NotFlow,
@@ -107,7 +107,7 @@ no_bytes = λ next more. (
     eight_bytes : length checkpoint_magic ≡ 8
     eight_bytes = refl
 
-cut_short : (limit : ℕ) (bytes : List ℕ) (text : List ℕ) (before after : Option (List ℕ)) → (text ≡ []) ⊎ ResumesInto (take limit bytes) text → GrowsByFront before after text → (other : List ℕ) × GetsTo Resume limit bytes other × GrowsByFront before after other
+cut_short : (limit : ℕ) (bytes : List ℕ) (text : List ℕ) (before after : Option (List ℕ)) → (text ≡ []) ⊎ ResumesInto (take limit bytes) text → GrowsByPrefix before after text → (other : List ℕ) × GetsTo Resume limit bytes other × GrowsByPrefix before after other
 cut_short limit bytes text before after (inl none) written = ([], inl (0, no_bytes), nothing_is_front before after text [] none written)
 cut_short limit bytes text before after (inr into) written = (text, gets limit bytes into.records into.left into.new text into.first, written)
 

@@ -1,4 +1,4 @@
--- A run writes the magic by one call, and each pair by one.
+-- A run writes the magic by one call, and each entry by one.
 use Rattle.std.proofs.Common.{◌≡◌, ◌⊎◌, ◌<◌, ℕ, List, [], ◌∷◌, ◌++◌, length, map, Option, Some, None, Err, length-append, inl, inr, refl, sym, ap, ◌∙◌, arith}
 use Rattle.std.proofs.lemmas.List.{map-append}
 use Rattle.flow_io.specs.Streams.{HandsOver}
@@ -24,33 +24,33 @@ use Rattle.flow_exchange.specs.Private.{no_reason}
 use Rattle.flow_exchange.specs.Running.{AreMagicAndPairs, WritesInPieces}
 use Rattle.flow_exchange.proofs.RunWord.{start}
 
--- a text of some bytes is one piece
+-- a text that isn't empty is one piece
 one_piece : (text : List ℕ) → 0 < length text → piece text ≡ text ∷ []
 one_piece [] some = absurd (omega (arith, some))
 one_piece (x ∷ xs) some = refl
 
--- a pair has some
+-- an entry isn't empty
 pair_long : (pair : Pair Record Outcome) → 0 < length (pair_spelling pair)
 unfolding pair_spelling
 pair_long pair = omega (arith, length-append (spelling pair.asked) (spelling (answer_record pair.answer)), length-spelling pair.asked)
 
--- a pair is one piece
+-- an entry is one piece
 one_pair : (pair : Pair Record Outcome) → piece (pair_spelling pair) ≡ pair_spelling pair ∷ []
 one_pair pair = one_piece (pair_spelling pair) (pair_long pair)
 
--- and so is a magic
+-- a magic is one piece
 one_magic : (version : Version) → piece (journal_magic_of version) ≡ journal_magic_of version ∷ []
 one_magic One = refl
 one_magic Two = refl
 one_magic Three = refl
 
--- what answers a record is a pair
+-- what answers a record is an entry
 answered : (old new : Market) (asked : Record) (text : List ℕ) → AnswersOne old asked new text → (pair : Pair Record Outcome) × (piece text ≡ pair_spelling pair ∷ [])
 answered old new asked text step =
     let pair : Pair Record Outcome = record { asked = asked; answer = step.answer } in
     (pair, ap piece step.spelled ∙ one_pair pair)
 
--- the pieces of records are pairs
+-- the pieces of records are entries
 taken : (old new : Market) (records : List Record) (pieces : List (List ℕ)) → HasPieces run old records new pieces → (pairs : List (Pair Record Outcome)) × (pieces ≡ map pair_spelling pairs)
 taken old new [] pieces has = ([], has.1)
 taken old new (asked ∷ records) pieces has =
@@ -58,7 +58,7 @@ taken old new (asked ∷ records) pieces has =
     let rest = taken has.0 new records has.2 has.4 in
     (one.0 ∷ rest.0, has.5 ∙ ap (λ xs. xs ++ has.2) one.1 ∙ ap (λ xs. pair_spelling one.0 ∷ xs) rest.1)
 
--- and so is what was written last
+-- what was written last is at most one entry
 last : (old : Market) (at : Option Record) (text : List ℕ) → (text ≡ []) ⊎ IsWriting run old at text → (pairs : List (Pair Record Outcome)) × (piece text ≡ map pair_spelling pairs)
 last old at text (inl none) = ([], ap piece none)
 last old (Some asked) text (inr (inl step)) = let one = answered old step.0 asked text step.1 in (one.0 ∷ [], one.1)

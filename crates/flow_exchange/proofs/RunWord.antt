@@ -1,4 +1,4 @@
--- A run does what the clauses of the program say: what its word comes to is a journal.
+-- A run does what the clauses of the program say: it results in a journal.
 use Rattle.std.proofs.Common.{◌≡◌, ℕ, List, [], ◌++◌, Ok, Err, refl, sym, ap, ◌∙◌, subst, inl, inr, append-nil, append_assoc}
 use Rattle.std.specs.List.{flat_map}
 use Rattle.std.proofs.lemmas.List.{flat_map_more}
@@ -70,8 +70,8 @@ runs_to limit bytes (Err word.Memory) text (inr (version, body, behind, magic, i
 pub runs_out : (limit : ℕ) (bytes : List ℕ) (text : List ℕ) → (task run start).Lacks limit bytes text → RunsShort limit bytes text
 runs_out limit bytes text (version, body, behind, magic, is, on) =
     let way = on.0 in
-    elim way.wants [
-      | inl (next, more, front, wants) ↦ record {
+    elim way.allocates [
+      | inl (next, more, front, allocates) ↦ record {
         version = version;
         records = way.units;
         next = next;
@@ -85,11 +85,11 @@ runs_out limit bytes text (version, body, behind, magic, is, on) =
           each = All-push (IsRecord 1024) way.units next way.passes.each front.0;
         };
         writes = journals way.units way.state behind text version (run_version (start version) way.state way.units behind way.passes.goes) on.1 is;
-        wants = wants;
+        allocates = allocates;
       }
       | inr at ↦ absurd at.1
     ]
 
--- so its task is the form of the program
+-- the run's task is the form of the program
 pub run_form : IsForm (task run start) Run no_reason Nothing
 run_form = word_form run start run_is_exact Run no_reason runs_to (λ limit bytes n text more. more) runs_out (λ never. elim never [ ]) (λ limit. refl) (λ bytes. refl)

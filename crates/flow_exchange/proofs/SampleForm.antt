@@ -1,7 +1,7 @@
--- A sample does what the clauses of the program say: it reads nothing, and writes the line on it, or a front of it.
+-- A sample does what the clauses of the program say: it reads nothing, and writes the line on it, or a prefix of it.
 use Rattle.std.proofs.Common.{◌≡◌, ◌≢◌, ℕ, List, [], Option, Some, None, IfSome, inl, inr, refl, arith}
 use Rattle.flow_io.specs.Faults.{Blames}
-use Rattle.flow_io.specs.Streams.{Grows, GrowsByFront, TakesAtMost}
+use Rattle.flow_io.specs.Streams.{Grows, GrowsByPrefix, TakesAtMost}
 use Rattle.flow_io.specs.Changes.{Change}
 use Rattle.flow_io.proofs.Growth.{Grows-nothing}
 use Rattle.sample_summary.specs.Summary.{Summarizes}
@@ -9,12 +9,12 @@ use Rattle.flow_exchange.specs.declared.form.Form.TheVariants.{Sample}
 use Rattle.flow_exchange.specs.declared.status.Status.{Status}
 use Rattle.flow_exchange.specs.declared.status.Status.TheVariants as answer
 use Rattle.flow_exchange.specs.Program.{Meets}
-use Rattle.flow_exchange.specs.Wanting.{RunsOut}
+use Rattle.flow_exchange.specs.Allocating.{RunsOut}
 use Rattle.flow_exchange.specs.Private.{Serves}
 use Rattle.flow_exchange.proofs.Outcomes.{one_end}
 
 module _ (number orders limit : ℕ) where
-  -- over what a source tells
+  -- for a source of known content
   told_meets : (status : Status) (rest before after : Option (List ℕ)) → ((bytes : List ℕ) → Meets (Sample number orders) limit bytes (Some bytes) status before after) → IfSome rest (λ bytes. Meets (Sample number orders) limit bytes rest status before after)
   told_meets status None before after meets = tt
   told_meets status (Some bytes) before after meets = meets bytes
@@ -28,17 +28,17 @@ module _ (number orders limit : ℕ) where
   all_left (Some bytes) = refl
 
   told_wants : (rest before after : Option (List ℕ)) → ((bytes : List ℕ) → RunsOut (Sample number orders) limit bytes (Some bytes) before after) → IfSome rest (λ bytes. RunsOut (Sample number orders) limit bytes rest before after)
-  told_wants None before after wants = tt
-  told_wants (Some bytes) before after wants = wants bytes
+  told_wants None before after allocates = tt
+  told_wants (Some bytes) before after allocates = allocates bytes
 
-  -- its source, of which nothing is taken
+  -- a source of which nothing is taken
   abbrev pub still : Option (List ℕ) → ℕ → Change
   still rest faults = record { before = rest; after = rest; faults = faults; faults_after = faults }
 
   does : (status : Status) (rest : Option (List ℕ)) (faults : ℕ) (out : Change) → status ≢ answer.ReadFault → ((bytes : List ℕ) → Meets (Sample number orders) limit bytes (Some bytes) status out.before out.after)
       → (status ≡ answer.NoMemory → (bytes : List ℕ) → RunsOut (Sample number orders) limit bytes (Some bytes) out.before out.after)
       → Blames (status ≡ answer.WriteFault) out.faults out.faults_after → Serves (Sample number orders) limit status (still rest faults) out
-  does status rest faults out not_read meets wants writes = record {
+  does status rest faults out not_read meets allocates writes = record {
     does = record {
       meets = told_meets status rest out.before out.after meets;
       taken = nothing_taken rest;
@@ -46,7 +46,7 @@ module _ (number orders limit : ℕ) where
       reads = record { later = omega arith; rose = λ e. absurd (not_read e); quiet = λ _. refl };
       writes = writes;
     };
-    wants = λ e. told_wants rest out.before out.after (wants e);
+    allocates = λ e. told_wants rest out.before out.after (allocates e);
   }
 
   -- the line was written
@@ -62,8 +62,8 @@ module _ (number orders limit : ℕ) where
       })
       (λ e. absurd cc) (record { later = omega (arith, quiet); rose = λ e. absurd cc; quiet = λ _. quiet })
 
-  -- a front of it was
-  pub does_not_write : (line : List ℕ) (rest : Option (List ℕ)) (faults : ℕ) (out : Change) → Summarizes number orders line → GrowsByFront out.before out.after line → Blames (Unit {0}) out.faults out.faults_after
+  -- a prefix of the line was written
+  pub does_not_write : (line : List ℕ) (rest : Option (List ℕ)) (faults : ℕ) (out : Change) → Summarizes number orders line → GrowsByPrefix out.before out.after line → Blames (Unit {0}) out.faults out.faults_after
       → Serves (Sample number orders) limit answer.WriteFault (still rest faults) out
   does_not_write line rest faults out summary written cause =
       does answer.WriteFault rest faults out (λ e. absurd cc)

@@ -1,8 +1,8 @@
--- A word over the driver does what the clauses of the program say of its form, once what it comes to is what they say.
+-- A subcommand over the driver does what the clauses of the program say of its form, once it results in what they say.
 use Rattle.std.proofs.Common.{◌≡◌, ◌≢◌, ◌⊎◌, ◌+◌, ℕ, List, [], ◌∷◌, ◌++◌, length, Option, Some, None, IfSome, OnOk, Ok, Err, take, refl, ap, ◌∙◌, subst, inl, inr, arith, rules}
 use Rattle.flow_io.specs.Faults.{Blames}
 use Rattle.flow_io.specs.Changes.{Change}
-use Rattle.flow_io.specs.Streams.{Grows, GrowsByFront, TakesAtMost}
+use Rattle.flow_io.specs.Streams.{Grows, GrowsByPrefix, TakesAtMost}
 use Rattle.wire_records.specs.declared.version.Version.{Version}
 use Rattle.word_driver.specs.declared.fault.Fault.TheVariants as word
 use Rattle.word_driver.specs.Ended.{Ended}
@@ -10,14 +10,18 @@ use Rattle.word_driver.specs.Word.{Word}
 use Rattle.word_driver.specs.Does.{Task, task}
 use Rattle.word_driver.specs.Does as driver
 use Rattle.word_driver.specs.Laws.{IsExact}
+use Rattle.wire_records.specs.Records.{Record}
+use Rattle.history_words.specs.declared.stop.HistoryStop.{HistoryStop}
+use Rattle.history_words.specs.Histories.{Beginning, over_history_from}
 use Rattle.flow_exchange.specs.declared.form.Form.{Form}
 use Rattle.flow_exchange.specs.declared.status.Status.{Status}
 use Rattle.flow_exchange.specs.declared.status.Status.TheVariants as answer
 use Rattle.flow_exchange.specs.Statuses.{ended_status}
 use Rattle.flow_exchange.specs.Program.{ComesTo, ComesToIfMore, WritesSoFar, GetsTo, most_taken, left_by, Determines, Meets}
-use Rattle.flow_exchange.specs.Wanting.{LacksAt, RunsOut}
+use Rattle.flow_exchange.specs.Allocating.{LacksAt, RunsOut}
 use Rattle.flow_exchange.specs.Private.{Serves}
 use Rattle.flow_exchange.proofs.IfMore.{comes_if_more, lacks_begins}
+use Rattle.flow_exchange.proofs.HistoryIfMore.{history_if_more, history_begins}
 use Rattle.flow_exchange.proofs.Outcomes.{one_end}
 
 -- a reason of its own is none of the other statuses
@@ -38,35 +42,36 @@ IsOwn answer.DiskFault = ⊥
 IsOwn answer.NotDisk = ⊥
 IsOwn (answer.Damaged place) = ⊥
 
--- How a word's task is a form of the program, with a status for each of its own reasons to stop, and with what is known besides where
+-- How a subcommand's task is a form of the program, with a status for each of its own reasons to stop, and with what is known besides if
 -- a read failed.
 pub record IsForm {B : Type 0} (t : Task B) (form : Form) (own : B → Status) (Unread : Option (List ℕ) → Option (List ℕ) → Type 0) : Type 0 where
   pub to : (limit : ℕ) (bytes : List ℕ) (ended : Ended B) (text : List ℕ) → t.Comes limit bytes ended text → ComesTo form limit bytes (ended_status limit own ended) text
   pub so_far : (limit : ℕ) (bytes : List ℕ) (n : ℕ) (text : List ℕ) (before after : Option (List ℕ)) → t.Begins limit bytes n text → Grows before after text → Unread before after
       → (other : List ℕ) × WritesSoFar form (take n (take limit bytes)) other × Grows before after other
-  pub gets : (limit : ℕ) (bytes : List ℕ) (n : ℕ) (text : List ℕ) (before after : Option (List ℕ)) → t.Begins limit bytes n text → GrowsByFront before after text → (other : List ℕ) × GetsTo form limit bytes other × GrowsByFront before after other
+  pub gets : (limit : ℕ) (bytes : List ℕ) (n : ℕ) (text : List ℕ) (before after : Option (List ℕ)) → t.Begins limit bytes n text → GrowsByPrefix before after text → (other : List ℕ) × GetsTo form limit bytes other × GrowsByPrefix before after other
   pub lacks : (limit : ℕ) (bytes : List ℕ) (text : List ℕ) → t.Lacks limit bytes text → (text ≡ []) ⊎ GetsTo form limit bytes text
   pub out : (limit : ℕ) (bytes : List ℕ) (text : List ℕ) → t.Lacks limit bytes text → LacksAt form limit bytes text
   pub owns : (why : B) → IsOwn (own why)
   pub most : (limit : ℕ) → t.most_taken limit ≡ most_taken form limit
   pub left : (bytes : List ℕ) → t.left bytes ≡ left_by form bytes
 
--- nothing more is known of a word of the driver, and of one that reads all before it writes, that nothing was written
+-- what is known besides after a failed read, of a subcommand that writes as it reads: nothing
 abbrev pub Nothing : Option (List ℕ) → Option (List ℕ) → Type 0
 Nothing before after = Unit {0}
 
+-- what is known besides after a failed read, of a subcommand that reads all before it writes: nothing was written
 abbrev pub Unwritten : Option (List ℕ) → Option (List ℕ) → Type 0
 Unwritten before after = after ≡ before
 
--- nothing written is a front of anything
-pub nothing_is_front : (before after : Option (List ℕ)) (text other : List ℕ) → text ≡ [] → GrowsByFront before after text → GrowsByFront before after other
+-- an empty text is a prefix of any text
+pub nothing_is_front : (before after : Option (List ℕ)) (text other : List ℕ) → text ≡ [] → GrowsByPrefix before after text → GrowsByPrefix before after other
 nothing_is_front before after text other none written =
     (0, omega arith, subst (λ (x : List ℕ). Grows before after x) (ap (take written.0) none ∙ take_nothing written.0) written.2)
   where
     take_nothing : (n : ℕ) → take {A = ℕ} n [] ≡ []
     take_nothing n = search rules
 
--- a word of the driver writes what has come before it reads more
+-- a subcommand of the driver writes what it has before it reads more
 module _ {U S B : Type 0} (w : Word U S B) (start : Version → S) (exact : IsExact w) (form : Form) (own : B → Status)
     (to : (limit : ℕ) (bytes : List ℕ) (ended : Ended B) (text : List ℕ) → (task w start).Comes limit bytes ended text → ComesTo form limit bytes (ended_status limit own ended) text) where
   pub if_more : (limit : ℕ) (bytes : List ℕ) (n : ℕ) (text : List ℕ) → (task w start).Begins limit bytes n text → ComesToIfMore form (take n (take limit bytes)) text
@@ -90,13 +95,37 @@ module _ {U S B : Type 0} (w : Word U S B) (start : Version → S) (exact : IsEx
     left = left;
   }
 
+-- a subcommand over a history writes what it has before it reads more
+module _ {S B : Type 0} (w : Word (Record × Record) S B) (begins : Beginning S) (exact : IsExact w) (form : Form) (own : HistoryStop B → Status)
+    (to : (limit : ℕ) (bytes : List ℕ) (ended : Ended (HistoryStop B)) (text : List ℕ) → (over_history_from w begins).Comes limit bytes ended text → ComesTo form limit bytes (ended_status limit own ended) text) where
+  pub begun_more : (limit : ℕ) (bytes : List ℕ) (n : ℕ) (text : List ℕ) → (over_history_from w begins).Begins limit bytes n text → ComesToIfMore form (take n (take limit bytes)) text
+  begun_more limit bytes n text (ended, comes) =
+      let first = take n (take limit bytes) in
+      λ next more. (ended_status (length first) own ended, to (length first) (first ++ next ∷ more) ended text (history_if_more w begins first next more ended text comes))
+
+  pub history_form : ((limit : ℕ) (bytes : List ℕ) (n : ℕ) (text : List ℕ) → ComesToIfMore form (take n (take limit bytes)) text → WritesSoFar form (take n (take limit bytes)) text)
+      → ((limit : ℕ) (bytes : List ℕ) (text : List ℕ) → (over_history_from w begins).Lacks limit bytes text → LacksAt form limit bytes text) → ((why : HistoryStop B) → IsOwn (own why))
+      → ((limit : ℕ) → limit + 1 ≡ most_taken form limit) → ((bytes : List ℕ) → [] ≡ left_by form bytes) → IsForm (over_history_from w begins) form own Nothing
+  history_form so_far out owns most left = record {
+    to = to;
+    so_far = λ limit bytes n text before after begun written known. (text, so_far limit bytes n text (begun_more limit bytes n text begun), written);
+    gets = λ limit bytes n text before after begun written. (text, inl (n, begun_more limit bytes n text begun), written);
+    lacks = λ limit bytes text lacks.
+        let begun = history_begins w begins exact limit bytes text lacks in
+        inr (inl (begun.0, begun_more limit bytes begun.0 text begun.1));
+    out = out;
+    owns = owns;
+    most = most;
+    left = left;
+  }
+
 module _ {B : Type 0} (t : Task B) (form : Form) (limit : ℕ) (own : B → Status) {Unread : Option (List ℕ) → Option (List ℕ) → Type 0} (is : IsForm t form own Unread) where
   determines : (bytes : List ℕ) (ended : Ended B) (before after : Option (List ℕ)) → driver.Determines t limit bytes ended before after → Determines form limit bytes (ended_status limit own ended) before after
   determines bytes ended before after (text, comes, written, one) =
       let here = is.to limit bytes ended text comes in
       (text, here, written, λ other words also. one_end form limit bytes other (ended_status limit own ended) words text also here)
 
-  -- no fault came, and there was memory
+  -- no fault came, and memory didn't run out
   met : (bytes : List ℕ) (left : Option (List ℕ)) (status : Status) (before after : Option (List ℕ)) → status ≢ answer.ReadFault → status ≢ answer.WriteFault → status ≢ answer.NoMemory → Determines form limit bytes status before after → Meets form limit bytes left status before after
   met bytes left status before after r w m determined = record { read = λ e. absurd (r e); write = λ e. absurd (w e); memory = λ e. absurd (m e); determined = λ _ _ _. determined }
 
@@ -176,7 +205,7 @@ module _ {B : Type 0} (t : Task B) (form : Form) (limit : ℕ) (own : B → Stat
   left_back told rest (Err word.TooLong) left e = absurd cc
   left_back told rest (Err (word.Stopped why)) left e = absurd (subst IsOwn e (is.owns why))
 
-  -- where memory was wanted
+  -- memory ran out
   wants_told : (told left : Option (List ℕ)) (before after : Option (List ℕ)) → IfSome told (λ bytes. driver.Meets t limit bytes left (Err word.Memory) before after) → IfSome told (λ bytes. RunsOut form limit bytes left before after)
   wants_told None left before after so = tt
   wants_told (Some bytes) left before after (text, lacks, written) = (text, elim lacks [ inl none ↦ inl none | inr short ↦ inr (is.out limit bytes text short) ], written)
@@ -202,6 +231,6 @@ module _ {B : Type 0} (t : Task B) (form : Form) (limit : ℕ) (own : B → Stat
           reads = reads;
           writes = writes;
         };
-        wants = λ e. wants_told source.before source.after out.before out.after
+        allocates = λ e. wants_told source.before source.after out.before out.after
             (subst (λ (z : Ended B). IfSome source.before (λ bytes. driver.Meets t limit bytes source.after z out.before out.after)) (memory_back ended e) done.meets);
       }

@@ -1,28 +1,31 @@
 -- What `flow audit` makes of the bytes of its source.
-use Rattle.std.specs.Prelude.{◌≡◌, ℕ, List, [], length}
+use Rattle.std.specs.Prelude.{◌≡◌, ◌⊎◌, ℕ, List, [], length}
 use Rattle.wire_records.specs.Records.{Record}
 use Rattle.wire_records.specs.Commands.{Pair}
 use Rattle.flow_orders.specs.Outcomes.{Outcome}
 use Rattle.market_rules.specs.Market.{Market}
-use Rattle.market_rules.specs.Wanting.{RecordMayWant}
+use Rattle.market_rules.specs.Allocating.{RecordMayAllocate}
+use Rattle.market_history.specs.Histories.{Start}
 use Rattle.journal_replay.specs.Audits.{cleared_in, skipped_in}
 use Rattle.journal_words.specs.Line.{counted_line}
 use Rattle.flow_exchange.specs.declared.status.Status.{Status}
-use Rattle.flow_exchange.specs.JournalFiles.{Journal, if_whole, status_of, JournalTo, IsAtPair}
+use Rattle.flow_exchange.specs.JournalFiles.{if_whole}
+use Rattle.flow_exchange.specs.HistoryFiles.{History, HistoryTo, IsAtPairOf, LacksStart}
 
--- the line on a legal journal
+-- the line on valid entries
 abbrev pub legal_line : List (Pair Record Outcome) → List ℕ
 legal_line legal = counted_line (length legal) (cleared_in legal) (skipped_in legal)
 
--- what is written: the line where all was done, and else nothing
-abbrev pub audit_text : Journal → List ℕ
-audit_text journal = if_whole journal.behind journal.ending (legal_line journal.legal) []
+-- what an audit writes: the line if all was done, and else nothing
+abbrev pub audit_text : History → List ℕ
+audit_text history = if_whole history.behind history.ending (legal_line history.legal) []
 
--- the status and the text that the first `limit` bytes come to
+-- an audit of the first `limit` bytes results in this status and this text
 abbrev pub AuditsTo : ℕ → List ℕ → Status → List ℕ → Type 0
-AuditsTo limit = JournalTo (status_of limit) (λ journal text. text ≡ audit_text journal) limit
+AuditsTo limit = HistoryTo (λ history text. text ≡ audit_text history) limit
 
--- where memory may run out: at a pair whose command may want some
+-- where memory may run out: for a checkpoint, or at an entry whose command may run out of it
 abbrev pub AuditsShort : ℕ → List ℕ → List ℕ → Type 0
 AuditsShort limit bytes text =
-    (legal : List (Pair Record Outcome)) × (market : Market) × (next : Record × Record) × IsAtPair limit bytes legal market next × RecordMayWant market next.0 × (text ≡ [])
+    LacksStart limit bytes text
+    ⊎ ((start : Start) × (legal : List (Pair Record Outcome)) × (market : Market) × (next : Record × Record) × IsAtPairOf limit bytes start legal market next × RecordMayAllocate market next.0 × (text ≡ []))

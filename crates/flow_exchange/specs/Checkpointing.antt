@@ -3,18 +3,19 @@ use Rattle.std.specs.Prelude.{◌≡◌, ◌⊎◌, ℕ, List, []}
 use Rattle.market_snapshot.specs.Checkpoints.{checkpoint_bytes}
 use Rattle.flow_exchange.specs.declared.status.Status.{Status}
 use Rattle.flow_exchange.specs.declared.status.Status.TheVariants.{Done}
-use Rattle.flow_exchange.specs.JournalFiles.{Journal, if_whole, status_of, JournalTo}
+use Rattle.flow_exchange.specs.JournalFiles.{if_whole}
+use Rattle.flow_exchange.specs.HistoryFiles.{History, HistoryTo}
 use Rattle.flow_exchange.specs.Auditing.{AuditsShort}
 
--- what is written: the market's checkpoint where all was done, and else nothing
-abbrev pub checkpoint_text : Journal → List ℕ
-checkpoint_text journal = if_whole journal.behind journal.ending (checkpoint_bytes journal.market) []
+-- what is written: the checkpoint of the market at the end if all was done, and else nothing
+abbrev pub checkpoint_text : History → List ℕ
+checkpoint_text history = if_whole history.behind history.ending (checkpoint_bytes history.market) []
 
--- the status and the text that the first `limit` bytes come to
+-- the first `limit` bytes result in this status and this text
 abbrev pub CheckpointsTo : ℕ → List ℕ → Status → List ℕ → Type 0
-CheckpointsTo limit = JournalTo (status_of limit) (λ journal text. text ≡ checkpoint_text journal) limit
+CheckpointsTo limit = HistoryTo (λ history text. text ≡ checkpoint_text history) limit
 
--- where memory may run out: where that of an audit may, or at the end of a legal journal, for the checkpoint
+-- where memory may run out: where it may in an audit, or at the end of a history whose entries are all valid, for the checkpoint
 abbrev pub CheckpointsShort : ℕ → List ℕ → List ℕ → Type 0
 CheckpointsShort limit bytes text =
     AuditsShort limit bytes text ⊎ ((whole : List ℕ) × CheckpointsTo limit bytes Done whole × (text ≡ []))

@@ -6,14 +6,14 @@ use Rattle.flow_orders.specs.Outcomes.{Outcome}
 use Rattle.market_rules.specs.Market.{Market}
 use Rattle.journal_words.specs.Findings.{IsExplained}
 use Rattle.flow_exchange.specs.declared.status.Status.{Status}
-use Rattle.flow_exchange.specs.JournalFiles.{status_of, JournalTo}
+use Rattle.flow_exchange.specs.HistoryFiles.{HistoryTo}
 use Rattle.flow_exchange.specs.Auditing.{audit_text}
 
--- what is written: the line of what is found of the first pair that isn't legal, and where all are, what an audit writes
+-- what is written: the line of what is found of the first invalid entry, or what an audit writes if all are valid
 abbrev pub Explains : Market → List (Pair Record Outcome) → List (Record × Record) → List ℕ → List ℕ → Type 0
 Explains market legal [] line text = text ≡ line
 Explains market legal (bad ∷ more) line text = IsExplained market (length legal + 1) bad text
 
--- the status and the text that the first `limit` bytes come to
+-- the first `limit` bytes result in this status and this text
 abbrev pub ExplainsTo : ℕ → List ℕ → Status → List ℕ → Type 0
-ExplainsTo limit = JournalTo (status_of limit) (λ journal text. Explains journal.market journal.legal journal.behind (audit_text journal) text) limit
+ExplainsTo limit = HistoryTo (λ history text. Explains history.market history.legal history.behind (audit_text history) text) limit

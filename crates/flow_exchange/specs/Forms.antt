@@ -6,7 +6,7 @@ use Rattle.flow_exchange.specs.Stating.{AskStatement}
 use Rattle.flow_exchange.specs.declared.form.Form.{Form}
 use Rattle.flow_exchange.specs.declared.form.Form.TheVariants.{Run, Audit, Explain, Report, Encode, Sample, Statement, Checkpoint, Resume}
 
--- the words, as the bytes of each, ask for this form
+-- the arguments, as the bytes of each, ask for this form
 abbrev pub Asks : List (List ℕ) → Form → Type 0
 Asks words Run = words ≡ codes "run" ∷ []
 Asks words Audit = words ≡ codes "audit" ∷ []
@@ -20,6 +20,6 @@ Asks words (Statement number) = AskStatement words number
 Asks words Checkpoint = words ≡ codes "checkpoint" ∷ []
 Asks words Resume = words ≡ codes "resume" ∷ []
 
--- the words are none of the forms
+-- the arguments ask for no form
 abbrev pub AsksNothing : List (List ℕ) → Type 0
 AsksNothing words = (form : Form) → ¬ Asks words form

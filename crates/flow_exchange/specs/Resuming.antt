@@ -6,7 +6,7 @@ use Rattle.session_resume.specs.Resuming.{Resumes}
 use Rattle.flow_exchange.specs.declared.status.Status.{Status}
 use Rattle.flow_exchange.specs.Statuses.{ended_status, unfit_status}
 
--- the status and the text that the first `limit` bytes come to
+-- the first `limit` bytes result in this status and this text
 abbrev pub ResumesTo : ℕ → List ℕ → Status → List ℕ → Type 0
 ResumesTo limit bytes status text =
     (ended : Ended Unfit) × Resumes (limit < length bytes) (take limit bytes) ended text × (status ≡ ended_status limit unfit_status ended)

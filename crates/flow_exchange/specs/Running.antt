@@ -12,7 +12,7 @@ use Rattle.flow_orders.specs.Outcomes.{Outcome}
 use Rattle.journal_records.specs.Pairs.{pair_spelling}
 use Rattle.journal_records.specs.Formats.{journal_magic_of}
 use Rattle.market_rules.specs.Market.{Market}
-use Rattle.market_rules.specs.Wanting.{RecordMayWant}
+use Rattle.market_rules.specs.Allocating.{RecordMayAllocate}
 use Rattle.exchange_session.specs.Journals.{Journals}
 use Rattle.flow_exchange.specs.declared.status.Status.{Status}
 use Rattle.flow_exchange.specs.declared.status.Status.TheVariants.{WriteFault, NoMemory}
@@ -30,7 +30,7 @@ pub record RunsTo (limit : ℕ) (bytes : List ℕ) (status : Status) (text : Lis
   pub ends : status ≡ reading_status limit reading
   pub writes : WritesOf reading text
 
--- The text is the journal of the records before one that may want memory.
+-- The text is the journal of the records before one that may run out of memory.
 pub record RunsShort (limit : ℕ) (bytes : List ℕ) (text : List ℕ) : Type 0 where
   pub version : Version
   pub records : List Record
@@ -38,13 +38,13 @@ pub record RunsShort (limit : ℕ) (bytes : List ℕ) (text : List ℕ) : Type 0
   pub market : Market
   pub starts : StartsWith commands limit bytes version (records ++ next ∷ [])
   pub writes : Journals version records market text
-  pub wants : RecordMayWant market next
+  pub allocates : RecordMayAllocate market next
 
--- so many of these bytes were taken, where the source tells those that it had and those that are left
+-- `Holds` is true of the bytes that the source had and of how many were taken, if what it had and what is left are known
 abbrev pub WhereTaken : Option (List ℕ) → Option (List ℕ) → (List ℕ → ℕ → Type 0) → Type 0
 WhereTaken before after Holds = IfSome before (λ bytes. IfSome after (λ left. (n : ℕ) × (n + length left ≡ length bytes) × Holds bytes n))
 
--- The pairs of the first records stand whole in what out gained, and at most 1,030 bytes were taken past them.
+-- The entries of the first records are completely in what was appended to the output, and at most 1,030 bytes were taken past these records.
 pub record IsNearPairs (limit : ℕ) (before after : Option (List ℕ)) (bytes : List ℕ) (taken : ℕ) : Type 0 where
   pub version : Version
   pub records : List Record
@@ -56,17 +56,17 @@ pub record IsNearPairs (limit : ℕ) (before after : Option (List ℕ)) (bytes :
   pub stands : Grows before after (text ++ more)
   pub near : taken ≤ 8 + length (flat_map spelling records) + 1030
 
--- How far a run has read where it was cut short: after a fault of out, and where memory ran out, no further than 1,030 bytes past the last
--- record whose pair was written, or past the first eight bytes.
+-- How far a run has read that was cut short, by a failed write or because memory ran out: at most 1,030 bytes past the last record whose
+-- entry was written, or past the first eight bytes.
 abbrev pub KeepsPace : ℕ → Status → Change → Change → Type 0
 KeepsPace limit status source out = (status ≡ WriteFault) ⊎ (status ≡ NoMemory)
     → WhereTaken source.before source.after (λ bytes taken. (taken ≤ 8 + 1030) ⊎ IsNearPairs limit out.before out.after bytes taken)
 
--- no piece, or the magic of a journal as one piece, and behind it each pair as one
+-- no piece, or the magic of a journal as one piece, and after it each entry as one
 abbrev pub AreMagicAndPairs : List (List ℕ) → Type 0
 AreMagicAndPairs pieces = (pieces ≡ []) ⊎ ((version : Version) × (pairs : List (Pair Record Outcome)) × (pieces ≡ journal_magic_of version ∷ map pair_spelling pairs))
 
--- What a run hands to out, by whatever status: the magic by one call, each pair by one call, and nothing besides. Where no write
--- failed, out gained these pieces whole; of the last one a write may have failed.
+-- What a run hands to the output, by whatever status: the magic by one call, each entry by one call, and nothing besides. If no write
+-- failed, these whole pieces were appended; of the last one a write may have failed.
 abbrev pub WritesInPieces : {O : Type 0} → (O → Option (List (List ℕ))) → (O → Option (List ℕ)) → O → O → Status → Type 0
 WritesInPieces calls held before after status = (pieces : List (List ℕ)) × AreMagicAndPairs pieces × HandsOver calls held before after (status ≡ WriteFault) pieces

@@ -1,11 +1,11 @@
--- `flow sample NUMBER ORDERS`: which words ask for it, and what it comes to.
+-- `flow sample NUMBER ORDERS`: which arguments ask for it, and what it results in.
 use Rattle.std.specs.Prelude.{◌≡◌, ◌<◌, ◌≤◌, ◌^◌, ℕ, List, [], ◌∷◌, codes, decimal}
 use Rattle.flow_orders.specs.Orders.{most_orders}
 use Rattle.flow_exchange.specs.declared.status.Status.{Status}
 use Rattle.flow_exchange.specs.declared.status.Status.TheVariants.{Done}
 use Rattle.sample_summary.specs.Summary.{Summarizes}
 
--- The words are `sample` and two numbers in plain decimal digits: one of 64 bits, and 1 to 16,384 orders.
+-- The arguments are `sample` and two numbers in plain decimal digits: one of 64 bits, and 1 to 16,384 orders.
 pub record AskSample (words : List (List ℕ)) (number orders : ℕ) : Type 0 where
   pub are : words ≡ codes "sample" ∷ decimal number ∷ decimal orders ∷ []
   pub number_fits : number < 2 ^ 64

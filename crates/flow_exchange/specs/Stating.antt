@@ -1,61 +1,66 @@
--- `flow statement NUMBER`: which words ask for it, and what it makes of the bytes of its source.
+-- `flow statement NUMBER`: which arguments ask for it, and what it makes of the bytes of its source.
 use Rattle.std.specs.Prelude.{◌≡◌, ◌⊎◌, ◌<◌, ◌^◌, ℕ, List, [], ◌∷◌, codes, decimal, if◌then◌else◌}
 use Rattle.wire_records.specs.Records.{Record}
 use Rattle.wire_records.specs.Commands.{Pair}
 use Rattle.wire_records.specs.Reading.{End}
-use Rattle.wire_records.specs.declared.version.Version.{Version}
 use Rattle.flow_accounts.specs.Balances.{IsAccount}
 use Rattle.flow_orders.specs.Outcomes.{Outcome}
-use Rattle.market_rules.specs.Market.{Market, empty_market}
-use Rattle.market_rules.specs.Wanting.{RecordMayWant}
+use Rattle.market_rules.specs.Market.{Market}
+use Rattle.market_rules.specs.Allocating.{RecordMayAllocate}
+use Rattle.market_history.specs.Histories.{Start, market_of}
 use Rattle.batch_audit.specs.Legal.{IsLegalPair}
-use Rattle.journal_replay.specs.Audits.{Audits}
 use Rattle.statement_rules.specs.Views.{Event, Sees, is_there}
-use Rattle.statement_rules.specs.Statements.{view_text, statement}
+use Rattle.statement_rules.specs.Statements.{text_from, statement_from}
 use Rattle.flow_exchange.specs.declared.status.Status.{Status}
 use Rattle.flow_exchange.specs.declared.status.Status.TheVariants.{Done, NoAccount}
-use Rattle.flow_exchange.specs.JournalFiles.{Journal, if_whole, status_of, JournalTo, IsAtPair}
+use Rattle.flow_exchange.specs.JournalFiles.{if_whole}
+use Rattle.flow_exchange.specs.HistoryFiles.{History, IsHistory, history_status, HistoryToBy, IsAtPairOf, LacksStart}
 
--- The words are `statement` and a number of 64 bits in plain decimal digits.
+-- The arguments are `statement` and a number of 64 bits in plain decimal digits.
 pub record AskStatement (words : List (List ℕ)) (number : ℕ) : Type 0 where
   pub are : words ≡ codes "statement" ∷ decimal number ∷ []
   pub number_fits : number < 2 ^ 64
 
--- the status: that of the journal, but where all was done and the market has no account of the number
-abbrev pub statement_status : ℕ → ℕ → Journal → Status
-statement_status account limit journal =
-    if_whole journal.behind journal.ending (if is_there journal.market account then Done else NoAccount account) (status_of limit journal)
+-- the status: that of the history, unless all was done and the market at its end has no account of the number
+abbrev pub statement_status : ℕ → ℕ → History → Status
+statement_status account limit history =
+    if_whole history.behind history.ending (if is_there history.market account then Done else NoAccount account) (history_status limit history)
 
--- what is written, by what the account sees of the legal pairs: where all was done the whole statement, or nothing where there is no such
--- account, and else the text of the view, without the last lines
-abbrev pub statement_text : ℕ → Journal → List Event → List ℕ
-statement_text account journal view =
-    if_whole journal.behind journal.ending (if is_there journal.market account then statement view else []) (view_text view)
+-- what is written, by what the account sees of the valid entries. If all was done: the whole statement that begins in the history's first
+-- market, or nothing if there is no such account at its end. Else: the lines that are carried forward and those of the view, without the
+-- last lines.
+abbrev pub statement_text : ℕ → History → List Event → List ℕ
+statement_text account history view =
+    if_whole history.behind history.ending (if is_there history.market account then statement_from account (market_of history.start) view else [])
+    (text_from account (market_of history.start) view)
 
--- The text is what is written of what the account sees of the legal pairs.
-pub record States (account : ℕ) (journal : Journal) (text : List ℕ) : Type 0 where
+-- The text is what is written of what the account sees of the valid entries.
+pub record States (account : ℕ) (history : History) (text : List ℕ) : Type 0 where
   pub view : List Event
-  pub sees : Sees account (empty_market journal.version) journal.legal view journal.market
-  pub writes : text ≡ statement_text account journal view
+  pub sees : Sees account (market_of history.start) history.legal view history.market
+  pub writes : text ≡ statement_text account history view
 
--- the status and the text that the first `limit` bytes come to
+-- the first `limit` bytes result in this status and this text
 abbrev pub StatesTo : ℕ → ℕ → List ℕ → Status → List ℕ → Type 0
-StatesTo account limit = JournalTo (statement_status account limit) (States account) limit
+StatesTo account limit = HistoryToBy (statement_status account limit) (States account) limit
 
--- The text is that of what the account sees of these pairs, which lead to the market.
-pub record AreSeen (account : ℕ) (version : Version) (legal : List (Pair Record Outcome)) (market : Market) (text : List ℕ) : Type 0 where
+-- The text is the lines that are carried forward and those of what the account sees of these entries, which lead from the market that a
+-- history begins in to this one.
+pub record AreSeen (account : ℕ) (start : Start) (legal : List (Pair Record Outcome)) (market : Market) (text : List ℕ) : Type 0 where
   pub view : List Event
-  pub sees : Sees account (empty_market version) legal view market
-  pub writes : text ≡ view_text view
+  pub sees : Sees account (market_of start) legal view market
+  pub writes : text ≡ text_from account (market_of start) view
 
--- all pairs of the bytes are these legal ones, and the account is there
-pub record IsAtEnd (account limit : ℕ) (bytes : List ℕ) (legal : List (Pair Record Outcome)) (market : Market) : Type 0 where
-  pub audits : Audits limit bytes legal [] End market
+-- all entries of the history are these valid ones, and the account is there at its end
+pub record IsAtEnd (account limit : ℕ) (bytes : List ℕ) (start : Start) (legal : List (Pair Record Outcome)) (market : Market) : Type 0 where
+  pub is : IsHistory limit bytes (record { start = start; legal = legal; market = market; behind = []; ending = End })
   pub there : IsAccount market.balances account
 
--- where memory may run out: at a pair whose command may want some, or at a legal one, for its lines; or at the end, for the last lines
+-- where memory may run out: at a checkpoint, for its market, a copy of what the account has there or the lines that are carried forward; at
+-- an entry whose command may run out of it; at a valid entry, for its lines; or at the end, for the last lines
 abbrev pub StatesShort : ℕ → ℕ → List ℕ → List ℕ → Type 0
 StatesShort account limit bytes text =
-    ((legal : List (Pair Record Outcome)) × (market : Market) × (next : Record × Record) × (at : IsAtPair limit bytes legal market next)
-    × (RecordMayWant market next.0 ⊎ ((new : Market) × IsLegalPair market next new)) × AreSeen account at.version legal market text)
-    ⊎ ((legal : List (Pair Record Outcome)) × (market : Market) × (at : IsAtEnd account limit bytes legal market) × AreSeen account at.audits.version legal market text)
+    LacksStart limit bytes text
+    ⊎ ((start : Start) × (legal : List (Pair Record Outcome)) × (market : Market) × (next : Record × Record) × IsAtPairOf limit bytes start legal market next
+    × (RecordMayAllocate market next.0 ⊎ ((new : Market) × IsLegalPair market next new)) × AreSeen account start legal market text)
+    ⊎ ((start : Start) × (legal : List (Pair Record Outcome)) × (market : Market) × IsAtEnd account limit bytes start legal market × AreSeen account start legal market text)

@@ -1,14 +1,16 @@
--- What each status prints, the number that the program exits with, and the status of each ending of a reading and of a word.
+-- What each status prints, its exit code, and the status of each ending of a reading and of a subcommand.
 use Rattle.std.specs.Prelude.{ℕ, List, [], ◌++◌, codes, decimal, Ok, Err}
 use Rattle.wire_records.specs.Reading.{Ending, End, Torn, TooLong, Reading, NotFlow, File}
 use Rattle.word_driver.specs.declared.fault.Fault.TheVariants as word
 use Rattle.word_driver.specs.Ended.{Ended}
+use Rattle.encode_word.specs.declared.stop.EncodeStop.{EncodeStop}
+use Rattle.encode_word.specs.declared.stop.EncodeStop.TheVariants as stop
 use Rattle.session_resume.specs.declared.first.Unfit.{Unfit}
 use Rattle.session_resume.specs.declared.first.Unfit.TheVariants.{Illegal, NoCheckpoint}
 use Rattle.flow_exchange.specs.declared.status.Status.{Status}
 use Rattle.flow_exchange.specs.declared.status.Status.TheVariants as status
 
--- the exit number
+-- the exit code
 abbrev pub exit_of : Status → ℕ
 exit_of status.Done = 0
 exit_of status.Usage = 1
@@ -26,7 +28,7 @@ exit_of status.DiskFault = 12
 exit_of status.NotDisk = 13
 exit_of (status.Damaged place) = 14
 
--- the line on notes, with its line feed
+-- the line on standard error, with its line feed
 abbrev pub line_of : Status → List ℕ
 line_of status.Done = []
 line_of status.Usage = codes "flow: usage\n"
@@ -55,7 +57,7 @@ abbrev pub reading_status : {V U : Type 0} → ℕ → Reading V U → Status
 reading_status limit NotFlow = status.NotFlow
 reading_status limit (File version units ending) = ending_status limit ending
 
--- the status of how a word ended, by that of its own reason to stop
+-- the status of how a subcommand ended, with `own` as the status of its own reason to stop
 abbrev pub ended_status : {B : Type 0} → ℕ → (B → Status) → Ended B → Status
 ended_status limit own (Ok done) = status.Done
 ended_status limit own (Err word.Read) = status.ReadFault
@@ -66,11 +68,13 @@ ended_status limit own (Err (word.Torn place)) = status.Torn place
 ended_status limit own (Err word.TooLong) = status.TooLong limit
 ended_status limit own (Err (word.Stopped why)) = own why
 
--- of an encoding, which stops at the first line that is no command, by its number
-abbrev pub bad_text : ℕ → Status
-bad_text number = status.BadText number
+-- of an encoding, which stops at the first line that is no command, by its number, or if there is no checkpoint of a consistent market of
+-- the version
+abbrev pub unencoded : EncodeStop → Status
+unencoded (stop.NoCommand number) = status.BadText number
+unencoded stop.NoCheckpoint = status.BadCheckpoint
 
--- of a resumption, which stops at the first pair that isn't legal, by its number, or where a checkpoint isn't sound
+-- the status of a resumption that stopped: at the first invalid entry, with its number, or at a bad checkpoint
 abbrev pub unfit_status : Unfit → Status
 unfit_status (Illegal number) = status.Rejected number
 unfit_status NoCheckpoint = status.BadCheckpoint

@@ -1,4 +1,4 @@
-//! `flow audit`: a journal in, and a line out where it is legal.
+//! `flow audit`: reads a history, and writes a line if its entries are valid.
 ghost use Rattle.std.specs.Prelude.{◌≢◌};
 ghost use Rattle.flow_io.specs.Changes.{change};
 ghost use Rattle.flow_exchange.specs.Private.{Serves};
@@ -7,12 +7,13 @@ ghost use Rattle.flow_exchange.specs.declared.form.Form.TheVariants.{Audit};
 use crate::Status;
 use crate::ending::pairs_status;
 use flow_io::{Sink, Source};
-use journal_words::{Counting, Pairs};
+use history_words::go_history;
+use journal_words::Counting;
 use std::alloc::Global;
-use word_driver::go;
 
-/// Reads the source to its end or the limit, and audits its journal, pair after pair. Where all are legal and nothing
-/// stands behind them, a line with their counts is written by one call. A window of 263,178 bytes is held.
+/// Reads the source to its end or the limit, and audits its history, one entry after the other: from the empty market of a journal,
+/// or from that of a checkpoint. If all entries are valid and nothing follows them, writes a line with their counts by one call. Holds
+/// a window of 263,178 bytes.
 pub(crate) fn audit<S: Source, K: Sink>(
     alloc: Global,
     limit: u64,
@@ -23,12 +24,6 @@ pub(crate) fn audit<S: Source, K: Sink>(
     ensures does { Serves Audit limit result (change S.rest S.faults source.old source.new)
         (change K.held K.faults out.old out.new) }
 {
-    let ended = go(
-        alloc,
-        limit,
-        source,
-        out,
-        Pairs::new(alloc, Counting::new()),
-    );
+    let ended = go_history(alloc, limit, source, out, Counting::new());
     pairs_status(ended, limit)
 }

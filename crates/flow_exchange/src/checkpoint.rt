@@ -1,4 +1,4 @@
-//! `flow checkpoint`: a journal in, and the checkpoint of its market out.
+//! `flow checkpoint`: reads a history, and writes the checkpoint of the market at its end.
 ghost use Rattle.std.specs.Prelude.{◌≢◌};
 ghost use Rattle.flow_io.specs.Changes.{change};
 ghost use Rattle.flow_exchange.specs.Private.{Serves};
@@ -7,13 +7,12 @@ ghost use Rattle.flow_exchange.specs.declared.form.Form.TheVariants.{Checkpoint}
 use crate::Status;
 use crate::ending::pairs_status;
 use flow_io::{Sink, Source};
+use history_words::go_history;
 use journal_checkpoint::Checkpointing;
-use journal_words::Pairs;
 use std::alloc::Global;
-use word_driver::go;
 
-/// Does as [`audit`](crate::audit) does. Where all pairs are legal and nothing stands behind them, the checkpoint of their market is
-/// written by one call, from a buffer that holds it whole.
+/// Reads and audits as [`audit`](crate::audit) does. If all entries are valid and nothing follows them, writes the checkpoint of their
+/// market by one call, from a buffer that holds all of it.
 pub(crate) fn checkpoint<S: Source, K: Sink>(
     alloc: Global,
     limit: u64,
@@ -24,12 +23,6 @@ pub(crate) fn checkpoint<S: Source, K: Sink>(
     ensures does { Serves Checkpoint limit result (change S.rest S.faults source.old source.new)
         (change K.held K.faults out.old out.new) }
 {
-    let ended = go(
-        alloc,
-        limit,
-        source,
-        out,
-        Pairs::new(alloc, Checkpointing::new(alloc)),
-    );
+    let ended = go_history(alloc, limit, source, out, Checkpointing::new(alloc));
     pairs_status(ended, limit)
 }

@@ -1,4 +1,4 @@
-//! `flow encode`: lines of JSON in, a command file out.
+//! `flow encode`: reads lines of JSON, and writes a command file.
 ghost use Rattle.std.specs.Prelude.{◌≢◌};
 ghost use Rattle.flow_io.specs.Changes.{change};
 ghost use Rattle.flow_exchange.specs.Private.{Serves};
@@ -6,13 +6,13 @@ ghost use Rattle.flow_exchange.specs.declared.form.Form.TheVariants.{Encode};
 
 use crate::Status;
 use crate::ending::lines_status;
+use encode_word::encode_source;
 use flow_io::{Sink, Source};
-use line_records::encode_source;
 use std::alloc::Global;
 use wire_records::Version;
 
 /// Reads the source to its end or the limit, and writes the command file of its lines, of a version: one write for the magic, and one
-/// for the records of each line. The input is held whole; one buffer holds the records of a line at a time.
+/// for the records of each line. Holds the whole input, and one buffer for the records of a line at a time.
 pub(crate) fn encode<S: Source, K: Sink>(
     alloc: Global,
     version: Version,

@@ -1,4 +1,4 @@
-//! `flow explain`: a journal in, and a line out, where it is legal or where a pair isn't.
+//! `flow explain`: reads a history, and writes a line if its entries are valid, or on the first that isn't.
 ghost use Rattle.std.specs.Prelude.{◌≢◌};
 ghost use Rattle.flow_io.specs.Changes.{change};
 ghost use Rattle.flow_exchange.specs.Private.{Serves};
@@ -7,11 +7,11 @@ ghost use Rattle.flow_exchange.specs.declared.form.Form.TheVariants.{Explain};
 use crate::Status;
 use crate::ending::pairs_status;
 use flow_io::{Sink, Source};
-use journal_words::{Explaining, Pairs};
+use history_words::go_history;
+use journal_words::Explaining;
 use std::alloc::Global;
-use word_driver::go;
 
-/// Does as [`audit`](crate::audit) does. Where a pair isn't legal, the line of what is found of it is written by one call.
+/// Does as [`audit`](crate::audit) does, and if an entry is invalid, writes the line of what is found of it by one call.
 pub(crate) fn explain<S: Source, K: Sink>(
     alloc: Global,
     limit: u64,
@@ -22,12 +22,6 @@ pub(crate) fn explain<S: Source, K: Sink>(
     ensures does { Serves Explain limit result (change S.rest S.faults source.old source.new)
         (change K.held K.faults out.old out.new) }
 {
-    let ended = go(
-        alloc,
-        limit,
-        source,
-        out,
-        Pairs::new(alloc, Explaining::new()),
-    );
+    let ended = go_history(alloc, limit, source, out, Explaining::new());
     pairs_status(ended, limit)
 }

@@ -1,4 +1,4 @@
-//! What the words on the command line ask for.
+//! What the arguments on the command line ask for.
 ghost use Rattle.std.specs.Prelude.{◌≡◌, ◌↔◌, IfSome, IfNone, IsTrue, map, string_bytes, [], ◌∷◌};
 ghost use Rattle.flow_exchange.specs.Forms.{Asks, AsksNothing};
 
@@ -9,34 +9,34 @@ use wire_records::Version;
 /// What the program is asked for.
 #[derive(Clone, Copy, PartialEq, Eq)]
 pub enum Form {
-    /// `run`: a command file in, its journal out.
+    /// `run`: reads a command file, and writes its journal.
     Run,
-    /// `audit`: a journal in, and out a line where it is legal.
+    /// `audit`: reads a history, which is a journal or a checkpoint followed by entries, and writes a line if its entries are valid.
     Audit,
-    /// `explain`: a journal in, and out the line of an audit, or what is found of the first pair that isn't legal.
+    /// `explain`: reads a history, and writes the line of an audit, or what is found of the first invalid entry.
     Explain,
-    /// `report`: a journal in, and its text out.
+    /// `report`: reads a history, and writes the text of its entries.
     Report,
-    /// `encode`, `encode 2` or `encode 3`: lines of JSON in, and the command file of their commands out, of this version.
+    /// `encode`, `encode 2` or `encode 3`: reads lines of JSON, and writes the command file of their commands, of this version.
     Encode(Version),
-    /// `sample NUMBER ORDERS`: a line out on a sample of so many orders, 1 to 16,384, that are drawn from this number on.
+    /// `sample NUMBER ORDERS`: writes a line on a sample of this many orders, 1 to 16,384, that are drawn from this number on.
     Sample { number: u64, orders: u32 },
-    /// `statement NUMBER`: a journal in, and out the statement of the account of this number.
+    /// `statement NUMBER`: reads a history, and writes the statement of the account of this number.
     Statement { number: u64 },
-    /// `checkpoint`: a journal in, and the checkpoint of its market out.
+    /// `checkpoint`: reads a history, and writes the checkpoint of the market at its end.
     Checkpoint,
-    /// `resume`: a journal or a checkpoint in, and commands behind it, and the pairs of these out.
+    /// `resume`: reads a journal or a checkpoint followed by commands, and writes the entries of these commands.
     Resume,
 }
 
-// Whether the words are this one alone.
+// Returns whether the arguments are this one alone.
 fn is_word(words: &[String], word: &str) -> bool
     ensures { IsTrue result ↔ (map string_bytes words.now ≡ word.now ∷ []) }
 {
     words.len() == 1 && words[0].as_str() == word
 }
 
-// Whether the words are these two.
+// Returns whether the arguments are these two.
 fn are_two(words: &[String], first: &str, second: &str) -> bool
     ensures { IsTrue result ↔ (map string_bytes words.now ≡ first.now ∷ second.now ∷ []) }
 {
@@ -49,7 +49,7 @@ fn are_two(words: &[String], first: &str, second: &str) -> bool
     false
 }
 
-/// The form that the words ask for.
+/// Returns the form that the arguments ask for.
 pub(crate) fn form_of(words: &[String]) -> Option<Form>
     ensures form { IfSome result (λ form. Asks (map string_bytes words.now) form) }
     ensures none { IfNone result (AsksNothing (map string_bytes words.now)) }

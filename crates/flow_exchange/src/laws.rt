@@ -1,32 +1,32 @@
-//! What holds of the program's words and outcomes, whatever code there is, where its own promise rests on it. Each law is the
-//! contract of a function that does nothing. What else holds stands in the crate `flow_laws`.
+//! Laws of the program's arguments and outcomes, whatever code there is, on which its own promise rests. Each law is the contract
+//! of a function that does nothing. The other laws are in the crate `flow_laws`.
 ghost use Rattle.std.specs.Prelude.{◌≡◌, ◌↔◌, IsTrue};
 ghost use Rattle.flow_exchange.specs.Laws.{OneForm, OneEnd, OneIfMore, FaultlessIsDetermined};
 
 use crate::Status;
 
-/// Words ask for one form.
+/// Arguments ask for at most one form.
 pub fn one_form()
     ensures { OneForm }
 {}
 
-/// For each form the bytes of the source determine one status, and one text for out.
+/// For each form the bytes of the source have at most one status and one text of the output.
 pub fn one_end()
     ensures { OneEnd }
 {}
 
-/// Bytes come to one text if more follow. So after a failed read nothing less stands in out than what those that were taken make,
-/// and nothing else, but for `encode` and `resume`.
+/// Bytes result in at most one text if more follow. So after a failed read the output is exactly what the bytes that were taken make,
+/// but for `encode` and `resume`, which then have written nothing.
 pub fn one_if_more()
     ensures { OneIfMore }
 {}
 
-/// Where no fault came and memory wasn't wanted, the bytes of the source determine the status and what was written.
+/// If no fault came and memory didn't run out, the bytes of the source determine the status and what was written.
 pub fn faultless_is_determined()
     ensures { FaultlessIsDetermined }
 {}
 
-/// Two statuses are equal in a test exactly where they are the same.
+/// Two statuses are equal in a test exactly if they are the same.
 pub fn equal_statuses()
     ensures { (a b : Status) → IsTrue (⟦<Status as PartialEq>⟧.eq a b) ↔ (a ≡ b) }
 {}

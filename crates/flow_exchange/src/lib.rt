@@ -1,10 +1,10 @@
-//! The exchange program as one call: words, a source of bytes, two sinks, and a status.
+//! The exchange program as one call: arguments, a source of bytes, two sinks, and a status.
 //!
-//! [`flow`] is what the program calls. Its contract is what the program promises: which journal `run` writes to `out` for
-//! the bytes of the source, what `audit` says of the journal that it reads, what `explain` finds of its first pair that isn't
-//! legal, which text `report` writes of it, which `statement` an account has in it, which `checkpoint` its market has, how `resume` goes on
-//! from it or from a checkpoint, which command file `encode` makes of lines of JSON, what the run of a `sample` comes to, and when each
-//! status comes.
+//! [`flow`] is what the program calls. Its contract is what the program promises: which journal `run` writes for the bytes of
+//! the source, what `audit` says of the history that it reads, what `explain` finds of the first invalid entry of it, which text
+//! `report` writes of it, which `checkpoint` its market has, which `statement` an account has in a journal, which entries `resume`
+//! writes after a journal or a checkpoint, which command file `encode` makes of lines of JSON, what the run of a `sample` results
+//! in, and when each status comes.
 #![tactic(auto)]
 
 mod audit;

@@ -1,13 +1,13 @@
 //! The line that a status prints.
 ghost use Rattle.std.specs.Prelude.{OnOk, OnErr, IsErr, ◌++◌, decimal};
 ghost use Rattle.flow_io.specs.Faults.{Blames};
-ghost use Rattle.flow_io.specs.Streams.{Grows, GrowsByFront};
+ghost use Rattle.flow_io.specs.Streams.{Grows, GrowsByPrefix};
 
 use crate::Status;
 use flow_io::{Sink, WriteFailed};
 use itoa::Buffer;
 
-// A number between two texts.
+// Writes a number between two texts.
 pub(crate) fn write_number<N: Sink>(
     notes: &mut N,
     before: &[u8],
@@ -15,7 +15,7 @@ pub(crate) fn write_number<N: Sink>(
     after: &[u8],
 ) -> Result<(), WriteFailed>
     ensures written { OnOk result (Grows (N.held notes.old) (N.held notes.new) (before.now ++ decimal number ++ after.now)) }
-    ensures cut { OnErr result (GrowsByFront (N.held notes.old) (N.held notes.new) (before.now ++ decimal number ++ after.now)) }
+    ensures cut { OnErr result (GrowsByPrefix (N.held notes.old) (N.held notes.new) (before.now ++ decimal number ++ after.now)) }
     ensures cause { Blames (IsErr result) (N.faults notes.old) (N.faults notes.new) }
 {
     let mut buffer = Buffer::new();
@@ -27,11 +27,11 @@ pub(crate) fn write_number<N: Sink>(
 impl Status {
     ghost use Rattle.flow_exchange.specs.Statuses.{line_of};
 
-    /// Writes the line of the status, with its line feed, and nothing for `Done`. Where a write fails, a front of the
-    /// line is written and the rest is let go. Takes no memory.
+    /// Writes the line of the status, with its line feed, and nothing for `Done`. If a write fails, a prefix of the line is written
+    /// and the rest is dropped. Allocates nothing.
     pub fn write_line<N: Sink>(&self, notes: &mut N) -> Result<(), WriteFailed>
         ensures written { OnOk result (Grows (N.held notes.old) (N.held notes.new) (line_of self.now)) }
-        ensures cut { OnErr result (GrowsByFront (N.held notes.old) (N.held notes.new) (line_of self.now)) }
+        ensures cut { OnErr result (GrowsByPrefix (N.held notes.old) (N.held notes.new) (line_of self.now)) }
         ensures cause { Blames (IsErr result) (N.faults notes.old) (N.faults notes.new) }
     {
         match *self {

@@ -1,4 +1,4 @@
-//! `flow report`: a journal in, and its text out.
+//! `flow report`: reads a history, and writes the text of its entries.
 ghost use Rattle.std.specs.Prelude.{◌≢◌};
 ghost use Rattle.flow_io.specs.Changes.{change};
 ghost use Rattle.flow_exchange.specs.Private.{Serves};
@@ -7,12 +7,12 @@ ghost use Rattle.flow_exchange.specs.declared.form.Form.TheVariants.{Report};
 use crate::Status;
 use crate::ending::pairs_status;
 use flow_io::{Sink, Source};
-use journal_words::{Pairs, Telling};
+use history_words::go_history;
+use journal_words::Telling;
 use std::alloc::Global;
-use word_driver::go;
 
-/// Reads the source to its end or the limit, audits its journal, pair after pair, and writes the lines of each legal
-/// one by one call. A window of 263,178 bytes is held, and one buffer for the lines of a pair.
+/// Reads the source to its end or the limit, audits its history, one entry after the other, and writes the lines of each valid
+/// entry by one call. Holds a window of 263,178 bytes, and one buffer for the lines of an entry.
 pub(crate) fn report<S: Source, K: Sink>(
     alloc: Global,
     limit: u64,
@@ -23,6 +23,6 @@ pub(crate) fn report<S: Source, K: Sink>(
     ensures does { Serves Report limit result (change S.rest S.faults source.old source.new)
         (change K.held K.faults out.old out.new) }
 {
-    let ended = go(alloc, limit, source, out, Pairs::new(alloc, Telling));
+    let ended = go_history(alloc, limit, source, out, Telling);
     pairs_status(ended, limit)
 }

@@ -1,4 +1,4 @@
-//! `flow resume`: a journal or a checkpoint in, and commands behind it, and the pairs of these out.
+//! `flow resume`: reads a journal or a checkpoint followed by commands, and writes the entries of these commands.
 ghost use Rattle.std.specs.Prelude.{◌≢◌};
 ghost use Rattle.flow_io.specs.Changes.{change};
 ghost use Rattle.flow_exchange.specs.Private.{Serves};
@@ -10,8 +10,8 @@ use flow_io::{Sink, Source};
 use session_resume::resume_source;
 use std::alloc::Global;
 
-/// Reads the source to its end or the limit, goes on from the journal or the checkpoint that stands first, and writes the pairs of the
-/// commands behind it, by one call each. The input is held whole, and one buffer for a pair.
+/// Reads the source to its end or the limit, resumes from the journal or the checkpoint with which it begins, and writes the entries
+/// of the commands that follow, by one call each. Holds the whole input, and one buffer for an entry.
 pub(crate) fn resume<S: Source, K: Sink>(
     alloc: Global,
     limit: u64,

@@ -1,4 +1,4 @@
-//! `flow run`: a command file in, a journal out.
+//! `flow run`: reads a command file, and writes its journal.
 ghost use Rattle.std.specs.Prelude.{◌≢◌};
 ghost use Rattle.flow_io.specs.Changes.{change};
 ghost use Rattle.flow_exchange.specs.Private.{Serves};
@@ -12,9 +12,9 @@ use flow_io::{Sink, Source};
 use std::alloc::Global;
 use word_driver::go;
 
-/// Reads the source to its end or the limit, and writes the journal of its records: one write for the magic, and one
-/// for each pair. A record that has come is served, and its pair written, before the source is asked for more. A window
-/// of 1,029 bytes is held, and one buffer for a pair; both are taken before the first read.
+/// Reads the source to its end or the limit, and writes the journal of its records: one write for the magic, and one for each
+/// entry. A record that is complete is served, and its entry written, before the source is asked for more. Holds a window of
+/// 1,029 bytes, and one buffer for an entry; both are allocated before the first read.
 pub(crate) fn run<S: Source, K: Sink>(
     alloc: Global,
     limit: u64,

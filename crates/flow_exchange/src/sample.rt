@@ -1,4 +1,4 @@
-//! `flow sample NUMBER ORDERS`: a sample of a large market, and a line out.
+//! `flow sample NUMBER ORDERS`: makes a sample of a large market, and writes a line on it.
 ghost use Rattle.std.specs.Prelude.{◌≡◌, ◌≢◌, ◌≤◌, ℕ, List, Option};
 ghost use Rattle.flow_io.specs.Changes.{change};
 ghost use Rattle.flow_orders.specs.Orders.{most_orders};
@@ -10,13 +10,13 @@ use flow_io::Sink;
 use sample_summary::sample_line;
 use std::alloc::Global;
 
-/// Makes the command file of a sample, runs it, audits the journal, and writes a line with its counts by one call. Nothing is
-/// read. The file, the markets of session and audit, and one pair are held.
+/// Makes the command file of a sample, runs it, audits the journal, and writes a line with its counts by one call. Reads
+/// nothing. Holds the file, the markets of session and audit, and one entry.
 pub(crate) fn sample<K: Sink>(alloc: Global, number: u64, orders: u32, out: &mut K) -> Status
     requires some { 1 ≤ orders }
     requires few { orders ≤ most_orders }
     ensures asked { result ≢ Status.Usage }
-    // Whatever the source has left, and whatever its count of faults is, they stay.
+    // Whatever a source has left, and whatever its count of faults is, both are unchanged.
     ensures does { (limit : ℕ) (rest : Option (List ℕ)) (faults : ℕ) → Serves (Sample number orders) limit result
         (record { before = rest; after = rest; faults = faults; faults_after = faults })
         (change K.held K.faults out.old out.new) }

@@ -1,4 +1,4 @@
-//! The words `sample NUMBER ORDERS`.
+//! The arguments `sample NUMBER ORDERS`.
 ghost use Rattle.std.specs.Prelude.{◌≡◌, ◌≢◌, ◌<◌, ◌≤◌, ◌^◌, ◌↔◌, ◌∷◌, [], ℕ, IsTrue, IfSome, IfNone, decimal, map, string_bytes};
 ghost use Rattle.flow_orders.specs.Orders.{most_orders};
 ghost use Rattle.flow_exchange.specs.Sampling.{AskSample};
@@ -9,7 +9,7 @@ use itoa::Buffer;
 // The most orders of a sample.
 const MOST_ORDERS: u64 = sample_summary::MOST_ORDERS as u64;
 
-// Whether the word is the number in plain decimal digits.
+// Returns whether the argument is the number in plain decimal digits.
 fn is_decimal(word: &str, number: u64) -> bool
     ensures { IsTrue result ↔ (word.now ≡ decimal number) }
 {
@@ -17,7 +17,7 @@ fn is_decimal(word: &str, number: u64) -> bool
     word == buffer.format(number)
 }
 
-// The number that a word is in plain decimal digits: without a sign, and without a zero before others.
+// Returns the number that an argument is in plain decimal digits: without a sign, and without a leading zero.
 pub(crate) fn number_of(word: &str) -> Option<u64>
     ensures number { IfSome result (λ number. (word.now ≡ decimal number) × (number < 2 ^ 64)) }
     ensures none { IfNone result ((number : ℕ) → number < 2 ^ 64 → word.now ≢ decimal number) }
@@ -29,7 +29,7 @@ pub(crate) fn number_of(word: &str) -> Option<u64>
     }
 }
 
-// How many orders a word asks for.
+// Returns how many orders an argument asks for, if they are 1 to 16,384.
 fn orders_of(word: &str) -> Option<u32>
     ensures orders { IfSome result (λ orders. (word.now ≡ decimal orders) × (1 ≤ orders) × (orders ≤ most_orders)) }
     ensures none { IfNone result ((orders : ℕ) → 1 ≤ orders → orders ≤ most_orders → word.now ≢ decimal orders) }
@@ -41,7 +41,7 @@ fn orders_of(word: &str) -> Option<u32>
     }
 }
 
-// The second and the third of three words, of which the first is this one.
+// Returns the second and the third of three arguments, if the first is this one.
 fn behind<'a>(words: &'a [String], first: &str) -> Option<(&'a str, &'a str)>
     ensures three { IfSome result (λ rest. map string_bytes words.now ≡ first.now ∷ rest.0.now ∷ rest.1.now ∷ []) }
     ensures none { IfNone result (¬ AreThree (map string_bytes words.now) first.now) }
@@ -55,7 +55,7 @@ fn behind<'a>(words: &'a [String], first: &str) -> Option<(&'a str, &'a str)>
     Some((words[1].as_str(), words[2].as_str()))
 }
 
-/// The number and the orders of a sample, where the words ask for one.
+/// Returns the number and the orders of a sample, if the arguments ask for one.
 pub(crate) fn sample_of(words: &[String]) -> Option<(u64, u32)>
     ensures asked { IfSome result (λ sample. AskSample (map string_bytes words.now) sample.0 sample.1) }
     ensures none { IfNone result ((number orders : ℕ) → ¬ AskSample (map string_bytes words.now) number orders) }

@@ -7,33 +7,33 @@ ghost use Rattle.std.specs.Prelude.{◌≡◌};
 pub enum Status {
     /// All was done.
     Done,
-    /// The words are no form of the command line.
+    /// The arguments are no form of the command line.
     Usage,
     /// The input is no file of the kind that is asked for: it doesn't begin with the magic.
     NotFlow,
-    /// The input breaks off or states too long a record; the broken record or pair begins at this byte, from 0.
+    /// The input is truncated or states too long a record; the broken record or entry begins at this byte, from 0.
     Torn(u64),
     /// A read of the input failed.
     ReadFault,
     /// A write of the output failed.
     WriteFault,
-    /// There is no memory for what was asked.
+    /// An allocation failed.
     NoMemory,
-    /// The pair of this number, counted from 1, isn't legal.
+    /// The entry of this number, counted from 1, is invalid.
     Rejected(u64),
     /// The input has more than this many bytes.
     TooLong(u64),
     /// The line of this number, counted from 1, is neither blank nor a command.
     BadText(u64),
-    /// The input begins as a checkpoint, and is none of a sound market.
+    /// The input begins with the magic of a checkpoint, but with no checkpoint of a consistent market.
     BadCheckpoint,
     /// The journal's market has no account of this number.
     NoAccount(u64),
     /// A call of the disk failed.
     DiskFault,
-    /// The file holds something, and is no journal on a disk.
+    /// The file holds something, and is no kept file.
     NotDisk,
-    /// At this byte of the file, from 0, an entry should stand and none does.
+    /// At this byte of the file, from 0, an entry should be and none is.
     Damaged(u64),
 }
 

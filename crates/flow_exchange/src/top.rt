@@ -6,7 +6,7 @@ ghost use Rattle.flow_exchange.specs.Private.{Serves};
 ghost use Rattle.flow_exchange.specs.Program.{ServesCall};
 ghost use Rattle.flow_exchange.specs.Promising.{Promises};
 ghost use Rattle.flow_exchange.specs.Running.{KeepsPace, WritesInPieces};
-ghost use Rattle.flow_exchange.specs.Wanting.{WantsMemory};
+ghost use Rattle.flow_exchange.specs.Allocating.{MayRunOut};
 
 use crate::Status;
 use crate::audit::audit;
@@ -25,7 +25,7 @@ use std::alloc::Global;
 /// The most bytes of input that the program considers.
 pub const INPUT_LIMIT: u64 = 1 << 32;
 
-// What a form does.
+// Does the form.
 fn do_form<S: Source, K: Sink>(
     alloc: Global,
     form: Form,
@@ -54,7 +54,7 @@ fn do_form<S: Source, K: Sink>(
     }
 }
 
-/// The program with the input limit handed in: [`flow`] calls it with 2^32.
+/// Does what [`flow`] does, which calls it with the input limit 2^32.
 pub fn flow_limited<S: Source, K: Sink, N: Sink>(
     alloc: Global,
     words: &[String],
@@ -65,17 +65,17 @@ pub fn flow_limited<S: Source, K: Sink, N: Sink>(
 ) -> Status
     ensures serves { ServesCall limit (map string_bytes words.now) result (change S.rest S.faults source.old source.new)
         (change K.held K.faults out.old out.new) (change N.held N.faults notes.old notes.new) }
-    // Where memory may be wanted.
-    ensures wants { (form : Form) → Asks (map string_bytes words.now) form → WantsMemory form limit result
+    // Where memory may run out.
+    ensures allocates { (form : Form) → Asks (map string_bytes words.now) form → MayRunOut form limit result
         (change S.rest S.faults source.old source.new) (change K.held K.faults out.old out.new) }
-    // What is promised of a journal that stands in the source.
+    // What is promised of the entries that are read or written.
     ensures promises { (form : Form) → Asks (map string_bytes words.now) form → Promises form limit (S.rest source.old) }
-    // How far a run has read that was cut short.
+    // How far a run that was cut short has read.
     ensures paced { Asks (map string_bytes words.now) Form.Run → KeepsPace limit result
         (change S.rest S.faults source.old source.new) (change K.held K.faults out.old out.new) }
-    // A run writes the magic by one call, and each pair by one.
+    // A run writes the magic by one call, and each entry by one.
     ensures pieces { Asks (map string_bytes words.now) Form.Run → WritesInPieces K.calls K.held out.old out.new result }
-    // The words are no form: nothing is read, and nothing is written to out.
+    // The arguments are no form: nothing is read, and nothing is written to the output.
     ensures idle { result ≡ Status.Usage → (source.new ≡ source.old) × (out.new ≡ out.old) }
 {
     let status = match form_of(words) {
@@ -86,32 +86,37 @@ pub fn flow_limited<S: Source, K: Sink, N: Sink>(
     status
 }
 
-/// The program: words, a source, two sinks and the status that they come to.
+/// The program: does what the arguments ask for with a source and two sinks, and returns the status.
 ///
-/// With the word `run` it reads a command file from the source, at most 2^32 bytes, and writes its journal to out: one write for the
-/// magic, and one for each pair. With the word `audit` it reads a journal, whoever wrote it, and writes a line to out where each pair is
-/// legal and nothing stands behind them. With the word `explain` it does the same, and where a pair isn't legal it writes a line on what
-/// is found of it. With the word `report` it reads a journal in the same way, and writes the text of each legal pair to out, by one write
-/// each. With the word `encode` it reads lines of JSON, and writes the command file of what they ask for to out, of version 1, or with
-/// `encode 2` or `encode 3` of version 2 or 3: one write for the magic, and one for the records of each line. With the words `sample
-/// NUMBER ORDERS` it reads nothing: it makes the command file of a sample of so many orders, 1 to 16,384, that are drawn from the number
-/// on, runs it, audits the journal, and writes a line with its counts to out, by one write. With the words `statement NUMBER` it reads a
-/// journal, and writes what the account of this number sees of each legal pair to out, by one write each. With the word `checkpoint` it
-/// reads a journal, and writes its market to out, by one write. With the word `resume` it reads a journal or a checkpoint, and behind it
-/// a command file of the same version or nothing, and writes the pairs of the new commands to out, by one write each. On every status but
-/// `Done` it writes one line to notes; a fault of notes changes nothing.
+/// - `run` reads a command file from the source, at most 2^32 bytes, and writes its journal to `out`: one write for the magic, and
+///   one for each entry.
+/// - `audit` reads a history, whoever wrote it: the magic of a journal or the checkpoint of a consistent market, and entries that
+///   continue it. It writes a line to `out` if each entry is valid and nothing follows them.
+/// - `explain` does the same, and if an entry is invalid, writes a line on what is found of it.
+/// - `report` reads a history in the same way, and writes the text of each valid entry, by one write each.
+/// - `encode` reads lines of JSON, and writes the command file of what they ask for, of version 1, or with `encode 2` or `encode 3`
+///   of version 2 or 3: one write for the magic, and one for the records of each line.
+/// - `sample NUMBER ORDERS` reads nothing: it makes the command file of a sample of this many orders, 1 to 16,384, that are drawn
+///   from the number on, runs it, audits the journal, and writes a line with its counts, by one write.
+/// - `statement NUMBER` reads a history, and writes the balances of the account of this number that are carried forward from a checkpoint,
+///   what it sees of each valid entry, and its balances at the end, by one write each.
+/// - `checkpoint` reads a history, and writes the market at its end, by one write.
+/// - `resume` reads a journal or a checkpoint, and after it a command file of the same version or nothing, and writes the entries of
+///   the new commands, by one write each.
 ///
-/// A command of `run`, but a batch, costs the same however many accounts and orders there are, a cancel on average: it leaves a gap, and
-/// gaps are closed together, in one pass over the book, once they are more than the live orders or a batch is held. Memory of `run`,
-/// `audit`, `explain`, `report`, `statement` and `checkpoint` is that of the market, whatever the length of the input: a window of 1,029
-/// bytes (`run`) or 263,178, one buffer for a pair or its text, 1,056 bytes for each account, 72 bytes for each live order beside its
-/// entries, and the table of what orders need. Accounts and orders each stand in one block, which doubles as it grows: it has up to twice
-/// these bytes, and while it is moved the smaller one is there too. `checkpoint` holds its text whole besides, at the end. `encode` and
-/// `resume` hold their input whole.
+/// On every status but `Done` one line is written to `notes`, standard error; a fault there changes nothing.
 ///
-/// Each form but `encode`, `sample` and `resume` writes what has come before it asks for more: after a read fault there stands what the
-/// bytes that came make if more follow, as after `run` the pairs of all whole records; `encode` and `resume` leave nothing. After a
-/// write fault `run` has read no more than 1,030 bytes past the last pair that was written.
+/// A command of `run`, but a batch, costs the same however many accounts and orders there are, a cancel on average: it leaves a
+/// gap, and gaps are closed together, in one pass over the book, once they are more than the live orders or a batch is held. Memory
+/// of `run`, `audit`, `explain`, `report`, `statement` and `checkpoint` is that of the market, whatever the length of the input; a
+/// checkpoint is held completely until its market is made. It is a window of 1,029 bytes (`run`) or 263,178, one buffer for an entry
+/// or its text, 1,056 bytes for each account, 72 bytes for each live order besides its legs, and the table of what orders need.
+/// Accounts and orders each are in one block, which doubles as it grows: it has up to twice these bytes, and while it is moved the
+/// smaller one is there too. At the end `checkpoint` also holds its whole text. `encode` and `resume` hold their whole input.
+///
+/// Each form but `encode`, `sample` and `resume` writes what is complete before it asks for more: after a read fault the output is
+/// what the bytes so far make if more follow, as after `run` the entries of all complete records; `encode` and `resume` have written
+/// nothing. After a write fault `run` has read at most 1,030 bytes past the last entry that was written.
 pub fn flow<S: Source, K: Sink, N: Sink>(
     alloc: Global,
     words: &[String],
@@ -121,7 +126,7 @@ pub fn flow<S: Source, K: Sink, N: Sink>(
 ) -> Status
     ensures serves { ServesCall (2 ^ 32) (map string_bytes words.now) result (change S.rest S.faults source.old source.new)
         (change K.held K.faults out.old out.new) (change N.held N.faults notes.old notes.new) }
-    ensures wants { (form : Form) → Asks (map string_bytes words.now) form → WantsMemory form (2 ^ 32) result
+    ensures allocates { (form : Form) → Asks (map string_bytes words.now) form → MayRunOut form (2 ^ 32) result
         (change S.rest S.faults source.old source.new) (change K.held K.faults out.old out.new) }
     ensures promises { (form : Form) → Asks (map string_bytes words.now) form → Promises form (2 ^ 32) (S.rest source.old) }
     ensures paced { Asks (map string_bytes words.now) Form.Run → KeepsPace (2 ^ 32) result

@@ -1,4 +1,4 @@
--- How the calls of a sink grow.
+-- How the calls of a sink grow in number.
 use Rattle.std.proofs.Common.{ℕ, List, [], ◌++◌, Option, Some, None, sym, append_assoc}
 use Rattle.std.specs.List.{flat_map}
 use Rattle.std.proofs.lemmas.List.{append-nil}
@@ -31,6 +31,6 @@ module _ {O : Type 0} (calls : O → Option (List (List ℕ))) (held : O → Opt
     written = λ not. rw (flat_map-append (λ (piece : List ℕ). piece) pieces more) (Grows-more (held first) (held second) (held third) (flat_map (λ piece. piece) pieces) (flat_map (λ piece. piece) more) (a.written none) (b.written not));
   }
 
-  -- what failed is told in other words
+  -- the failure may be replaced by another one that follows from it
   pub hands_alike : {One Failed : Type 0} (first second : O) (pieces : List (List ℕ)) → (¬ Failed → ¬ One) → HandsOver calls held first second One pieces → HandsOver calls held first second Failed pieces
   hands_alike first second pieces back a = record { called = a.called; written = λ not. a.written (back not) }

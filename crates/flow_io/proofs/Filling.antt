@@ -1,4 +1,4 @@
--- What a window holds after a read, and what several reads come to.
+-- What a window holds after one read and after several.
 use Rattle.std.proofs.Common.{◌≡◌, ◌≢◌, ◌⊎◌, inl, inr, ◌+◌, ◌-◌, ◌≤◌, ◌<◌, ℕ, List, [], ◌++◌, Option, Some, None, IfSome, length, take, drop, slice_range, refl, sym, ap, subst, ◌∙◌, arith, append_assoc, append-nil, length-append}
 use Rattle.std.proofs.lemmas.List.{take_at, drop_at, take-append-le, drop-append-le, drop-take, drop-drop, length-take-le, length-drop}
 use borrow.Rule.Slice.PartMut.{put_mid, post_of}
@@ -11,7 +11,7 @@ use Rattle.flow_io.proofs.Reading.{Takes-more}
 
 -- ---- the bytes between two places of a block
 
--- a write behind them
+-- a write after the bytes of the range
 pub grown : (xs ys : List ℕ) (start end k n : ℕ) → start ≤ end → end ≤ length xs → n ≤ length ys
     → slice_range (put_mid end k xs ys) start (end + n) ≡ slice_range xs start end ++ take n ys
 grown xs ys start end k n ordered within fits =
@@ -31,7 +31,7 @@ kept xs ys start end k ordered within =
     let none : end ≡ end + 0 = omega arith in
     ap (slice_range (put_mid end k xs ys) start) none ∙ grown xs ys start end k 0 ordered within (omega arith) ∙ append-nil _
 
--- the first of them are given up
+-- the first bytes of the range are given up
 pub consumed : (xs : List ℕ) (start end count : ℕ) → start + count ≤ end → slice_range xs (start + count) end ≡ drop count (slice_range xs start end)
 consumed xs start end count inside =
     let parts : end - start ≡ count + (end - (start + count)) = omega arith in
@@ -89,7 +89,7 @@ read_on was inside held more room over x y is none longer size taken not = recor
   beyond = subst (λ (was : Option InputEnd). IsPast was over []) (sym none) (not_past over not);
 }
 
--- one byte more was looked for
+-- one more byte was looked for
 pub looked : (was inside : WindowState) (over : Option InputEnd) (into : List ℕ) (count : ℕ) (x y : Option (List ℕ)) → inside ≡ was → was.over ≡ None → Takes x y (take count into) → count ≤ length into → count ≤ 1
     → ((count ≡ 0) × (over ≡ Some Source)) ⊎ ((count ≢ 0) × (over ≡ Some Limit)) → Fills was (record inside { over = over }) x y
 looked was inside over into count x y is none taken bound one how = record {
@@ -130,10 +130,10 @@ pub record HasFilled {S : Type 0} (rest : S → Option (List ℕ)) (faults : S �
   pub ended : now.over ≡ Some Source → IfSome (rest source) (λ left. left ≡ [])
   pub quiet : faults source ≡ faults from
   pub over : first.over ≢ None → (now ≡ first) × (source ≡ from)
-  -- how the input ends is seen only where too few bytes are held
+  -- the end of the input is seen only if too few bytes are held
   pub few : (now.over ≡ first.over) ⊎ (length now.held < want)
 
--- where the end was seen by a read, as few bytes are held as before
+-- if a read saw the end, no more bytes are held than before it
 seen_where_few : (over first : Option InputEnd) (held less : List ℕ) (want : ℕ) → first ≡ None → (over ≢ None → held ≡ less) → length less < want → (over ≡ first) ⊎ (length held < want)
 seen_where_few None first held less want none same few = inl (sym none)
 seen_where_few (Some end) first held less want none same few = inr (omega (arith, ap length (same (λ e. absurd cc)), few))
@@ -161,7 +161,7 @@ module _ {S : Type 0} (rest : S → Option (List ℕ)) (faults : S → ℕ) (wan
   pub fills_to : (first a b : WindowState) (from s t : S) → HasFilled rest faults want first a from s → a.over ≡ None → Fills a b (rest s) (rest t) → Fills first b (rest from) (rest t)
   fills_to first a b from s t so none fills = fills_more first a b (rest from) (rest s) (rest t) (first_open first a from s so none) none so.fills fills
 
--- each read but the last brings some bytes
+-- each read but the last appends some bytes
 pub falls : (a b : WindowState) (x y : Option (List ℕ)) (want : ℕ) → a.over ≡ None → Fills a b x y → (b.over ≢ None) ⊎ (length a.held < length b.held) → length a.held < want → want ≤ a.room
     → (b.room - length b.held) + left_open b.over < (a.room - length a.held) + left_open a.over
 falls a b x y want none fills further less room =

@@ -1,9 +1,9 @@
--- How what a sink holds grows.
+-- How the content of a sink grows.
 use Rattle.std.proofs.Common.{◌+◌, ◌≤◌, ℕ, List, [], ◌++◌, Option, Some, None, Result, Ok, Err, OnErr, length, take, length-append, sym, append_assoc, arith}
 use Rattle.std.proofs.lemmas.List.{append-nil}
 use Rattle.std.proofs.Math.Seq.{take-length, take-append-add}
 use Rattle.std.proofs.lemmas.List.{take-append-le}
-use Rattle.flow_io.specs.Streams.{Grows, GrowsByFront}
+use Rattle.flow_io.specs.Streams.{Grows, GrowsByPrefix}
 
 -- nothing was written
 pub Grows-nothing : (held : Option (List ℕ)) → Grows held held []
@@ -18,27 +18,27 @@ Grows-more None (Some y) (Some z) bytes more a b = absurd a
 Grows-more (Some x) None (Some z) bytes more a b = absurd b
 Grows-more (Some x) (Some y) (Some z) bytes more a b = rw (b, a) (append_assoc x bytes more)
 
--- all of the bytes are a front of them
-pub GrowsByFront-whole : (first second : Option (List ℕ)) (bytes : List ℕ) → Grows first second bytes → GrowsByFront first second bytes
-GrowsByFront-whole first second bytes a = (length bytes, omega arith, rw (take-length bytes) a)
+-- all of the bytes are a prefix of them
+pub GrowsByPrefix-whole : (first second : Option (List ℕ)) (bytes : List ℕ) → Grows first second bytes → GrowsByPrefix first second bytes
+GrowsByPrefix-whole first second bytes a = (length bytes, omega arith, rw (take-length bytes) a)
 
--- bytes were written, and then a front of more
-pub GrowsByFront-more : (first second third : Option (List ℕ)) (bytes more : List ℕ) → Grows first second bytes → GrowsByFront second third more → GrowsByFront first third (bytes ++ more)
-GrowsByFront-more first second third bytes more a b = (
+-- bytes were written, and then a prefix of more
+pub GrowsByPrefix-more : (first second third : Option (List ℕ)) (bytes more : List ℕ) → Grows first second bytes → GrowsByPrefix second third more → GrowsByPrefix first third (bytes ++ more)
+GrowsByPrefix-more first second third bytes more a b = (
   length bytes + b.0,
   omega (arith, length-append bytes more, b.1),
   rw (take-append-add bytes more b.0) (Grows-more first second third bytes (take b.0 more) a b.2),
 )
 
--- a front of the bytes is a front of them and more
-pub GrowsByFront-front : (first second : Option (List ℕ)) (bytes more : List ℕ) → GrowsByFront first second bytes → GrowsByFront first second (bytes ++ more)
-GrowsByFront-front first second bytes more a = (a.0, omega (arith, length-append bytes more, a.1), let within : a.0 ≤ length bytes = a.1 in rw take-append-le a.2)
+-- a prefix of the bytes is a prefix of them and more
+pub GrowsByPrefix-front : (first second : Option (List ℕ)) (bytes more : List ℕ) → GrowsByPrefix first second bytes → GrowsByPrefix first second (bytes ++ more)
+GrowsByPrefix-front first second bytes more a = (a.0, omega (arith, length-append bytes more, a.1), let within : a.0 ≤ length bytes = a.1 in rw take-append-le a.2)
 
 -- of three pieces the first was written and the second cut
-pub number_cut : (first second third : Option (List ℕ)) (a b c : List ℕ) → Grows first second a → GrowsByFront second third b → GrowsByFront first third (a ++ b ++ c)
-number_cut first second third a b c written cut = GrowsByFront-front first third (a ++ b) c (GrowsByFront-more first second third a b written cut)
+pub number_cut : (first second third : Option (List ℕ)) (a b c : List ℕ) → Grows first second a → GrowsByPrefix second third b → GrowsByPrefix first third (a ++ b ++ c)
+number_cut first second third a b c written cut = GrowsByPrefix-front first third (a ++ b) c (GrowsByPrefix-more first second third a b written cut)
 
 -- of three pieces two were written, and the third was cut
-pub end_cut : {T E : Type 0} (result : Result T E) (first second third fourth : Option (List ℕ)) (a b c : List ℕ) → Grows first second a → Grows second third b → OnErr result (GrowsByFront third fourth c) → OnErr result (GrowsByFront first fourth (a ++ b ++ c))
+pub end_cut : {T E : Type 0} (result : Result T E) (first second third fourth : Option (List ℕ)) (a b c : List ℕ) → Grows first second a → Grows second third b → OnErr result (GrowsByPrefix third fourth c) → OnErr result (GrowsByPrefix first fourth (a ++ b ++ c))
 end_cut (Ok x) first second third fourth a b c one two cut = tt
-end_cut (Err e) first second third fourth a b c one two cut = GrowsByFront-more first third fourth (a ++ b) c (Grows-more first second third a b one two) cut
+end_cut (Err e) first second third fourth a b c one two cut = GrowsByPrefix-more first third fourth (a ++ b) c (Grows-more first second third a b one two) cut

@@ -2,7 +2,7 @@ use Rattle.std.proofs.Common.{◌≡◌, ℕ, ◌-◌, ◌≤◌, List, ◌++◌
 use Rattle.std.proofs.lemmas.List.{take_at, take_rest}
 use Rattle.std.specs.Io.KnownBytes.{Appends, WriteAppends}
 use Rattle.std.proofs.KnownBytes.{Appends-trans, Appends-kept}
-use Rattle.flow_io.specs.Standard.{AppendsFront}
+use Rattle.flow_io.specs.Standard.{AppendsPrefix}
 
 -- what a loop over a writer has done so far: of these bytes, all but the rest were appended
 pub record HasWritten (before after : Option (List ℕ)) (bytes rest : List ℕ) : Type 0 where
@@ -18,15 +18,15 @@ HasWritten-more first second third bytes rest count h more = record {
   appended = Appends-trans first second third h.done (take count rest) h.appended more;
 }
 
--- what was written so far is a front
-HasWritten-front : (before after : Option (List ℕ)) (bytes rest : List ℕ) → HasWritten before after bytes rest → AppendsFront before after bytes
+-- what was written so far is a prefix
+HasWritten-front : (before after : Option (List ℕ)) (bytes rest : List ℕ) → HasWritten before after bytes rest → AppendsPrefix before after bytes
 HasWritten-front before after bytes rest h =
     let short : length h.done ≤ length bytes = omega (arith, length-append h.done rest, ap length h.split) in
     let front : take (length h.done) bytes ≡ h.done = rw h.split (take_at h.done rest (length h.done) refl) in
     (length h.done, short, rw front h.appended)
 
--- and so it is after a last write, whatever it answers
-pub HasWritten-last : {E : Type 0} (first second third : Option (List ℕ)) (bytes rest : List ℕ) (result : Result ℕ E) → HasWritten first second bytes rest → WriteAppends second third result rest → AppendsFront first third bytes
+-- what was written after a last write, whatever it returns, is a prefix
+pub HasWritten-last : {E : Type 0} (first second third : Option (List ℕ)) (bytes rest : List ℕ) (result : Result ℕ E) → HasWritten first second bytes rest → WriteAppends second third result rest → AppendsPrefix first third bytes
 HasWritten-last first second third bytes rest (Ok count) h more =
     HasWritten-front first third bytes _ (HasWritten-more first second third bytes rest count h more)
 HasWritten-last first second third bytes rest (Err _) h kept =

@@ -1,4 +1,4 @@
-//! A block of memory between a source and who reads it.
+//! A block of memory between a source and its reader.
 ghost use Rattle.std.specs.Prelude.{◌≡◌, ◌+◌, ◌≤◌, ◌<◌, ◌++◌, ℕ, List, [], length, drop, vec_len, IfOk, IfSome, OnErr, IsErr};
 ghost use Rattle.flow_io.specs.Faults.{Blames};
 ghost use Rattle.flow_io.specs.Streams.{Takes};
@@ -6,7 +6,7 @@ ghost use Rattle.flow_io.specs.Streams.{Takes};
 use crate::{Memory, ReadFailed, Source};
 use std::alloc::Global;
 
-// The bytes from `start` to `end` are held, and there is room behind them.
+// The bytes from `start` to `end` are held, and further bytes are read after them.
 #[derive(Drop)]
 pub(crate) struct Block {
     bytes: Vec<u8>,
@@ -19,7 +19,7 @@ pub(crate) struct Block {
 impl Block {
     ghost use Rattle.flow_io.specs.Private.{items};
 
-    // Nothing is held. All the memory is taken here.
+    // Makes a block that holds nothing. All its memory is allocated here.
     pub(crate) fn new(alloc: Global, room: usize) -> Result<Block, Memory>
         ensures empty { IfOk result (λ block. items block ≡ []) }
         ensures room { IfOk result (λ block. vec_len block.bytes ≡ room) }
@@ -53,7 +53,7 @@ impl Block {
         self.end - self.start
     }
 
-    // Gives up the first of them.
+    // Gives up the first `count` of the held bytes.
     pub(crate) fn give_up(&mut self, count: usize)
         requires { count ≤ length (items self.old) }
         ensures items { items self.new ≡ drop count (items self.old) }
@@ -62,7 +62,7 @@ impl Block {
         self.start += count;
     }
 
-    // Moves them to the front.
+    // Moves the held bytes to the beginning of the block.
     fn move_to_front(&mut self)
         ensures items { items self.new ≡ items self.old }
         ensures front { self.new.end ≡ length (items self.old) }
@@ -74,7 +74,7 @@ impl Block {
         self.end = end - start;
     }
 
-    // Reads so many bytes at most behind them, and answers how many came.
+    // Reads once, at most `most` bytes, appends them to the held bytes and returns their number; 0 is the end of the input.
     pub(crate) fn read<S: Source>(
         &mut self,
         source: &mut S,

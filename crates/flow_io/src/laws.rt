@@ -1,4 +1,4 @@
-//! What holds of the faults, for whoever compares them. The function does nothing; its clauses are
+//! Laws of the faults, for code that compares them. The function does nothing; its clauses are
 //! the law.
 ghost use Rattle.std.specs.Prelude.{◌≡◌, ◌↔◌, IsTrue};
 ghost use Rattle.flow_io.specs.declared.sink.WriteFailed.{WriteFailed};
@@ -8,7 +8,7 @@ ghost use Rattle.flow_io.specs.declared.whole.ReadAllFault.{ReadAllFault};
 
 use crate::{Memory, ReadAllFault, ReadFailed, WriteFailed};
 
-/// `==` on faults is equality: it answers true exactly where the two are the same.
+/// `==` on faults is equality: it is true exactly if the two are the same.
 pub fn faults_compare_by_value()
     ensures read { (a b : ReadFailed) → IsTrue (⟦<ReadFailed as PartialEq>⟧.eq a b) ↔ (a ≡ b) }
     ensures write { (a b : WriteFailed) → IsTrue (⟦<WriteFailed as PartialEq>⟧.eq a b) ↔ (a ≡ b) }

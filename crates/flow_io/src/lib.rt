@@ -1,16 +1,16 @@
-//! Where bytes come from and where they go, with contracts that say what was read and written.
+//! Sources and sinks of bytes, with contracts that say what was read and written.
 //!
-//! A [`Source`] may tell the bytes that it has left and a [`Sink`] those that it holds: then a
+//! The bytes that a [`Source`] has left and those that a [`Sink`] holds may be known content: then a
 //! contract can speak of them. Each counts its faults, so that no call can blame a read or a write
-//! that did not fail. [`StdSource`] and [`StdSink`] go round a reader and a writer of the system. They
-//! tell no content, for what a file or a pipe holds isn't known; but what is read came from the
+//! that did not fail. [`StdSource`] and [`StdSink`] wrap a reader and a writer of the system. Their
+//! content is unknown, as nothing says what a file or a pipe holds; but what is read came from the
 //! reader, and what is written arrives at the writer, each byte once and in its order.
 //!
 //! [`read_all`] takes all bytes of a source up to a limit, and a [`Window`] holds a part of them at a
 //! time.
 //!
-//! A read or a write costs as much as the bytes that it moves. Only [`read_all`] and the maker of
-//! windows take memory.
+//! A read or a write costs as much as the bytes that it moves. Only [`read_all`] and [`Window::new`]
+//! allocate.
 #![tactic(auto)]
 
 mod block;

@@ -2,22 +2,22 @@ ghost use Rattle.std.specs.Prelude.{◌≡◌, ◌≤◌, ◌<◌, ◌↔◌, �
 ghost use Rattle.flow_io.specs.Faults.{Blames};
 ghost use Rattle.flow_io.specs.Streams.{Takes};
 
-/// A read failed. The source's count of faults says so too.
+/// A read failed. The source's count of faults has risen.
 #[derive(Clone, Copy, Debug, PartialEq, Eq)]
 pub struct ReadFailed;
 
-/// Where bytes come from.
+/// Something that bytes are read from.
 pub trait Source {
-    // The bytes that reads will give from here on, where the source tells them.
+    // The bytes that reads will give from here on, if they are known.
     ghost rest: { Self → Option (List ℕ) };
 
-    // How many calls have failed. It never falls, and stands still at the end of a u64.
+    // How many calls have failed. The count never falls, and stays at the largest u64 once it is there.
     ghost faults: { Self → ℕ };
 
-    /// Reads some bytes into the front of `into`, and answers how many: at most its length.
+    /// Reads some bytes into the beginning of `into`, and returns how many: at most its length.
     ///
-    /// 0 for an `into` that isn't empty is the end of the input. `ReadFailed` comes only where the
-    /// count of faults rose; the bytes that are left are then as before.
+    /// If `into` isn't empty, 0 means the end of the input. `ReadFailed` comes only if the count of
+    /// faults rose; the bytes that are left are then as before.
     fn read(&mut self, into: &mut [u8]) -> Result<usize, ReadFailed>
         ensures bound { IfOk result (λ count. count ≤ length into.new) }
         ensures taken { IfOk result (λ count. Takes (rest self.old) (rest self.new) (take count into.new)) }

@@ -1,13 +1,13 @@
 ghost use Rattle.std.specs.Prelude.{◌≡◌, ◌≤◌, None, length, IfOk, OnOk, OnErr, IsErr};
 ghost use Rattle.std.specs.Io.KnownBytes.{Appends, ReadConsumes};
 ghost use Rattle.flow_io.specs.Faults.{Blames};
-ghost use Rattle.flow_io.specs.Standard.{AppendsFront};
+ghost use Rattle.flow_io.specs.Standard.{AppendsPrefix};
 
 use crate::{ReadFailed, Sink, Source, WriteFailed};
 use std::io::{Read, Write};
 use std::marker::Model;
 
-/// A reader of the system as a source. It tells no content.
+/// A reader of the system as a source. Its content is unknown.
 #[derive(Drop)]
 pub struct StdSource<R> {
     inner: R,
@@ -23,14 +23,14 @@ impl<R> Model for StdSource<R> {
 }
 
 impl<R: Read> StdSource<R> {
-    /// A source over a reader, with no fault so far.
+    /// Makes a source over a reader, with no fault so far.
     pub fn new(inner: R) -> StdSource<R>
         ensures { result ≡ record { inner = inner; faults = 0 } }
     {
         StdSource { inner, faults: 0 }
     }
 
-    /// The reader, with what it has left.
+    /// Returns the reader, with what it has left.
     pub fn into_inner(self) -> R
         ensures { result ≡ self.inner }
     {
@@ -43,13 +43,13 @@ impl<R: Read> Source for StdSource<R> {
 
     ghost faults = { λ source. source.faults };
 
-    /// One read of the reader. An error of it is a fault, whatever its kind; a reader doesn't tell
-    /// when it fails, so no clause says when `ReadFailed` comes.
+    /// Reads once from the reader. Any error of the reader is a fault, whatever its kind. Nothing says
+    /// when a reader fails, so no clause says when `ReadFailed` comes.
     fn read(&mut self, into: &mut [u8]) -> Result<usize, ReadFailed>
         ensures bound { IfOk result (λ count. count ≤ length into.new) }
         ensures cause { Blames (IsErr result) self.old.faults self.new.faults }
-        // What is answered came from the reader and was consumed there once; 0 bytes are answered
-        // only at its end or where `into` is empty, and an error consumes nothing.
+        // The bytes that are returned came from the reader and were consumed there once; 0 bytes are
+        // returned only at its end or if `into` is empty, and an error consumes nothing.
         ensures consumed { ReadConsumes (R.remaining self.old.inner) (R.remaining self.new.inner)
             result into.new }
     {
@@ -63,7 +63,7 @@ impl<R: Read> Source for StdSource<R> {
     }
 }
 
-/// A writer of the system as a sink. It tells no content.
+/// A writer of the system as a sink. Its content is unknown.
 #[derive(Drop)]
 pub struct StdSink<W> {
     inner: W,
@@ -79,14 +79,14 @@ impl<W> Model for StdSink<W> {
 }
 
 impl<W: Write> StdSink<W> {
-    /// A sink over a writer, with no fault so far.
+    /// Makes a sink over a writer, with no fault so far.
     pub fn new(inner: W) -> StdSink<W>
         ensures { result ≡ record { inner = inner; faults = 0 } }
     {
         StdSink { inner, faults: 0 }
     }
 
-    /// The writer, with what was written.
+    /// Returns the writer, with what was written.
     pub fn into_inner(self) -> W
         ensures { result ≡ self.inner }
     {
@@ -101,16 +101,15 @@ impl<W: Write> Sink for StdSink<W> {
 
     ghost faults = { λ sink. sink.faults };
 
-    /// Writes until nothing is left, and flushes. An error is a fault, whatever its kind, and so is a
-    /// writer that takes no byte; a writer doesn't tell when it fails, so no clause says when
-    /// `WriteFailed` comes.
+    /// Writes all of `bytes` and flushes. Any error is a fault, whatever its kind, and so is a write that
+    /// takes no byte. Nothing says when a writer fails, so no clause says when `WriteFailed` comes.
     fn write(&mut self, bytes: &[u8]) -> Result<(), WriteFailed>
         ensures cause { Blames (IsErr result) self.old.faults self.new.faults }
-        // The bytes arrived at the writer once, in their order: all of them, or else a front.
+        // The bytes arrived at the writer once, in their order: all of them, or a prefix after an error.
         ensures whole { OnOk result
             (Appends (W.contents self.old.inner) (W.contents self.new.inner) bytes.now) }
         ensures front { OnErr result
-            (AppendsFront (W.contents self.old.inner) (W.contents self.new.inner) bytes.now) }
+            (AppendsPrefix (W.contents self.old.inner) (W.contents self.new.inner) bytes.now) }
     {
         let result = write_whole(&mut self.inner, bytes);
         if result.is_err() {
@@ -125,7 +124,7 @@ fn write_whole<W: Write>(writer: &mut W, bytes: &[u8]) -> Result<(), WriteFailed
     ensures whole { OnOk result
         (Appends (W.contents writer.old) (W.contents writer.new) bytes.now) }
     ensures front { OnErr result
-        (AppendsFront (W.contents writer.old) (W.contents writer.new) bytes.now) }
+        (AppendsPrefix (W.contents writer.old) (W.contents writer.new) bytes.now) }
 {
     let mut rest = bytes;
     while !rest.is_empty() {

@@ -6,7 +6,7 @@ ghost use Rattle.flow_io.specs.Whole.{IsWholeInput};
 use crate::Source;
 use std::alloc::{AllocError, Global};
 
-/// All that a source had, up to a limit.
+/// All bytes that a source had, up to a limit.
 #[derive(Drop)]
 pub struct WholeInput {
     /// The bytes, at most as many as the limit.
@@ -20,7 +20,7 @@ pub struct WholeInput {
 pub enum ReadAllFault {
     /// A read failed.
     Read,
-    /// There is no memory for the bytes.
+    /// Out of memory for the bytes.
     Memory,
 }
 
@@ -34,10 +34,10 @@ impl From<AllocError> for ReadAllFault {
     }
 }
 
-// How many bytes are asked of a source at a time.
+// The most bytes that one read asks for.
 const WINDOW: usize = 16384;
 
-// The bytes up to the limit, and whether the input ended with them.
+// Returns the bytes up to the limit, and whether the input was seen to end with them.
 fn read_up_to<S: Source>(
     alloc: Global,
     source: &mut S,
@@ -68,7 +68,7 @@ fn read_up_to<S: Source>(
     Ok((bytes, false))
 }
 
-// Whether the source has one byte more, which is taken.
+// Returns whether the source has one byte more. If it has, that byte is taken.
 fn has_more<S: Source>(source: &mut S) -> Result<bool, ReadAllFault>
     ensures more { IfOk result
         (λ more. IfSome (S.rest source.old) (λ left. IsTrue more ↔ (0 < length left))) }
@@ -86,9 +86,9 @@ fn has_more<S: Source>(source: &mut S) -> Result<bool, ReadAllFault>
 
 /// Takes the bytes of a source to its end, at most `limit`, and looks for one more.
 ///
-/// `Read` comes only where the source's count of faults rose; then, and after `Memory`, some bytes of
-/// the source are taken, `limit + 1` at most. Each read but the last gives at least one byte, and is
-/// asked for 16,384 at most; each byte is copied once, and again where the memory for all grows.
+/// `Read` comes only if the source's count of faults rose. After it, and after `Memory`, some bytes of
+/// the source are taken, at most `limit + 1`. Each read asks for at most 16,384 bytes, and each but the
+/// last gives at least one. Each byte is copied once, and again whenever the vector grows.
 pub fn read_all<S: Source>(
     alloc: Global,
     source: &mut S,

@@ -8,7 +8,7 @@ use out_of_memory::Memory;
 use std::alloc::Global;
 use std::marker::Model;
 
-/// What filling a window came to.
+/// What filling a window resulted in.
 #[derive(Clone, Copy, PartialEq, Eq)]
 pub enum Filled {
     /// As many bytes are held as were wanted, or more.
@@ -28,9 +28,9 @@ pub enum InputEnd {
     Limit,
 }
 
-/// A part of a source's bytes, which are held in one block of memory: a front of them is given up, and more are read.
+/// A part of a source's bytes, held in one block of memory: the first of them can be given up, and more can be read.
 ///
-/// At most `room` bytes are held, and those given up and held are never more than `limit`.
+/// At most `room` bytes are held, and those given up and those held are never more than `limit` together.
 #[derive(Drop)]
 pub struct Window {
     block: Block,
@@ -58,7 +58,7 @@ impl Model for Window {
 }
 
 impl Window {
-    /// A window that holds nothing, at place 0. All its memory is taken here.
+    /// Makes a window that holds nothing, at place 0. All its memory is allocated here.
     pub fn new(alloc: Global, room: usize, limit: u64) -> Result<Window, Memory>
         requires some { 1 ≤ room }
         requires few { room ≤ 2 ^ 20 }
@@ -73,7 +73,7 @@ impl Window {
         })
     }
 
-    /// The bytes that are held.
+    /// Returns the bytes that are held.
     pub fn held(&self) -> &[u8]
         ensures held { result.now ≡ self.now.held }
         ensures few { length result.now ≤ self.now.room }
@@ -82,7 +82,7 @@ impl Window {
         self.block.held()
     }
 
-    /// How many bytes were given up before those that are held.
+    /// Returns how many bytes were given up before those that are held.
     pub fn place(&self) -> u64
         ensures { result ≡ self.now.place }
     {
@@ -98,7 +98,7 @@ impl Window {
         self.place += count as u64;
     }
 
-    // Looks whether the source has one byte more, and takes it.
+    // Looks for one more byte of the source. If there is one, it is taken and discarded.
     fn look_past<S: Source>(&mut self, source: &mut S) -> Result<(), ReadFailed>
         requires open { self.old.over ≡ None }
         requires whole { self.old.place + length self.old.held ≡ self.old.limit }
@@ -119,7 +119,7 @@ impl Window {
         Ok(())
     }
 
-    // Reads once: some bytes join those that are held, or it is seen how the input ends.
+    // Reads once: appends some bytes to those that are held, or sees how the input ends.
     fn read_more<S: Source>(&mut self, source: &mut S) -> Result<(), ReadFailed>
         requires open { self.old.over ≡ None }
         requires room { length self.old.held < self.old.room }
@@ -143,12 +143,12 @@ impl Window {
         Ok(())
     }
 
-    /// Reads until at least `want` bytes are held or the input ends: `Enough` comes exactly where so many are held then.
-    /// Each read asks for as many bytes as there is room for. `Limited` comes where the held bytes end at the limit and
-    /// the source has more, of which one byte is taken and let go; `Ended` in every other case. After either no further
-    /// call reads.
+    /// Reads until at least `want` bytes are held or the input ends. Returns `Enough` exactly if so many are held then;
+    /// `Limited` if fewer are held, they end at the limit and the source has more, of which one byte is taken and
+    /// discarded; and `Ended` in every other case. After `Limited` and `Ended` no further call reads. Each read asks for as
+    /// many bytes as there is room for within the limit.
     ///
-    /// `ReadFailed` comes only where the source's count of faults rose. The bytes that were taken before are held, fewer
+    /// `ReadFailed` comes only if the source's count of faults rose. The bytes that were taken before are held, fewer
     /// than `want`.
     pub fn fill<S: Source>(&mut self, source: &mut S, want: usize) -> Result<Filled, ReadFailed>
         requires room { want ≤ self.old.room }

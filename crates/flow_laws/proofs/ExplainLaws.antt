@@ -1,5 +1,5 @@
--- Explaining comes to the status of an audit, and says what is found of the first pair that isn't legal.
-use Rattle.std.proofs.Common.{◌≡◌, ◌≢◌, ◌+◌, ℕ, List, [], ◌∷◌, length, inl, inr, refl, ap, subst, ◌∙◌}
+-- Explaining results in the status of an audit, and says what is found of the first invalid entry.
+use Rattle.std.proofs.Common.{◌≡◌, ◌≢◌, ◌+◌, ℕ, List, [], ◌∷◌, length, take, inl, inr, refl, ap, subst, ◌∙◌}
 use Rattle.wire_records.specs.Records.{Record}
 use Rattle.wire_records.specs.Commands.{Pair}
 use Rattle.wire_records.specs.Reading.{Ending}
@@ -9,15 +9,15 @@ use Rattle.journal_words.specs.Findings.{IsExplained}
 use Rattle.flow_exchange.specs.declared.form.Form.TheVariants.{Audit}
 use Rattle.flow_exchange.specs.declared.status.Status.{Status}
 use Rattle.flow_exchange.specs.declared.status.Status.TheVariants as answer
-use Rattle.flow_exchange.specs.JournalFiles.{audit_status, status_of}
+use Rattle.flow_exchange.specs.JournalFiles.{audit_status}
 use Rattle.flow_exchange.specs.Auditing.{audit_text}
 use Rattle.flow_exchange.specs.Explaining.{Explains}
-use Rattle.flow_exchange.proofs.FileOf.{makes}
+use Rattle.flow_exchange.proofs.HistoryOf.{history_of, makes_of}
 use Rattle.flow_exchange.proofs.Outcomes.{one_end}
 use Rattle.flow_laws.specs.Laws.{ExplainIsAudit, RejectedIsExplained}
-use Rattle.flow_laws.proofs.AuditLaws.{audits_first, explained_file}
+use Rattle.flow_laws.proofs.AuditLaws.{no_history_rejected, history_first, explained_file}
 
--- where no pair is rejected, the line of the audit is written
+-- the line of the audit is written if no entry is rejected
 explained_alike : (limit : ℕ) (market : Market) (legal : List (Pair Record Outcome)) (behind : List (Record × Record)) (ending : Ending) (status : Status) (line text : List ℕ) → status ≡ audit_status limit ending legal behind → ((number : ℕ) → status ≢ answer.Rejected number)
     → Explains market legal behind line text → text ≡ line
 explained_alike limit market legal [] ending status line text ends not writes = writes
@@ -28,21 +28,23 @@ explain_is_audit limit bytes text line status other (inl none) audits =
     let same = one_end Audit limit bytes status other text line (inl none) audits in
     (same.0, λ not. same.1)
 explain_is_audit limit bytes text line status other (inr file) audits =
-    let journal = file.journal in
-    let told = audit_text journal in
-    let same = one_end Audit limit bytes status other told line (inr (record { journal = journal; is = file.is; ends = file.ends; writes = refl })) audits in
-    (same.0, λ not. explained_alike limit journal.market journal.legal journal.behind journal.ending status told text file.ends not file.writes ∙ same.1)
+    let h = file.history in
+    let told = audit_text h in
+    let same = one_end Audit limit bytes status other told line (inr (record { history = h; is = file.is; ends = file.ends; writes = refl })) audits in
+    (same.0, λ not. explained_alike limit h.market h.legal h.behind h.ending status told text file.ends not file.writes ∙ same.1)
 
 pub rejected_is_explained : RejectedIsExplained
 rejected_is_explained limit number bytes text = (
   λ comes.
       elim comes [
-        | inl none ↦ absurd (let no = none.1 in cc)
-        | inr file ↦ explained_file limit number bytes file.journal.legal file.journal.behind file.journal.ending file.journal.market (audit_text file.journal) text file.is.audits file.ends file.writes
+        | inl none ↦ absurd (no_history_rejected (take limit bytes) number none.0)
+        | inr file ↦
+            let h = file.history in
+            explained_file limit number bytes h.start h.legal h.market h.behind h.ending (audit_text h) text file.is file.ends file.writes
       ],
   λ illegal.
       let first = illegal.0 in
-      let all = audits_first limit number bytes first in
-      makes (status_of limit) (λ journal text. Explains journal.market journal.legal journal.behind (audit_text journal) text) limit bytes (answer.Rejected number) text first.pairs (first.bad ∷ all.0) all.1 first.market all.2
+      let all = history_first limit number bytes first in
+      makes_of (λ history text. Explains history.market history.legal history.behind (audit_text history) text) limit bytes (answer.Rejected number) text (history_of first.start first.pairs first.market (first.bad ∷ all.0) all.1) all.2
       (ap (λ (n : ℕ). answer.Rejected n) first.counted) (subst (λ (n : ℕ). IsExplained first.market n first.bad text) first.counted illegal.1),
 )

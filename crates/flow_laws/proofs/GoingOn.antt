@@ -1,4 +1,4 @@
--- What a session answers from the market of a replay on is, behind the journal that was replayed, one legal journal.
+-- What a session answers from the market of a replay on makes with the replayed journal one valid journal.
 use Rattle.std.proofs.Common.{◌≡◌, ◌+◌, ◌^◌, ◌<◌, ◌≤◌, ℕ, List, [], ◌∷◌, ◌++◌, map, length, Result, Ok, refl, sym, ap, subst, ◌∙◌, append_assoc, length-append, arith}
 use Rattle.std.specs.Prelude.{All}
 use Rattle.std.specs.List.{flat_map}
@@ -10,19 +10,17 @@ use Rattle.wire_records.specs.Commands.{Pair}
 use Rattle.wire_records.specs.Versions.{IsReadAs}
 use Rattle.wire_records.specs.declared.version.Version.{Version}
 use Rattle.wire_records.proofs.Readings.{reading_unique, read_own}
-use Rattle.flow_orders.specs.Outcomes.{Outcome, IsRightOutcome}
-use Rattle.own_rule.specs.Own.{IsOwnOutcome}
+use Rattle.flow_orders.specs.Outcomes.{Outcome, IsAdmissibleOutcome}
+use Rattle.canonical_rule.specs.Canonical.{IsCanonicalOutcome}
 use Rattle.journal_records.specs.Pairs.{IsPair, pair_spelling}
 use Rattle.journal_records.specs.Formats.{journal_magic_of, journal_in}
-use Rattle.market_rules.specs.Market.{Market, IsSound, empty_market}
-use Rattle.market_rules.specs.Journal.{Follows, IsAnswered, IsJournal}
+use Rattle.market_rules.specs.Market.{Market, IsConsistent, empty_market}
+use Rattle.market_rules.specs.Journal.{Follows, IsJournal}
 use Rattle.market_rules.proofs.OneJournal.{follows-append}
-use Rattle.own_journals.proofs.OneOwnJournal.{one_own_journal}
-use Rattle.own_journals.proofs.OwnIsLegal.{own_follows_are_right}
-use Rattle.market_rules.proofs.LawProofs.{journals_hold_deposits, steps_keep_soundness, sequences_compose, legal_steps_number_one}
-use Rattle.own_journals.proofs.LawProofs.{steps_number_one}
-use Rattle.market_rules.proofs.Promised.{legal_journal_keeps_promises}
-use Rattle.own_journals.proofs.OwnPromises.{own_journal_clears_near}
+use Rattle.canonical_journals.proofs.OneCanonicalJournal.{one_canonical_journal}
+use Rattle.canonical_journals.proofs.CanonicalIsLegal.{canonical_follows_are_admissible}
+use Rattle.market_rules.proofs.LawProofs.{journals_hold_deposits, steps_keep_consistency, sequences_compose, legal_steps_number_one}
+use Rattle.canonical_journals.proofs.LawProofs.{steps_number_one}
 use Rattle.batch_audit.specs.Legal.{IsLegalJournal}
 use Rattle.journal_replay.specs.declared.replaying.ReplayFault.{ReplayFault}
 use Rattle.journal_replay.specs.Replays.{IsReplayed}
@@ -31,20 +29,13 @@ use Rattle.journal_replay.proofs.LawProofs.{markets_are, one_replay}
 use Rattle.word_driver.specs.Word.{Goes}
 use Rattle.exchange_session.specs.Journals.{Journals}
 use Rattle.exchange_session.specs.Running.{run}
-use Rattle.flow_exchange.specs.Auditing.{legal_line}
+use Rattle.session_resume.specs.Continuing.{Continues}
 use Rattle.flow_laws.specs.Laws.{IsOneJournal, SessionsGoOn}
-use Rattle.flow_laws.proofs.AuditLaws.{done_is_for_legal}
+use Rattle.flow_laws.proofs.AuditLaws.{done_for_legal}
 use Rattle.flow_laws.proofs.RunsAudited.{pairs_short, journal}
 
--- The pairs that answer records from a market on, which fit their widths while each may have given a number to an order, and this is
--- their text.
-pub record Answers (old : Market) (records : List Record) (new : Market) (text : List ℕ) : Type 0 where
-  pub pairs : List (Pair Record Outcome)
-  pub answered : IsAnswered IsReadAs IsOwnOutcome old records pairs new
-  pub fits : old.next_order + length pairs < 2 ^ 64 → All IsPair pairs
-  pub spelled : text ≡ flat_map pair_spelling pairs
-
-answers : (old new : Market) (records : List Record) (text : List ℕ) → Goes run old records new text → Answers old records new text
+-- what a run makes of records from a market on
+answers : (old new : Market) (records : List Record) (text : List ℕ) → Goes run old records new text → Continues old records new text
 answers old new [] text goes = record { pairs = []; answered = record { asked = refl; steps = goes.0 }; fits = λ few. All-nil IsPair; spelled = goes.1 }
 answers old new (r ∷ records) text goes =
     let next = goes.0 in
@@ -59,26 +50,26 @@ answers old new (r ∷ records) text goes =
       spelled = goes.5 ∙ ap (λ xs. xs ++ goes.2) one.spelled ∙ ap (λ xs. pair_spelling pair ++ xs) rest.spelled;
     }
 
--- legal pairs give no more numbers to orders than they are
-pub orders_few : (old new : Market) (pairs : List (Pair Record Outcome)) → Follows IsReadAs IsRightOutcome old pairs new → new.next_order ≤ old.next_order + length pairs
+-- valid entries give at most as many numbers to orders as they are
+pub orders_few : (old new : Market) (pairs : List (Pair Record Outcome)) → Follows IsReadAs IsAdmissibleOutcome old pairs new → new.next_order ≤ old.next_order + length pairs
 orders_few old new [] follows = omega (arith, ap (λ (m : Market). m.next_order) follows)
 orders_few old new (pair ∷ pairs) (between, step, follows) =
     omega (arith, legal_steps_number_one old pair.asked pair.answer between step, orders_few between new pairs follows)
 
--- two lists of pairs, one behind the other, are spelled so
+-- the encoding of two lists of entries, one after the other
 joined : (version : Version) (pairs more : List (Pair Record Outcome)) (bytes text : List ℕ) → bytes ≡ journal_in version pairs → text ≡ flat_map pair_spelling more → bytes ++ text ≡ journal_in version (pairs ++ more)
 joined version pairs more bytes text before behind =
     let magic = journal_magic_of version in
     ap (λ xs. xs ++ text) before ∙ append_assoc magic (flat_map pair_spelling pairs) text
     ∙ ap (λ xs. magic ++ xs) (ap (λ xs. flat_map pair_spelling pairs ++ xs) behind ∙ sym (flat_map-append pair_spelling pairs more))
 
--- the market of a legal journal is sound
-pub legal_is_sound : (version : Version) (pairs : List (Pair Record Outcome)) (market : Market) → IsLegalJournal version pairs market → IsSound market
-legal_is_sound version pairs market legal = (journals_hold_deposits (empty_market version) pairs market (steps_keep_soundness.0 version) legal.steps).sound
+-- the market of a valid journal is consistent
+pub legal_is_consistent : (version : Version) (pairs : List (Pair Record Outcome)) (market : Market) → IsLegalJournal version pairs market → IsConsistent market
+legal_is_consistent version pairs market legal = (journals_hold_deposits (empty_market version) pairs market (steps_keep_consistency.0 version) legal.steps).consistent
 
--- pairs that answer records from the market of a legal journal on make with it a legal journal
+-- entries that answer records from the market of a valid journal on make with it a valid journal
 module _ (most : ℕ) (version : Version) (pairs : List (Pair Record Outcome)) (bytes text : List ℕ) (old new : Market) (records : List Record)
-    (legal : IsLegalJournal version pairs old) (before : bytes ≡ journal_in version pairs) (so : Answers old records new text)
+    (legal : IsLegalJournal version pairs old) (before : bytes ≡ journal_in version pairs) (so : Continues old records new text)
     (wide : most < 2 ^ 64) (within : length (bytes ++ text) ≤ most) where
   more_fit : All IsPair so.pairs
   more_fit =
@@ -90,7 +81,7 @@ module _ (most : ℕ) (version : Version) (pairs : List (Pair Record Outcome)) (
   all_legal = record {
     each = All-append IsPair pairs so.pairs legal.each more_fit;
     steps = sequences_compose.joined (empty_market version) old new pairs so.pairs legal.steps
-        (own_follows_are_right IsReadAs read_own old so.pairs new (legal_is_sound version pairs old legal) so.answered.steps);
+        (canonical_follows_are_admissible IsReadAs read_own old so.pairs new (legal_is_consistent version pairs old legal) so.answered.steps);
   }
 
   pub one_journal : IsOneJournal most bytes records new text
@@ -106,7 +97,7 @@ module _ (most : ℕ) (version : Version) (pairs : List (Pair Record Outcome)) (
         whole = whole;
         legal = all_legal;
         replayed = (markets_are (bytes ++ text) new).1 (version, pairs ++ so.pairs, all_legal, whole);
-        audited = (done_is_for_legal most (bytes ++ text) (legal_line (pairs ++ so.pairs))).1 (version, pairs ++ so.pairs, new, all_legal, whole, within, refl);
+        audited = done_for_legal.done most (bytes ++ text) version (pairs ++ so.pairs) new (record { journal = all_legal; spelled = whole; within = within });
       }
 
 legal : (most : ℕ) (bytes text : List ℕ) (old new : Market) (records : List Record) → IsReplayed bytes (Ok old) → Goes run old records new text
@@ -122,40 +113,35 @@ made market = Ok market
 same_market : (m n : Market) → made m ≡ made n → m ≡ n
 same_market m n same = cc
 
--- where the first of the pairs are a run's journal of some records, all of them are one of these records and the others
+-- if the first entries are a run's journal of some records, all are that of these records and the others
 module _ (most : ℕ) (version : Version) (bytes text : List ℕ) (old new : Market) (first records : List Record) (writes : Journals version first old bytes)
-    (so : Answers old records new text) (wide : most < 2 ^ 64) (within : length (bytes ++ text) ≤ most) where
+    (so : Continues old records new text) (wide : most < 2 ^ 64) (within : length (bytes ++ text) ≤ most) where
   abbrev all_pairs : List (Pair Record Outcome)
   all_pairs = writes.pairs ++ so.pairs
 
   -- all records are answered from the empty market on
-  all_answered : IsJournal IsReadAs IsOwnOutcome version (first ++ records) all_pairs new
+  all_answered : IsJournal IsReadAs IsCanonicalOutcome version (first ++ records) all_pairs new
   all_answered = record {
     asked = map-append (λ (pair : Pair Record Outcome). pair.asked) writes.pairs so.pairs
         ∙ ap (λ (xs : List Record). xs ++ map (λ (pair : Pair Record Outcome). pair.asked) so.pairs) writes.journal_of.asked ∙ ap (λ (xs : List Record). first ++ xs) so.answered.asked;
-    steps = follows-append IsReadAs reading_unique IsOwnOutcome (empty_market version) old new writes.pairs so.pairs writes.journal_of.steps so.answered.steps;
+    steps = follows-append IsReadAs reading_unique IsCanonicalOutcome (empty_market version) old new writes.pairs so.pairs writes.journal_of.steps so.answered.steps;
   }
 
-  pub own_journal : Journals version (first ++ records) new (bytes ++ text)
-  own_journal =
-      let start = empty_market version in
-      let sound = steps_keep_soundness.0 version in
+  pub canonical_journal : Journals version (first ++ records) new (bytes ++ text)
+  canonical_journal =
       let short : length bytes ≤ most = omega (arith, length-append bytes text, within) in
       let before = (journal most version first old bytes writes wide short).0 in
       let legal = all_legal most version writes.pairs bytes text old new records before writes.spelled so wide within in
       record {
         pairs = all_pairs;
         journal_of = all_answered;
-        deposits = journals_hold_deposits start all_pairs new sound legal.steps;
-        keeps = legal_journal_keeps_promises start all_pairs new sound legal.steps;
-        near = own_journal_clears_near start all_pairs new sound all_answered.steps;
         fits = λ _. legal.each;
         spelled = joined version writes.pairs so.pairs bytes text writes.spelled so.spelled;
       }
 
   pub same_journal : (whole : List ℕ) (last : Market) → Journals version (first ++ records) last whole → (whole ≡ bytes ++ text) × (last ≡ new)
   same_journal whole last other =
-      let one = one_own_journal IsReadAs reading_unique version (first ++ records) other.pairs all_pairs last new other.journal_of all_answered in
+      let one = one_canonical_journal IsReadAs reading_unique version (first ++ records) other.pairs all_pairs last new other.journal_of all_answered in
       (other.spelled ∙ ap (journal_in version) one.0 ∙ sym (joined version writes.pairs so.pairs bytes text writes.spelled so.spelled), one.1)
 
 -- a replay of a run's journal answers its market
@@ -171,7 +157,7 @@ module _ (most : ℕ) (version : Version) (bytes text : List ℕ) (at old new : 
   wrote = subst (λ (m : Market). Journals version first m bytes) was writes
 
   own : Journals version (first ++ records) new (bytes ++ text)
-  own = own_journal most version bytes text old new first records wrote (answers old new records text goes) wide within
+  own = canonical_journal most version bytes text old new first records wrote (answers old new records text goes) wide within
 
   same : (whole : List ℕ) (last : Market) → Journals version (first ++ records) last whole → (whole ≡ bytes ++ text) × (last ≡ new)
   same = same_journal most version bytes text old new first records wrote (answers old new records text goes) wide within

@@ -1,4 +1,4 @@
--- A journal and a checkpoint of its market are gone on from alike.
+-- A resumption after a journal and one after a checkpoint of its market are alike.
 use Rattle.std.proofs.Common.{◌≡◌, ◌≢◌, ◌⊎◌, ◌+◌, ◌^◌, ◌<◌, ◌≤◌, ℕ, List, [], ◌++◌, length, take, Ok, Err, length-append, refl, sym, ap, subst, ◌∙◌, inl, inr, arith}
 use Rattle.std.proofs.lemmas.List.{take_all}
 use Rattle.wire_records.specs.Records.{Record}
@@ -12,7 +12,7 @@ use Rattle.wire_records.proofs.RecordCode.{commands_readable}
 use Rattle.flow_orders.specs.Outcomes.{Outcome}
 use Rattle.journal_records.specs.Formats.{journals, journal_in}
 use Rattle.market_rules.specs.Market.{Market}
-use Rattle.market_snapshot.specs.Checkpoints.{IsCheckpoint}
+use Rattle.market_snapshot.specs.Checkpoints.{IsCheckpoint, HasCheckpointMagic}
 use Rattle.batch_audit.specs.Legal.{IsLegalJournal}
 use Rattle.word_driver.specs.Ended.{Ended}
 use Rattle.word_driver.specs.declared.fault.Fault.TheVariants as fault
@@ -30,10 +30,11 @@ use Rattle.flow_exchange.specs.declared.status.Status.TheVariants as answer
 use Rattle.flow_exchange.specs.Statuses.{ended_status, unfit_status}
 use Rattle.flow_exchange.specs.Program.{ComesTo}
 use Rattle.flow_laws.specs.Laws.{NewRecords, GoesOn, EndAlike, GoOnAlike}
-use Rattle.flow_laws.proofs.CheckpointLaws.{checkpoints_of_legal_journals, legal_journals_have_checkpoints}
+use Rattle.flow_laws.proofs.CheckpointLaws.{checkpoints_of_histories, legal_journals_have_checkpoints}
+use Rattle.flow_laws.proofs.AuditLaws.{history_journal}
 use Rattle.flow_laws.proofs.Resumed.{goes_from}
 
--- ---- the pairs
+-- ---- the entries
 
 -- there is one list of new records
 new_one : (version : Version) (rest : List ℕ) (records others : List Record) → NewRecords version rest records → NewRecords version rest others → records ≡ others
@@ -51,11 +52,11 @@ text_one market rest x y a b =
 
 -- ---- the ends
 
--- two ends are alike, behind these places
+-- two ends are alike, relative to these places
 abbrev Alike : ℕ → ℕ → Ended Unfit → Ended Unfit → Type 0
 Alike here there e f = ((e ≡ Ok tt) × (f ≡ Ok tt)) ⊎ ((n : ℕ) × (e ≡ Err (fault.Torn (here + n))) × (f ≡ Err (fault.Torn (there + n))))
 
--- what is read in the same way from two places ends alike, where there is no more
+-- what is read in the same way from two places ends alike, if there is no more
 module _ (M N : Type 0) (not_here : ¬ M) (not_there : ¬ N) (rest : List ℕ) where
   endings_alike : (here there : ℕ) (e f : Ending) → EndsAs commands M rest here e → EndsAs commands N rest there f → ((e ≡ End) × (f ≡ End)) ⊎ ((e ≡ Torn here) × (f ≡ Torn there))
   endings_alike here there End End a b = inl (refl, refl)
@@ -66,7 +67,7 @@ module _ (M N : Type 0) (not_here : ¬ M) (not_there : ¬ N) (rest : List ℕ) w
   endings_alike here there (Torn n) TooLong a b = absurd (not_there b.1)
   endings_alike here there TooLong f a b = absurd (not_here a.1)
 
--- places behind a magic
+-- places after a magic
 behind_magic : (place count : ℕ) → place + 8 + count ≡ place + (8 + count)
 behind_magic place count = omega arith
 
@@ -105,7 +106,7 @@ module _ (market : Market) (M N : Type 0) (not_here : ¬ M) (not_there : ¬ N) (
   rests_alike kind other (Commands body) e f x y is a b = serves_alike body e f x y a b
   rests_alike kind other Other e f x y is a b = inr (0, other_torn kind M here e not_here is.1 a.0, other_torn other N there f not_there is.1 b.0)
 
-  -- what the rest is, where there is no more
+  -- what the rest is, if there is no more
   rest_without : (what : Rest) → IsRest market.version N rest what → IsRest market.version M rest what
   rest_without Cut is = absurd (not_there is.1)
   rest_without Nothing is = (is.0, not_here)
@@ -158,14 +159,15 @@ module _ (version : Version) (pairs : List (Pair Record Outcome)) (market : Mark
             b.2,
       )
 
-written : (limit most within : ℕ) (journal checkpoint rest x y : List ℕ) (s t : Status) → ComesTo Checkpoint within journal answer.Done checkpoint → BeginsWithNone journals.units rest → limit < 2 ^ 64 → length (journal ++ rest) ≤ limit → length (checkpoint ++ rest) ≤ most
+written : (limit most within : ℕ) (journal checkpoint rest x y : List ℕ) (s t : Status) → ComesTo Checkpoint within journal answer.Done checkpoint → (¬ HasCheckpointMagic journal) → BeginsWithNone journals.units rest → limit < 2 ^ 64 → length (journal ++ rest) ≤ limit → length (checkpoint ++ rest) ≤ most
     → ComesTo Resume limit (journal ++ rest) s x → ComesTo Resume most (checkpoint ++ rest) t y → (x ≡ y) × EndAlike (length journal) (length checkpoint) s t
-written limit most within journal checkpoint rest x y s t done last wide here there a b =
-    let of = (checkpoints_of_legal_journals.done within journal checkpoint).0 done in
-    let version = of.0 in
+written limit most within journal checkpoint rest x y s t done not last wide here there a b =
+    let of = (checkpoints_of_histories.done within journal checkpoint).0 done in
     let pairs = of.1 in
     let market = of.2 in
-    let legal = of.3 in
+    let is = history_journal within journal of.0 pairs market of.3 not in
+    let version = is.0 in
+    let legal = is.1 in
     let short : length (journal_in version pairs) < 2 ^ 64 = omega (arith, ap length legal.spelled, length-append journal rest, here, wide) in
     let is_one : IsCheckpoint market checkpoint = subst (IsCheckpoint market) (sym of.4) (legal_journals_have_checkpoints version pairs market legal.journal short) in
     let spelled = legal.spelled in

@@ -1,4 +1,4 @@
--- What a resumption comes to of first bytes if more follow: nothing, or the pairs of the first new records.
+-- What a resumption results in for first bytes if more follow: nothing, or the entries of the first new records.
 use Rattle.std.proofs.Common.{◌≡◌, ◌<◌, ◌⊎◌, ℕ, List, [], ◌∷◌, ◌++◌, length, take, drop, inl, inr, append_assoc, refl, sym, ap, subst, ◌∙◌}
 use Rattle.std.proofs.lemmas.List.{take-append-drop, take_at}
 use Rattle.wire_records.specs.Grammars.{spell_all}

@@ -14,7 +14,7 @@ use Rattle.wire_records.proofs.RecordCode.{commands_readable}
 use Rattle.flow_orders.specs.Outcomes.{Outcome}
 use Rattle.journal_records.specs.Pairs.{pair_spelling}
 use Rattle.journal_records.proofs.PairFronts.{none_over}
-use Rattle.market_rules.specs.Market.{Market, IsSound}
+use Rattle.market_rules.specs.Market.{Market}
 use Rattle.word_driver.specs.Ended.{Ended}
 use Rattle.word_driver.specs.declared.fault.Fault.TheVariants as fault
 use Rattle.session_resume.specs.declared.first.Origin.{Origin}
@@ -30,9 +30,9 @@ use Rattle.flow_exchange.specs.declared.status.Status.TheVariants as answer
 use Rattle.flow_exchange.specs.Statuses.{ended_status, unfit_status}
 use Rattle.flow_exchange.specs.Resuming.{ResumesTo}
 use Rattle.flow_laws.specs.Laws.{IsWholeInput, ResumptionsEnd}
-use Rattle.flow_laws.proofs.Resumed.{none_continues, sound_first}
+use Rattle.flow_laws.proofs.Resumed.{none_continues}
 
--- ---- what a status tells of the end
+-- ---- the end that a status comes from
 
 abbrev why_of : Unfit → Ended Unfit
 why_of why = Err (fault.Stopped why)
@@ -84,9 +84,9 @@ is_no_flow limit (Err fault.TooLong) e = absurd cc
 is_no_flow limit (Err (fault.Stopped (unfit.Illegal number))) e = absurd cc
 is_no_flow limit (Err (fault.Stopped unfit.NoCheckpoint)) e = absurd cc
 
--- ---- a whole input
+-- ---- a complete input
 
--- what stands behind it, and what is written for that
+-- what follows what is resumed from, and what is written for that
 record Behind (market : Market) (More : Type 0) (rest text : List ℕ) : Type 0 where
   records : List Record
   new : Market
@@ -99,7 +99,7 @@ is_end End e = refl
 is_end (Torn n) e = absurd cc
 is_end TooLong e = absurd cc
 
-module _ (kind : Origin) (market : Market) (More : Type 0) (place : ℕ) (rest : List ℕ) (sound : IsSound market) where
+module _ (kind : Origin) (market : Market) (More : Type 0) (place : ℕ) (rest : List ℕ) where
   served : (body text : List ℕ) → rest ≡ command_magic_of market.version ++ body → (serves : ServesAll market More (place + 8) body (Ok tt) text) → Behind market More rest text
   served body text magic serves =
       let last = is_end serves.ending serves.ends in
@@ -123,7 +123,7 @@ module _ (kind : Origin) (market : Market) (More : Type 0) (place : ℕ) (rest :
     new = market;
     is = inl (is.0, refl);
     no_more = is.1;
-    continues = subst (Continues market [] market) (sym comes.1) (none_continues market sound);
+    continues = subst (Continues market [] market) (sym comes.1) (none_continues market);
   }
   behind (Commands body) text is comes = served body text is comes
   behind Other text is comes = absurd (no_file kind is.1 comes.0)
@@ -146,7 +146,7 @@ module _ (limit : ℕ) (bytes : List ℕ) where
   done_first text NoCheckpoint stands comes = absurd (elim comes.0 [ inl long ↦ (let no = long.1 in cc) | inr bad ↦ (let no = bad.1 in cc) ])
   done_first text (Illegal number) stands comes = absurd (let no = comes.0 in cc)
   done_first text (Whole kind market place rest) stands comes =
-      let after = behind kind market More place rest (sound_first front kind market place rest stands) comes.0 text comes.1 comes.2 in
+      let after = behind kind market More place rest comes.0 text comes.1 comes.2 in
       let within = not_more limit (length bytes) after.no_more in (
         market,
         after.records,
@@ -196,7 +196,7 @@ module _ (limit : ℕ) (bytes : List ℕ) where
 
   -- ---- the other ends
 
-  -- what stands behind what is gone on from ends it in no other way
+  -- what follows what is resumed from ends a resumption in no other way
   abbrev GoesThrough : Ended Unfit → Type 0
   GoesThrough ended = (ended ≡ Ok tt) ⊎ ((ended ≡ Err fault.TooLong) ⊎ ((n : ℕ) × (ended ≡ Err (fault.Torn n))))
 
@@ -243,7 +243,7 @@ module _ (limit : ℕ) (bytes : List ℕ) where
   no_flow_first text (Illegal other) stands comes = absurd (let no = comes.0 in cc)
   no_flow_first text (Whole kind market place rest) stands comes = absurd (flows (through kind market place rest comes.0 no_flow text comes.2))
 
-  -- the end that a status tells is that of what stands first
+  -- the end that a status comes from is that of the beginning of the input
   told : (status : Status) (text : List ℕ) (end : Ended Unfit) (Claim : Type 0) → ((ended : Ended Unfit) → status ≡ ended_status limit unfit_status ended → ended ≡ end)
       → ((first : First) → IsFirst front first → FirstComesTo More first end text → Claim) → ResumesTo limit bytes status text → Claim
   told status text end Claim is_end claims (ended, all, is) =

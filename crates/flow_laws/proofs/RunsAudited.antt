@@ -1,5 +1,5 @@
--- What a run writes is a legal journal, of which an audit is done.
-use Rattle.std.proofs.Common.{◌≡◌, ◌≢◌, ◌+◌, ◌*◌, ◌^◌, ◌<◌, ◌≤◌, ℕ, List, [], ◌∷◌, length, inl, inr, refl, ap, length-append, arith}
+-- What a run writes is a valid journal, of which an audit is done.
+use Rattle.std.proofs.Common.{◌≡◌, ◌≢◌, ◌+◌, ◌*◌, ◌^◌, ◌<◌, ◌≤◌, ℕ, List, [], ◌∷◌, length, inl, inr, ap, length-append, arith}
 use Rattle.std.specs.List.{flat_map}
 use Rattle.wire_records.specs.Records.{Record, spelling}
 use Rattle.wire_records.specs.Commands.{Pair}
@@ -8,13 +8,14 @@ use Rattle.wire_records.specs.Reading.{Reading, NotFlow, File}
 use Rattle.wire_records.specs.declared.version.Version.{Version}
 use Rattle.wire_records.proofs.Spelled.{length-spelling}
 use Rattle.flow_orders.specs.Outcomes.{Outcome}
-use Rattle.own_rule.specs.Own.{IsOwnOutcome}
+use Rattle.canonical_rule.specs.Canonical.{IsCanonicalOutcome}
 use Rattle.journal_records.specs.Replies.{answer_record}
 use Rattle.journal_records.specs.Pairs.{pair_spelling}
 use Rattle.journal_records.specs.Formats.{journal_magic_of}
 use Rattle.market_rules.specs.Market.{Market, empty_market}
 use Rattle.market_rules.specs.Journal.{Follows}
-use Rattle.own_journals.proofs.LawProofs.{own_journals_are_legal, steps_number_one}
+use Rattle.market_rules.proofs.Consistency.{consistent-empty}
+use Rattle.canonical_journals.proofs.LawProofs.{canonical_journals_are_legal, steps_number_one}
 use Rattle.batch_audit.specs.Legal.{IsLegalJournal}
 use Rattle.journal_records.proofs.Files.{eight}
 use Rattle.exchange_session.specs.Journals.{Journals}
@@ -25,10 +26,11 @@ use Rattle.flow_exchange.specs.Statuses.{reading_status}
 use Rattle.flow_exchange.specs.Running.{WritesOf}
 use Rattle.flow_exchange.specs.Auditing.{legal_line}
 use Rattle.flow_exchange.specs.Program.{ComesTo}
+use Rattle.flow_exchange.proofs.CanonicallyKept.{are_own_kept}
 use Rattle.flow_laws.specs.Laws.{RunsAreAudited}
-use Rattle.flow_laws.proofs.AuditLaws.{done_is_for_legal}
+use Rattle.flow_laws.proofs.AuditLaws.{done_for_legal}
 
--- a pair takes ten bytes at least
+-- an entry takes at least ten bytes
 pair_long : (pair : Pair Record Outcome) → 10 ≤ length (pair_spelling pair)
 unfolding pair_spelling
 pair_long pair = omega (arith, length-append (spelling pair.asked) (spelling (answer_record pair.answer)), length-spelling pair.asked, length-spelling (answer_record pair.answer))
@@ -37,11 +39,11 @@ pub pairs_long : (pairs : List (Pair Record Outcome)) → 10 * length pairs ≤ 
 pairs_long [] = omega arith
 pairs_long (pair ∷ pairs) = omega (arith, pair_long pair, pairs_long pairs, length-append (pair_spelling pair) (flat_map pair_spelling pairs))
 
--- so pairs are fewer than their bytes, and orders no more than pairs
+-- entries are at most as many as their bytes
 pub pairs_short : (pairs : List (Pair Record Outcome)) → length pairs ≤ length (flat_map pair_spelling pairs)
 pairs_short pairs = omega (arith, pairs_long pairs)
 
-pub orders_few : (old new : Market) (pairs : List (Pair Record Outcome)) → Follows IsReadAs IsOwnOutcome old pairs new → new.next_order ≤ old.next_order + length pairs
+pub orders_few : (old new : Market) (pairs : List (Pair Record Outcome)) → Follows IsReadAs IsCanonicalOutcome old pairs new → new.next_order ≤ old.next_order + length pairs
 orders_few old new [] follows = omega (arith, ap (λ (m : Market). m.next_order) follows)
 orders_few old new (pair ∷ pairs) (between, step, follows) =
     omega (arith, steps_number_one old pair.asked pair.answer between step, orders_few between new pairs follows)
@@ -57,11 +59,11 @@ pub journal : (most : ℕ) (version : Version) (records : List Record) (market :
 journal most version records market text writes wide within =
     let legal : IsLegalJournal version writes.pairs market = record {
       each = writes.fits (numbers_fit most version records market text writes wide within);
-      steps = (own_journals_are_legal version records writes.pairs market writes.journal_of).steps;
+      steps = (canonical_journals_are_legal version records writes.pairs market writes.journal_of).steps;
     } in
-    (legal, (done_is_for_legal most text (legal_line writes.pairs)).1 (version, writes.pairs, market, legal, writes.spelled, within, refl))
+    (legal, done_for_legal.done most text version writes.pairs market (record { journal = legal; spelled = writes.spelled; within = within }))
 
--- some line, whatever the journal
+-- an audit of a run's journal is done, with some line
 audited : (most : ℕ) (version : Version) (records : List Record) (market : Market) (text : List ℕ) → Journals version records market text
     → most < 2 ^ 64 → length text ≤ most → (line : List ℕ) × ComesTo Audit most text answer.Done line
 audited most version records market text writes wide within = (legal_line writes.pairs, (journal most version records market text writes wide within).1)
@@ -71,7 +73,7 @@ read : (limit most : ℕ) (text : List ℕ) (status : Status) (reading : Reading
 read limit most text status NotFlow writes ends other wide within = absurd (other ends)
 read limit most text status (File version records ending) (market, writes) ends other wide within = audited most version records market text writes wide within
 
--- where something was written, there is a journal
+-- if something was written, it is a journal
 some : (most : ℕ) (text : List ℕ) (reading : Reading Version Record) → WritesOf reading text → text ≢ [] → most < 2 ^ 64 → length text ≤ most → (line : List ℕ) × ComesTo Audit most text answer.Done line
 some most text NotFlow writes other wide within = absurd (other writes)
 some most text (File version records ending) (market, writes) other wide within = audited most version records market text writes wide within
@@ -85,4 +87,5 @@ runs_are_audited = record {
         | inl (n, more) ↦ let runs = more 0 [] in some most text runs.1.reading runs.1.writes other wide within
         | inr (status, runs) ↦ some most text runs.reading runs.writes other wide within
       ];
+  keeps = λ version records market text writes. are_own_kept (empty_market version) market writes.pairs (consistent-empty version) writes.journal_of.steps;
 }

@@ -9,7 +9,7 @@ use Rattle.wire_records.specs.declared.version.Version.TheVariants.{One}
 use Rattle.wire_records.proofs.Spelled.{length-spelling}
 use Rattle.flow_orders.specs.Outcomes.{Outcome}
 use Rattle.market_rules.specs.Market.{empty_market}
-use Rattle.own_journals.proofs.LawProofs.{own_journals_are_legal}
+use Rattle.canonical_journals.proofs.LawProofs.{canonical_journals_are_legal}
 use Rattle.journal_replay.specs.Audits.{cleared_in, skipped_in}
 use Rattle.word_driver.proofs.SomeEnds.{some_end}
 use Rattle.exchange_session.specs.Running.{run}
@@ -23,10 +23,9 @@ use Rattle.flow_exchange.specs.declared.status.Status.TheVariants as answer
 use Rattle.flow_exchange.specs.Statuses.{ended_status}
 use Rattle.flow_exchange.specs.Private.{no_reason}
 use Rattle.flow_exchange.specs.Sampling.{SamplesTo}
-use Rattle.flow_exchange.specs.Auditing.{legal_line}
 use Rattle.flow_exchange.proofs.RunWord.{run_form, start}
 use Rattle.flow_laws.specs.Laws.{SamplesAreRun}
-use Rattle.flow_laws.proofs.AuditLaws.{done_is_for_legal}
+use Rattle.flow_laws.proofs.AuditLaws.{done_for_legal}
 use Rattle.flow_laws.proofs.EncodeLaws.{run_of}
 use Rattle.flow_laws.proofs.RunsAudited.{orders_few}
 
@@ -38,11 +37,11 @@ samples_are_run number orders limit most bytes line status comes within =
       pairs = pairs;
       journal = sum.journal;
       run = record { reading = File One (map record_of (sample number orders)) End; reads = samples_are_read most number orders within; ends = refl; writes = (sum.market, sum.writes) };
-      audit = λ fits. (done_is_for_legal most sum.journal (legal_line pairs)).1 (One, pairs, sum.market, sum.legal, sum.writes.spelled, fits, refl);
+      audit = λ fits. done_for_legal.done most sum.journal One pairs sum.market (record { journal = sum.legal; spelled = sum.writes.spelled; within = fits });
       told = sum.told;
     }
 
--- commands are fewer than their bytes
+-- commands are at most as many as their bytes
 commands_few : (commands : List Command) → length commands ≤ length (spell_commands commands)
 commands_few [] = omega arith
 commands_few (c ∷ commands) = omega (arith, length-append (spelling (record_of c)) (spell_commands commands), length-spelling (record_of c), commands_few commands)
@@ -69,7 +68,7 @@ some_sample number orders few none =
         market = market;
         journal = text;
         writes = writes;
-        legal = record { each = writes.fits (omega (arith, next, count, sample_few number orders, few)); steps = (own_journals_are_legal One records writes.pairs market writes.journal_of).steps };
+        legal = record { each = writes.fits (omega (arith, next, count, sample_few number orders, few)); steps = (canonical_journals_are_legal One records writes.pairs market writes.journal_of).steps };
         told = refl;
       },
     ))

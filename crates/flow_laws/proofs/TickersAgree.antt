@@ -1,5 +1,5 @@
 -- The tickers by which lines name assets are those of the market that serves their commands.
-use Rattle.std.proofs.Common.{◌≡◌, ℕ, List, [], ◌∷◌, length, All, Option, Some, None, Result, map, inl, inr, refl, sym, ap, subst, ◌∙◌, arith}
+use Rattle.std.proofs.Common.{◌≡◌, ℕ, List, [], ◌∷◌, ◌<◌, length, take, All, Option, Some, None, Result, map, inl, inr, refl, sym, ap, subst, ◌∙◌, arith}
 use Rattle.std.proofs.lemmas.List.Elements.{All-head, All-tail}
 use Rattle.ticker_table.specs.Adding.{IsAddable}
 use Rattle.wire_records.specs.Records.{Record}
@@ -11,7 +11,7 @@ use Rattle.wire_records.specs.declared.reply.Refusal.{Refusal}
 use Rattle.wire_records.specs.declared.command.BodyFault.{BodyFault}
 use Rattle.wire_records.proofs.Readings.{command_read}
 use Rattle.flow_orders.specs.Outcomes.{Outcome, BatchRule, Cleared, Skipped}
-use Rattle.own_rule.specs.Own.{IsOwnOutcome}
+use Rattle.canonical_rule.specs.Canonical.{IsCanonicalOutcome}
 use Rattle.market_rules.specs.Market.{Market, empty_market}
 use Rattle.market_rules.specs.Step.{FirstRefusal, Accepts, Answers, Serves, ServesRead, after_batch}
 use Rattle.market_rules.specs.Journal.{Step, Follows}
@@ -20,8 +20,12 @@ use Rattle.market_rules.proofs.Accepted.{past_when, past_unless, not_least}
 use Rattle.order_text.specs.Lines.{Leaves, Leave}
 use Rattle.order_text.proofs.OneAnswers.{one_table}
 use Rattle.line_records.proofs.Saying.{lines_leave}
-use Rattle.line_records.proofs.Fitting.{commands_fit}
+use Rattle.encode_word.specs.declared.stop.EncodeStop.{EncodeStop}
+use Rattle.encode_word.specs.Starts.{Start, known_after, IsBefore}
+use Rattle.encode_word.specs.Encoding.{EncodesLines}
+use Rattle.word_driver.specs.Ended.{Ended}
 use Rattle.flow_laws.specs.Laws.{TickersAgree}
+use Rattle.flow_laws.proofs.EncodeLaws.{encoded_fit}
 
 -- a ticker that is refused can't be added
 not_addable : (m : Market) (ticker : List ℕ) (first : Refusal) → FirstRefusal m (AddAsset ticker) (Some first) → IsAddable m.tickers ticker → ⊥
@@ -43,7 +47,7 @@ batch_tickers : (m : Market) (outcome : Outcome) → (after_batch m outcome).tic
 batch_tickers m (Cleared c) = refl
 batch_tickers m (Skipped s) = refl
 
--- a market that is made has the tickers of what it is made as
+-- a market has the tickers of the market that it equals
 made_tickers : (new made : Market) → new ≡ made → new.tickers ≡ made.tickers
 made_tickers new made is = ap (λ (m : Market). m.tickers) is
 
@@ -51,19 +55,19 @@ made_tickers new made is = ap (λ (m : Market). m.tickers) is
 refused_tickers : (m : Market) (command : Command) (first : Refusal) → FirstRefusal m command (Some first) → Leaves m.tickers command m.tickers
 refused_tickers m command first refused = inr (λ ticker adds. not_addable m ticker first (subst (λ (c : Command). FirstRefusal m c (Some first)) adds.0 refused) adds.1, refl)
 
--- a command that is that of no asset adds no ticker
+-- a command that adds no asset adds no ticker
 kept_tickers : (m new made : Market) (command : Command) → ((ticker : List ℕ) → command ≡ AddAsset ticker → ⊥) → new ≡ made → made.tickers ≡ m.tickers → Leaves m.tickers command new.tickers
 kept_tickers m new made command other is kept = inr (λ ticker adds. other ticker adds.0, made_tickers new made is ∙ kept)
 
 -- how a batch may end
 module _ (Rule : BatchRule) where
-  -- an accepted command leaves the tickers, but that of an asset adds one
+  -- an accepted command leaves the tickers, unless it adds an asset, and with it one ticker
   accepted_tickers : (m : Market) (command : Command) (answer : Answer Outcome) (new : Market) → FirstRefusal m command None → Accepts Rule m command answer new → Leaves m.tickers command new.tickers
   accepted_tickers m (AddAsset ticker) answer new none accepts = inl (ticker, (refl, addable m ticker none), made_tickers new _ accepts.1)
   accepted_tickers m (RunBatch budget) answer new none accepts = kept_tickers m new (after_batch m accepts.0) (RunBatch budget) (λ ticker e. absurd cc) accepts.2.1 (batch_tickers m accepts.0)
   accepted_tickers m command answer new none accepts = kept_tickers m new _ command (λ ticker e. absurd cc) accepts.1 refl
 
-  -- either way the command leaves them
+  -- an answered command leaves the tickers that its line leaves
   answered_tickers : (m : Market) (command : Command) (first : Option Refusal) (answer : Answer Outcome) (new : Market) → FirstRefusal m command first → Answers Rule m command first answer new
       → Leaves m.tickers command new.tickers
   answered_tickers m command (Some first) answer new refused answered = subst (Leaves m.tickers command) (sym (made_tickers new m answered.1)) (refused_tickers m command first refused)
@@ -73,13 +77,13 @@ module _ (Rule : BatchRule) where
   pub served_tickers : (m : Market) (command : Command) (answer : Answer Outcome) (new : Market) → Serves Rule m command answer new → Leaves m.tickers command new.tickers
   served_tickers m command answer new served = answered_tickers m command served.first answer new served.refused served.answered
 
-  -- the same of a step of the command's record
+  -- a step of a command's record leaves the tickers that its line leaves
   pub step_tickers : (m : Market) (command : Command) (asked : Record) (answer : Answer Outcome) (new : Market) → IsOfVersion m.version command → Spells command asked → Step IsReadAs Rule m asked answer new → Leaves m.tickers command new.tickers
   step_tickers m command asked answer new of spells step =
       let served = subst (λ (read : Result Command BodyFault). ServesRead Rule m read answer new) (command_read m.version command asked step.read of spells step.spelled) step.served in
       served_tickers m command answer new served
 
-  -- lists that are one have the same first record and the same rest
+  -- equal lists have the same first record and the same rest
   heads : (a b : Record) (x y : List Record) → a ∷ x ≡ b ∷ y → (a ≡ b) × (x ≡ y)
   heads a b x y e = (cc, cc)
 
@@ -95,9 +99,21 @@ module _ (Rule : BatchRule) where
       let same : leaves.0 ≡ steps.0.tickers = one_table m.tickers (command ∷ []) leaves.0 steps.0.tickers (leaves.0, leaves.1, refl) (steps.0.tickers, left, refl) in
       steps_tickers version commands after steps.0 market pairs (step_version Rule IsReadAs m pair.asked pair.answer steps.0 steps.1 ∙ of) (subst (λ tickers. Leave tickers commands after) same leaves.2) (All-tail IsCommand command commands fit) (All-tail (IsOfVersion version) command commands own) both.1 steps.2
 
+-- of what lines ask for, from the tickers on that are known before them
+lines_agree : (version : Version) (More : Type 0) (bytes text : List ℕ) (ended : Ended EncodeStop) (encoded : EncodesLines version More bytes ended text) (m market : Market) (pairs : List (Pair Record Outcome)) → m.version ≡ version → m.tickers ≡ known_after encoded.start
+    → map (λ (pair : Pair Record Outcome). pair.asked) pairs ≡ map record_of encoded.comes.commands → Follows IsReadAs IsCanonicalOutcome m pairs market → market.tickers ≡ encoded.comes.reads.tickers
+lines_agree version More bytes text ended encoded m market pairs of known asked steps =
+    let reads = encoded.comes.reads in
+    let cs = encoded.comes.commands in
+    let fit = encoded_fit version More bytes text ended encoded in
+    let leaves = lines_leave version reads.read cs (known_after encoded.start) reads.tickers reads.say in
+    steps_tickers IsCanonicalOutcome version cs reads.tickers m market pairs of (subst (λ (tickers : List (List ℕ)). Leave tickers cs reads.tickers) (sym known) leaves) fit.0 fit.2 asked steps
+
 pub tickers_agree : TickersAgree
-tickers_agree version limit bytes text journal ended encoded market journals =
-    let reads = encoded.reads in
-    let fit = commands_fit version reads.read encoded.commands reads.tickers reads.say in
-    steps_tickers IsOwnOutcome version encoded.commands reads.tickers (empty_market version) market journals.pairs refl (lines_leave version reads.read encoded.commands [] reads.tickers reads.say) fit.0 fit.2
-    journals.journal_of.asked journals.journal_of.steps
+tickers_agree = record {
+  ran = λ version limit bytes text journal ended encoded market plain journals.
+      lines_agree version (limit < length bytes) (take limit bytes) text ended encoded (empty_market version) market journals.pairs refl (sym (ap known_after plain)) journals.journal_of.asked journals.journal_of.steps;
+  resumed = λ version limit bytes text entries ended encoded old market kept continues.
+      let before = subst (λ (start : Start). IsBefore version (limit < length bytes) (take limit bytes) start encoded.lines) kept encoded.begins in
+      lines_agree version (limit < length bytes) (take limit bytes) text ended encoded old market continues.pairs before.of_version (sym (ap known_after kept)) continues.answered.asked continues.answered.steps;
+}

@@ -1,4 +1,4 @@
--- Adding a rate of a row's portfolio to residuals, entry by entry.
+-- Adding an order's trade to the imbalances, leg by leg.
 use Rattle.std.proofs.Common.{◌≡◌, ◌≢◌, ℕ, suc, ◌+◌, ◌^◌, ◌<◌, ◌≤◌, ℤ, pos, ◌+ℤ◌, ◌*ℤ◌, eqb, cond, List, [], ◌∷◌, length, take, get_or, set, refl, sym, ap, ◌∙◌, subst, ⊎_elim, arith}
 use Rattle.std.specs.Prelude.{unsigned_abs, All}
 use Rattle.std.proofs.Math.IntN.{zero-*ℤ}
@@ -12,26 +12,26 @@ use Rattle.list_sums.specs.Sums.{int_sum_by}
 use Rattle.list_sums.proofs.Products.{unsigned_abs-add, unsigned_abs-mul_le}
 use Rattle.list_sums.proofs.SumLemmas.{int_sum_by_more, int_sum_by-zeros, unsigned_abs-int_sum_by}
 use Rattle.weight_rows.specs.declared.entries.Entry.{Entry}
-use Rattle.weight_rows.specs.Rows.{most_weight, assets_of, IsLawfulRow, weight_in, price_of}
+use Rattle.weight_rows.specs.Rows.{most_weight, assets_of, IsWeightVector, weight_in, price_of}
 use Rattle.weight_rows.proofs.RowLemmas.{asset_at, length-assets_of}
 use Rattle.demand_curve.specs.Demand.{most_rate}
 use Rattle.flow_orders.specs.Residuals.{AreNear, HasEach, IsTradeAdded}
 
--- what an entry brings of an asset at a rate
+-- what a leg brings of an asset at a rate
 pub brought : ℕ → ℕ → Entry → ℤ
 brought rate asset e = cond (eqb e.asset asset) (e.weight *ℤ pos rate) (pos 0)
 
--- no two entries name the same asset
+-- no two legs name the same asset
 abbrev pub AreApart : List Entry → Type 0
 AreApart row = (i j : ℕ) (d : Entry) → i < j → j < length row → (get_or row i d).asset ≢ (get_or row j d).asset
 
-pub lawful_apart : (row : List Entry) → IsLawfulRow row → AreApart row
+pub lawful_apart : (row : List Entry) → IsWeightVector row → AreApart row
 lawful_apart row lawful i j d before within same =
     let count = length-assets_of row in
     let rises : get_or (assets_of row) i 0 < get_or (assets_of row) j 0 = AllPairs-from_increasing (assets_of row) lawful.ascending i j 0 before (omega (arith, within, count)) in
     omega (arith, rises, asset_at row i d (omega (arith, before, within)), asset_at row j d within, same)
 
--- all entries together bring the row's weight times the rate
+-- all legs together bring the weight of the asset times the rate
 all_bring : (rate asset : ℕ) (row : List Entry) → AreApart row → int_sum_by (brought rate asset) row ≡ weight_in row asset *ℤ pos rate
 unfolding weight_in brought
 all_bring rate asset [] apart = sym (zero-*ℤ (pos rate))
@@ -46,7 +46,7 @@ all_bring rate asset (e ∷ row) apart =
     (λ other. rw other.0 (omega (arith, ints, all_bring rate asset row (λ i j d before within. apart (suc i) (suc j) d (omega (arith, before)) (omega (arith, within))))))
     (eqb_tells e.asset asset)
 
--- the first j entries of a row are added
+-- the first j legs are added
 abbrev pub AreAdded : List Entry → ℕ → List ℤ → ℕ → List ℤ → Type 0
 AreAdded row rate old j new = HasEach (length old) (λ a. price_of old a +ℤ int_sum_by (brought rate a) (take j row)) new
 
@@ -70,7 +70,7 @@ one_added row rate old j now new e within here named before is = record {
       (eqb_tells e.asset a));
 }
 
-pub all_added : (row : List Entry) (rate : ℕ) (old : List ℤ) (j : ℕ) (new : List ℤ) → IsLawfulRow row → length row ≤ j → AreAdded row rate old j new → IsTradeAdded row rate old new
+pub all_added : (row : List Entry) (rate : ℕ) (old : List ℤ) (j : ℕ) (new : List ℤ) → IsWeightVector row → length row ≤ j → AreAdded row rate old j new → IsTradeAdded row rate old new
 all_added row rate old j new lawful past before = record {
   count = before.count;
   each = λ a inside. before.each a inside ∙ ap (λ z. price_of old a +ℤ z) (ap (int_sum_by (brought rate a)) (take_all j row past) ∙ all_bring rate a row (lawful_apart row lawful));
@@ -84,8 +84,8 @@ brought_small rate asset e slow light =
     (λ other. rw other.0 (omega arith))
     (eqb_tells e.asset asset)
 
--- on the way a residual has grown by little
-pub on_the_way : (row : List Entry) (rate : ℕ) (old : List ℤ) (j : ℕ) (now : List ℤ) (asset : ℕ) → IsLawfulRow row → rate ≤ most_rate → j ≤ length row → AreNear (2 ^ 60) old → asset < length old
+-- while legs are added, an imbalance has grown by little
+pub on_the_way : (row : List Entry) (rate : ℕ) (old : List ℤ) (j : ℕ) (now : List ℤ) (asset : ℕ) → IsWeightVector row → rate ≤ most_rate → j ≤ length row → AreNear (2 ^ 60) old → asset < length old
     → AreAdded row rate old j now → unsigned_abs (price_of now asset) ≤ 2 ^ 61
 on_the_way row rate old j now asset lawful slow within near inside before =
     let light : All (λ e. unsigned_abs (brought rate asset e) ≤ 2 ^ 36) (take j row) = All-take (λ e. unsigned_abs (brought rate asset e) ≤ 2 ^ 36) j row (λ k d there. brought_small rate asset (get_or row k d) slow (lawful.weights k d there).1) in

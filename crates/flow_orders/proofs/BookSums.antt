@@ -1,4 +1,4 @@
--- Sums over a book: the spread and the squares as sums in ℤ, and a row's price where one asset's price moves.
+-- Sums over a book: rounding bound and squares as sums in ℤ, and a portfolio's price when one asset's price moves.
 use Rattle.std.proofs.Common.{◌≡◌, ℕ, ◌*◌, ◌≤◌, ◌<◌, ℤ, pos, negsuc, ◌+ℤ◌, ◌-ℤ◌, ◌*ℤ◌, ◌≤ℤ◌, List, [], ◌∷◌, length, map, set, refl, arith}
 use Rattle.std.specs.Prelude.{unsigned_abs}
 use Rattle.std.specs.List.{sum_by}
@@ -7,7 +7,7 @@ use Rattle.std.proofs.lemmas.List.{set-get_or}
 use Rattle.std.proofs.lemmas.List.Sums.{sum_by-cons}
 use Rattle.weight_rows.specs.declared.entries.Entry.{Entry}
 use Rattle.list_sums.specs.Sums.{int_sum_by}
-use Rattle.weight_rows.specs.Rows.{IsLawfulRow, weight_in, price_of, portfolio_price}
+use Rattle.weight_rows.specs.Rows.{IsWeightVector, weight_in, price_of, portfolio_price}
 use Rattle.list_sums.proofs.Products.{*ℤ-add}
 use Rattle.weight_rows.proofs.RowLawProofs.{price_follows_one_price}
 use Rattle.demand_curve.specs.Numbers.{distance}
@@ -22,7 +22,7 @@ pub int_sum_by-pos : {X : Type 0} (f : X → ℕ) (xs : List X) → int_sum_by (
 int_sum_by-pos f [] = refl
 int_sum_by-pos f (x ∷ xs) = omega (arith, ints, int_sum_by-pos f xs, sum_by-cons f x xs)
 
--- a sum over what a function makes of a list
+-- a sum over a mapped list
 pub int_sum_by-map : {X Y : Type 0} (f : Y → ℤ) (g : X → Y) (xs : List X) → int_sum_by f (map g xs) ≡ int_sum_by (λ x. f (g x)) xs
 int_sum_by-map f g [] = refl
 int_sum_by-map f g (x ∷ xs) = omega (arith, ints, int_sum_by-map f g xs)
@@ -32,7 +32,7 @@ pub square_is : (w : ℤ) → w *ℤ w ≡ pos (unsigned_abs w * unsigned_abs w)
 square_is (pos n) = omega (arith, ints)
 square_is (negsuc n) = omega (arith, ints)
 
--- the squares of a book's weights are at most 256 times its steepness
+-- the squares of a book's weights are at most 256 times its slope bound
 pub squares-le : (orders : List Order) (asset : ℕ) → squares orders asset ≤ 256 * steepness orders asset
 unfolding steepness
 squares-le orders asset = omega (arith, up_times (squares orders asset) 256 (omega arith))
@@ -45,8 +45,8 @@ squares_are (o ∷ orders) asset =
     let more = sum_by-cons (λ (o : Order). unsigned_abs (weight_in o.row asset) * unsigned_abs (weight_in o.row asset)) o orders in
     omega (arith, ints, square, more, squares_are orders asset)
 
--- a row's price at two prices of one asset
-pub price_follows : (row : List Entry) (prices : List ℤ) (asset : ℕ) (x y : ℤ) → IsLawfulRow row → asset < length prices → portfolio_price row (set prices asset y) ≡ portfolio_price row (set prices asset x) +ℤ weight_in row asset *ℤ (y -ℤ x)
+-- the price of a portfolio at two prices of one asset
+pub price_follows : (row : List Entry) (prices : List ℤ) (asset : ℕ) (x y : ℤ) → IsWeightVector row → asset < length prices → portfolio_price row (set prices asset y) ≡ portfolio_price row (set prices asset x) +ℤ weight_in row asset *ℤ (y -ℤ x)
 price_follows row prices asset x y lawful within =
     let at_x = price_follows_one_price row prices asset x lawful within in
     let at_y = price_follows_one_price row prices asset y lawful within in
@@ -55,17 +55,17 @@ price_follows row prices asset x y lawful within =
     let split = rw whole at (*ℤ-add (weight_in row asset) (y -ℤ x) (x -ℤ p)) in
     omega (arith, ints, at_x, at_y, split)
 
--- one grain more adds the asset's weight
-pub price_one_more : (row : List Entry) (prices : List ℤ) (asset : ℕ) (x : ℤ) → IsLawfulRow row → asset < length prices → portfolio_price row (set prices asset (x +ℤ pos 1)) ≡ portfolio_price row (set prices asset x) +ℤ weight_in row asset
+-- one grain more of an asset's price adds its weight
+pub price_one_more : (row : List Entry) (prices : List ℤ) (asset : ℕ) (x : ℤ) → IsWeightVector row → asset < length prices → portfolio_price row (set prices asset (x +ℤ pos 1)) ≡ portfolio_price row (set prices asset x) +ℤ weight_in row asset
 price_one_more row prices asset x lawful within =
     let one : x +ℤ pos 1 -ℤ x ≡ pos 1 = omega (arith, ints) in
     let step = rw one at (price_follows row prices asset x (x +ℤ pos 1) lawful within) in
     omega (arith, ints, step)
 
--- an asset's own price leaves the prices as they are
+-- setting an asset's price to what it is changes nothing
 pub own_price : (prices : List ℤ) (asset : ℕ) → set prices asset (price_of prices asset) ≡ prices
 own_price prices asset = set-get_or prices asset (pos 0)
 
--- a number is the lesser one and their distance
+-- a number is a lesser one plus their distance
 pub from_distance : (x y : ℤ) → x ≤ℤ y → y ≡ x +ℤ pos (distance y x)
 from_distance x y h = omega (arith, ints, distance_is y x)

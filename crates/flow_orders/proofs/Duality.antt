@@ -6,7 +6,7 @@ use Rattle.std.proofs.Math.IntN.{*ℤ_comm}
 use Rattle.list_sums.proofs.Products.{*ℤ-assoc}
 use Rattle.weight_rows.specs.declared.entries.Entry.{Entry}
 use Rattle.list_sums.specs.Sums.{int_sum_by}
-use Rattle.weight_rows.specs.Rows.{IsLawfulRow, IsPricedBy, weight_in, price_of, portfolio_price}
+use Rattle.weight_rows.specs.Rows.{IsWeightVector, IsPricedBy, weight_in, price_of, portfolio_price}
 use Rattle.weight_rows.proofs.RowLawProofs.{price_sums_over_assets}
 use Rattle.list_sums.proofs.SumLemmas.{int_sum_by-same}
 use Rattle.list_sums.proofs.SumLemmas.{int_sum_by-same_all, int_sum_by-scale, int_sum_by-swap}
@@ -15,8 +15,8 @@ turn : (f w p : ℤ) → f *ℤ (w *ℤ p) ≡ p *ℤ (w *ℤ f)
 turn f w p = *ℤ_comm f (w *ℤ p) ∙ ap (λ y. y *ℤ f) (*ℤ_comm w p) ∙ *ℤ-assoc p w f
 
 module _ {X : Type 0} (row : X → List Entry) (rate : X → ℤ) (prices : List ℤ) where
-  -- what all rates cost is what the net trades cost, asset by asset
-  pub costs_by_asset : (xs : List X) → All (λ x. IsLawfulRow (row x)) xs → All (λ x. IsPricedBy (row x) prices) xs
+  -- the prices of all rates sum to the prices of the net trades of each asset
+  pub costs_by_asset : (xs : List X) → All (λ x. IsWeightVector (row x)) xs → All (λ x. IsPricedBy (row x) prices) xs
       → int_sum_by (λ x. rate x *ℤ portfolio_price (row x) prices) xs
       ≡ int_sum_by (λ a. price_of prices a *ℤ int_sum_by (λ x. weight_in (row x) a *ℤ rate x) xs) (range_with_len 0 (length prices))
   costs_by_asset xs lawful priced =

@@ -1,4 +1,4 @@
--- A move whose end is known: the excess is looked at in two places alone.
+-- A move whose end is known: its excess is needed at two prices only.
 use Rattle.std.proofs.Common.{◌≡◌, ℕ, suc, ◌≤◌, ◌<◌, ⊎_elim, Bool, true, false, not, ℤ, pos, ◌+ℤ◌, ◌-ℤ◌, List, length, refl, ap, sym, ◌∙◌, arith}
 use Rattle.std.specs.Prelude.{All}
 use Rattle.std.proofs.lemmas.Int.{ints}
@@ -7,7 +7,7 @@ use Rattle.weight_rows.specs.Rows.{price_of}
 use Rattle.flow_orders.specs.Orders.{Order}
 use Rattle.flow_orders.specs.Excess.{is_above, is_below, is_above_in, is_below_in}
 use Rattle.flow_orders.specs.Moves.{risen, fallen, rise_of, fall_of, moved, amount_of}
-use Rattle.flow_orders.proofs.Book.{IsSound}
+use Rattle.flow_orders.proofs.Book.{IsConsistent}
 use Rattle.flow_orders.proofs.BookLaws.{low_excess-falls, high_excess-falls}
 use Rattle.flow_orders.proofs.Moving.{IsLeast, least_amount_is, above_in_is, not_above_in_is, below_in_is, not_below_in_is}
 
@@ -15,7 +15,7 @@ not_true : (b : Bool) → not b ≡ true → b ≡ false
 not_true true e = absurd (false≢true e)
 not_true false e = refl
 
--- the least number at which a test passes, where it fails just before and passes there, and fails before any place at which it fails
+-- the least number that passes, if it passes, the one before it fails, and all before that fail too
 least_exactly : (passes : ℕ → Bool) (reach d e : ℕ) → e < reach → IsLeast passes reach d → passes (suc e) ≡ true → (d ≤ e → passes d ≡ true → ⊥) → d ≡ suc e
 least_exactly passes reach d e few is there none =
     ⊎_elim
@@ -23,7 +23,7 @@ least_exactly passes reach d e few is there none =
     (λ most. ⊎_elim (λ past. absurd (false≢true (sym (is.first (suc e) (omega arith) past) ∙ there))) (λ least. omega (arith, most, least)) (cases_lt (suc e) d))
     (cases_lt d (suc e))
 
-module _ (parts : ℕ) (orders : List Order) (reach : ℕ) (prices : List ℤ) (asset e : ℕ) (sound : All IsSound orders) (within : asset < length prices) (few : e < reach) where
+module _ (parts : ℕ) (orders : List Order) (reach : ℕ) (prices : List ℤ) (asset e : ℕ) (consistent : All IsConsistent orders) (within : asset < length prices) (few : e < reach) where
   -- an asset is still above e grains higher, and no longer a grain after that
   rise_exactly : is_above_in parts orders (risen prices asset e) asset ≡ true → is_above_in parts orders (risen prices asset (suc e)) asset ≡ false → rise_of parts orders reach prices asset ≡ suc e
   rise_exactly before after =
@@ -32,7 +32,7 @@ module _ (parts : ℕ) (orders : List Order) (reach : ℕ) (prices : List ℤ) (
       (λ less passes.
       let d = rise_of parts orders reach prices asset in
       let p = price_of prices asset in
-      let more = low_excess-falls parts orders prices asset (p +ℤ pos d) (p +ℤ pos e) sound within (omega (arith, ints, less)) in
+      let more = low_excess-falls parts orders prices asset (p +ℤ pos d) (p +ℤ pos e) consistent within (omega (arith, ints, less)) in
       let high = above_in_is parts orders (risen prices asset e) asset before in
       let low = not_above_in_is parts orders (risen prices asset d) asset (not_true (is_above_in parts orders (risen prices asset d) asset) passes) in
       omega (arith, ints, more, high, low))
@@ -45,12 +45,12 @@ module _ (parts : ℕ) (orders : List Order) (reach : ℕ) (prices : List ℤ) (
       (λ less passes.
       let d = fall_of parts orders reach prices asset in
       let p = price_of prices asset in
-      let more = high_excess-falls parts orders prices asset (p -ℤ pos e) (p -ℤ pos d) sound within (omega (arith, ints, less)) in
+      let more = high_excess-falls parts orders prices asset (p -ℤ pos e) (p -ℤ pos d) consistent within (omega (arith, ints, less)) in
       let low = below_in_is parts orders (fallen prices asset e) asset before in
       let high = not_below_in_is parts orders (fallen prices asset d) asset (not_true (is_below_in parts orders (fallen prices asset d) asset) passes) in
       omega (arith, ints, more, high, low))
 
-  -- so the move is that rise
+  -- a move to such a place is that rise
   pub rises_to : is_above orders prices asset ≡ true → is_above_in parts orders (risen prices asset e) asset ≡ true → is_above_in parts orders (risen prices asset (suc e)) asset ≡ false
       → (moved parts orders reach prices asset ≡ risen prices asset (suc e)) × (amount_of parts orders reach prices asset ≡ suc e)
   unfolding moved amount_of
@@ -58,7 +58,7 @@ module _ (parts : ℕ) (orders : List Order) (reach : ℕ) (prices : List ℤ) (
       let exactly = rise_exactly before after in
       (rw above (ap (risen prices asset) exactly), rw above exactly)
 
-  -- or that fall
+  -- a move to such a place is that fall
   pub falls_to : is_above orders prices asset ≡ false → is_below orders prices asset ≡ true → is_below_in parts orders (fallen prices asset e) asset ≡ true → is_below_in parts orders (fallen prices asset (suc e)) asset ≡ false
       → (moved parts orders reach prices asset ≡ fallen prices asset (suc e)) × (amount_of parts orders reach prices asset ≡ suc e)
   unfolding moved amount_of

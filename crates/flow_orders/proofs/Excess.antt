@@ -16,11 +16,11 @@ turned N m =
     let all : down (neg_ℤ (pos m)) ≡ m = omega (arith, ints) in
     omega (arith, ints, product_is (pos N) (neg_ℤ (pos m)), ap (λ y. N * y) none, ap (λ y. N * y) all)
 
--- a product with a weight below 0
+-- a product with a negative weight
 pub sold_is : (n m : ℕ) → negsuc n *ℤ pos m ≡ neg_ℤ (pos (suc n * m))
 sold_is n m = omega (arith, ints)
 
--- one grain of an asset, of weight w
+-- one grain of an asset's price moves an order's part of the excess by at most w * w / 256 units
 pub part_step : (parts : ℕ) (w : ℤ) (t : Terms) → IsWithinLimits t → (c : ℤ) → (pos 256 *ℤ low_part_in parts w t c) ≤ℤ (pos 256 *ℤ high_part_in parts w t (c +ℤ w) +ℤ pos parts *ℤ (w *ℤ w))
 part_step parts (pos n) t h c =
     omega (arith, ints, mul-le-mul_left n (parts_move_little parts t h c n))
@@ -29,7 +29,7 @@ part_step parts (negsuc n) t h c =
     let step = rw back at (parts_move_little parts t h (c +ℤ negsuc n) (suc n)) in
     omega (arith, ints, mul-le-mul_left (suc n) step)
 
--- parts tell as much as whole units, or more
+-- the low part in parts is at least that in whole units
 pub low_part-whole : (parts : ℕ) (w : ℤ) (t : Terms) → IsWithinLimits t → (c : ℤ) → (pos parts *ℤ low_part w t c) ≤ℤ low_part_in parts w t c
 low_part-whole parts (pos n) t h c =
     omega (arith, ints, mul-le-mul_left n (parts_enclose_demand parts t h c).whole_floor)
@@ -42,7 +42,7 @@ high_part-whole parts (pos n) t h c =
 high_part-whole parts (negsuc n) t h c =
     rw (turned parts (suc n * floor_rate t c)) (omega (arith, ints, mul-le-mul_left (suc n) (parts_enclose_demand parts t h c).whole_floor))
 
--- low and high in parts enclose what is asked for, in parts of 1/N of a unit
+-- the low part in parts is at most the exact demand times the weight, in parts of 1/N of a unit
 pub low_part-below : (parts : ℕ) (w : ℤ) (t : Terms) → IsWithinLimits t → (c : ℤ) (k N : ℕ) → k * span t ≡ N → (pos N *ℤ low_part_in parts w t c) ≤ℤ (pos parts *ℤ (w *ℤ pos (k * scaled_demand t c)))
 low_part-below parts (pos n) t h c k N shares =
     omega (arith, ints, ap (λ y. n * floor_in parts t c * y) shares, mul-le-mul_left (n * k) (parts_enclose_demand parts t h c).floor_below)
@@ -57,7 +57,7 @@ high_part-above parts (negsuc n) t h c k N shares =
     let most : N * (suc n * floor_in parts t c) ≤ parts * (suc n * k * scaled_demand t c) = omega (arith, mul-le-mul_left (suc n * k) (parts_enclose_demand parts t h c).floor_below, ap (λ y. suc n * floor_in parts t c * y) shares) in
     rw (turned N (suc n * floor_in parts t c), sold_is n (k * scaled_demand t c), turned parts (suc n * (k * scaled_demand t c))) (omega (arith, ints, most))
 
--- low and high enclose what is asked for, in parts of 1/N of a unit
+-- the low part is at most the exact demand times the weight, in parts of 1/N of a unit
 pub low_below : (w : ℤ) (t : Terms) → IsWithinLimits t → (c : ℤ) (k N : ℕ) → k * span t ≡ N → (pos N *ℤ low_part w t c) ≤ℤ (w *ℤ pos (k * scaled_demand t c))
 low_below (pos n) t h c k N parts =
     omega (arith, ints, ap (λ y. n * floor_rate t c * y) parts, mul-le-mul_left (n * k) (roundings_enclose_demand t h c).floor_below)
@@ -66,7 +66,7 @@ low_below (negsuc n) t h c k N parts =
     let left : pos N *ℤ neg_ℤ (pos (suc n * ceil_rate t c)) ≡ neg_ℤ (pos (N * (suc n * ceil_rate t c))) = turned N (suc n * ceil_rate t c) in
     rw left (omega (arith, ints, most))
 
--- one grain moves what is asked for by at most w * w / 256
+-- one grain of an asset's price moves the exact demand times the weight by at most w * w / 256 units
 pub true_step : (w : ℤ) (t : Terms) → IsWithinLimits t → (c : ℤ) (k N : ℕ) → k * span t ≡ N → (pos 256 *ℤ (w *ℤ pos (k * scaled_demand t c))) ≤ℤ (pos 256 *ℤ (w *ℤ pos (k * scaled_demand t (c +ℤ w))) +ℤ pos N *ℤ (w *ℤ w))
 true_step (pos n) t h c k N parts =
     let step = demand_moves_little t h c n in

@@ -5,7 +5,7 @@ use Rattle.std.proofs.Math.IntN.{*ℤ-zero, pos-*ℤ-pos}
 use Rattle.std.proofs.lemmas.Int.{ints}
 use Rattle.weight_rows.specs.declared.entries.Entry.{Entry}
 use Rattle.list_sums.specs.Sums.{int_sum_by}
-use Rattle.weight_rows.specs.Rows.{IsLawfulRow, IsPricedBy, weight_in, price_of, portfolio_price}
+use Rattle.weight_rows.specs.Rows.{IsWeightVector, IsPricedBy, weight_in, price_of, portfolio_price}
 use Rattle.list_sums.proofs.Products.{*ℤ-add}
 use Rattle.list_sums.proofs.SumLemmas.{int_sum_by-same}
 use Rattle.demand_curve.specs.Demand.{Terms, IsWithinLimits, IsRounding, loss}
@@ -48,7 +48,7 @@ cost_one M n c = ap (λ y. y *ℤ c) (sym (pos-*ℤ-pos M n)) ∙ *ℤ-assoc (po
 
 pub record IsPart (prices : List ℤ) (K M : ℕ) (p : Part) : Type 0 where
   pub limits : IsWithinLimits p.terms
-  pub lawful : IsLawfulRow p.row
+  pub lawful : IsWeightVector p.row
   pub priced : IsPricedBy p.row prices
   pub rounding : IsRounding p.terms p.rate (portfolio_price p.row prices)
   pub within : p.other ≤ K * p.terms.room
@@ -85,7 +85,7 @@ module _ (prices : List ℤ) (K M : ℕ) where
   unfoldable pub net : (Part → ℕ) → List Part → ℕ → ℤ
   net rate ps a = int_sum_by (λ p. weight_in p.row a *ℤ pos (rate p)) ps
 
-  -- what the residuals cost
+  -- what the imbalances cost
   unfoldable pub cost_of_residuals : List Part → ℤ
   cost_of_residuals ps = int_sum_by (λ a. price_of prices a *ℤ net (λ p. p.rate) ps a) (range_with_len 0 (length prices))
 
@@ -95,7 +95,7 @@ module _ (prices : List ℤ) (K M : ℕ) where
   unfolding net cost_of_residuals price_at
   optimal_within_gap ps h balanced =
       let assets = range_with_len 0 (length prices) in
-      let lawful : All (λ p. IsLawfulRow p.row) ps = λ k d inside. (h k d inside).lawful in
+      let lawful : All (λ p. IsWeightVector p.row) ps = λ k d inside. (h k d inside).lawful in
       let priced : All (λ p. IsPricedBy p.row prices) ps = λ k d inside. (h k d inside).priced in
       let others = costs_by_asset (λ (p : Part). p.row) (λ p. pos p.other) prices ps lawful priced in
       let rates = costs_by_asset (λ (p : Part). p.row) (λ p. pos p.rate) prices ps lawful priced in

@@ -1,4 +1,4 @@
--- A move of the definitions is a move in words; what a walk leaves.
+-- A move of the definitions as the proofs state it, `IsMove`; what a walk leaves.
 use Rattle.std.proofs.Common.{◌≡◌, ◌≢◌, ℕ, zero, suc, ◌+◌, ◌*◌, ◌^◌, ◌≤◌, ◌<◌, ◌⊎◌, inl, inr, ⊎_elim, Bool, true, false, not, ◌||◌, cond, ℤ, pos, ◌+ℤ◌, ◌-ℤ◌, ◌≤ℤ◌, ◌<ℤ◌, List, [], ◌∷◌, length, Some, None, set, refl, ap, sym, subst, ◌∙◌, arith}
 use Rattle.std.specs.Prelude.{All, Contains, neg_ℤ, slice_index_or, unsigned_abs}
 use Rattle.std.specs.List.{range_with_len}
@@ -35,7 +35,7 @@ below_is orders prices asset e = omega (arith, ints, e)
 pub not_below_is : (orders : List Order) (prices : List ℤ) (asset : ℕ) → is_below orders prices asset ≡ false → neg_ℤ (pos (steepness orders asset)) ≤ℤ high_excess orders prices asset
 not_below_is orders prices asset e = omega (arith, ints, e)
 
--- in parts of a unit
+-- `is_above_in`, as an inequality
 pub above_in_is : (parts : ℕ) (orders : List Order) (prices : List ℤ) (asset : ℕ) → is_above_in parts orders prices asset ≡ true → pos (parts * steepness orders asset) <ℤ low_excess_in parts orders prices asset
 above_in_is parts orders prices asset e = omega (arith, ints, e)
 
@@ -65,7 +65,7 @@ is_settled orders prices asset settled = by (is_above orders prices asset) (is_b
 
 -- ---- the least amount
 
--- of a range nothing passes, or there is a first that does
+-- no number of a range passes a test, or there is a first that does
 pub first_in_range : (test : ℕ → Bool) (from count : ℕ)
     → ((first_that test (range_with_len from count) ≡ None) × ((k : ℕ) → from ≤ k → k < from + count → test k ≡ false))
     ⊎ ((a : ℕ) × (first_that test (range_with_len from count) ≡ Some a) × (from ≤ a) × (a < from + count) × (test a ≡ true) × ((k : ℕ) → from ≤ k → k < a → test k ≡ false))
@@ -83,7 +83,7 @@ first_in_range test from (suc count) =
     (first_in_range test (from + 1) count))
     (cases_Bool (test from))
 
--- the least number from 1 to the reach that passes, or the reach
+-- the least number from 1 to the reach that passes, or the reach if none does
 pub record IsLeast (passes : ℕ → Bool) (reach d : ℕ) : Type 0 where
   pub least : 1 ≤ d
   pub most : d ≤ reach
@@ -129,7 +129,7 @@ module _ (parts : ℕ) (orders : List Order) (reach : ℕ) (prices : List ℤ) (
         ends = ⊎_elim (λ passes. inl (not_below_in_is parts orders (fallen prices asset (fall_of parts orders reach prices asset)) asset (not_is (is_below_in parts orders (fallen prices asset (fall_of parts orders reach prices asset)) asset) true passes))) (λ all. inr all) is.ends;
       }
 
-  -- where an asset is unsettled, the move of the definitions is a rise or a fall by the least amount
+  -- if an asset is unsettled, the move of the definitions is a rise or a fall by the least amount
   pub moves_by : is_unsettled orders prices asset ≡ true → IsMove parts orders prices asset reach (amount_of parts orders reach prices asset) (moved parts orders reach prices asset)
   unfolding is_unsettled moved amount_of
   moves_by unsettled = by (is_above orders prices asset) (is_below orders prices asset) refl refl unsettled
@@ -145,7 +145,7 @@ module _ (parts : ℕ) (orders : List Order) (reach : ℕ) (prices : List ℤ) (
 
 -- ---- an asset that no order names
 
--- an asset that a row doesn't name has no weight in it
+-- an asset that no leg names has no weight
 weight_unnamed : (row : List Entry) (asset : ℕ) → (Contains (assets_of row) asset → ⊥) → weight_in row asset ≡ pos 0
 unfolding weight_in
 weight_unnamed [] asset absent = refl
@@ -159,7 +159,7 @@ sum_of_zeros : {X : Type 0} (xs : List X) → int_sum_by (λ x. pos 0) xs ≡ po
 sum_of_zeros [] = refl
 sum_of_zeros (x ∷ xs) = omega (arith, ints, sum_of_zeros xs)
 
--- it is settled at any prices
+-- an asset that no order names is settled at any prices
 pub unnamed_is_settled : (orders : List Order) (prices : List ℤ) (asset : ℕ) → IsUnnamed orders asset → IsSettled orders prices asset
 unnamed_is_settled orders prices asset none =
     let weights : All (λ (o : Order). weight_in o.row asset ≡ pos 0) orders = λ k d inside. weight_unnamed (slice_index_or orders k d).row asset (none k d inside) in
@@ -169,14 +169,14 @@ unnamed_is_settled orders prices asset none =
 
 -- ---- a walk
 
--- prices that are at most this far from 0
+-- all prices are at most `bound` away from 0
 abbrev pub AreWithin : ℕ → List ℤ → Type 0
 AreWithin bound prices = All (λ p. unsigned_abs p ≤ bound) prices
 
 wider : (b c : ℕ) (prices : List ℤ) → b ≤ c → AreWithin b prices → AreWithin c prices
 wider b c prices less within k d inside = let one = within k d inside in omega (arith, one, less)
 
--- what one move leaves
+-- what holds after one move
 record HasMoved (reach : ℕ) (prices : List ℤ) (asset : ℕ) (next : List ℤ) : Type 0 where
   count : length next ≡ length prices
   range : (b : ℕ) → AreWithin b prices → AreWithin (b + reach) next
@@ -200,7 +200,7 @@ has_moved parts orders reach prices asset some there unsettled =
     (λ fall. subst (HasMoved reach prices asset) (sym fall.1) (has_set reach prices asset (price_of prices asset -ℤ pos move.0) there (λ b near. (far_price (price_of prices asset) move.0 b reach near fall.0.most).1)))
     move.1
 
--- what a legal walk leaves
+-- what holds after a valid walk
 pub record HasWalked (orders : List Order) (start : List ℤ) (steps : ℕ) (end : List ℤ) : Type 0 where
   pub count : length end ≡ length start
   pub range : (b : ℕ) → AreWithin b start → AreWithin (b + steps * 2 ^ 45) end
@@ -220,7 +220,7 @@ has_walked parts orders n start (a ∷ walk) count legal =
           rest.unnamed asset none ∙ here.others asset apart;
     }
 
--- a legal walk is a walk in words, with its movement
+-- a valid walk of the definitions is a walk by `IsWalk`, with its movement
 pub legal_moves : (parts : ℕ) (orders : List Order) (n : ℕ) (start : List ℤ) (walk : List ℕ) → length start ≡ n → IsLegal n (is_unsettled orders) (step_of parts orders) start walk
     → IsWalk parts orders walk_reach start walk (walk_end (step_of parts orders) start walk) (movement_of parts orders start walk)
 legal_moves parts orders n start [] count legal = (refl, refl)
@@ -230,7 +230,7 @@ legal_moves parts orders n start (a ∷ walk) count legal =
     let rest = legal_moves parts orders n (step_of parts orders start a) walk (here.count ∙ count) legal.2 in
     (step_of parts orders start a, amount_of parts orders walk_reach start a, movement_of parts orders (step_of parts orders start a) walk, there, moves_by parts orders walk_reach start a (omega arith) legal.1, rest, refl)
 
--- in a book without orders no walk is legal but the empty one
+-- in a book without orders no walk is valid but the empty one
 pub no_orders_no_walk : (parts n : ℕ) (start : List ℤ) (walk : List ℕ) → IsLegal n (is_unsettled []) (step_of parts []) start walk → movement_of parts [] start walk ≡ 0
 no_orders_no_walk parts n start [] legal = refl
 no_orders_no_walk parts n start (a ∷ walk) legal =

@@ -1,4 +1,4 @@
--- Rates of a right clearing are optimal within their gap.
+-- Rates of an admissible clearing are optimal within their gap.
 use Rattle.std.proofs.Common.{◌≡◌, ℕ, suc, ◌*◌, ◌/◌, ◌≤◌, ℤ, pos, ◌*ℤ◌, List, [], ◌∷◌, map, length, refl, ap, ◌∙◌, arith}
 use Rattle.std.specs.Prelude.{All}
 use Rattle.std.specs.List.{range_with_len, sum_by}
@@ -13,11 +13,11 @@ use Rattle.demand_curve.specs.Demand.{IsRounding, loss}
 use Rattle.flow_orders.specs.Orders.{Order, IsOrder, terms_of}
 use Rattle.flow_orders.specs.Excess.{price_for}
 use Rattle.flow_orders.specs.Trades.{Trade, trades, residual, residual_cost}
-use Rattle.flow_orders.specs.Outcomes.{Fill, Clearing, gap_of, IsRightClearing}
+use Rattle.flow_orders.specs.Outcomes.{Fill, Clearing, gap_of, IsAdmissibleClearing}
 use Rattle.flow_orders.specs.Welfare.{welfare, IsOptimalWithin}
 use Rattle.flow_orders.proofs.Gap.{Part, IsPart, better, published, lost, net, cost_of_residuals, optimal_within_gap}
 
--- an order with its rate, and another one
+-- an order with its rate, and with another rate
 abbrev part_of : ℕ → Order → ℕ → ℕ → Part
 part_of M o x n = record { terms = terms_of o; row = o.row; rate = x; other = n; share = M / (2 * o.rate) }
 
@@ -108,8 +108,8 @@ roundings_are_optimal orders prices xs order priced count rounded = record {
       rw (← sum_better prices K M orders xs ns count count_too, ← sum_published prices K M orders xs ns count count_too, ← sum_lost prices K M orders xs ns count count_too, ← cost_is prices K M orders xs ns count count_too) best;
 }
 
--- so none beat the rates of a right clearing by more than its gap
-pub right_is_optimal : (orders : List Order) (start : List ℤ) (c : Clearing) → All IsOrder orders → All (λ o. IsPricedBy o.row start) orders → IsRightClearing orders start c → IsOptimalWithin c.gap orders (map (λ (f : Fill). f.rate) c.fills)
+-- no balanced rates beat the rates of an admissible clearing by more than its gap
+pub right_is_optimal : (orders : List Order) (start : List ℤ) (c : Clearing) → All IsOrder orders → All (λ o. IsPricedBy o.row start) orders → IsAdmissibleClearing orders start c → IsOptimalWithin c.gap orders (map (λ (f : Fill). f.rate) c.fills)
 right_is_optimal orders start c order priced right =
     let xs = map (λ (f : Fill). f.rate) c.fills in
     let numbers = ap length right.numbers in

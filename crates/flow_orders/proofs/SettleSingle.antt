@@ -12,7 +12,7 @@ use Rattle.flow_orders.specs.Orders.{terms_of}
 use Rattle.list_sums.proofs.SumLemmas.{int_sum_by-same_all}
 use Rattle.flow_orders.specs.Excess.{low_part, high_part}
 use Rattle.flow_orders.specs.Orders.{Order}
-use Rattle.flow_orders.proofs.Book.{IsSound, IsSettled}
+use Rattle.flow_orders.proofs.Book.{IsConsistent, IsSettled}
 use Rattle.flow_orders.specs.Excess.{low_excess, high_excess}
 use Rattle.flow_orders.proofs.Singles.{IsSingle, one_price}
 use Rattle.flow_orders.proofs.SingleMoves.{rise_ends_within, fall_ends_within, rise_settles, fall_settles}
@@ -20,7 +20,7 @@ use Rattle.flow_orders.proofs.MoveFacts.{moved_unsettled}
 use Rattle.flow_orders.proofs.DualWalks.{IsMove, length-move}
 
 module _ (orders : List Order) (single : All IsSingle orders) where
-  -- an asset's excess follows from its own price
+  -- in a book of one-asset orders an asset's excess depends on its own price only
   pub low_excess-own : (prices others : List ℤ) (asset : ℕ) → price_of prices asset ≡ price_of others asset → low_excess orders prices asset ≡ low_excess orders others asset
   low_excess-own prices others asset same =
       int_sum_by-same_all (λ o. low_part (weight_in o.row asset) (terms_of o) (portfolio_price o.row prices)) (λ o. low_part (weight_in o.row asset) (terms_of o) (portfolio_price o.row others)) orders
@@ -47,7 +47,7 @@ module _ (orders : List Order) (single : All IsSingle orders) where
       (one_price o.row others asset (single k d inside)))
       (one_price o.row prices asset (single k d inside)))
 
-  -- and so does whether it is settled
+  -- in a book of one-asset orders, whether an asset is settled depends on its own price only
   pub settled_own : (prices others : List ℤ) (asset : ℕ) → price_of prices asset ≡ price_of others asset → IsSettled orders prices asset → IsSettled orders others asset
   settled_own prices others asset same settled =
       record {
@@ -65,7 +65,7 @@ abbrev pub AreVisited : ℕ → List Order → ℕ → List ℤ → List ℕ →
 AreVisited parts orders reach start [] stop = stop ≡ start
 AreVisited parts orders reach start (asset ∷ assets) stop = (next : List ℤ) × IsVisit parts orders reach start asset next × AreVisited parts orders reach next assets stop
 
--- what a visit does
+-- what holds after a visit
 pub record HasVisited (orders : List Order) (prices : List ℤ) (asset : ℕ) (next : List ℤ) : Type 0 where
   pub settled : IsSettled orders next asset
   pub range : All (IsWithin (2 ^ 60)) next
@@ -73,8 +73,8 @@ pub record HasVisited (orders : List Order) (prices : List ℤ) (asset : ℕ) (n
   pub others : (b : ℕ) → b ≢ asset → price_of next b ≡ price_of prices b
   pub kept : IsSettled orders prices asset → next ≡ prices
 
-module _ (parts : ℕ) (some : 1 ≤ parts) (orders : List Order) (reach : ℕ) (sound : All IsSound orders) (single : All IsSingle orders) (far : 2 ^ 61 ≤ reach) where
-  -- a visit settles its asset, and touches no other
+module _ (parts : ℕ) (some : 1 ≤ parts) (orders : List Order) (reach : ℕ) (consistent : All IsConsistent orders) (single : All IsSingle orders) (far : 2 ^ 61 ≤ reach) where
+  -- a visit settles its asset, and changes no other price
   pub visit_settles : (prices : List ℤ) (asset : ℕ) (next : List ℤ) → asset < length prices → All (IsWithin (2 ^ 60)) prices → IsVisit parts orders reach prices asset next → HasVisited orders prices asset next
   visit_settles prices asset next within range visit =
       let start : IsWithin (2 ^ 60) (price_of prices asset) = range asset (pos 0) within in
@@ -88,18 +88,18 @@ module _ (parts : ℕ) (some : 1 ≤ parts) (orders : List Order) (reach : ℕ) 
         }
         | inr moves ↦ elim moves.1 [
           | inl rise ↦
-              let end = rise_ends_within parts some orders prices asset reach sound single within moves.0 rise.0 in
+              let end = rise_ends_within parts some orders prices asset reach consistent single within moves.0 rise.0 in
               record {
-                settled = rw rise.1 (rise_settles parts some orders prices asset reach sound single within moves.0 start far rise.0);
+                settled = rw rise.1 (rise_settles parts some orders prices asset reach consistent single within moves.0 start far rise.0);
                 range = rw rise.1 (All-set (IsWithin (2 ^ 60)) prices asset (price_of prices asset +ℤ pos moves.0) (omega (arith, ints, start), end) range);
                 count = length-move parts orders reach prices asset moves.0 next (inl rise);
                 others = λ b apart. ap (λ p. price_of p b) rise.1 ∙ get_or-set_other prices asset b (price_of prices asset +ℤ pos moves.0) (pos 0) apart;
                 kept = λ settled. absurd (moved_unsettled parts orders prices asset reach moves.0 next (inl rise) settled);
               }
           | inr fall ↦
-              let end = fall_ends_within parts some orders prices asset reach sound single within moves.0 fall.0 in
+              let end = fall_ends_within parts some orders prices asset reach consistent single within moves.0 fall.0 in
               record {
-                settled = rw fall.1 (fall_settles parts some orders prices asset reach sound single within moves.0 start far fall.0);
+                settled = rw fall.1 (fall_settles parts some orders prices asset reach consistent single within moves.0 start far fall.0);
                 range = rw fall.1 (All-set (IsWithin (2 ^ 60)) prices asset (price_of prices asset -ℤ pos moves.0) (end, omega (arith, ints, start)) range);
                 count = length-move parts orders reach prices asset moves.0 next (inr fall);
                 others = λ b apart. ap (λ p. price_of p b) fall.1 ∙ get_or-set_other prices asset b (price_of prices asset -ℤ pos moves.0) (pos 0) apart;
@@ -145,7 +145,7 @@ module _ (parts : ℕ) (some : 1 ≤ parts) (orders : List Order) (reach : ℕ) 
       carried (inr (zero, inside, at_k)) visited = inl (subst (λ a. IsSettled orders next a) at_k visited.settled)
       carried (inr (suc k, inside, at_k)) visited = inr (k, omega (arith, inside), at_k)
 
--- the numbers from a on
+-- the range from a contains the numbers from a to a + n - 1
 in_range : (a n b : ℕ) → a ≤ b → b < a + n → Contains (range_with_len a n) b
 in_range a zero b from to = absurd (omega (arith, from, to))
 in_range a (suc n) b from to =
@@ -167,11 +167,11 @@ pub record IsSettledOnce (orders : List Order) (start stop : List ℤ) : Type 0 
   pub range : All (IsWithin (2 ^ 60)) stop
   pub kept : (a : ℕ) → IsSettled orders start a → price_of stop a ≡ price_of start a
 
-pub settles_single : (parts : ℕ) → 1 ≤ parts → (orders : List Order) (reach : ℕ) → All IsSound orders → All IsSingle orders → 2 ^ 61 ≤ reach → (start stop : List ℤ) → All (IsWithin (2 ^ 60)) start → AreVisited parts orders reach start (range_with_len 0 (length start)) stop → IsSettledOnce orders start stop
-settles_single parts some orders reach sound single far start stop range visits =
+pub settles_single : (parts : ℕ) → 1 ≤ parts → (orders : List Order) (reach : ℕ) → All IsConsistent orders → All IsSingle orders → 2 ^ 61 ≤ reach → (start stop : List ℤ) → All (IsWithin (2 ^ 60)) start → AreVisited parts orders reach start (range_with_len 0 (length start)) stop → IsSettledOnce orders start stop
+settles_single parts some orders reach consistent single far start stop range visits =
     let priced : All (λ a. a < length start) (range_with_len 0 (length start)) = λ k d inside. let one = in_range_below 0 (length start) k d inside in omega (arith, one) in
     record {
-      settled = λ a below. visits_settle parts some orders reach sound single far (range_with_len 0 (length start)) start stop a priced range visits (inr (in_range 0 (length start) a (omega arith) (omega (arith, below))));
-      range = visits_within parts some orders reach sound single far (range_with_len 0 (length start)) start stop priced range visits;
-      kept = λ a settled. visits_keep parts some orders reach sound single far (range_with_len 0 (length start)) start stop a priced range visits settled;
+      settled = λ a below. visits_settle parts some orders reach consistent single far (range_with_len 0 (length start)) start stop a priced range visits (inr (in_range 0 (length start) a (omega arith) (omega (arith, below))));
+      range = visits_within parts some orders reach consistent single far (range_with_len 0 (length start)) start stop priced range visits;
+      kept = λ a settled. visits_keep parts some orders reach consistent single far (range_with_len 0 (length start)) start stop a priced range visits settled;
     }

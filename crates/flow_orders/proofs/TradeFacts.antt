@@ -1,8 +1,8 @@
--- Orders with one rate each: the orders before and after their fills.
+-- Trades of orders with one rate each: the orders before and after their fills.
 use Rattle.std.proofs.Common.{◌≡◌, ℕ, zero, suc, ◌<◌, ◌≤◌, List, [], ◌∷◌, map, length, refl, ap, arith}
 use Rattle.std.specs.Prelude.{◌<ℤ◌, All, ℤ}
 use Rattle.weight_rows.specs.Rows.{portfolio_price}
-use Rattle.flow_orders.specs.Orders.{Order, left_of}
+use Rattle.flow_orders.specs.Orders.{Order, remaining_quantity}
 use Rattle.flow_orders.specs.Trades.{Trade, trades, after_fill}
 use Rattle.flow_orders.specs.Outcomes.{Fill, fill_of}
 
@@ -14,9 +14,9 @@ before_fills ts = map (λ t. t.order) ts
 abbrev pub after_fills : List Trade → List Order
 after_fills ts = map after_fill ts
 
--- a trade is within what its order allows: what is left of the cap, and nothing at or above the high limit
+-- a trade is within what its order allows: the remaining quantity, and nothing at or above the high limit
 pub record IsAllowed (prices : List ℤ) (t : Trade) : Type 0 where
-  pub within : t.traded ≤ left_of t.order
+  pub within : t.traded ≤ remaining_quantity t.order
   pub below_high : 0 < t.traded → portfolio_price t.order.row prices <ℤ t.order.high
 
 -- the orders of trades are the orders
@@ -32,7 +32,7 @@ All-trades P (o ∷ orders) [] all k d inside = absurd (omega (arith, inside))
 All-trades P (o ∷ orders) (x ∷ rates) all zero d inside = all 0 o (omega arith)
 All-trades P (o ∷ orders) (x ∷ rates) all (suc k) d inside = All-trades P orders rates (λ j e within. all (suc j) e (omega (arith, within))) k d (omega (arith, inside))
 
--- the rates of trades
+-- the published rates of trades are the rates
 pub rates_back : (orders : List Order) (rates : List ℕ) → length rates ≡ length orders → map (λ (f : Fill). f.rate) (map fill_of (trades orders rates)) ≡ rates
 rates_back [] [] count = refl
 rates_back [] (x ∷ rates) count = absurd (omega (arith, count))

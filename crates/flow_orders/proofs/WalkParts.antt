@@ -1,4 +1,4 @@
--- A walk of one move more, and a legal walk in two parts.
+-- A walk of one move more, and a valid walk in two parts.
 use Rattle.std.proofs.Common.{◌≡◌, ℕ, Bool, List, [], ◌∷◌, ◌++◌, refl}
 use Rattle.flow_orders.specs.Walks.{walk_end, IsLegal}
 
@@ -8,7 +8,7 @@ module _ {P : Type 0} (n : ℕ) (unsettled : P → ℕ → Bool) (move : P → �
   walk_end-push p [] a = refl
   walk_end-push p (b ∷ v) a = walk_end-push (move p b) v a
 
-  -- a legal walk in two parts
+  -- two valid walks, one from the end of the other, are one valid walk
   pub legal-append : (p : P) (v w : List ℕ) → IsLegal n unsettled move p v → IsLegal n unsettled move (walk_end move p v) w → IsLegal n unsettled move p (v ++ w)
   legal-append p [] w front back = back
   legal-append p (a ∷ v) w front back = (front.0, front.1, legal-append (move p a) v w front.2 back)

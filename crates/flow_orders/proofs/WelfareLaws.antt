@@ -1,4 +1,4 @@
--- Welfare is what a trader would say: of whole rates, of trading nothing, and of equal fractions.
+-- Welfare is what a trader expects: of whole rates, of trading nothing, and of equal fractions.
 use Rattle.std.proofs.Common.{◌≡◌, ℕ, ◌*◌, ◌/◌, ◌≤◌, ℤ, pos, ◌-ℤ◌, ◌*ℤ◌, List, [], ◌∷◌, map, refl, ap, sym, ◌∙◌, arith}
 use Rattle.std.specs.Prelude.{All}
 use Rattle.std.proofs.Math.IntN.{*ℤ-zero, zero-*ℤ, pos-*ℤ-pos, *ℤ_comm}
@@ -16,21 +16,21 @@ use Rattle.flow_orders.specs.Trades.{Trade, trades, residual}
 use Rattle.flow_orders.specs.Welfare.{welfare}
 use Rattle.flow_orders.specs.Laws.{WelfareIsAsSaid}
 
--- a factor over a difference
+-- a factor distributes over a difference
 times_less : (s a d : ℕ) (h : ℤ) → pos s *ℤ (pos a *ℤ h -ℤ pos d) ≡ pos (s * a) *ℤ h -ℤ pos (s * d)
 times_less s a d h =
     let split = *ℤ-sub (pos s) (pos a *ℤ h) (pos d) in
     let first : pos s *ℤ (pos a *ℤ h) ≡ pos (s * a) *ℤ h = sym (*ℤ-assoc (pos s) (pos a) h) ∙ ap (λ y. y *ℤ h) (pos-*ℤ-pos s a) in
     omega (arith, ints, split, first, pos-*ℤ-pos s d)
 
--- one order at a whole rate
+-- the welfare of one order at a whole rate
 one_whole : (s q x M S : ℕ) (h : ℤ) → s * (2 * q) ≡ M → pos s *ℤ (pos (2 * q * x * 1) *ℤ h -ℤ pos (S * x * x)) ≡ pos M *ℤ (pos x *ℤ h) -ℤ pos (s * (S * x * x))
 one_whole s q x M S h e =
     let units : s * (2 * q * x * 1) ≡ M * x = omega (arith, ap (λ y. y * x) e) in
     let high : pos (s * (2 * q * x * 1)) *ℤ h ≡ pos M *ℤ (pos x *ℤ h) = ap (λ y. pos y *ℤ h) units ∙ ap (λ y. y *ℤ h) (sym (pos-*ℤ-pos M x)) ∙ *ℤ-assoc (pos M) (pos x) h in
     omega (arith, ints, times_less s (2 * q * x * 1) (S * x * x) h, high)
 
--- one order at an equal fraction
+-- the welfare of one order at an equal fraction
 one_scaled : (k q n K S : ℕ) (h : ℤ) → pos (2 * q * (k * n) * (k * K)) *ℤ h -ℤ pos (S * (k * n) * (k * n)) ≡ pos (k * k) *ℤ (pos (2 * q * n * K) *ℤ h -ℤ pos (S * n * n))
 one_scaled k q n K S h =
     let units : 2 * q * (k * n) * (k * K) ≡ k * k * (2 * q * n * K) = omega arith in

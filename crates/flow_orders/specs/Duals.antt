@@ -1,4 +1,4 @@
--- The exact dual of a book, in parts of 1/N of a grain, and the movement of a walk.
+-- The exact dual value of a book, in parts of 1/N of a grain, and the movement of a walk.
 use Rattle.std.specs.Prelude.{◌≡◌, ℕ, ◌+◌, ◌*◌, ◌/◌, ◌≤◌, ℤ, List, [], ◌∷◌, All}
 use Rattle.std.specs.List.{sum_by}
 use Rattle.demand_curve.specs.Demand.{Terms, span, scaled_dual}
@@ -15,11 +15,11 @@ share N t = N / (2 * t.rate * span t)
 abbrev pub IsCommonPart : ℕ → List Order → Type 0
 IsCommonPart N orders = (1 ≤ N) × All (λ o. share N (terms_of o) * (2 * o.rate * span (terms_of o)) ≡ N) orders
 
--- the exact dual of a book, in parts of 1/N of a grain
+-- the exact dual value of a book at given prices, in parts of 1/N of a grain: nothing is rounded
 abbrev pub exact_dual : ℕ → List Order → List ℤ → ℕ
 exact_dual N orders prices = sum_by (λ o. share N (terms_of o) * scaled_dual (terms_of o) (price_for prices o)) orders
 
--- the movement of a walk: the sum of the amounts moved
+-- the movement of a walk, in grains: the sum of the amounts of its moves
 abbrev pub movement_of : ℕ → List Order → List ℤ → List ℕ → ℕ
 movement_of parts orders prices [] = 0
 movement_of parts orders prices (asset ∷ walk) = amount_of parts orders walk_reach prices asset + movement_of parts orders (step_of parts orders prices asset) walk

@@ -1,8 +1,8 @@
--- What the fields of an order stand for.
+-- The order that the fields of the code's `Order` hold.
 use Rattle.flow_orders.specs.declared.order.Order.TheInside.{Inside}
 use Rattle.flow_orders.specs.Orders.{Order, IsOrder, price_of_ticks}
 
--- the order: its limits are kept in ticks
+-- the order that these fields hold: they have its limits in ticks, the definitions in grains
 abbrev pub order_in : Inside → Order
 order_in o = record {
   number = o.number;
@@ -16,6 +16,6 @@ order_in o = record {
   last = o.last;
 }
 
--- what is kept is an order within the limits
+-- the fields hold an order within the limits, of which some quantity remains
 abbrev pub IsKept : Inside → Type 0
 IsKept o = IsOrder (order_in o)

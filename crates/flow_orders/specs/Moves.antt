@@ -1,4 +1,4 @@
--- A move of one asset's price. Where it ends is told by excess in parts of a unit; how many parts there are is a number of the version.
+-- A move of one asset's price. Excess in parts of a unit decides where it ends; the version of the files fixes how many parts a unit has.
 use Rattle.std.specs.Prelude.{ℕ, ◌^◌, Bool, not, if◌then◌else◌, ℤ, pos, ◌+ℤ◌, ◌-ℤ◌, List, Option, Some, None, slice_set}
 use Rattle.std.specs.List.{range_with_len}
 use Rattle.weight_rows.specs.Rows.{price_of}
@@ -6,12 +6,12 @@ use Rattle.flow_orders.specs.Orders.{Order}
 use Rattle.flow_orders.specs.Excess.{is_above, is_below, is_above_in, is_below_in}
 use Rattle.flow_orders.specs.Walks.{first_that}
 
--- a number that was found, else another one
+-- the number that was found, or `other` if none was
 abbrev pub found_or : ℕ → Option ℕ → ℕ
 found_or other (Some found) = found
 found_or other None = other
 
--- the least number from 1 to `reach` that passes a test, and `reach` where there is none
+-- the least number from 1 to `reach` that passes a test, or `reach` if none does
 unfoldable pub least_amount : ℕ → (ℕ → Bool) → ℕ
 least_amount reach passes = found_or reach (first_that passes (range_with_len 1 reach))
 
@@ -23,30 +23,30 @@ risen prices asset d = slice_set prices asset (price_of prices asset +ℤ pos d)
 abbrev pub fallen : List ℤ → ℕ → ℕ → List ℤ
 fallen prices asset d = slice_set prices asset (price_of prices asset -ℤ pos d)
 
--- by how much the price of an asset that is above rises: to where its low excess in parts is no longer above
+-- by how many grains, at most `reach`, the price of an asset rises: to the first price at which its low excess in parts is no longer above
 abbrev pub rise_of : ℕ → List Order → ℕ → List ℤ → ℕ → ℕ
 rise_of parts orders reach prices asset = least_amount reach (λ d. not (is_above_in parts orders (risen prices asset d) asset))
 
--- by how much the price of an asset that is below falls: to where its high excess in parts is no longer below
+-- by how many grains, at most `reach`, the price of an asset falls: to the first price at which its high excess in parts is no longer below
 abbrev pub fall_of : ℕ → List Order → ℕ → List ℤ → ℕ → ℕ
 fall_of parts orders reach prices asset = least_amount reach (λ d. not (is_below_in parts orders (fallen prices asset d) asset))
 
--- the prices after a move of an asset by at most `reach`
+-- the prices after a move of an asset by at most `reach` grains; a settled asset isn't moved
 unfoldable pub moved : ℕ → List Order → ℕ → List ℤ → ℕ → List ℤ
 moved parts orders reach prices asset =
     if is_above orders prices asset then risen prices asset (rise_of parts orders reach prices asset) else
     (if is_below orders prices asset then fallen prices asset (fall_of parts orders reach prices asset) else prices)
 
--- the amount of that move
+-- by how many grains a move of an asset changes its price, at most `reach`; 0 if the asset is settled
 unfoldable pub amount_of : ℕ → List Order → ℕ → List ℤ → ℕ → ℕ
 amount_of parts orders reach prices asset =
     if is_above orders prices asset then rise_of parts orders reach prices asset else
     (if is_below orders prices asset then fall_of parts orders reach prices asset else 0)
 
--- the reach of a move in a walk
+-- the reach of a move in a walk, in grains
 abbrev pub walk_reach : ℕ
 walk_reach = 2 ^ 45
 
--- the reach of the one move of an asset where each order names one asset
+-- the reach of the one move of an asset in a book of one-asset orders, in grains
 abbrev pub single_reach : ℕ
 single_reach = 2 ^ 61

@@ -1,4 +1,4 @@
--- What is published of a batch, and which outcomes are right.
+-- What is published of a batch, and which outcomes are admissible.
 use Rattle.std.specs.Prelude.{◌≡◌, ℕ, ◌<◌, ◌≤◌, ◌^◌, ◌==◌, Bool, false, ℤ, pos, ◌-ℤ◌, unsigned_abs, List, map, length, All, Contains}
 use Rattle.std.specs.List.{range_with_len, sum_by, list_all}
 use Rattle.weight_rows.specs.Rows.{IsPrice, assets_of, price_of}
@@ -9,50 +9,50 @@ use Rattle.flow_orders.specs.Moves.{moved, walk_reach}
 use Rattle.flow_orders.specs.Walks.{walk_end, IsLegal, AreSettled}
 use Rattle.flow_orders.specs.Trades.{Trade, trades, residual, residual_cost}
 
--- the rate that was published for the order of a number
+-- the rate that is published for the order of this number
 pub record Fill : Type 0 where
   pub order : ℕ
   pub rate : ℕ
 
--- what is published of a batch that cleared: one price and one residual per asset, one rate per live order, and the gap
+-- what is published of a batch that cleared: a price and an imbalance for each asset, a rate for each live order, and the gap
 pub record Clearing : Type 0 where
   pub prices : List ℤ
   pub fills : List Fill
   pub residuals : List ℤ
   pub gap : ℤ
 
--- what is published of a batch that was skipped: the assets that were moved, and the dual floors at the start and at the end
+-- what is published of a batch that was skipped: the assets that were moved, in turn, and the dual value at the start and at the end
 pub record Skipping : Type 0 where
   pub trace : List ℕ
   pub start_dual : ℤ
   pub end_dual : ℤ
 
--- a batch clears, or is skipped
+-- what is published of a batch: it clears, or it is skipped
 pub data Outcome : Type 0 where
   Cleared : Clearing → Outcome
   Skipped : Skipping → Outcome
 
--- a rule by which batches may end: parts of a unit, orders, start prices, budget and outcome go together
+-- a rule by which batches may end: a relation of the parts of a unit, the orders, the start prices, the budget and the outcome
 abbrev pub BatchRule : Type 1
 BatchRule = ℕ → List Order → List ℤ → ℕ → Outcome → Type 0
 
--- what the orders trade
+-- what the orders trade at the published rates
 abbrev pub trades_of : List Order → List Fill → List Trade
 trades_of orders fills = trades orders (map (λ (f : Fill). f.rate) fills)
 
--- a rate as it is published
+-- the published rate of a trade
 abbrev pub fill_of : Trade → Fill
 fill_of t = record { order = t.order.number; rate = t.traded }
 
--- the residuals of n assets
+-- the imbalances of assets 0 to n - 1, in units
 abbrev pub residuals_of : ℕ → List Trade → List ℤ
 residuals_of n ts = map (residual ts) (range_with_len 0 n)
 
--- the gap: what all rates lose, less what the residuals cost
+-- the gap, in grains: what all rates lose, less what the imbalances cost
 abbrev pub gap_of : List ℤ → List Trade → ℤ
 gap_of prices ts = pos (sum_by (λ t. loss (terms_of t.order) t.traded (price_for prices t.order)) ts) -ℤ residual_cost prices ts
 
--- the dual floor of a book
+-- the dual value of a book, in grains: each order's is rounded down
 abbrev pub dual_of : List Order → List ℤ → ℕ
 dual_of orders prices = sum_by (λ o. dual_floor (terms_of o) (price_for prices o)) orders
 
@@ -64,11 +64,11 @@ IsWide orders = (o : Order) × Contains orders o × (2 ≤ length o.row)
 abbrev pub most_budget : ℕ
 most_budget = 65536
 
--- the prices after a move in a walk
+-- the prices after a move of an asset in a walk
 abbrev pub step_of : ℕ → List Order → List ℤ → ℕ → List ℤ
 step_of parts orders prices asset = moved parts orders walk_reach prices asset
 
--- a walk from these prices is legal
+-- a walk from these prices is valid: each asset on it has a price, and is unsettled when it is moved
 abbrev pub IsLegalFrom : ℕ → List Order → List ℤ → List ℕ → Type 0
 IsLegalFrom parts orders start walk = IsLegal (length start) (is_unsettled orders) (step_of parts orders) start walk
 
@@ -80,16 +80,17 @@ end_of parts orders start walk = walk_end (step_of parts orders) start walk
 abbrev pub EndsSettled : ℕ → List Order → List ℤ → List ℕ → Type 0
 EndsSettled parts orders start walk = AreSettled (length start) (is_unsettled orders) (end_of parts orders start walk)
 
--- what is published of a walk that reached no prices
+-- what is published of a skip after this walk: the walk, and the dual value at its start and at its end
 abbrev pub skipping_at : ℕ → List Order → List ℤ → List ℕ → Skipping
 skipping_at parts orders start walk = record { trace = walk; start_dual = pos (dual_of orders start); end_dual = pos (dual_of orders (end_of parts orders start walk)) }
 
--- no order names an asset
+-- no order has a leg of this asset
 abbrev pub IsUnnamed : List Order → ℕ → Type 0
 IsUnnamed orders asset = All (λ o. ¬ Contains (assets_of o.row) asset) orders
 
--- A clearing of these orders is right: any prices at which its parts are as they should be.
-pub record IsRightClearing (orders : List Order) (start : List ℤ) (c : Clearing) : Type 0 where
+-- A clearing of these orders is admissible: at its prices, which are free within their range, each rate rounds its order's demand, each
+-- imbalance is within its tolerance, and the gap is that of prices and rates; an asset that no order names keeps its start price.
+pub record IsAdmissibleClearing (orders : List Order) (start : List ℤ) (c : Clearing) : Type 0 where
   pub one_price_each : length c.prices ≡ length start
   pub small : All IsPrice c.prices
   pub unnamed : (asset : ℕ) → asset < length start → IsUnnamed orders asset → price_of c.prices asset ≡ price_of start asset
@@ -99,28 +100,28 @@ pub record IsRightClearing (orders : List Order) (start : List ℤ) (c : Clearin
   pub bounded : (asset : ℕ) → asset < length start → unsigned_abs (residual (trades_of orders c.fills) asset) ≤ residual_bound orders asset
   pub gap_is : c.gap ≡ gap_of c.prices (trades_of orders c.fills)
 
--- A skip is right: a legal walk of the whole budget that leaves some asset unsettled, in a book where some order names two assets or more.
-pub record IsRightSkip (parts : ℕ) (orders : List Order) (start : List ℤ) (budget : ℕ) (s : Skipping) : Type 0 where
+-- A skip is admissible: a valid walk of the whole budget that leaves some asset unsettled, in a book with an order for two assets or more.
+pub record IsAdmissibleSkip (parts : ℕ) (orders : List Order) (start : List ℤ) (budget : ℕ) (s : Skipping) : Type 0 where
   pub wide : IsWide orders
   pub legal : IsLegalFrom parts orders start s.trace
   pub whole : length s.trace ≡ budget
   pub unsettled : ¬ EndsSettled parts orders start s.trace
   pub duals : s ≡ skipping_at parts orders start s.trace
 
--- a right outcome, by so many parts, of a batch of these orders, from the start prices, with this budget
-abbrev pub IsRightOutcome : BatchRule
-IsRightOutcome parts orders start budget (Cleared c) = IsRightClearing orders start c
-IsRightOutcome parts orders start budget (Skipped s) = IsRightSkip parts orders start budget s
+-- an outcome of a batch is admissible, given the parts of a unit, the orders, the start prices and the budget
+abbrev pub IsAdmissibleOutcome : BatchRule
+IsAdmissibleOutcome parts orders start budget (Cleared c) = IsAdmissibleClearing orders start c
+IsAdmissibleOutcome parts orders start budget (Skipped s) = IsAdmissibleSkip parts orders start budget s
 
--- what is published of trades at prices of n assets
+-- what is published of these trades at prices of n assets
 abbrev pub clearing_at : ℕ → List ℤ → List Trade → Clearing
 clearing_at n prices ts = record { prices = prices; fills = map fill_of ts; residuals = residuals_of n ts; gap = gap_of prices ts }
 
--- whether every order names one asset
+-- whether every order is for one asset
 abbrev pub are_single : List Order → Bool
 are_single orders = list_all (λ o. length o.row == 1) orders
 
--- a batch clears at prices within 2^60, and an asset that was settled keeps its price
+-- a batch clears at prices within 2^60 grains of 0, and an asset that was settled at the start keeps its price
 abbrev pub ClearsNear : List Order → List ℤ → Outcome → Type 0
 ClearsNear orders start (Cleared c) =
     All (IsWithin (2 ^ 60)) c.prices × ((asset : ℕ) → is_unsettled orders start asset ≡ false → price_of c.prices asset ≡ price_of start asset)

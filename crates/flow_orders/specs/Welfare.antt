@@ -9,11 +9,11 @@ use Rattle.flow_orders.specs.Trades.{Trade, trades, residual}
 abbrev pub IsCommon : ℕ → List Order → Type 0
 IsCommon M orders = (1 ≤ M) × All (λ o. M / (2 * o.rate) * (2 * o.rate) ≡ M) orders
 
--- the welfare of the rates traded / K, in parts of 1/(M * K * K) of a grain
+-- the welfare of the rates traded / K of all orders, in parts of 1/(M * K * K) of a grain
 abbrev pub welfare : ℕ → ℕ → List Trade → ℤ
 welfare M K ts = int_sum_by (λ t. pos (M / (2 * t.order.rate)) *ℤ scaled_welfare (terms_of t.order) t.traded K) ts
 
--- the fractions n / K are balanced rates: within the rooms, and of no asset anything is left over
+-- the fractions n / K are balanced rates: each within its order's batch maximum, and no asset has an imbalance
 pub record IsBalanced (K : ℕ) (orders : List Order) (ns : List ℕ) : Type 0 where
   pub some : 1 ≤ K
   pub one_each : length ns ≡ length orders

@@ -1,4 +1,4 @@
-//! What a book of orders leaves over of an asset at most.
+//! The bounds of an asset's imbalance in a book of orders.
 ghost use Rattle.std.specs.Prelude.{◌≡◌, ◌*◌, ◌^◌, ◌≤◌, ◌≤ℤ◌, pos, unsigned_abs, length};
 ghost use Rattle.std.specs.List.{sum_by};
 ghost use Rattle.weight_rows.specs.Rows.{weight_in};
@@ -7,10 +7,10 @@ ghost use Rattle.flow_orders.specs.Excess.{spread, steepness};
 
 use crate::order::Order;
 
-/// The spread of an asset, in units: the sum of its absolute weights in all orders, at most 2^26.
+/// Returns the rounding bound of an asset, in units: the sum of its absolute weights in all orders, at most 2^26.
 ///
-/// At settled prices, rounding all demands leaves over at most the spread and the [`steepness`] together. It costs one
-/// pass over the entries of all orders.
+/// If the asset is settled, rounding all demands leaves an imbalance of at most the rounding bound and the slope bound
+/// ([`steepness`]) together. It costs one pass over the legs of all orders.
 pub fn spread(orders: &[Order], asset: u16) -> i64
     requires { length orders.now ≤ most_orders }
     ensures value { result ≡ pos (spread orders.now asset) }
@@ -23,11 +23,11 @@ pub fn spread(orders: &[Order], asset: u16) -> i64
     sum as i64
 }
 
-/// The steepness of an asset, in units: the sum of the squares of its weights in all orders, divided by 256 and rounded
-/// up, at most 2^30.
+/// Returns the slope bound of an asset, in units: the sum of the squares of its weights in all orders, divided by 256
+/// and rounded up, at most 2^30.
 ///
-/// A grain of the asset's price moves what all orders together ask for of it by at most as much. It costs one pass over
-/// the entries of all orders.
+/// One grain of the asset's price moves its true excess, of demands that aren't rounded, by no more than that. It costs
+/// one pass over the legs of all orders.
 #[tactic(auto, unfolding(crate::specs::Excess::steepness))]
 pub fn steepness(orders: &[Order], asset: u16) -> i64
     requires { length orders.now ≤ most_orders }
@@ -37,7 +37,7 @@ pub fn steepness(orders: &[Order], asset: u16) -> i64
     square_sum(orders, asset).div_ceil(256) as i64
 }
 
-// The sum of the squares of an asset's weights.
+// Returns the sum of the squares of an asset's weights in all orders.
 fn square_sum(orders: &[Order], asset: u16) -> u64
     requires { length orders.now ≤ most_orders }
     ensures value { result ≡ sum_by
@@ -53,7 +53,7 @@ fn square_sum(orders: &[Order], asset: u16) -> u64
     sum
 }
 
-// The absolute weight of an asset in an order's row.
+// Returns the absolute weight of an asset in an order's weight vector.
 fn absolute_weight(order: &Order, asset: u16) -> u64
     ensures value { result ≡ unsigned_abs (weight_in order.now.row asset) }
     ensures most { result ≤ 4096 }

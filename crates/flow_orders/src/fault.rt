@@ -1,9 +1,9 @@
-//! What is wrong with the numbers of an order that is asked for.
+//! What is wrong with the numbers of a requested order.
 ghost use Rattle.std.specs.Prelude.{◌≡◌, ◌↔◌, IsTrue, IsNone};
 ghost use Rattle.demand_curve.specs.Demand.{most_rate};
 ghost use Rattle.flow_orders.specs.Orders.{AreLimits, IsFrom1To, most_cap};
 
-/// No limit price is more ticks away from 0.
+/// The greatest absolute value of a limit price, in ticks.
 pub const MOST_TICKS: i64 = 1 << 28;
 
 /// The highest rate, in units per batch.
@@ -12,7 +12,7 @@ pub const MOST_RATE: u32 = 1 << 24;
 // The highest cap, in units.
 const MOST_CAP: u64 = 1 << 40;
 
-/// Why numbers are those of no order.
+/// Why no order has these numbers.
 #[derive(Clone, Copy, PartialEq, Eq)]
 pub enum OrderFault {
     /// A limit price is more than 2^28 ticks away from 0, or the low one isn't below the high one.
@@ -23,8 +23,8 @@ pub enum OrderFault {
     BadCap,
 }
 
-/// The first fault of an order's numbers, in the order of [`OrderFault`], or `None` where they are sound. Limits are
-/// in ticks, the rate is in units per batch and the cap in units.
+/// Returns the first fault of a requested order's numbers, in the order of [`OrderFault`], or `None` if they have none.
+/// Limits are in ticks, the rate in units per batch and the cap in units.
 pub fn order_fault(low: i64, high: i64, rate: u32, cap: u64) -> Option<OrderFault>
     ensures none { IsNone result ↔
         (AreLimits low high × IsFrom1To most_rate rate × IsFrom1To most_cap cap) }

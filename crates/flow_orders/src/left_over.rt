@@ -1,4 +1,4 @@
-//! What rates leave over of each asset, row by row.
+//! The imbalance of each asset, added up order by order.
 ghost use Rattle.std.specs.Prelude.{◌≡◌, ◌^◌, ◌<◌, ◌≤◌, pos, ◌+ℤ◌, ◌*ℤ◌, unsigned_abs, length, slice_set};
 ghost use Rattle.weight_rows.specs.Rows.{most_weight, IsPricedBy};
 ghost use Rattle.demand_curve.specs.Demand.{most_rate};
@@ -6,11 +6,11 @@ ghost use Rattle.flow_orders.specs.Residuals.{residual_in, AreNear, IsTradeAdded
 
 use weight_rows::{Entry, WeightRow};
 
-/// Adds to the residuals of a row's assets what an order for its portfolio gets of them at this rate, or gives where a
-/// weight is negative: the weight times the rate, in units.
+/// Adds an order's trade to the imbalances: to that of each of its assets the weight times the rate, in units, which is
+/// negative if the order gives the asset away.
 ///
-/// There is a residual for each asset that the row names, by the assets' numbers, within 2^60 units of 0, and the rate
-/// is at most 2^24. It costs one pass over the entries and takes no memory.
+/// `residuals` has an imbalance at the number of each asset that the weight vector names, each is within 2^60 units of
+/// 0, and the rate is at most 2^24. It costs one pass over the legs and allocates nothing.
 pub fn add_residuals(row: &WeightRow, rate: u32, residuals: &mut [i64])
     requires places { IsPricedBy row.now residuals.old }
     requires rate { rate ≤ most_rate }
@@ -22,7 +22,7 @@ pub fn add_residuals(row: &WeightRow, rate: u32, residuals: &mut [i64])
     }
 }
 
-// Adds what an entry brings at this rate to the residual of its asset.
+// Adds what a leg brings at this rate to the imbalance of its asset.
 fn add_entry(entry: &Entry, rate: u32, residuals: &mut [i64])
     requires place { entry.now.asset < length residuals.old }
     requires weight { unsigned_abs entry.now.weight ≤ most_weight }
@@ -34,7 +34,7 @@ fn add_entry(entry: &Entry, rate: u32, residuals: &mut [i64])
     residuals[usize::from(entry.asset)] += units(entry.weight, rate);
 }
 
-// The units that a weight brings at a rate.
+// Returns the units that a leg of this weight brings at a rate.
 fn units(weight: i32, rate: u32) -> i64
     requires weight { unsigned_abs weight ≤ most_weight }
     requires rate { rate ≤ most_rate }

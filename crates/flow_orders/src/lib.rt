@@ -1,17 +1,17 @@
-//! Orders, and what a batch of them may come to.
+//! Orders, and the outcomes that a batch of them may have.
 //!
 //! An order asks for a portfolio at a rate that falls as its price rises. A batch of orders clears at one price for
-//! each asset, or is skipped. The definitions of both stand in `specs`, one topic a file: orders and what they need,
-//! excess and bounds, moves and walks of prices, trades and residuals, right outcomes, welfare and the dual. [`laws`] has
-//! what holds of them.
+//! each asset, or is skipped. The definitions of both are in `specs`, one topic a file: orders and what they reserve,
+//! excess and its bounds, moves and walks of prices, trades and imbalances, admissible outcomes, welfare and the dual.
+//! [`laws`] has what holds of them.
 //!
-//! [`Order`] is an order as the program keeps it: 72 bytes beside the entries of its row. [`order_fault`] tells
-//! what is wrong with the numbers of one that is asked for, [`money_need`] and [`unit_need`] tell what it needs.
-//! [`add_residuals`] adds up what rates leave over of each asset, and [`spread`] and [`steepness`] bound what a book of
-//! orders leaves over of one. No call takes memory. Each takes constant time, but `add_residuals`, which goes once over
-//! the entries of a row, and `spread` and `steepness`, which go once over those of all orders.
+//! [`Order`] is an order as the program keeps it: 72 bytes beside its legs. [`order_fault`] finds what is wrong with
+//! the numbers of a requested order; [`money_need`] and [`unit_need`] compute what an order reserves.
+//! [`add_residuals`] adds an order's trade to the imbalance of each asset; [`spread`] and [`steepness`] are the rounding
+//! bound and the slope bound of an asset's imbalance. No call allocates. Each takes constant time, but `add_residuals`,
+//! which goes once over the legs of an order, and `spread` and `steepness`, which go once over those of all orders.
 //!
-//! Limit prices are whole ticks, and 2^32 grains are a tick. Contracts see them in grains, as curves and prices are.
+//! Limit prices are whole ticks, and a tick is 2^32 grains. Contracts see them in grains, as curves and prices are.
 #![tactic(auto)]
 
 mod bounds;

@@ -1,4 +1,4 @@
-//! An order as it is kept.
+//! An order as the program keeps it.
 ghost use Rattle.std.specs.Prelude.{◌≡◌, ◌+◌, ◌<◌, ◌≤◌, ◌↔◌, IsTrue, if◌then◌else◌};
 ghost use Rattle.demand_curve.specs.Demand.{most_rate};
 ghost use Rattle.demand_curve.specs.Curve.{terms};
@@ -12,9 +12,8 @@ use weight_rows::WeightRow;
 /// One tick in grains.
 pub const GRAINS_PER_TICK: i64 = 1 << 32;
 
-/// An order that isn't filled to its cap: its number and account, its limit prices, the rate that it asks for at most
-/// in a batch, its cap, how much of the cap is filled, the row of its portfolio, and the number of the last batch in
-/// which it trades, 0 where it has none.
+/// An order that isn't filled to its cap: its number and account, its limit prices, its rate, its cap, how much of the
+/// cap is filled, its weight vector, and the number of the last batch in which it trades, which is 0 if it has none.
 ///
 /// The order type is that of Flow Trading (Budish, Cramton, Kyle, Lee and Malec, 2023): it buys a portfolio at a rate
 /// per batch that falls as the portfolio's price rises, up to a cumulative cap. Whole ticks and units and the limits of
@@ -53,8 +52,8 @@ impl Order {
     ghost use Rattle.flow_orders.specs.Orders.{IsOrder, AreLimits, IsFrom1To, most_cap, terms_of};
     ghost use Rattle.flow_orders.specs.Trades.{after_fill};
 
-    /// An order of which nothing is filled. The limits are in ticks; [`order_fault`](crate::order_fault) finds no
-    /// fault in the numbers.
+    /// Returns an order of which nothing is filled, without a last batch. The limits are in ticks;
+    /// [`order_fault`](crate::order_fault) finds no fault in the numbers.
     pub fn new(
         number: u64,
         account: u32,
@@ -93,8 +92,8 @@ impl Order {
         }
     }
 
-    /// An order of which nothing is filled and that trades for the last time in the batch of number `last`. The limits
-    /// are in ticks; [`order_fault`](crate::order_fault) finds no fault in the numbers.
+    /// Returns an order of which nothing is filled, whose last batch is number `last`. The limits are in ticks;
+    /// [`order_fault`](crate::order_fault) finds no fault in the numbers.
     pub fn until(
         number: u64,
         account: u32,
@@ -127,9 +126,8 @@ impl Order {
         order
     }
 
-    /// An order as it stood: of its cap `filled` units are filled, less than the cap, and `last` is the number of the
-    /// last batch in which it trades, 0 where it has none. The limits are in ticks; [`order_fault`](crate::order_fault)
-    /// finds no fault in the numbers.
+    /// Returns an order of which `filled` units are filled, less than its cap, with the number of its last batch, or 0 if
+    /// it has none. The limits are in ticks; [`order_fault`](crate::order_fault) finds no fault in the numbers.
     pub fn restore(
         number: u64,
         account: u32,
@@ -171,7 +169,7 @@ impl Order {
         }
     }
 
-    /// The order's number.
+    /// Returns the order's number.
     pub fn number(&self) -> u64
         ensures value { result ≡ self.now.number }
         ensures order { IsOrder self.now }
@@ -179,7 +177,7 @@ impl Order {
         self.number
     }
 
-    /// The number of the account whose order it is.
+    /// Returns the number of the order's account.
     pub fn account(&self) -> u32
         ensures value { result ≡ self.now.account }
         ensures order { IsOrder self.now }
@@ -187,7 +185,7 @@ impl Order {
         self.account
     }
 
-    /// The low limit price in ticks: at it and below the order asks for all that it may trade in a batch.
+    /// Returns the low limit, in ticks: at this price and below the order asks for its batch maximum.
     pub fn low(&self) -> i64
         ensures value { price_of_ticks result ≡ self.now.low }
         ensures order { IsOrder self.now }
@@ -195,7 +193,7 @@ impl Order {
         i64::from(self.low)
     }
 
-    /// The high limit price in ticks: at it and above the order asks for nothing.
+    /// Returns the high limit, in ticks: at this price and above the order asks for nothing.
     pub fn high(&self) -> i64
         ensures value { price_of_ticks result ≡ self.now.high }
         ensures order { IsOrder self.now }
@@ -203,7 +201,7 @@ impl Order {
         i64::from(self.high)
     }
 
-    /// What the order asks for at most in a batch, in units of its portfolio.
+    /// Returns the rate: the most that the order buys in one batch, in units of its portfolio.
     pub fn rate(&self) -> u32
         ensures value { result ≡ self.now.rate }
         ensures order { IsOrder self.now }
@@ -211,7 +209,7 @@ impl Order {
         self.rate
     }
 
-    /// What the order trades at most in all batches together, in units of its portfolio.
+    /// Returns the cap: the most that the order buys in all batches together, in units of its portfolio.
     pub fn cap(&self) -> u64
         ensures value { result ≡ self.now.cap }
         ensures order { IsOrder self.now }
@@ -219,7 +217,7 @@ impl Order {
         self.cap
     }
 
-    /// What it has traded so far, in units of its portfolio: less than its cap.
+    /// Returns what the order has bought so far, in units of its portfolio: less than its cap.
     pub fn filled(&self) -> u64
         ensures value { result ≡ self.now.filled }
         ensures order { IsOrder self.now }
@@ -227,7 +225,7 @@ impl Order {
         self.filled
     }
 
-    /// The number of the last batch in which it trades, or 0 where it has none.
+    /// Returns the number of the last batch in which the order trades, or 0 if it has none.
     pub fn last(&self) -> u32
         ensures value { result ≡ self.now.last }
         ensures order { IsOrder self.now }
@@ -235,7 +233,7 @@ impl Order {
         self.last
     }
 
-    /// The row of its portfolio, which is a lawful one.
+    /// Returns the weight vector of the order's portfolio.
     pub fn row(&self) -> &WeightRow
         ensures value { result.now ≡ self.now.row }
         ensures order { IsOrder self.now }
@@ -243,7 +241,8 @@ impl Order {
         &self.row
     }
 
-    /// The curve of its demand: limits in grains, and as room the rate or what is left of the cap, whichever is less.
+    /// Returns the curve of the order's demand: the limits in grains, the rate, and as `room` the batch maximum, which is
+    /// the rate or the remaining quantity, whichever is less.
     pub fn curve(&self) -> Curve
         ensures value { terms result ≡ terms_of self.now }
         ensures order { IsOrder self.now }
@@ -256,8 +255,8 @@ impl Order {
         }
     }
 
-    /// Fills `x` units more, at most the room, and answers whether the cap is reached. Where it is, the order stays as
-    /// it was, and the caller drops it.
+    /// Fills `x` units more, at most the batch maximum, and returns whether the cap is reached. If it is, the order is
+    /// left as it was, and the caller drops it.
     pub fn add_fill(&mut self, x: u32) -> bool
         requires { x ≤ (terms_of self.old).room }
         ensures full { IsTrue result ↔ (self.old.filled + x ≡ self.old.cap) }
@@ -274,7 +273,7 @@ impl Order {
     }
 }
 
-// A price of whole ticks, in grains.
+// Returns a price of whole ticks in grains.
 fn grains_of(ticks: i32) -> i64
     ensures { result ≡ price_of_ticks ticks }
 {

@@ -1,7 +1,7 @@
--- A checkpoint comes to one end and one text, and is without an end for no bytes.
+-- The checkpoint subcommand results in one end and one text, and has an end for all bytes.
 use Rattle.std.proofs.Common.{◌≡◌, ◌+◌, ℕ, [], inl, refl, sym, ◌∙◌}
 use Rattle.wire_records.specs.declared.version.Version.{Version}
-use Rattle.market_rules.specs.Market.{IsSound}
+use Rattle.market_rules.specs.Market.{IsConsistent}
 use Rattle.market_snapshot.specs.Checkpoints.{checkpoint_bytes}
 use Rattle.word_driver.specs.Laws.{IsExact, HasNext}
 use Rattle.word_driver.proofs.Denying.{not_denied}
@@ -27,9 +27,9 @@ checkpoint_is_exact = over_pairs_is_exact checkpointing checkpointing_is_exact
 checkpointing_has_sight : HasSight checkpointing
 checkpointing_has_sight = record {
   some_sight = λ old new n pair s legal. (s, [], refl);
-  some_reject = λ m n pair s sound illegal. not_denied (n + 1, [], (refl, refl));
+  some_reject = λ m n pair s consistent illegal. not_denied (n + 1, [], (refl, refl));
   some_close = λ m n s. inl (checkpoint_bytes m, refl);
 }
 
-pub checkpoint_has_next : (start : Version → Watched (Unit {0})) → ((version : Version) → IsSound (start version).market) → HasNext checkpoint start
+pub checkpoint_has_next : (start : Version → Watched (Unit {0})) → ((version : Version) → IsConsistent (start version).market) → HasNext checkpoint start
 checkpoint_has_next = over_pairs_has_next checkpointing checkpointing_has_sight

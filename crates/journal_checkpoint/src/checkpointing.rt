@@ -1,7 +1,6 @@
 //! What is written at the end of a journal.
 ghost use Rattle.std.proofs.Props.{props};
-ghost use Rattle.wire_records.specs.declared.version.Version.{Version};
-ghost use Rattle.market_rules.specs.Market.{empty_market};
+ghost use Rattle.market_rules.specs.Market.{Market as market_value};
 ghost use Rattle.journal_checkpoint.specs.Checkpointing.{checkpointing};
 
 use batch_audit::{Audit, Change};
@@ -13,16 +12,16 @@ use std::alloc::Global;
 use std::mem::replace;
 use word_driver::{Halt, Memory};
 
-/// It writes the market of the journal at its end.
+/// Writes the market of the journal at its end.
 #[derive(Drop)]
 pub struct Checkpointing {
     alloc: Global,
 }
 
 impl Checkpointing {
-    /// Takes no memory before the end.
+    /// Creates it. Allocates nothing before the end.
     pub fn new(alloc: Global) -> Checkpointing
-        ensures { (version : Version) → ⟦<Checkpointing as OnPair>⟧.is_within result (empty_market version) 0 }
+        ensures { (market : market_value) → ⟦<Checkpointing as OnPair>⟧.is_within result market 0 }
     {
         Checkpointing { alloc }
     }

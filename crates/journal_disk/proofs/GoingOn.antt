@@ -1,4 +1,4 @@
--- How a reading goes on from gate to gate, on a disk of which the entries so far are known.
+-- How a reading continues from commit byte to commit byte, on a disk of which the entries so far are known.
 use Rattle.std.proofs.Common.{◌≡◌, ◌+◌, ℕ, List, [], ◌∷◌, ◌++◌, Option, Some, IfSome, Ok, length, drop, refl, sym, ap, subst, ◌∙◌, arith, append_assoc, length-append}
 use Rattle.std.proofs.lemmas.List.{drop_at}
 use Rattle.disk_edge.specs.Disks.{DiskState, IsDisk}
@@ -11,7 +11,7 @@ use Rattle.journal_disk.specs.Looking.{OnlyLooks}
 use Rattle.journal_disk.specs.Stepping.{HasEntryAt, IsStep}
 use Rattle.journal_disk.proofs.Entries.{entries_more, each_more, length-framed}
 
--- a disk on which a call only looked holds what it held
+-- a disk on which a call only read holds what it held
 pub looks_hold : (version : Version) (pairs : List RecordPair) (place : ℕ) (rest : List ℕ) (old new : DiskState) → Holds version pairs place rest old → OnlyLooks old new → Holds version pairs place rest new
 looks_hold version pairs place rest old new holds looks = record {
   each = holds.each;
@@ -20,7 +20,7 @@ looks_hold version pairs place rest old new holds looks = record {
   durable = λ image left. holds.durable image (looks.images image left);
 }
 
--- one look, and then another
+-- one call that only reads, followed by another
 pub looks_more : (a b c : DiskState) → OnlyLooks a b → OnlyLooks b c → OnlyLooks a c
 looks_more a b c first second = record {
   content = second.content ∙ first.content;
@@ -38,7 +38,7 @@ module _ (version : Version) (pairs : List RecordPair) (place : ℕ) (rest : Lis
   told : (Q : List ℕ → Type 0) → IfSome disk.content Q → Q (entries version pairs ++ rest)
   told Q has = subst (λ (o : Option (List ℕ)). IfSome o Q) holds.content has
 
-  -- an entry that stands next
+  -- the next entry is one more that the disk holds
   over_entry : (pair : RecordPair) (left : List ℕ) (next : ℕ) → HasEntryAt place pair left (entries version pairs ++ rest) → next ≡ place + (5 + length (pair_bytes pair)) → Holds version (pairs ++ pair ∷ []) next left disk
   over_entry pair left next has moves =
       let after : rest ≡ entry pair ++ left = sym at_place ∙ has.spelled in
@@ -51,7 +51,7 @@ module _ (version : Version) (pairs : List RecordPair) (place : ℕ) (rest : Lis
         durable = λ image left. holds.durable image left ∙ whole;
       }
 
-  -- going behind it
+  -- moving past an entry
   pub entry_holds : (pair : RecordPair) (next : ℕ) → IfSome disk.content (λ bytes. (left : List ℕ) × HasEntryAt place pair left bytes) → next ≡ place + (5 + length (pair_bytes pair)) → (left : List ℕ) × Holds version (pairs ++ pair ∷ []) next left disk
   entry_holds pair next is moves =
       let found = told (λ bytes. (left : List ℕ) × HasEntryAt place pair left bytes) is in
@@ -63,7 +63,7 @@ module _ (version : Version) (pairs : List RecordPair) (place : ℕ) (rest : Lis
       let found_step = told (IsStep (Ok step.Pair) place next found) is in
       (found_step.0, found_step.1, found_step.2.is_pair, found_step.3, over_entry found_step.0 found_step.1 next found_step.2 (omega (arith, found_step.4, ap length found_step.3)))
 
-  -- a step to a gate that isn't open
+  -- a step to a commit byte that isn't set
   pub step_ends : (found : List ℕ) → IfSome disk.content (IsStep (Ok step.Closed) place place found) → EndsAt version pairs place disk
   step_ends found is =
       let found_step = told (IsStep (Ok step.Closed) place place found) is in

@@ -1,4 +1,4 @@
--- How long a run of disk calls leaves a disk.
+-- How long a sequence of disk calls leaves a disk.
 use Rattle.std.proofs.Common.{◌≡◌, ℕ, ◌+◌, ◌≤◌, List, [], ◌∷◌, ◌++◌, length, length-append, ap, arith}
 use Rattle.disk_edge.specs.Disks.{DiskState, IsDisk, AtEachMoment}
 use Rattle.disk_edge.specs.Images.{TornWrite, After}
@@ -12,7 +12,7 @@ use Rattle.journal_disk.specs.Lengths.{HasAtMost, ReachesAtMost}
 pub reach_wider : (a b : ℕ) (old new : DiskState) → a ≤ b → ReachesAtMost a old new → ReachesAtMost b old new
 reach_wider a b old new le reach = λ most enough short. reach most (omega (arith, le, enough)) short
 
--- one run, and then another
+-- one sequence of calls, followed by another
 pub reach_more : (place : ℕ) (old mid new : DiskState) → IsDisk mid → ReachesAtMost place old mid → ReachesAtMost place mid new → ReachesAtMost place old new
 reach_more place old mid new is_disk first second = λ most enough short.
     let run = first most enough short in
@@ -22,7 +22,7 @@ reach_more place old mid new is_disk first second = λ most enough short.
 pub reach_none : (place : ℕ) (disk : DiskState) → IsDisk disk → ReachesAtMost place disk disk
 reach_none place disk is_disk = λ most enough short. no_call disk (HasAtMost most) is_disk short
 
--- a look
+-- a call that only reads
 pub reach_looks : (place : ℕ) (old new : DiskState) → OnlyLooks old new → ReachesAtMost place old new
 reach_looks place old new looks = λ most enough short. weaker old new old.images (HasAtMost most) short looks.moments
 
@@ -31,7 +31,7 @@ pub reach_write : (place count : ℕ) (old new : DiskState) → AtEachMoment old
 reach_write place count old new run = λ most enough short.
     weaker old new (After (TornWrite place count) old.images) (HasAtMost most) (λ image made. omega (arith, enough, short made.0 made.1, made.2.no_longer)) run
 
--- an append writes the entry behind the gate, with a gate of its own, and then opens the gate
+-- an append writes the entry after the commit byte, with another commit byte, and then sets the first
 module _ (place self : ℕ) (pair bytes : List ℕ) (old mid : DiskState) (at : place ≡ self) (filled : bytes ≡ framed pair ++ 0 ∷ []) (wrote : AtEachMoment old mid (After (TornWrite (place + 1) (length bytes)) old.images)) where
   pub entry_reaches : ReachesAtMost (self + (6 + length pair)) old mid
   entry_reaches =

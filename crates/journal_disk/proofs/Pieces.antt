@@ -9,7 +9,7 @@ pub size_known : (ahead : AheadState) (content : Option (List ℕ)) → IfSome c
 size_known ahead None is = tt
 size_known ahead (Some bytes) is = is.long
 
--- what stands in the piece stands in the bytes
+-- a part of the piece is that part of the bytes
 pub in_piece : (ahead : AheadState) (bytes : List ℕ) (place count : ℕ) → IsPiece ahead bytes → ahead.from ≤ place → place + count ≤ ahead.from + length ahead.held → take count (drop (place - ahead.from) ahead.held) ≡ take count (drop place bytes)
 in_piece ahead bytes place count is behind within =
     let first = place - ahead.from in
@@ -24,7 +24,7 @@ in_piece ahead bytes place count is behind within =
 pub copied : (items now : List ℕ) (first count : ℕ) → now ≡ items → take (first + count - first) (drop first now) ≡ take count (drop first items)
 copied items now first count is = ap (λ (n : ℕ). take n (drop first now)) (omega arith) ∙ ap (λ (l : List ℕ). take count (drop first l)) is
 
--- the same where the content is told
+-- a part of the piece is that part of the content, if it is known
 pub part_read : (ahead : AheadState) (content now : Option (List ℕ)) (place count : ℕ) (got : List ℕ) → now ≡ content → IfSome now (IsPiece ahead) → HoldsPart place count ahead → got ≡ part_of ahead place count → IfSome content (λ bytes. got ≡ take count (drop place bytes))
 part_read ahead content now place count got same is held lent = over content (subst (λ (o : Option (List ℕ)). IfSome o (IsPiece ahead)) same is)
   where
@@ -32,7 +32,7 @@ part_read ahead content now place count got same is held lent = over content (su
     over None piece = tt
     over (Some bytes) piece = lent ∙ in_piece ahead bytes place count piece held.0 held.1
 
--- and of one byte
+-- a byte of the piece is that byte of the content, if it is known
 pub byte_read : (ahead : AheadState) (content now : Option (List ℕ)) (place : ℕ) (got : List ℕ) → now ≡ content → IfSome now (IsPiece ahead) → HoldsPart place 1 ahead → got ≡ part_of ahead place 1 → IfSome content (λ bytes. get_or got 0 0 ≡ get_or bytes place 0)
 byte_read ahead content now place got same is held lent = over content (subst (λ (o : Option (List ℕ)). IfSome o (IsPiece ahead)) same is)
   where

@@ -10,11 +10,11 @@ use disk_edge::Disk;
 use std::alloc::Global;
 use std::marker::Model;
 
-// As many bytes are read at once, where there are as many.
+// How many bytes are read at once, if there are as many.
 const PIECE: usize = 65_536;
 
-/// A piece of a disk that was read ahead, so that the pairs in it are read without a call of the disk for each. Contracts see the
-/// piece, where it begins, and how many bytes the disk has.
+/// A piece of a disk that was read ahead, so that the entries in it are read without a call of the disk for each.
+/// Contracts see the piece, where it begins, and how many bytes the disk has.
 #[derive(Drop)]
 pub struct Ahead {
     held: Vec<u8>,
@@ -31,8 +31,8 @@ impl Model for Ahead {
 }
 
 impl Ahead {
-    /// Nothing is read ahead yet. Asks the disk for its length. Takes the memory of a piece of 65,536 bytes; a longer entry makes it
-    /// grow.
+    /// Makes an empty piece: nothing is read ahead yet. Asks the disk for its length. Takes the memory of a piece of
+    /// 65,536 bytes; a longer entry makes it grow.
     pub fn new<D: Disk>(alloc: Global, disk: &mut D) -> Result<Ahead, DiskFault>
         ensures piece { IfOk result (λ ahead. IfSome (D.state disk.new).content (IsPiece ahead)) }
         ensures refused { IfErr result (λ fault. (fault ≡ DiskFault.Failed) ⊎ (fault ≡ DiskFault.Memory)) }
@@ -47,14 +47,14 @@ impl Ahead {
         })
     }
 
-    // How many bytes the disk has.
+    // Returns how many bytes the disk has.
     pub(crate) fn size(&self) -> u64
         ensures { result ≡ self.now.size }
     {
         self.size
     }
 
-    // Reads a piece from a place on that has so many bytes, where these aren't held.
+    // Reads a piece that begins at a place and has at least `count` bytes, unless these are held already.
     pub(crate) fn see<D: Disk>(
         &mut self,
         disk: &mut D,
@@ -74,7 +74,7 @@ impl Ahead {
             return Ok(());
         }
         let most = (self.size - place).min(PIECE as u64) as usize;
-        // The bytes of the piece before are written over, so nothing is filled up but where this one is longer.
+        // The bytes of the piece before are overwritten, so nothing is filled with zeros but what this one is longer.
         self.held.resize(most.max(count), 0)?;
         self.from = place;
         match read_from(disk, place, &mut self.held) {
@@ -86,7 +86,7 @@ impl Ahead {
         }
     }
 
-    // The bytes at a place, which are held.
+    // Returns the bytes at a place, which are held.
     pub(crate) fn part(&self, place: u64, count: usize) -> &[u8]
         requires held { HoldsPart place count self.now }
         ensures { result.now ≡ part_of self.now place count }

@@ -16,7 +16,7 @@ use std::alloc::{AllocError, Global};
 use std::marker::Model;
 use wire_fields::{put_bytes, put_u8, put_u32};
 
-/// Adds pairs behind those that a disk keeps. Contracts see it as the place of the closed gate behind them.
+/// Appends entries to those that a disk keeps. Contracts see it as the place of the unset commit byte after them.
 #[derive(Drop)]
 pub struct Appender {
     place: u64,
@@ -34,7 +34,7 @@ impl Model for Appender {
     ghost invariant = { λ appender. longest_pair + 5 ≤ vec_capacity appender.entry };
 }
 
-// The length of a pair, the pair and a closed gate.
+// Fills the buffer with the length of an entry, the entry and an unset commit byte.
 fn fill(entry: &mut Vec<u8>, pair: &[u8])
     requires room { longest_pair + 5 ≤ vec_capacity entry.old }
     requires short { length pair.now ≤ longest_pair }
@@ -48,7 +48,7 @@ fn fill(entry: &mut Vec<u8>, pair: &[u8])
 }
 
 impl Appender {
-    // An appender at this place. It takes the memory of an entry.
+    // Makes an appender at this place. It takes the memory of a stored entry.
     pub(crate) fn at(alloc: Global, place: u64) -> Result<Appender, AllocError>
         ensures { IfOk result (λ appender. appender ≡ place) }
     {
@@ -58,15 +58,16 @@ impl Appender {
         })
     }
 
-    /// An appender for a new disk, which [`make`](Appender::make) makes one of a version. It takes the memory of an entry.
+    /// Makes an appender for a new disk, to which [`make`](Appender::make) gives a version. It takes the memory of a
+    /// stored entry.
     pub fn for_new(alloc: Global) -> Result<Appender, AllocError>
         ensures { IfOk result (λ appender. appender ≡ 8) }
     {
         Appender::at(alloc, 8)
     }
 
-    /// Makes a new disk, of at most 9 bytes, one of a version, by the magic and a closed gate. A crash at any moment leaves a new
-    /// disk. `Failed`, only where the disk's count rose, is the one error. Takes no memory.
+    /// Gives a version to a new disk, of at most 9 bytes, by the magic and an unset commit byte. A crash at any moment
+    /// leaves a new disk. The only error is `Failed`, and only if the disk's count rose. Takes no memory.
     pub fn make<D: Disk>(
         &mut self,
         disk: &mut D,
@@ -87,9 +88,9 @@ impl Appender {
         Ok(())
     }
 
-    /// Adds the bytes of one whole pair. At Ok it is acknowledged: from then on a crash leaves it. A crash at any moment before
-    /// leaves the pairs that were kept, with this one or without. `Failed`, only where the disk's count rose, is the one error;
-    /// the disk is then to be opened again. Takes no memory. The place is at most 2^61.
+    /// Appends the bytes of one complete entry. At Ok it is acknowledged: from then on a crash leaves it. A crash at
+    /// any moment before leaves the entries that were kept, with this one or without. The only error is `Failed`, and
+    /// only if the disk's count rose; the disk is then to be opened again. Takes no memory. The place is at most 2^61.
     pub fn append<D: Disk>(&mut self, disk: &mut D, pair: &[u8]) -> Result<(), DiskFault>
         requires pair { IsWholePair pair.now }
         requires room { self.old ≤ 2 ^ 61 }

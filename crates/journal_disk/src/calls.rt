@@ -1,4 +1,4 @@
-//! Calls of a disk that go together, and those that change nothing.
+//! Sequences of disk calls, and calls that change nothing.
 ghost use Rattle.std.specs.Prelude.{◌≡◌, ◌≤◌, ◌<◌, ◌+◌, ◌^◌, ◌↔◌, ◌++◌, [], ◌∷◌, IsTrue, length, take, drop, slice_index, option_map, IfSome, IfOk, OnOk, IsErr};
 ghost use Rattle.disk_edge.specs.Disks.{AtEachMoment};
 ghost use Rattle.flow_io.specs.Faults.{Blames};
@@ -13,7 +13,7 @@ use crate::magic::{disk_version, new_disk};
 use disk_edge::{Disk, DiskFailed};
 use wire_records::Version;
 
-// An open gate. Any other byte is a closed one.
+// A commit byte that is set. Any other byte is an unset one.
 pub(crate) const OPEN: u8 = 1;
 
 // Writes the bytes at a place. At Ok they outlast a crash.
@@ -35,7 +35,7 @@ pub(crate) fn write_synced<D: Disk>(
     disk.sync()
 }
 
-// Opens the gate at a place. At Ok that outlasts a crash.
+// Sets the commit byte at a place. At Ok that outlasts a crash.
 pub(crate) fn open_gate<D: Disk>(disk: &mut D, place: u64) -> Result<(), DiskFailed>
     requires { IfSome (D.state disk.old).content
         (λ held. (place ≤ length held) × (place + 1 ≤ 2 ^ 62)) }
@@ -49,7 +49,7 @@ pub(crate) fn open_gate<D: Disk>(disk: &mut D, place: u64) -> Result<(), DiskFai
     write_synced(disk, place, &[OPEN])
 }
 
-// Cuts to a length. At Ok that outlasts a crash.
+// Cuts the disk to a length. At Ok that outlasts a crash.
 pub(crate) fn cut_synced<D: Disk>(disk: &mut D, to: u64) -> Result<(), DiskFailed>
     requires { IfSome (D.state disk.old).content (λ held. to ≤ length held) }
     ensures cut { OnOk result
@@ -64,7 +64,7 @@ pub(crate) fn cut_synced<D: Disk>(disk: &mut D, to: u64) -> Result<(), DiskFaile
     disk.sync()
 }
 
-// Syncs, and asks for the length. At Ok what is there outlasts a crash.
+// Syncs, and returns the length. At Ok what is there outlasts a crash.
 pub(crate) fn synced_length<D: Disk>(disk: &mut D) -> Result<u64, DiskFailed>
     ensures length { IfOk result (λ count. IfSome (D.state disk.old).content (λ bytes. count ≡ length bytes)) }
     ensures kept { OnOk result (IfSome (D.state disk.old).content (LeavesOnly (D.state disk.new).images)) }
@@ -75,7 +75,7 @@ pub(crate) fn synced_length<D: Disk>(disk: &mut D) -> Result<u64, DiskFailed>
     disk.length()
 }
 
-// How many bytes there are.
+// Returns how many bytes the disk has.
 pub(crate) fn length_of<D: Disk>(disk: &mut D) -> Result<u64, DiskFailed>
     ensures length { IfOk result (λ count. IfSome (D.state disk.old).content (λ bytes. count ≡ length bytes)) }
     ensures looks { OnlyLooks (D.state disk.old) (D.state disk.new) }
@@ -99,7 +99,7 @@ pub(crate) fn read_from<D: Disk>(
     disk.read_at(place, into)
 }
 
-// The version of which the disk begins. It has 8 bytes.
+// Returns the version whose magic the disk begins with. The disk has 8 bytes at least.
 pub(crate) fn version_of<D: Disk>(disk: &mut D) -> Result<Option<Version>, DiskFailed>
     requires { IfSome (D.state disk.old).content (λ bytes. 8 ≤ length bytes) }
     ensures magic { IfOk result (λ found. IfSome (D.state disk.old).content (IsMagicOf found)) }
@@ -111,7 +111,7 @@ pub(crate) fn version_of<D: Disk>(disk: &mut D) -> Result<Option<Version>, DiskF
     Ok(disk_version(&front))
 }
 
-// Makes the disk a new one of a version: the magic, and a closed gate.
+// Makes the disk a new one of a version: the magic, and an unset commit byte.
 pub(crate) fn make_new<D: Disk>(disk: &mut D, version: Version) -> Result<(), DiskFailed>
     requires { IfSome (D.state disk.old).content (λ bytes. length bytes ≤ 9) }
     ensures written { OnOk result

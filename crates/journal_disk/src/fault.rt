@@ -1,16 +1,17 @@
 use disk_edge::DiskFailed;
 use std::alloc::AllocError;
 
-/// Why a call on a journal's disk gave up.
+/// Why a call on a journal's disk failed.
 #[derive(Clone, Copy, Debug, PartialEq, Eq)]
 pub enum DiskFault {
     /// A call of the disk failed, and its count of faults rose. The disk is to be opened again.
     Failed,
     /// The disk holds something else than a journal.
     NotDisk,
-    /// At this byte no gate is there, or one that is open and begins no entry of a whole pair.
+    /// There is no commit byte at this place, or one that is set and isn't followed by the length and bytes of a
+    /// complete entry.
     Damaged(u64),
-    /// There is no memory.
+    /// Out of memory.
     Memory,
 }
 
@@ -36,11 +37,11 @@ impl From<AllocError> for DiskFault {
     }
 }
 
-/// What a reading found at a gate.
+/// What a reading found at a commit byte.
 #[derive(Clone, Copy, Debug, PartialEq, Eq)]
 pub enum Step {
-    /// An entry, whose pair was read.
+    /// A set one, with an entry, which was read.
     Pair,
-    /// A gate that isn't open.
+    /// One that isn't set.
     Closed,
 }

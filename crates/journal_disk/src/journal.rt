@@ -22,15 +22,16 @@ use std::alloc::Global;
 use std::marker::Model;
 use wire_records::Version;
 
-// A disk of at most so many bytes is new.
+// The most bytes that a new disk has.
 const MOST_NEW: u64 = 9;
 
-// A journal has at most so many bytes.
+// The most bytes that a journal has.
 const MOST_BYTES: u64 = 1 << 60;
 
-/// Opens a disk that a crash may have left, after a sync, and says its version; `None` comes exactly where it is new, which is one of at
-/// most 9 bytes, whatever it holds. `NotDisk` comes exactly where it has more than 2^60 bytes, or more than 9 that begin with none of
-/// the magics, and `Failed` only where the disk's count rose. Takes no memory, and changes nothing of the disk.
+/// Opens a disk that a crash may have left, after a sync, and returns its version; `None` exactly if it is new, which
+/// is a disk of at most 9 bytes, whatever it holds. Returns `NotDisk` exactly if it has more than 2^60 bytes, or more
+/// than 9 that begin with none of the magics, and `Failed` only if the disk's count rose. Takes no memory, and changes
+/// nothing of the disk.
 pub fn recover<D: Disk>(disk: &mut D) -> Result<Option<Version>, DiskFault>
     ensures found { IfOk result (λ found. IfSome (D.state disk.old).content (λ bytes. IsFound found bytes (D.state disk.new))) }
     ensures foreign { IsErrOf result DiskFault.NotDisk → IfSome (D.state disk.old).content IsForeign }
@@ -51,7 +52,7 @@ pub fn recover<D: Disk>(disk: &mut D) -> Result<Option<Version>, DiskFault>
     }
 }
 
-/// A disk's journal while it is read. Contracts see it as the place of the next gate.
+/// A disk's journal while it is read. Contracts see it as the place of the next commit byte.
 #[derive(Drop)]
 pub struct DiskJournal {
     place: u64,
@@ -68,18 +69,19 @@ impl Model for DiskJournal {
 }
 
 impl DiskJournal {
-    /// The reading of a disk that was recovered as one of a version, before its first pair.
+    /// Begins the reading of a disk that was recovered as one of a version, before its first entry.
     pub fn behind_magic() -> DiskJournal
         ensures { result ≡ 8 }
     {
         DiskJournal { place: 8 }
     }
 
-    /// Looks at the next gate, and reads ahead what stands behind it where it is open: then it answers the length of the pair of its
-    /// entry, in bytes, as it is stated there, and [`take`](DiskJournal::take) is next. `None` says that there is a gate and it isn't open.
-    /// `Damaged` has the gate's place, and comes where no byte is there, or where the gate is open and so many bytes don't stand behind it
-    /// in the first 2^60, or are more than a pair may have. `Failed` comes only where the disk's count rose, and `Memory` is free.
-    /// Changes nothing of the disk.
+    /// Reads the next commit byte, and reads ahead what follows it if it is set: then it returns the stated length of
+    /// the entry, in bytes, and [`take`](DiskJournal::take) is next. `None` says that there is a commit byte and it
+    /// isn't set. `Damaged` has the place of the commit byte, and is returned if no byte is there, if the byte is set
+    /// and the length or as many bytes as it states don't follow in the first 2^60 bytes, or if it states more than an
+    /// entry may have. Returns `Failed` only if the disk's count rose, and may return `Memory` at any time. Changes
+    /// nothing of the disk.
     pub fn find<D: Disk>(&self, disk: &mut D, ahead: &mut Ahead) -> Result<Option<usize>, DiskFault>
         requires piece { IfSome (D.state disk.old).content (IsPiece ahead.old) }
         ensures piece { IfSome (D.state disk.new).content (IsPiece ahead.new) }
@@ -105,9 +107,9 @@ impl DiskJournal {
         }
     }
 
-    /// The pair of the entry that [`find`](DiskJournal::find) has found with this length, where it lies in the piece that was read ahead;
-    /// the place is behind the entry then. `Damaged` has the gate's place, and comes exactly where these bytes aren't those of one whole
-    /// pair. Constant cost.
+    /// Returns the entry that [`find`](DiskJournal::find) has found with this length, in place in the piece that was
+    /// read ahead; the reading is then at the commit byte after it. `Damaged` has the place of the entry's commit byte,
+    /// and is returned exactly if these bytes aren't those of one complete entry. Constant cost.
     pub fn take<'a>(&mut self, ahead: &'a Ahead, count: usize) -> Result<PairView<'a>, DiskFault>
         requires held { HoldsPart (self.old + 5) count ahead.now }
         requires within { self.old + (5 + count) ≤ 2 ^ 60 }
@@ -131,10 +133,12 @@ impl DiskJournal {
         }
     }
 
-    /// Reads the next pair into `pair`, which is emptied first, and goes behind its entry. `Closed` says that there is a gate and
-    /// it isn't open. `Damaged` has the gate's place, and comes exactly where no byte is there, or where the gate is open and
-    /// begins no entry of one whole pair in the first 2^60 bytes. `Failed` comes only where the disk's count rose, and `Memory` is
-    /// free. After `Closed` or an error `pair` is empty and the place as before. Changes nothing of the disk, which is read in pieces ahead.
+    /// Reads the next entry into `pair`, which is emptied first, and moves on to the commit byte after it. `Closed`
+    /// says that there is a commit byte and it isn't set. `Damaged` has the place of the commit byte, and is returned
+    /// exactly if no byte is there, or if the byte is set and isn't followed by the length and bytes of one complete
+    /// entry in the first 2^60 bytes. Returns `Failed` only if the disk's count rose, and may return `Memory` at any
+    /// time. After `Closed` or an error `pair` is empty and the place as before. Changes nothing of the disk, which is
+    /// read ahead in pieces.
     pub fn next<D: Disk>(
         &mut self,
         disk: &mut D,
@@ -166,9 +170,10 @@ impl DiskJournal {
         }
     }
 
-    /// Ends the reading at a gate that isn't open: what is behind it is cut off, and from then on pairs can be added. A crash at
-    /// any moment leaves the same pairs. `Failed` comes only where the disk's count rose, and `Memory` is free: the disk is then to
-    /// be opened again. Takes the memory of the longest entry, in which pairs are put together.
+    /// Ends the reading at a commit byte that isn't set: what follows it is cut off, and from then on entries can be
+    /// appended. A crash at any moment leaves the same entries. Returns `Failed` only if the disk's count rose, and may
+    /// return `Memory` at any time: the disk is then to be opened again. Takes the memory of the longest stored entry,
+    /// in which entries are put together.
     pub fn begin<D: Disk>(self, alloc: Global, disk: &mut D) -> Result<Appender, DiskFault>
         requires { IfSome (D.state disk.old).content
             (λ _. (version : version_value) × (pairs : List RecordPair) × EndsAt version pairs self (D.state disk.old)) }

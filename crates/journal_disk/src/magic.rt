@@ -6,7 +6,7 @@ ghost use Rattle.journal_disk.specs.Entries.{disk_magic_of, disk_magics};
 
 use wire_records::Version;
 
-// The magic of a disk of a version.
+// Returns the magic of a disk of a version.
 fn disk_magic(version: Version) -> [u8; 8]
     ensures { result ≡ disk_magic_of version }
 {
@@ -17,7 +17,7 @@ fn disk_magic(version: Version) -> [u8; 8]
     }
 }
 
-// The version of which the bytes begin as a disk. Constant cost.
+// Returns the version whose magic, as a disk's, the bytes begin with. Constant cost.
 pub(crate) fn disk_version(bytes: &[u8]) -> Option<Version>
     ensures exact { (version : version_value) → (result ≡ Some version)
         ↔ ((body : List ℕ) × BeginsWith disk_magics bytes.now version body) }
@@ -31,7 +31,7 @@ pub(crate) fn disk_version(bytes: &[u8]) -> Option<Version>
     }
 }
 
-// The magic of a version, and a closed gate.
+// Returns the magic of a version, and an unset commit byte.
 pub(crate) fn new_disk(version: Version) -> [u8; 9]
     ensures { result ≡ disk_magic_of version ++ 0 ∷ [] }
 {

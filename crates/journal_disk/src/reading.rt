@@ -1,4 +1,4 @@
-//! What stands behind a gate, read part by part.
+//! What follows a commit byte, read part by part.
 ghost use Rattle.std.specs.Prelude.{◌≡◌, ◌≤◌, ◌<◌, ◌+◌, ◌^◌, ◌++◌, ℕ, List, [], ◌∷◌, IfSome, IfOk, IfErr, OnErr, OnOk, Err, Ok, ◌⊎◌, ◌≢◌, length, take, drop, slice_index, IsErr, IsErrOf, true, false};
 ghost use Rattle.wire_fields.specs.Numbers.{unsigned};
 ghost use Rattle.flow_io.specs.Faults.{Blames};
@@ -13,7 +13,7 @@ use crate::pairs::LONGEST_PAIR;
 use disk_edge::Disk;
 use wire_fields::Cursor;
 
-// The byte at a place.
+// Returns the byte at a place.
 pub(crate) fn byte_at<D: Disk>(disk: &mut D, ahead: &mut Ahead, place: u64) -> Result<u8, DiskFault>
     requires inside { place + 1 ≤ ahead.old.size }
     requires piece { IfSome (D.state disk.old).content (IsPiece ahead.old) }
@@ -28,7 +28,7 @@ pub(crate) fn byte_at<D: Disk>(disk: &mut D, ahead: &mut Ahead, place: u64) -> R
     Ok(ahead.part(place, 1)[0])
 }
 
-// The number that four bytes spell.
+// Returns the number that four bytes encode.
 fn number_of(bytes: &[u8]) -> u32
     requires { length bytes.now ≡ 4 }
     ensures { bytes.now ≡ unsigned 4 result }
@@ -40,7 +40,7 @@ fn number_of(bytes: &[u8]) -> u32
     }
 }
 
-// The number at a place, of four bytes.
+// Returns the number in the four bytes at a place.
 pub(crate) fn number_at<D: Disk>(
     disk: &mut D,
     ahead: &mut Ahead,
@@ -60,8 +60,8 @@ pub(crate) fn number_at<D: Disk>(
     Ok(number_of(ahead.part(place, 4)))
 }
 
-// How many bytes a pair has that is framed at a place, as is stated there, where these are before the end and no more than those of the
-// longest: then they are read ahead.
+// Returns the length that is stated at a place, if the entry after it ends before `end` and isn't longer than the
+// longest: then its bytes are read ahead.
 pub(crate) fn stated_at<D: Disk>(
     disk: &mut D,
     ahead: &mut Ahead,

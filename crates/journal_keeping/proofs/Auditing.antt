@@ -1,4 +1,4 @@
--- The pairs that a disk keeps, audited one after the other: none yet, one more, and one that isn't legal.
+-- Auditing the entries that a disk keeps, one after the other: none yet, one more, and one that isn't valid.
 use Rattle.std.proofs.Common.{◌≡◌, ◌⊎◌, ⊎_elim, ℕ, ◌+◌, length-append, List, [], ◌∷◌, ◌++◌, Option, Some, None, IfSome, length, map, sym, ap, subst, ◌∙◌, arith}
 use Rattle.std.proofs.lemmas.List.{map-append}
 use Rattle.std.proofs.lemmas.List.Elements.{All-append, All-cons, All-nil}
@@ -27,7 +27,7 @@ use Rattle.journal_keeping.proofs.Serving.{right_more}
 abbrev Pairs : Type 0
 Pairs = List (Pair Record Outcome)
 
--- what two facts of the bytes say of them, where they are told
+-- what two facts about the bytes say together, if the content is known
 pub by_both : (content now : Option (List ℕ)) (P Q R : List ℕ → Type 0) → now ≡ content → IfSome content P → IfSome now Q → ((bytes : List ℕ) → Q bytes → P bytes → R bytes) → IfSome content R
 by_both content now P Q R same first second both = over content first (subst (λ (o : Option (List ℕ)). IfSome o Q) same second)
   where
@@ -39,7 +39,7 @@ module _ (version : Version) where
   pub none_read : (market : Market) → market ≡ empty_market version → IsKeptJournal version [] market
   none_read market new = record { each = All-nil IsPair; steps = new }
 
-  -- one pair more
+  -- one more valid entry
   pub one_read : (legal : Pairs) (old new : Market) (p : RecordPair) → IsKeptJournal version legal old → IsRecordPair p → IsLegalPair old p new
       → (more : Pairs) × IsKeptJournal version more new × (length more ≡ length legal + 1) × (map records_of legal ++ p ∷ [] ≡ map records_of more)
   one_read legal old new p is lawful one =
@@ -67,7 +67,7 @@ module _ (version : Version) where
     pub stops_damaged : IfSome now.content (IsDamagedAt place) → StopsAs version (Damaged place) bytes
     stops_damaged damage = (legal, market, begins, there (IsDamagedAt place) damage)
 
-    -- a fault of looking there
+    -- a fault in finding the next entry
     pub stops_finding : (fault : DiskFault) → IfSome now.content (FindsNone fault place) → StopsAs version (kept_fault fault) bytes
     stops_finding disk.Failed finds = tt
     stops_finding disk.Memory finds = tt
@@ -76,7 +76,7 @@ module _ (version : Version) where
         let damage = there (FindsNone (disk.Damaged at) place) finds in
         (legal, market, subst (λ (n : ℕ). BeginsLegal version bytes legal market n) (sym damage.0) begins, rw damage.0 damage.1)
 
-    -- a pair that isn't legal, or one whose audit wanted memory
+    -- an entry that isn't valid, or whose audit ran out of memory
     pub stops_judged : (fault : KeepFault) (number : ℕ) (pair : RecordPair) → number ≡ length legal + 1 → IfSome now.content (λ l. (rest : List ℕ) × HasEntryAt place pair rest l)
         → (fault ≡ Rejected number) ⊎ (fault ≡ Memory) → (fault ≡ Rejected number → IsIllegalPair market pair) → StopsAs version fault bytes
     stops_judged fault number pair counted stands refused illegal =

@@ -1,4 +1,4 @@
--- A disk that is opened, up to the gate behind its pairs.
+-- A disk that is opened, up to the commit byte after its entries.
 use Rattle.std.proofs.Common.{◌≡◌, ◌⊎◌, ⊎_elim, inl, inr, ℕ, ◌≤◌, ◌<◌, List, [], ◌∷◌, ◌++◌, Option, Some, None, IfSome, IsSome, Result, Err, length, map, drop, refl, sym, ap, subst, ◌∙◌, arith}
 use Rattle.wire_records.specs.Records.{Record}
 use Rattle.wire_records.specs.Commands.{Pair}
@@ -32,14 +32,14 @@ use Rattle.journal_keeping.proofs.Opened.{has_them, one_kept}
 abbrev Pairs : Type 0
 Pairs = List (Pair Record Outcome)
 
--- each fault of the journal on the disk is one at the opening
+-- each fault of the journal on the disk is a fault of opening
 pub fault_of_disk : (fault : DiskFault) → IsOfDisk (kept_fault fault)
 fault_of_disk disk.Failed = tt
 fault_of_disk disk.NotDisk = tt
 fault_of_disk (disk.Damaged place) = tt
 fault_of_disk disk.Memory = tt
 
--- ---- what the bytes stand for
+-- ---- what the bytes represent
 
 ends_have : (version : Version) (pairs : List RecordPair) (place : ℕ) (disk : DiskState) (bytes : List ℕ) → EndsAt version pairs place disk → disk.content ≡ Some bytes → HasEntries version pairs bytes
 ends_have version pairs place disk bytes ends told =
@@ -60,7 +60,7 @@ stops_opened version held next NotFlow long known same stops = absurd stops
 stops_opened version held next (Torn place) long known same stops = absurd stops
 stops_opened version held next TooLong long known same stops = absurd stops
 
--- and one behind whose pairs nothing could be begun
+-- after a failed call, or out of memory, nothing is said of the bytes
 not_begun : (held : List ℕ) (next : DiskState) (fault : DiskFault) → (fault ≡ disk.Failed) ⊎ (fault ≡ disk.Memory) → OpensNot held next (kept_fault fault)
 not_begun held next fault refused = ⊎_elim
     (λ (is : fault ≡ disk.Failed). subst (λ (f : DiskFault). OpensNot held next (kept_fault f)) (sym is) tt)
@@ -89,7 +89,7 @@ is_failed disk.Memory e = absurd cc
 abbrev pub Opens : Version → DiskState → DiskState → Pairs → Type 0
 Opens version start now old = AtEachMoment start now (λ image. start.images image ⊎ StandsForJournal version old image)
 
--- a disk that was only looked at is still such a disk
+-- a disk that held a valid journal and was only looked at still holds it
 pub looked_legal : (version : Version) (old : Pairs) (market : Market) (start next : DiskState) → HoldsLegal start version old market → OnlyLooks start next → HoldsLegal next version old market
 looked_legal version old market start next holds looks = record {
   bytes = holds.bytes;
@@ -118,11 +118,11 @@ module _ (start : DiskState) (v : Version) (old : Pairs) (market : Market) (hold
   stands_there : (held : List ℕ) → start.content ≡ Some held → StandsForJournal v old held
   stands_there held told = subst (StandsForJournal v old) (same_bytes held told) holds.stands
 
-  -- another new disk in place of a new one
+  -- a new disk has no old entries
   pub new_again : (held : List ℕ) → start.content ≡ Some held → length held ≤ 9 → old ≡ []
   new_again held told short = no_pairs old (⊎_elim (λ new. new.none) (λ has. short_none v (map records_of old) held short has) (stands_there held told))
 
-  -- what was opened are the old pairs, of this version
+  -- what was opened are the old entries, of this version
   pub opened_old : (held : List ℕ) → start.content ≡ Some held → (version : Version) (legal : Pairs) (m : Market) → IsOpening held (Legal version legal m) → (v ≡ version) × (old ≡ legal) × (market ≡ m)
   opened_old held told version legal m is =
       let has = has_them v (map records_of old) held is.0 (stands_there held told) in
@@ -130,7 +130,7 @@ module _ (start : DiskState) (v : Version) (old : Pairs) (market : Market) (hold
       let one = one_kept v old market holds.journal legal m (subst (λ (x : Version). IsKeptJournal x legal m) (sym same) is.2) (one_list v version (map records_of old) (map records_of legal) held (stands_there held told) (inr is.3)) in
       (same, one.0, one.1)
 
-  -- then what stands behind them was cut off
+  -- opening leaves the old entries, and cuts off what follows them
   begins_on : (held : List ℕ) (mid next : DiskState) (version : Version) (m : Market) (place : ℕ) → start.content ≡ Some held → OnlyLooks start mid → IsReadUp held version m place mid
       → ((w : Version) (pairs : List RecordPair) → EndsAt w pairs place mid → AtEachMoment mid next (StandsFor w pairs)) → Opens v start next old
   begins_on held mid next version m place told looks read moments =
@@ -151,7 +151,7 @@ module _ (start : DiskState) (v : Version) (old : Pairs) (market : Market) (hold
       let none = new_again holds.bytes holds.told is.0 in
       weaker start next _ _ (λ image short. inr (inl (record { short = short; none = ap (map records_of) none }))) (moments holds.bytes holds.told is.2)
 
-  -- in which version it goes on, and that the old pairs stand there
+  -- in which version the run continues, with the old entries
   begun_is : (held : List ℕ) (next : DiskState) (of : Version) (m : Market) (place : ℕ) → start.content ≡ Some held → IsBegun held of m place next
       → GoesOnIn start v market of m × IsKeptJournal of old m × Keeps of (map records_of old) place next
   begun_is held next of m place told (other, inl legal, at) =
@@ -172,9 +172,9 @@ module _ (start : DiskState) (v : Version) (old : Pairs) (market : Market) (hold
   begun_known next of m place begun =
       begun_is holds.bytes next of m place holds.told (subst (λ (o : Option (List ℕ)). IfSome o (λ (held : List ℕ). IsBegun held of m place next)) holds.told begun)
 
--- ---- where the disk tells what it holds
+-- ---- if the disk's content is known
 
--- what was read up to the gate can be begun
+-- a disk that was read up to the commit byte can be begun
 pub can_begin : (content now : Option (List ℕ)) (version : Version) (m : Market) (place : ℕ) (mid : DiskState) → now ≡ content → IfSome content (λ held. IsReadUp held version m place mid) → IfSome now (λ _. (w : Version) × (pairs : List RecordPair) × EndsAt w pairs place mid)
 can_begin content None version m place mid told read = tt
 can_begin None (Some bytes) version m place mid told read = absurd cc
@@ -184,17 +184,17 @@ pub begun : (content : Option (List ℕ)) (version : Version) (m : Market) (plac
 begun None version m place later mid next read keeps = tt
 begun (Some held) version m place later mid next read keeps = (read.0, inl read.1, keeps version (map records_of read.0) read.2)
 
--- a new one was begun
+-- a new disk was begun
 pub begun_new : (content : Option (List ℕ)) (version : Version) (m : Market) (place : ℕ) (start next : DiskState) → m ≡ empty_market version → IfSome content (λ held. IsFound None held start) → IfSome content (λ _. Keeps version [] place next) → IfSome content (λ held. IsBegun held version m place next)
 begun_new None version m place start next is found keeps = tt
 begun_new (Some held) version m place start next is found keeps = ([], inr (found.0, refl, is), keeps)
 
--- the journal of the old pairs
+-- the old entries of a disk are a valid journal
 pub opens_journal : (held : List ℕ) (version : Version) (old : Pairs) (m : Market) → OpensAs held version old m → IsKeptJournal version old m
 opens_journal held version old m (inl legal) = legal.2
 opens_journal held version old m (inr new) = subst (λ (l : Pairs). IsKeptJournal version l m) (sym new.1) (none_read version m new.2)
 
--- what was begun can be served on
+-- a disk that was begun can be served on
 pub can_serve : (content now : Option (List ℕ)) (version : Version) (m : Market) (place : ℕ) (mid : DiskState) → (IsSome now → IsSome content) → IfSome content (λ held. IsBegun held version m place mid)
     → IfSome now (λ _. (w : Version) × (old : Pairs) × IsKeptJournal w old m × Keeps w (map records_of old) place mid)
 can_serve content None version m place mid told begun = tt
@@ -209,14 +209,14 @@ read_known version (Some held) mid next market from place first told is same fou
     let all = found (drop 8 held) (subst (λ (n : ℕ). Holds version [] n (drop 8 held) mid) (sym first) is.2) in
     (all.0, (is.0, is.1, all.1, ends_have version (map records_of all.0) place next held all.2 (same ∙ told)), all.2)
 
--- or up to where it is refused
+-- what was opened was read up to where it is refused
 pub stops_known : (version : Version) (content : Option (List ℕ)) (mid next : DiskState) (from : ℕ) (fault : KeepFault) → from ≡ 8 → mid.content ≡ content → IfSome content (λ held. IsFound (Some version) held mid) → next.content ≡ mid.content
     → ((rest bytes : List ℕ) → Holds version [] from rest mid → mid.content ≡ Some bytes → StopsAs version fault bytes) → IfSome content (λ held. OpensNot held next fault)
 stops_known version None mid next from fault first told is same stops = tt
 stops_known version (Some held) mid next from fault first told is same stops =
     stops_opened version held next fault is.0 is.1 (same ∙ told) (stops (drop 8 held) held (subst (λ (n : ℕ). Holds version [] n (drop 8 held) mid) (sym first) is.2) told)
 
--- ---- a disk that keeps no legal journal
+-- ---- a disk that keeps no valid journal
 
 pub untouched_so : (content : Option (List ℕ)) (P : Type 0) → P → IfSome content (λ held. KeepNone held → P)
 untouched_so None P p = tt
@@ -234,12 +234,12 @@ pub none_begun : (content : Option (List ℕ)) (version : Version) (m : Market) 
 none_begun None version m place mid P begun = tt
 none_begun (Some held) version m place mid P begun = λ none. absurd (not_begun_none held version begun.0 m begun.1 none)
 
--- nor is it new
+-- a disk that keeps no valid journal isn't new
 pub none_new : (content : Option (List ℕ)) (start : DiskState) (P : Type 0) → IfSome content (λ held. IsFound None held start) → IfSome content (λ held. KeepNone held → P)
 none_new None start P found = tt
 none_new (Some held) start P found = λ none. absurd (omega (arith, none.0, found.0))
 
--- such a disk holds the old pairs in the version in which it goes on
+-- a disk with a valid journal holds it in the version that the run continues with
 pub legal_in : (start : DiskState) (version : Version) (old : Pairs) (market : Market) → HoldsLegal start version old market → (of : Version) (m : Market) → GoesOnIn start version market of m → HoldsLegal start of old m
 legal_in start version old market holds of m (inl same) = subst (λ (x : Market). HoldsLegal start of old x) (sym same.1) (subst (λ (v : Version). HoldsLegal start v old market) (sym same.0) holds)
 legal_in start version old market holds of m (inr new) =

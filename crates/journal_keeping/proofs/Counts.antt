@@ -1,20 +1,20 @@
--- Counts of faults over several calls, and what a result hands on.
+-- Counts of faults over several calls.
 use Rattle.std.proofs.Common.{ℕ, Option, Some, None, IfSome, Result, Ok, Err, IfOk, IfErr, refl, subst, arith}
 use Rattle.flow_io.specs.Faults.{Blames}
 
--- where nothing was called
+-- nothing was called
 pub uncalled : (Blamed : Type 0) (n : ℕ) → (¬ Blamed) → Blames Blamed n n
 uncalled Blamed n not = record { later = omega arith; rose = λ b. absurd (not b); quiet = λ _. refl }
 
--- a call that went well
+-- a call that succeeded
 pub went_on : (First Blamed : Type 0) (a b : ℕ) → Blames First a b → (¬ First) → (¬ Blamed) → Blames Blamed a b
 went_on First Blamed a b first well not = record { later = first.later; rose = λ is. absurd (not is); quiet = λ _. first.quiet well }
 
--- a call that went well, and then another
+-- a call that succeeded, and then another
 pub later_call : (First Later : Type 0) (a b c : ℕ) → Blames First a b → (¬ First) → Blames Later b c → Blames Later a c
 later_call First Later a b c first well later = subst (λ (n : ℕ). Blames Later n c) (first.quiet well) later
 
--- the same to blame, in other words
+-- the blame under an equivalent condition
 pub blames_alike : (First Blamed : Type 0) (a b : ℕ) → (First → Blamed) → (Blamed → First) → Blames First a b → Blames Blamed a b
 blames_alike First Blamed a b to from first = record { later = first.later; rose = λ is. first.rose (from is); quiet = λ not. first.quiet (λ is. not (to is)) }
 

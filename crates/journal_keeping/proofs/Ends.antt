@@ -1,7 +1,7 @@
 -- How serving records onto a disk ends.
 use Rattle.std.proofs.Common.{◌≡◌, inl, inr, ℕ, ◌+◌, ◌≤◌, List, [], ◌∷◌, ◌++◌, Option, Result, Err, length, map, take, flat_map, refl, sym, ap, subst, ◌∙◌, arith}
 use Rattle.std.proofs.lemmas.List.{append-nil, map-append, take_all, take-append-le}
-use Rattle.flow_io.specs.Streams.{Grows, GrowsByFront}
+use Rattle.flow_io.specs.Streams.{Grows, GrowsByPrefix}
 use Rattle.flow_io.specs.Windows.{WindowState}
 use Rattle.flow_io.proofs.Growth.{Grows-more}
 use Rattle.wire_records.specs.Records.{Record}
@@ -26,12 +26,12 @@ use Rattle.journal_keeping.specs.Keeping.{Runs, StandIn}
 use Rattle.journal_keeping.specs.Private.{KeepsOneMore, IsServed, BreaksNext, Adds, SoFar, as_going, Names, IfEnded, ServesOn}
 use Rattle.journal_keeping.specs.Pacing.{asked_of}
 use Rattle.journal_keeping.proofs.Serving.{ended, failed, stand_whole}
-use Rattle.journal_keeping.proofs.Turns.{Pairs, own_is_right, kept_one_more}
+use Rattle.journal_keeping.proofs.Turns.{Pairs, canonical_is_admissible, kept_one_more}
 
 asked_more : (new : Pairs) (pair : Pair Record Outcome) → asked_of new ++ pair.asked ∷ [] ≡ asked_of (new ++ pair ∷ [])
 asked_more new pair = sym (map-append (λ (p : Pair Record Outcome). p.asked) new (pair ∷ []))
 
--- all of the pairs, and all but the last
+-- all of the entries
 pub take_every : (new : Pairs) → take (length new) (new ++ []) ≡ new
 take_every new = ap (λ (l : Pairs). take (length new) l) (append-nil new) ∙ take_all (length new) new (omega arith)
 
@@ -43,7 +43,7 @@ module _ (window : WindowState) (rest left : Option (List ℕ)) (start now : Dis
   abbrev Goes : Pairs → Result (Unit {0}) KeepFault → Type 0
   Goes more result = GoesFrom commands Adds (Names market new more) window rest left (as_going result) [] new tt tt
 
-  -- behind a pair, without a fault of disk or out
+  -- it ended after an entry, without a fault of the disk or the output
   pub serves_so : (result : Result (Unit {0}) KeepFault) → Goes [] result → ((P : Type 0) → P → IfEnded result P) → ServesOn window rest left result before from start now held holds
   serves_so result goes ends = record {
     new = new;
@@ -58,7 +58,7 @@ module _ (window : WindowState) (rest left : Option (List ℕ)) (start now : Dis
     ended = ends _ (refl, refl, λ version old is at. (place, (so.kept version old is at).keeps));
   }
 
-  -- at a pair that wasn't kept
+  -- it ended at an entry that wasn't kept
   pub serves_failed : (next : DiskState) (after : Market) (pair : Pair Record Outcome) (bytes : List ℕ) → IsDisk next → IsServed bytes market pair after
       → ((version : Version) (pairs : List RecordPair) → Keeps version pairs place now → AtEachMoment now next (WithOrWithout version pairs (records_of pair)))
       → Goes (pair ∷ []) (Err Disk) → ServesOn window rest left (Err Disk) before from start next held holds
@@ -72,16 +72,16 @@ module _ (window : WindowState) (rest left : Option (List ℕ)) (start now : Dis
     whole = ([], subst (Grows held holds) (sym (append-nil (flat_map pair_spelling new))) so.written);
     runs = λ version old is at.
         let kept = so.kept version old is at in
-        let right = own_is_right version (old ++ new) market pair after kept.goes_on.journal served.step in
+        let right = canonical_is_admissible version (old ++ new) market pair after kept.goes_on.journal served.step in
         subst (λ (l : List Record). Runs version start next old before l (new ++ pair ∷ []) (length new)) (asked_more new pair)
         (failed version start now next old before place (asked_of new) new market after pair kept is_disk served.fits served.step right (moments version (map records_of (old ++ new)) kept.keeps));
     written = subst (λ (l : Pairs). StandIn (◌≡◌ {A = Result (Unit {0}) KeepFault} (Err Disk) (Err Write)) held holds l) (sym (take_first new pair)) (stand_whole _ held holds new so.written);
     ended = tt;
   }
 
-  -- at one that was kept and not written whole
+  -- it ended at an entry that was kept, but not written completely
   pub serves_cut : (next : DiskState) (after : Market) (later : ℕ) (last : Option (List ℕ)) (pair : Pair Record Outcome) (bytes : List ℕ) → IsServed bytes market pair after
-      → KeepsOneMore pair place later now next → GrowsByFront holds last (pair_spelling pair)
+      → KeepsOneMore pair place later now next → GrowsByPrefix holds last (pair_spelling pair)
       → Goes (pair ∷ []) (Err Write) → ServesOn window rest left (Err Write) before from start next held last
   serves_cut next after later last pair bytes served keeps cut goes =
       let all = new ++ pair ∷ [] in

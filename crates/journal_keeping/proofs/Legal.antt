@@ -1,4 +1,4 @@
--- Fronts of legal journals, and what images stand for.
+-- Prefixes of valid journals, and what images represent.
 use Rattle.std.proofs.Common.{◌≡◌, ℕ, zero, suc, ◌+◌, List, [], ◌∷◌, ◌++◌, length, take, refl, sym, ap, subst, arith}
 use Rattle.std.proofs.lemmas.List.{take-append-le}
 use Rattle.std.proofs.lemmas.List.Elements.{All-take}
@@ -6,15 +6,15 @@ use Rattle.wire_records.specs.Records.{Record}
 use Rattle.wire_records.specs.Commands.{Pair}
 use Rattle.wire_records.specs.Versions.{IsReadAs}
 use Rattle.wire_records.specs.declared.version.Version.{Version}
-use Rattle.flow_orders.specs.Outcomes.{Outcome, IsRightOutcome}
+use Rattle.flow_orders.specs.Outcomes.{Outcome, IsAdmissibleOutcome}
 use Rattle.journal_records.specs.Pairs.{IsPair}
 use Rattle.market_rules.specs.Market.{Market, empty_market}
 use Rattle.market_rules.specs.Journal.{Follows}
 use Rattle.journal_keeping.specs.Keeping.{IsKeptJournal, StandsForJournal}
-use Rattle.journal_keeping.specs.Laws.{FrontsAreLegal, MorePairsStay, FirstsAreLegal}
+use Rattle.journal_keeping.specs.Laws.{PrefixesAreLegal, MorePairsStay, FirstsAreLegal}
 
 abbrev Leads : Market → List (Pair Record Outcome) → Market → Type 0
-Leads = Follows IsReadAs IsRightOutcome
+Leads = Follows IsReadAs IsAdmissibleOutcome
 
 front_leads : (old : Market) (pairs : List (Pair Record Outcome)) (new : Market) (count : ℕ) → Leads old pairs new → (mid : Market) × Leads old (take count pairs) mid
 front_leads old pairs new zero leads = (old, refl)
@@ -23,8 +23,8 @@ front_leads old (pair ∷ pairs) new (suc count) leads =
     let rest = front_leads leads.0 pairs new count leads.2 in
     (rest.0, (leads.0, leads.1, rest.1))
 
-pub fronts_are_legal : FrontsAreLegal
-fronts_are_legal version pairs market count is =
+pub prefixes_are_legal : PrefixesAreLegal
+prefixes_are_legal version pairs market count is =
     let front = front_leads (empty_market version) pairs market count is.steps in
     (front.0, record { each = All-take IsPair count pairs is.each; steps = front.1 })
 
@@ -36,7 +36,7 @@ more_pairs_stay version old new more least most later image fits grows keeps = (
   subst (λ (l : List (Pair Record Outcome)). StandsForJournal version (old ++ l) image) (sym (take-append-le keeps.0 new more (omega (arith, keeps.2, fits)))) keeps.3,
 )
 
--- a front of two lists
+-- a prefix of the second list after the first is a prefix of both
 front_of_both : (old new : List (Pair Record Outcome)) (count : ℕ) → (n : ℕ) × (old ++ take count new ≡ take n (old ++ new))
 front_of_both [] new count = (count, refl)
 front_of_both (pair ∷ old) new count =
@@ -46,5 +46,5 @@ front_of_both (pair ∷ old) new count =
 pub firsts_are_legal : FirstsAreLegal
 firsts_are_legal version old new before after records least most image on keeps =
     let both = front_of_both old new keeps.0 in
-    let front = fronts_are_legal version (old ++ new) after both.0 on.journal in
+    let front = prefixes_are_legal version (old ++ new) after both.0 on.journal in
     (version, old ++ take keeps.0 new, front.0, subst (λ (l : List (Pair Record Outcome)). IsKeptJournal version l front.0) (sym both.1) front.1, keeps.3)

@@ -1,4 +1,4 @@
--- How long keeping records leaves a disk.
+-- How many bytes keeping records leaves on a disk.
 use Rattle.std.proofs.Common.{◌≡◌, inl, inr, ℕ, ◌+◌, ◌-◌, ◌*◌, ◌≤◌, List, [], ◌∷◌, ◌++◌, Option, Some, None, IfSome, length, length-append, length-drop, drop, refl, sym, ap, subst, arith}
 use Rattle.flow_io.specs.Streams.{Takes}
 use Rattle.flow_io.specs.Windows.{WindowState, Fills}
@@ -16,12 +16,12 @@ use Rattle.journal_keeping.specs.Lengths.{BringsAtMost, GrowsAtMost, HasYetAtMos
 
 -- ---- the bytes that may be served yet
 
--- what is held is among them
+-- the held bytes are among those that may be served
 yet_held : (count : ℕ) (window : WindowState) (rest : Option (List ℕ)) → window.place + length window.held ≤ window.limit → HasYetAtMost count window rest → length window.held ≤ count
 yet_held count window rest inside (inl up) = omega (arith, inside, up)
 yet_held count window rest inside (inr held) = omega (arith, held.2)
 
--- a record was taken off the front
+-- a record was taken
 yet_taken : (n count : ℕ) (window : WindowState) (rest : Option (List ℕ)) → n ≤ length window.held → HasYetAtMost count window rest
     → HasYetAtMost (count - n) (record window { held = drop n window.held; place = window.place + n }) rest
 yet_taken n count window rest few (inl up) = inl (omega (arith, up))
@@ -36,14 +36,14 @@ left_less joined (Some bytes) (Some more) left takes is =
     let same : bytes ≡ left = cc in
     (more, refl, omega (arith, ap length takes, ap length same, length-append joined more))
 
--- more was read
+-- more was read into the window
 yet_read : (count : ℕ) (old new : WindowState) (before after : Option (List ℕ)) → Fills old new before after → HasYetAtMost count old before → HasYetAtMost count new after
 yet_read count old new before after fills (inl up) = inl (omega (arith, up, ap (λ (w : WindowState). w.limit) fills.holds, ap (λ (w : WindowState). w.place) fills.holds))
 yet_read count old new before after fills (inr held) =
     let less = left_less (fills.joined ++ fills.past) before after held.0 fills.taken held.1 in
     inr (less.0, less.1, omega (arith, held.2, less.2, length-append fills.joined fills.past, length-append old.held fills.joined, ap (λ (w : WindowState). length w.held) fills.holds))
 
--- behind the magic
+-- the window is after the magic
 yet_behind : (limit count : ℕ) (version : Version) (window : WindowState) (content after : Option (List ℕ)) → IsBehindMagic limit version window content after → BringsAtMost limit content count → HasYetAtMost count window after
 yet_behind limit count version window content after behind (inl up) = inl (omega (arith, up, behind.limited))
 yet_behind limit count version window content after behind (inr held) =
@@ -52,7 +52,7 @@ yet_behind limit count version window content after behind (inr held) =
 
 -- ---- while records are served
 
--- The bytes that may be served yet have room up to the same place, and the disk reaches no further.
+-- All bytes that may still be served have places on the disk up to the same bound, and the disk reaches no further.
 abbrev pub StaysWithin : WindowState → Option (List ℕ) → WindowState → Option (List ℕ) → ℕ → ℕ → DiskState → DiskState → Type 0
 StaysWithin first before window rest from place start now =
     (count : ℕ) → HasYetAtMost count first before → (left : ℕ) × HasYetAtMost left window rest × (place + 263183 * left ≤ from + 263183 * count) × ReachesAtMost (from + 263183 * count + 1) start now
@@ -62,7 +62,7 @@ within_none window rest from start is_disk = λ count yet. (count, yet, omega ar
 
 module _ (first window : WindowState) (before rest : Option (List ℕ)) (from place : ℕ) (start now next : DiskState) (stays : StaysWithin first before window rest from place start now)
     (inside : window.place + length window.held ≤ window.limit) (is_disk : IsDisk now) (reach : (left : ℕ) → length window.held ≤ left → ReachesAtMost (place + 263183 * left + 1) now next) where
-  -- after a turn, whatever it did
+  -- after a pass of the loop, whatever it did
   pub within_end : (count : ℕ) → HasYetAtMost count first before → ReachesAtMost (from + 263183 * count + 1) start next
   within_end count yet =
       let now_at = stays count yet in
@@ -91,12 +91,12 @@ module _ (first window : WindowState) (before rest : Option (List ℕ)) (from pl
 
 -- ---- the whole call
 
--- where nothing was served
+-- nothing was served
 pub grows_none : (limit : ℕ) (content : Option (List ℕ)) (start end : DiskState) → ReachesAtMost 9 start end → GrowsAtMost limit content start end
 grows_none limit content start end reach = λ most count nine short brings.
     weaker start end (HasAtMost most) (HasAtMost (most + 263183 * count)) (λ image le. omega (arith, le)) (reach most nine short)
 
--- the closed gate is among the bytes that a crash leaves
+-- the commit byte that isn't set is among the bytes that a crash leaves
 last_gate : (version : Version) (pairs : List RecordPair) (place most : ℕ) (disk : DiskState) → IsDisk disk → Keeps version pairs place disk → LeavesAtMost most disk → place + 1 ≤ most
 last_gate version pairs place most disk is_disk keeps short =
     let bytes = entries version pairs ++ keeps.0 ∷ [] in

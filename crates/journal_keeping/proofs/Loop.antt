@@ -1,4 +1,4 @@
--- One turn of the loop that serves and keeps.
+-- One pass of the loop that serves and keeps.
 use Rattle.std.proofs.Common.{ℕ, ◌≤◌, List, [], ◌∷◌, ◌++◌, Option, length, length-append, refl, ap, ◌∙◌, arith}
 use Rattle.wire_records.specs.Formats.{commands}
 use Rattle.market_rules.specs.Market.{Market}
@@ -19,6 +19,6 @@ takes_one new one = record {
   step = (one.pair, refl, refl);
 }
 
--- all of which is there
+-- the record that was served is within the bytes
 pub size_within : {n : ℕ} {bytes : List ℕ} {old next : Market} {from to : ℕ} {disk later : DiskState} {before after : Option (List ℕ)} (one : TakesNext n bytes old next from to disk later before after) → n ≤ length bytes
 size_within one = omega (arith, one.size, ap length one.served.front, length-append (commands.units.spell one.pair.asked) one.served.rest)

@@ -1,4 +1,4 @@
--- A source that is opened behind its magic.
+-- A source that is opened, and read past its magic.
 use Rattle.std.proofs.Common.{◌≡◌, ◌↔◌, ℕ, ◌+◌, ◌-◌, ◌≤◌, ◌<◌, List, [], ◌++◌, Option, Some, None, IfSome, length, take, drop, refl, sym, ap, subst, ◌∙◌, arith, append-nil, length-append, length-take, take-append-drop}
 use Rattle.std.proofs.lemmas.List.{take_at, drop_at, take-append-le}
 use Rattle.flow_io.specs.Streams.{Takes, TakesAtMost}
@@ -97,7 +97,7 @@ module _ (limit : ℕ) (filled : WindowState) (before after : Option (List ℕ))
   pub unread_few : filled.over ≡ None → length filled.held < 8 → IfSome before (λ bytes. (n : ℕ) × IsTaken bytes after n × (n < 8))
   unread_few open_still few = counted before after filled.held (λ n. n < 8) (takes_held (λ is. not_limit (sym open_still ∙ is))) few
 
-  -- the magic stands there
+  -- the bytes begin with the magic
   pub behind_magic : (version : Version) (window : WindowState) (body : List ℕ) → filled.over ≡ None → BeginsWith commands.magics filled.held version body
       → window ≡ record filled { held = drop 8 filled.held; place = filled.place + 8 } → length filled.held ≤ filled.room → IsBehindMagic limit version window before after
   behind_magic version window body open_still magic advanced few = record {

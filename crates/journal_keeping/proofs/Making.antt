@@ -1,4 +1,4 @@
--- A new disk is made behind the magic of a source.
+-- A new disk is made after the magic of a source was taken.
 use Rattle.std.proofs.Common.{◌≡◌, ◌⊎◌, inl, inr, ℕ, ◌+◌, ◌-◌, ◌≤◌, List, [], ◌++◌, Option, Some, None, IfSome, Result, Ok, Err, length, take, refl, ap, subst, ◌∙◌, arith, append_assoc, length-append}
 use Rattle.std.specs.Prelude.{IfErr}
 use Rattle.std.proofs.Math.Seq.{take-append-add}
@@ -31,7 +31,7 @@ pub kept_not_new : (content : Option (List ℕ)) (found : Option Version) (versi
 kept_not_new None found version disk P is finds = tt
 kept_not_new (Some held) found version disk P is finds = λ short. absurd (omega (arith, (subst (λ (o : Option Version). IsFound o held disk) is finds).0, short))
 
--- it was looked at before
+-- the disk was only looked at before
 pub looked_first : (a b c : DiskState) (P : Type 0) → OnlyLooks a b → OnlyLooks b c ⊎ P → OnlyLooks a c ⊎ P
 looked_first a b c P first (inl second) = inl (looks_more a b c first second)
 looked_first a b c P first (inr p) = inr p

@@ -1,18 +1,18 @@
--- The record at the front is served: its pair is one that may be kept.
+-- The first record is served: its entry may be kept.
 use Rattle.std.proofs.Common.{◌≡◌, ◌⊎◌, ⊎_elim, ◌+◌, ◌-◌, ◌*◌, ◌<◌, ◌≤◌, ◌^◌, ℕ, List, [], ◌∷◌, ◌++◌, Option, IsSome, length, length-append, drop, refl, sym, ap, subst, ◌∙◌, arith}
-use Rattle.flow_io.specs.Streams.{Grows, GrowsByFront}
+use Rattle.flow_io.specs.Streams.{Grows, GrowsByPrefix}
 use Rattle.wire_records.specs.Records.{Record, spelling}
 use Rattle.wire_records.proofs.Spelled.{length-spelling}
 use Rattle.wire_records.specs.Commands.{Pair}
 use Rattle.wire_records.specs.Formats.{commands}
 use Rattle.wire_records.specs.declared.version.Version.{Version}
 use Rattle.flow_orders.specs.Outcomes.{Outcome}
-use Rattle.journal_records.specs.Pairs.{IsPair}
+use Rattle.journal_records.specs.Pairs.{IsPair, longest_plain_pair}
 use Rattle.journal_records.specs.Formats.{records_of}
 use Rattle.market_rules.specs.Market.{Market}
-use Rattle.own_journals.proofs.LawProofs.{steps_number_one}
+use Rattle.canonical_journals.proofs.LawProofs.{steps_number_one}
 use Rattle.file_units.specs.Units.{TakesOne}
-use Rattle.exchange_session.specs.Serving.{Puts, HasNumbers, WantsNext}
+use Rattle.exchange_session.specs.Serving.{Puts, HasNumbers, AllocatesNext}
 use Rattle.disk_edge.specs.Disks.{DiskState, AtEachMoment}
 use Rattle.journal_disk.specs.Pairs.{RecordPair, IsRecordPair, pair_bytes, IsWholePair}
 use Rattle.journal_disk.specs.Entries.{WithOrWithout}
@@ -22,16 +22,16 @@ use Rattle.journal_disk.proofs.Entries.{pair_short}
 use Rattle.journal_disk.proofs.Lengths.{reach_wider}
 use Rattle.journal_keeping.specs.declared.fault.KeepFault.{KeepFault}
 use Rattle.journal_keeping.specs.declared.fault.KeepFault.TheVariants.{Disk, Write}
-use Rattle.journal_keeping.specs.Private.{KeepsOneMore, IsServed, TakesNext, BreaksNext, HasWanting}
+use Rattle.journal_keeping.specs.Private.{KeepsOneMore, IsServed, TakesNext, BreaksNext, HasAllocating}
 use Rattle.journal_keeping.proofs.Turns.{is_record_pair, same_bytes, is_whole}
 
--- a record at the front of bytes leaves as many fewer, and takes five at least
+-- a record takes at least five bytes, and no more than there are
 record_within : (bytes : List ℕ) (r : Record) (taken : ℕ) → taken ≡ length (spelling r) → bytes ≡ spelling r ++ drop taken bytes → (taken ≤ length bytes) × (5 ≤ taken)
 record_within bytes r taken size front = (omega (arith, size, ap length front, length-append (spelling r) (drop taken bytes)), omega (arith, size, length-spelling r))
 
--- want of memory where the buffer has the room of the longest plain pair: the record may want it
-pub has_wanting : (old : Market) (bytes : List ℕ) (room : ℕ) → 1042 ≤ room → WantsNext old bytes room → HasWanting old bytes
-has_wanting old bytes room enough next = (next.asked, next.rest, (next.lawful, next.front), ⊎_elim (λ (small : room < 1042). absurd (omega (arith, small, enough))) (λ wants. wants) next.wants)
+-- if memory ran out with a buffer for the longest plain entry, the record may allocate
+pub has_allocating : (old : Market) (bytes : List ℕ) (room : ℕ) → longest_plain_pair ≤ room → AllocatesNext old bytes room → HasAllocating old bytes
+has_allocating old bytes room enough next = (next.asked, next.rest, (next.lawful, next.front), ⊎_elim (λ (small : room < longest_plain_pair). absurd (omega (arith, small, enough))) (λ allocates. allocates) next.allocates)
 
 module _ (n : ℕ) (bytes : List ℕ) (old new : Market) (text : List ℕ) (one : TakesOne commands Puts n bytes old new [] text) (left : ℕ) (inside : length bytes ≤ left) (ready : HasNumbers old left) where
   abbrev pub pair_of : Pair Record Outcome
@@ -49,7 +49,7 @@ module _ (n : ℕ) (bytes : List ℕ) (old new : Market) (text : List ℕ) (one 
   pub whole : IsWholePair text
   whole = is_whole pair_of text fits one.step.spelled
 
-  -- the pair as two records, and its bytes
+  -- the entry as two records, and its bytes
   pub two_records : IsRecordPair (records_of pair_of)
   two_records = is_record_pair pair_of fits
 
@@ -71,7 +71,7 @@ module _ (n : ℕ) (bytes : List ℕ) (old new : Market) (text : List ℕ) (one 
   pub still_ready : (place later : ℕ) → place + 263183 * left ≤ 2 ^ 61 → later ≡ place + (5 + length text) → later + 263183 * (left - n) ≤ 2 ^ 61
   still_ready place later room moved = omega (arith, room, moved, ap length their_bytes, pair_short (records_of pair_of) two_records, within.0, within.1, inside)
 
-  -- behind any place, and within any bytes that are left, it has room in 263,183 bytes
+  -- at any place, and with any number of bytes left, the entry fits in 263,183 bytes for each byte of its record
   pub still_within : (place later other most : ℕ) → length bytes ≤ other → place + 263183 * other ≤ most → later ≡ place + (5 + length text) → later + 263183 * (other - n) ≤ most
   still_within place later other most fits room moved = omega (arith, room, moved, ap length their_bytes, pair_short (records_of pair_of) two_records, within.0, within.1, fits)
 
@@ -80,15 +80,15 @@ module _ (n : ℕ) (bytes : List ℕ) (old new : Market) (text : List ℕ) (one 
       reach_wider (place + (6 + length text)) (place + 263183 * other + 1) disk later
       (omega (arith, ap length their_bytes, pair_short (records_of pair_of) two_records, within.0, within.1, fits))
 
-  -- where it wasn't kept, or not written whole
+  -- the entry wasn't kept, or not written completely
   pub breaks : (from to : ℕ) (disk later : DiskState) (before after : Option (List ℕ)) (SameDisk SameOut : Type 0) (fault : KeepFault) → (fault ≡ Disk) ⊎ (fault ≡ Write) → (fault ≡ Disk → SameOut)
       → ((version : Version) (pairs : List RecordPair) → Keeps version pairs from disk → AtEachMoment disk later (WithOrWithout version pairs (records_of pair_of)))
-      → (fault ≡ Write → (version : Version) (pairs : List RecordPair) → Keeps version pairs from disk → Keeps version (pairs ++ records_of pair_of ∷ []) to later) → (fault ≡ Write → GrowsByFront before after text)
+      → (fault ≡ Write → (version : Version) (pairs : List RecordPair) → Keeps version pairs from disk → Keeps version (pairs ++ records_of pair_of ∷ []) to later) → (fault ≡ Write → GrowsByPrefix before after text)
       → BreaksNext bytes old from to disk later before after SameDisk SameOut fault
   breaks from to disk later before after SameDisk SameOut fault refused silent moments keeps cut =
       let there : IsServed bytes old pair_of new = record { lawful = one.lawful; rest = drop n bytes; front = one.front; step = one.step.step; fits = fits } in
       ⊎_elim
       (λ (is : fault ≡ Disk). subst (λ (f : KeepFault). BreaksNext bytes old from to disk later before after SameDisk SameOut f) (sym is) (silent is, pair_of, new, there, moments))
       (λ (is : fault ≡ Write). subst (λ (f : KeepFault). BreaksNext bytes old from to disk later before after SameDisk SameOut f) (sym is)
-      (pair_of, new, there, record { keeps = keeps is; moments = moments }, subst (λ (l : List ℕ). GrowsByFront before after l) one.step.spelled (cut is)))
+      (pair_of, new, there, record { keeps = keeps is; moments = moments }, subst (λ (l : List ℕ). GrowsByPrefix before after l) one.step.spelled (cut is)))
       refused

@@ -1,4 +1,4 @@
--- A disk's bytes are opened in one way.
+-- A disk's bytes are opened in at most one way.
 use Rattle.std.proofs.Common.{◌≡◌, ◌⊎◌, ⊎_elim, inl, inr, ℕ, ◌+◌, ◌≤◌, ◌<◌, ◌^◌, List, [], ◌∷◌, ◌++◌, length, map, refl, sym, ap, subst, ◌∙◌, arith, append_assoc}
 use Rattle.std.proofs.lemmas.List.{append-nil}
 use Rattle.std.specs.List.{AllByRecursion}
@@ -33,7 +33,7 @@ not_both : {bytes : List ℕ} → IsForeign bytes → ¬ (length bytes ≤ 9)
 not_both (inl large) short = omega (arith, large, short)
 not_both (inr foreign) short = omega (arith, foreign.0, short)
 
--- the bytes after a first part that is legal, and an illegal pair behind it
+-- the bytes are a valid journal, an invalid entry, and a rest
 record HasIllegal (version : Version) (bytes : List ℕ) (legal : List (Pair Record Outcome)) (market : Market) (bad : RecordPair) (rest : List ℕ) : Type 0 where
   journal : IsKeptJournal version legal market
   each : AllByRecursion IsRecordPair (map records_of legal ++ bad ∷ [])
@@ -64,7 +64,7 @@ module _ (version : Version) (bytes : List ℕ) (small : length bytes ≤ 2 ^ 60
       (are_fronts version p q x y bytes a b is also) in
       starts ∙ ap (λ (l : List RecordPair). length (entries version l)) same ∙ sym begins
 
-  -- where there is damage behind legal pairs, none of those before it is illegal
+  -- if there is damage after valid entries, none of those entries is invalid
   no_illegal : (first : List (Pair Record Outcome)) (m : Market) (place : ℕ) (legal : List (Pair Record Outcome)) (n : Market) (bad : RecordPair) (rest : List ℕ)
       → BeginsLegal version bytes first m place → IsDamagedAt place bytes → HasIllegal version bytes legal n bad rest → ⊥
   no_illegal first m place legal n bad rest begins damage has =
@@ -76,7 +76,7 @@ module _ (version : Version) (bytes : List ℕ) (small : length bytes ≤ 2 ^ 60
       (λ more. not_rejected version first m begins.journal legal n bad more.0 has.journal (more.1 ∙ append_assoc l (bad ∷ []) more.0) has.illegal)
       (are_fronts version p q begins.rest rest bytes (kept_each first begins.journal.each) has.each begins.spelled has.spelled)
 
--- the first illegal pair is one
+-- there is one first invalid entry
 one_illegal : (version : Version) (bytes : List ℕ) (a : List (Pair Record Outcome)) (m : Market) (x : RecordPair) (rest : List ℕ) (b : List (Pair Record Outcome)) (n : Market) (y : RecordPair) (left : List ℕ) → HasIllegal version bytes a m x rest → HasIllegal version bytes b n y left → a ≡ b
 one_illegal version bytes a m x rest b n y left one other =
     let p = map records_of a in

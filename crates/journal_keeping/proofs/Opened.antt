@@ -1,4 +1,4 @@
--- Bytes that keep a legal journal are opened as that, and as nothing else.
+-- Bytes that keep a valid journal are opened as that, and as nothing else.
 use Rattle.std.proofs.Common.{◌≡◌, ◌⊎◌, ◌<◌, ◌≤◌, ◌^◌, inl, inr, ℕ, List, [], ◌∷◌, ◌++◌, length, map, All, refl, sym, ap, subst, ◌∙◌, arith, append_assoc}
 use Rattle.std.proofs.lemmas.List.{append-nil}
 use Rattle.std.proofs.lemmas.List.Elements.{recursion_from_All, All-map}
@@ -22,16 +22,16 @@ use Rattle.journal_keeping.specs.Keeping.{IsKeptJournal, StandsForJournal}
 use Rattle.journal_keeping.specs.Openings.{Opening, Foreign, New, Damaged, Rejected, Legal, BeginsLegal, IsOpening}
 use Rattle.journal_keeping.specs.Laws.{LegalIsOpened}
 
--- the two records of a pair of a journal are a pair that is kept
+-- the two records of an entry of a journal are an entry that may be kept
 pub kept_each : (pairs : List (Pair Record Outcome)) → All IsPair pairs → AllByRecursion IsRecordPair (map records_of pairs)
 kept_each pairs all = recursion_from_All IsRecordPair (map records_of pairs) (All-map IsRecordPair records_of pairs (λ k d in_list. ((all k d in_list).asked, (all k d in_list).answered)))
 
--- bytes that are not new have entries, where they stand for pairs
+-- bytes that are not new and represent entries have them
 pub has_them : (version : Version) (pairs : List RecordPair) (bytes : List ℕ) → 9 < length bytes → StandsFor version pairs bytes → HasEntries version pairs bytes
 has_them version pairs bytes long (inl new) = absurd (omega (arith, long, new.short))
 has_them version pairs bytes long (inr has) = has
 
--- a legal journal has one reading
+-- a valid journal is opened in one way
 module _ (version : Version) (pairs : List (Pair Record Outcome)) (market : Market) (journal : IsKeptJournal version pairs market) where
   all_judged : AreJudged version (map records_of pairs) pairs [] market
   all_judged = record { parts = sym (append-nil (map records_of pairs)); journal = journal; stops = tt }
@@ -46,7 +46,7 @@ module _ (version : Version) (pairs : List (Pair Record Outcome)) (market : Mark
       let one = one_judgement version (map records_of pairs) pairs legal [] [] market m all_judged (record { parts = same ∙ sym (append-nil (map records_of legal)); journal = is; stops = tt }) in
       (one.0, one.2)
 
--- the first pairs and their version
+-- valid first entries, under an equal version
 same_begins : (v w : Version) (bytes : List ℕ) (legal : List (Pair Record Outcome)) (m : Market) (place : ℕ) → v ≡ w → BeginsLegal v bytes legal m place → BeginsLegal w bytes legal m place
 same_begins v w bytes legal m place is begins = subst (λ (x : Version). BeginsLegal x bytes legal m place) is begins
 

@@ -1,4 +1,4 @@
--- What was read and written where keeping a journal ended.
+-- What was read and written when keeping a journal ended.
 use Rattle.std.proofs.Common.{◌≡◌, inl, inr, ℕ, ◌+◌, ◌-◌, ◌≤◌, ◌<◌, List, [], ◌∷◌, ◌++◌, Option, Some, None, IfSome, Result, Ok, Err, length, map, take, flat_map, refl, sym, ap, subst, ◌∙◌, arith, append_assoc, length-append}
 use Rattle.std.proofs.Math.Seq.{take-append-add}
 use Rattle.flow_io.specs.Streams.{Takes, TakesAtMost, Grows}
@@ -19,7 +19,7 @@ use Rattle.file_units.specs.Inputs.{known}
 use Rattle.disk_edge.specs.Disks.{DiskState}
 use Rattle.journal_keeping.specs.declared.fault.KeepFault.{KeepFault}
 use Rattle.journal_keeping.specs.declared.fault.KeepFault.TheVariants.{Read, Write, Disk, Memory, NotDisk, Damaged, Rejected, NotFlow, Torn, TooLong}
-use Rattle.journal_keeping.specs.Pacing.{asked_of, AnswersAll, IsNearPairs, IsNear, KeepsPace, WantsNext, RunsOut}
+use Rattle.journal_keeping.specs.Pacing.{asked_of, AnswersAll, IsNearPairs, IsNear, KeepsPace, AllocatesNext, RunsOut}
 use Rattle.journal_keeping.specs.Private.{Adds, Names, ServesOn}
 use Rattle.journal_keeping.specs.Beginning.{IsBegun, IsBehindMagic, Unread}
 use Rattle.journal_keeping.proofs.Turns.{Pairs}
@@ -64,7 +64,7 @@ all_left None left bytes takes none = tt
 all_left (Some b) None bytes takes none = absurd takes
 all_left (Some b) (Some l) bytes takes none = ap (λ (x : List ℕ). Some x) none
 
--- what stands behind the magic
+-- what follows the magic
 behind_it : (version : Version) (bytes first held taken m l : List ℕ) → bytes ≡ first ++ m → first ≡ (command_magic_of version) ++ held → m ≡ taken ++ l → bytes ≡ (command_magic_of version) ++ (held ++ (taken ++ l))
 behind_it version bytes first held taken m l opens magic takes =
     opens ∙ ap (λ (xs : List ℕ). xs ++ m) magic ∙ append_assoc (command_magic_of version) held m ∙ ap (λ (xs : List ℕ). (command_magic_of version) ++ (held ++ xs)) takes
@@ -90,7 +90,7 @@ module _ (limit : ℕ) (content mid left : Option (List ℕ)) (w : WindowState) 
       at_most content left (behind.first ++ on.goes.taken) (limit + 1) (all_taken on.goes.taken on.goes.takes)
       (omega (arith, length-append behind.first on.goes.taken, first_long, behind.few, on.goes.few, behind.limited, behind.place))
 
-  -- near the records whose pairs were written
+  -- near the records whose entries were written
   near_told : (o : Option (List ℕ)) (m l : Option (List ℕ)) (taken : List ℕ) (new : Pairs) (text : List ℕ) → Takes o m behind.first → Takes m l taken
       → BeginsWithAll (take (limit - 8) (w.held ++ known taken l)) (asked_of new) → Grows before after (flat_map pair_spelling new ++ text)
       → length (w.held ++ taken) ≤ length (spell_all commands.units (asked_of new)) + (w.room + 1) → IsNear limit o l before after
@@ -117,7 +117,7 @@ module _ (limit : ℕ) (content mid left : Option (List ℕ)) (w : WindowState) 
       (subst (λ (n : ℕ). BeginsWithAll (take n (w.held ++ known on.goes.taken left)) (asked_of on.new)) far first.0) on.whole.1
       (subst (λ (l : List Record). length (w.held ++ on.goes.taken) ≤ length (spell_all commands.units l) + (w.room + 1)) (sym first.1) few)
 
-  -- all that were taken
+  -- all records that were taken
   read_all : (o m l : Option (List ℕ)) (taken : List ℕ) (new : Pairs) (units : List Record) (rest : List ℕ) → Takes o m behind.first → Takes m l taken → asked_of new ≡ units
       → take (length (w.held ++ taken)) (take (limit - 8) (w.held ++ known taken l)) ≡ spell_all commands.units units ++ rest → BeginsWithNone commands.units rest → Grows before after (flat_map pair_spelling new)
       → IfSome o (λ bytes. (n : ℕ) × IsTaken bytes l n × AnswersAll (take n (take limit bytes)) before after)
@@ -173,7 +173,7 @@ module _ (limit : ℕ) (content mid left : Option (List ℕ)) (w : WindowState) 
   paced_served (Err (Torn n)) on = tt
   paced_served (Err TooLong) on = tt
 
-  -- and where memory may be wanted
+  -- a record that may allocate
   starts_where : (o : Option (List ℕ)) (taken : List ℕ) (records : List Record) → Takes o mid behind.first → Takes mid left taken → BeginsWithAll (take (limit - 8) (w.held ++ known taken left)) records
       → IfSome o (λ bytes. StartsWith commands limit bytes version records)
   starts_where None taken records opens takes all = tt
@@ -195,7 +195,7 @@ module _ (limit : ℕ) (content mid left : Option (List ℕ)) (w : WindowState) 
         next = wanting.0;
         starts = starts_where content on.goes.taken (asked_of on.new ++ wanting.0 ∷ []) behind.takes on.goes.takes
             (subst (λ (n : ℕ). BeginsWithAll (take n (w.held ++ known on.goes.taken left)) (asked_of on.new ++ wanting.0 ∷ [])) far wanting.1);
-        wants = wanting.2;
+        allocates = wanting.2;
         place = kept.0;
         keeps = kept.1;
         written = all_written (◌≡◌ {A = Result (Unit {0}) KeepFault} (Err Memory) (Err Write)) before after on.new on.more on.acknowledged memory_uncut on.ended.0 on.ended.1 on.written;

@@ -18,11 +18,11 @@ use Rattle.journal_keeping.specs.Pacing.{asked_of}
 use Rattle.journal_keeping.proofs.Turns.{Pairs}
 use Rattle.journal_keeping.proofs.Sources.{BeginsWithAll, all_to_end, all_to_break, longer, starts_with}
 
--- where no pair was at hand
+-- no further record was at hand
 none_more : (bytes : List ℕ) (new more : Pairs) → more ≡ [] → BeginsWithAll bytes (asked_of new) → BeginsWithAll bytes (asked_of (new ++ more))
 none_more bytes new more none all = subst (λ (l : Pairs). BeginsWithAll bytes (asked_of l)) (sym (ap (λ (m : Pairs). new ++ m) none ∙ append-nil new)) all
 
--- the bytes that were known from what a window held on begin with them
+-- the known bytes, from those that the window held on, begin with the served records
 pub served_first : (window : WindowState) (mid left : Option (List ℕ)) (result : Result (Unit {0}) KeepFault) (before : Market) (from : ℕ) (start end : DiskState) (held holds : Option (List ℕ)) (on : ServesOn window mid left result before from start end held holds)
     → BeginsWithAll (take (window.limit - window.place) (window.held ++ known on.goes.taken left)) (asked_of (on.new ++ on.more))
 served_first window mid left (Ok done) before from start end held holds on = none_more _ on.new on.more on.ended.0 (all_to_end _ _ _ _ on.new on.goes.goes.0)
@@ -38,7 +38,7 @@ served_first window mid left (Err (Damaged n)) before from start end held holds 
 served_first window mid left (Err (Rejected n)) before from start end held holds on = absurd on.ended
 served_first window mid left (Err NotFlow) before from start end held holds on = absurd on.ended
 
--- and so the source's, behind the magic
+-- the bytes of the source begin with the magic and the served records
 pub are_served : (version : Version) (limit : ℕ) (content mid left : Option (List ℕ)) (first held taken : List ℕ) (records : List Record) → Takes content mid first → BeginsWith commands.magics first version held → length first ≤ limit → Takes mid left taken
     → BeginsWithAll (take (limit - 8) (held ++ known taken left)) records → AreServed limit version content records
 are_served version limit None mid left first held taken records opens magic few takes all = inr tt

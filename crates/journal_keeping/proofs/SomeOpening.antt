@@ -1,4 +1,4 @@
--- Each disk is opened in some way.
+-- A disk's bytes are opened in some way.
 use Rattle.std.proofs.Common.{◌≡◌, ◌⊎◌, ⊎_elim, inl, inr, ℕ, zero, suc, ◌+◌, ◌≤◌, ◌<◌, ◌^◌, List, [], ◌∷◌, ◌++◌, length, drop, map, refl, sym, ap, subst, ◌∙◌, arith, length-append, length-drop}
 use Rattle.std.proofs.lemmas.Bool.{cases_eq}
 use Rattle.std.proofs.lemmas.List.{drop_at}
@@ -34,21 +34,21 @@ module _ (version : Version) (bytes : List ℕ) (long : 9 < length bytes) (known
   abbrev At : List (Pair Record Outcome) → Market → ℕ → Type 0
   At legal market place = BeginsLegal version bytes legal market place
 
-  -- what stands at the place of a gate
+  -- what follows the valid entries
   at_gate : (legal : List (Pair Record Outcome)) (market : Market) (place : ℕ) (begins : At legal market place) → drop place bytes ≡ begins.rest
   at_gate legal market place begins = ap (drop place) begins.spelled ∙ drop_at (entries version (map records_of legal)) begins.rest place (sym begins.begins)
 
-  -- nothing
+  -- nothing follows
   ended : (legal : List (Pair Record Outcome)) (market : Market) (place : ℕ) (begins : At legal market place) → begins.rest ≡ [] → Opens
   ended legal market place begins none =
       (Damaged place, (long, known, version, legal, market, begins, inl (omega (arith, ap length begins.spelled, length-append (entries version (map records_of legal)) begins.rest, ap length none, begins.begins))))
 
-  -- an open gate with no entry
+  -- a commit byte that is set, without an entry
   damaged : (legal : List (Pair Record Outcome)) (market : Market) (place : ℕ) (begins : At legal market place) (rest : List ℕ) → begins.rest ≡ 1 ∷ rest → (((p : RecordPair) × (behind : List ℕ) × HasEntryAt place p behind bytes) → ⊥) → Opens
   damaged legal market place begins rest is none =
       (Damaged place, (long, known, version, legal, market, begins, inr (rest, at_gate legal market place begins ∙ is, λ p behind has. none (p, behind, has))))
 
-  -- a legal pair more
+  -- one more valid entry
   one_more : (legal : List (Pair Record Outcome)) (market : Market) (place : ℕ) (begins : At legal market place) (p : RecordPair) (behind : List ℕ) → HasEntryAt place p behind bytes → (new : Market) → IsLegalPair market p new
       → (more : List (Pair Record Outcome)) × (next : ℕ) × (now : At more new next) × (now.rest ≡ behind)
   one_more legal market place begins p behind has new legal_pair =
@@ -60,14 +60,14 @@ module _ (version : Version) (bytes : List ℕ) (long : 9 < length bytes) (known
         refl,
       )
 
-  -- what goes on from so many bytes
+  -- after any valid entries with at most so many bytes left, the disk is opened in some way
   abbrev GoesOn : ℕ → Type 0
   GoesOn fuel = (legal : List (Pair Record Outcome)) (market : Market) (place : ℕ) (begins : At legal market place) (rest : List ℕ) → begins.rest ≡ rest → length rest ≤ fuel → IsNotDenied Opens
 
   abbrev Found : ℕ → Type 0
   Found place = (p : RecordPair) × (behind : List ℕ) × HasEntryAt place p behind bytes
 
-  -- behind an open gate
+  -- after a commit byte
   module _ (fuel : ℕ) (again : GoesOn fuel) (legal : List (Pair Record Outcome)) (market : Market) (place : ℕ) (begins : At legal market place) (gate : ℕ) (rest : List ℕ) (is : begins.rest ≡ gate ∷ rest) (few : length rest ≤ fuel) where
     at_pair : (p : RecordPair) (behind : List ℕ) (has : HasEntryAt place p behind bytes) → ((new : Market) × IsLegalPair market p new) ⊎ (((new : Market) × IsLegalPair market p new) → ⊥) → IsNotDenied Opens
     at_pair p behind has (inl legal_pair) =

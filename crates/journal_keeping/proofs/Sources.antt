@@ -15,7 +15,7 @@ use Rattle.wire_records.proofs.RecordCode.{eight}
 use Rattle.wire_records.specs.declared.version.Version.{Version}
 use Rattle.flow_orders.specs.Outcomes.{Outcome}
 use Rattle.market_rules.specs.Market.{Market}
-use Rattle.market_rules.specs.Wanting.{RecordMayWant}
+use Rattle.market_rules.specs.Allocating.{RecordMayAllocate}
 use Rattle.file_units.specs.Units.{Leads, GoesToEnd, GoesToBreak}
 use Rattle.file_units.specs.Inputs.{known}
 use Rattle.journal_keeping.specs.declared.fault.KeepFault.{KeepFault}
@@ -42,13 +42,13 @@ asked_are_units old (unit ∷ units) new x y leads =
     ∙ append_assoc (asked_of old) (step.0.asked ∷ []) units
     ∙ ap (λ (r : Record). asked_of old ++ r ∷ units) step.1
 
--- all that were taken
+-- all records that were taken
 pub all_to_end : (place : ℕ) (More : Type 0) (bytes : List ℕ) (ending : Ending) (new : Pairs) → GoesToEnd commands Adds place More bytes ending [] new tt tt → BeginsWithAll bytes (asked_of new)
 all_to_end place More bytes ending new goes =
     let is = asked_are_units [] goes.units new tt tt goes.leads in
     subst (λ (l : List Record). BeginsWithAll bytes l) (sym is) (record { rest = goes.reads.rest; whole = goes.reads.whole; each = goes.reads.each })
 
--- and the one at which it broke off
+-- all records that were taken, and the one at which it broke off
 pub all_to_break : (market : Market) (bytes : List ℕ) (fault : KeepFault) (new more : Pairs) → GoesToBreak commands Adds (Names market new more) bytes fault [] tt tt → BeginsWithAll bytes (asked_of (new ++ more))
 all_to_break market bytes fault new more goes =
     let off = goes.breaks in
@@ -66,16 +66,16 @@ all_to_break market bytes fault new more goes =
     }))
     named.1
 
--- those before it
+-- all records before the one at which it broke off
 pub all_before_break : (market : Market) (bytes : List ℕ) (fault : KeepFault) (new more : Pairs) (goes : GoesToBreak commands Adds (Names market new more) bytes fault [] tt tt)
     → BeginsWithAll bytes (asked_of new) × (asked_of new ≡ goes.units)
 all_before_break market bytes fault new more goes =
     let is : asked_of new ≡ goes.units = ap asked_of (sym goes.breaks.broken.0) ∙ asked_are_units [] goes.units goes.middle tt goes.between goes.leads in
     (subst (λ (l : List Record). BeginsWithAll bytes l) (sym is) (record { rest = goes.left; whole = goes.begins; each = goes.each }), is)
 
--- and with it, where it may want memory
+-- all records that were taken, and the one that may allocate
 pub all_to_wanting : (market : Market) (bytes : List ℕ) (new more : Pairs) → GoesToBreak commands Adds (Names market new more) bytes Memory [] tt tt
-    → (next : Record) × BeginsWithAll bytes (asked_of new ++ next ∷ []) × RecordMayWant market next
+    → (next : Record) × BeginsWithAll bytes (asked_of new ++ next ∷ []) × RecordMayAllocate market next
 all_to_wanting market bytes new more goes =
     let off = goes.breaks in
     let before = all_before_break market bytes Memory new more goes in (
@@ -90,7 +90,7 @@ all_to_wanting market bytes new more goes =
       off.broken.2 refl,
     )
 
--- what begins with them begins with them also where more is seen
+-- longer bytes begin with the same records
 pub longer : (n : ℕ) (bytes : List ℕ) (records : List Record) → BeginsWithAll (take n bytes) records → BeginsWithAll bytes records
 longer n bytes records all = record {
   rest = all.rest ++ drop n bytes;
@@ -98,7 +98,7 @@ longer n bytes records all = record {
   each = all.each;
 }
 
--- behind the magic, in the bytes of a source that tells them
+-- after the magic, in the known bytes of a source
 pub starts_with : (version : Version) (limit : ℕ) (bytes first held taken : List ℕ) (mid left : Option (List ℕ)) (records : List Record) → Takes (Some bytes) mid first → BeginsWith commands.magics first version held → length first ≤ limit → Takes mid left taken
     → BeginsWithAll (take (limit - 8) (held ++ known taken left)) records → StartsWith commands limit bytes version records
 starts_with version limit bytes first held taken None left records opens magic few takes all = absurd opens

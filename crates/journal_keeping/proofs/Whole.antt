@@ -1,4 +1,4 @@
--- What keeping a journal comes to, from what its parts did.
+-- What keeping a journal results in, from what its parts did.
 use Rattle.std.proofs.Common.{◌≡◌, ◌⊎◌, inl, inr, ℕ, ◌+◌, ◌-◌, ◌≤◌, ◌<◌, ◌^◌, List, [], ◌++◌, Option, Some, None, IfSome, Result, Ok, Err, length, map, take, flat_map, refl, sym, ap, subst, ◌∙◌, arith, rules, append_assoc, length-append}
 use Rattle.std.proofs.lemmas.List.{append-nil}
 use Rattle.std.proofs.Math.Seq.{take-append-add}
@@ -43,7 +43,7 @@ use Rattle.journal_keeping.proofs.Served.{served_first, are_served}
 use Rattle.journal_keeping.proofs.Begun.{Opens, opens_journal}
 use Rattle.journal_keeping.proofs.Magic.{counted}
 
--- ---- what a run does to the disk and to out
+-- ---- what a run does to the disk and to the output
 
 -- before the first record
 pub keeps_none : (limit : ℕ) (content : Option (List ℕ)) (Cut : Type 0) (version : Version) (start next : DiskState) (old : Pairs) (market : Market) (held : Option (List ℕ)) → IsKeptJournal version old market → IsDisk next → Opens version start next old
@@ -82,13 +82,13 @@ may_begin_again limit content Cut version start end old market held holds legal 
       told = legal_again end end.content refl is_disk.content returned;
     }
 
--- ---- a source that was read on behind its magic
+-- ---- a source that was read on after its magic
 
--- behind a magic
+-- reading on after a magic
 reads_at : (version : Version) (More : Type 0) (bytes : List ℕ) (units : List Record) (how : reading.Ending) → ReadsOn commands 8 More bytes units how → ReadsOn commands (length (command_magic_of version)) More bytes units how
 reads_at version More bytes units how reads = subst (λ (n : ℕ). ReadsOn commands n More bytes units how) (sym (eight version)) reads
 
--- what stands in it
+-- what a source with the version's magic is read as
 reads_kept : (version : Version) (limit : ℕ) (bytes first held taken : List ℕ) (mid left : Option (List ℕ)) (units : List Record) (how : reading.Ending) → Takes (Some bytes) mid first → BeginsWith commands.magics first version held → length first ≤ limit → Takes mid left taken
     → ReadsOn commands 8 (limit - 8 < length (held ++ known taken left)) (take (limit - 8) (held ++ known taken left)) units how → Reads commands limit bytes (reading.File version units how)
 reads_kept version limit bytes first held taken None left units how opens magic few takes reads = absurd opens
@@ -110,12 +110,12 @@ reads_where : (version : Version) (limit : ℕ) (content : Option (List ℕ)) (f
 reads_where version limit None first held taken mid left units how opens magic few takes reads = tt
 reads_where version limit (Some bytes) first held taken mid left units how opens magic few takes reads = reads_kept version limit bytes first held taken mid left units how opens magic few takes reads
 
--- ---- what out gained
+-- ---- what the output gained
 
 take_none : (n : ℕ) → take {A = ℕ} n [] ≡ []
 take_none n = search rules
 
--- all pairs whole
+-- all entries were written completely
 pub all_written : (Cut : Type 0) (held holds : Option (List ℕ)) (new more : Pairs) (acknowledged : ℕ) → (¬ Cut) → more ≡ [] → acknowledged ≡ length new → StandIn Cut held holds (take acknowledged (new ++ more)) → Grows held holds (flat_map pair_spelling new)
 all_written Cut held holds new more acknowledged not none all stands =
     let every : take acknowledged (new ++ more) ≡ new = ap (λ (n : ℕ). take n (new ++ more)) all ∙ ap (λ (m : Pairs). take (length new) (new ++ m)) none ∙ take_every new in
@@ -129,7 +129,7 @@ all_written Cut held holds new more acknowledged not none all stands =
     ∙ ap (λ (l : Pairs). flat_map pair_spelling l) whole in
     subst (λ (l : List ℕ). Grows held holds l) text stands.written.1
 
--- ---- by the answer
+-- ---- by the result
 
 -- nothing was served
 pub comes_not_begun : (limit : ℕ) (held : List ℕ) (content : Option (List ℕ)) (end : DiskState) (before : Option (List ℕ)) (fault : KeepFault) → NotBegun limit held content end fault → ComesTo limit held content end before before (Err fault)
@@ -157,7 +157,7 @@ not_begun_disk limit held content end NotFlow is = absurd is
 not_begun_disk limit held content end (Torn place) is = absurd is
 not_begun_disk limit held content end TooLong is = absurd is
 
--- and of a source, behind a disk that keeps pairs or a new one
+-- a fault at the opening of the source, with a disk that keeps entries or is new
 left_kept : (limit : ℕ) (held : List ℕ) (content : Option (List ℕ)) (end : DiskState) (version : Version) (old : Pairs) (m : Market) (place : ℕ) → IsOpening held (Legal version old m) → Keeps version (map records_of old) place end
     → IfSome content (λ bytes. IsNoneOf (Some version) (take limit bytes)) → NotBegun limit held content end NotFlow
 left_kept limit held content end version old m place is keeps none = λ before. (Grows-nothing before, inl (version, old, m, is, none, place, keeps))
@@ -179,7 +179,7 @@ not_begun_source wanted limit held content left end Write stays why = absurd why
 not_begun_source wanted limit held content left end (Torn n) stays why = absurd why
 not_begun_source wanted limit held content left end TooLong stays why = absurd why
 
--- behind a disk of a version that was opened as its own
+-- a fault at the opening of the source, with a disk of a version
 pub not_begun_kept : (version : Version) (limit : ℕ) (start : Option (List ℕ)) (content left : Option (List ℕ)) (at next : DiskState) (m : Market) (place : ℕ) (fault : KeepFault) → IfSome start (λ held. IsFound (Some version) held at) → IfSome start (λ held. IsBegun held version m place next)
     → IsOfSource (Some version) limit content left fault → IfSome start (λ held. NotBegun limit held content next fault)
 not_begun_kept version limit None content left at next m place fault found begun why = tt
@@ -191,7 +191,7 @@ pub not_begun_new : (limit : ℕ) (start : Option (List ℕ)) (content left : Op
 not_begun_new limit None content left at fault found why = tt
 not_begun_new limit (Some held) content left at fault found why = not_begun_source None limit held content left at fault (left_new limit held content at found.0 found.1 found.2) why
 
--- what was taken of the source
+-- what was taken of the source after a fault at its opening
 pub unread_source : (wanted : Option Version) (limit : ℕ) (content left : Option (List ℕ)) (fault : KeepFault) → IsOfSource wanted limit content left fault → Unread limit content left fault
 unread_source wanted limit content left NotFlow why = tt
 unread_source wanted limit content left Read why = why
@@ -220,7 +220,7 @@ unread_disk limit content TooLong is = absurd is
 pub unread_made : (limit : ℕ) (version : Version) (w : WindowState) (content left : Option (List ℕ)) → IsBehindMagic limit version w content left → Unread limit content left Disk
 unread_made limit version w content left behind = counted content left behind.first (λ n. n ≤ 1038) behind.takes (omega (arith, behind.held))
 
--- nothing was asked where the disk failed
+-- a fault of the source is no refusal of the disk
 pub asked_of_source : (wanted : Option Version) (limit : ℕ) (content left : Option (List ℕ)) (Same : Type 0) (fault : KeepFault) → IsOfSource wanted limit content left fault → Asked fault Same
 asked_of_source wanted limit content left Same NotFlow why = tt
 asked_of_source wanted limit content left Same Read why = tt
@@ -307,7 +307,7 @@ module _ (limit : ℕ) (held : List ℕ) (content : Option (List ℕ)) (begun : 
     long_uncut : ¬ (◌≡◌ {A = Result (Unit {0}) KeepFault} (Err TooLong) (Err Write))
     long_uncut e = absurd cc
 
-    -- it was served on
+    -- records were served
     pub comes_served : (result : Result (Unit {0}) KeepFault) → ServesOn w mid left result market place begun end before after → ComesTo limit held content end before after result
     comes_served (Ok done) on = all_kept (Ok done) ending.End on (done_uncut done) on.goes.goes.0 on.ended
     comes_served (Err (Torn n)) on = all_kept (Err (Torn n)) (ending.Torn n) on (torn_uncut n) on.goes.goes.0 on.ended
@@ -321,7 +321,7 @@ module _ (limit : ℕ) (held : List ℕ) (content : Option (List ℕ)) (begun : 
     comes_served (Err (Rejected n)) on = absurd on.ended
     comes_served (Err NotFlow) on = absurd on.ended
 
--- the records that were served are the source's first, and what became of disk and out
+-- the records that were served are the source's first, and what happened to the disk and the output
 pub keeps_served : (limit : ℕ) (content mid left : Option (List ℕ)) (w : WindowState) (of : Version) (behind : IsBehindMagic limit of w content mid) (result : Result (Unit {0}) KeepFault) (version : Version) (start begun end : DiskState) (old : Pairs) (market session : Market) (place : ℕ) (before after : Option (List ℕ))
     → Opens version start begun old → GoesOnIn start version market of session × IsKeptJournal of old session × Keeps of (map records_of old) place begun → Opens of start begun old
     → ServesOn w mid left result session place begun end before after → KeepsIn limit content (result ≡ Err Write) version start end old market before after
@@ -358,7 +358,7 @@ not_of_serving (Err NotFlow) P ended refusal = refusal
 not_of_serving (Err (Torn n)) P ended refusal = refusal
 not_of_serving (Err TooLong) P ended refusal = refusal
 
--- a disk that keeps a legal journal is not refused
+-- a disk that keeps a valid journal is not refused
 module _ (version : Version) (held : List ℕ) (old : Pairs) (market : Market) (legal : IsKeptJournal version old market) (keeps : StandsForJournal version old held) (small : length held ≤ 2 ^ 60) (end : DiskState) where
   opened : (opens : Opening) → IsRefused held opens end → (opens ≡ New) ⊎ (opens ≡ Legal version old market)
   opened opens refused = legal_is_opened version old market held opens legal keeps small refused.is

@@ -1,4 +1,4 @@
--- How the reading of the pairs that a disk keeps ends, where each is audited.
+-- How reading and auditing the entries that a disk keeps can stop.
 use Rattle.std.specs.Prelude.{◌≡◌, ℕ, ◌+◌, List, length, ⊤}
 use Rattle.wire_records.specs.Records.{Record}
 use Rattle.wire_records.specs.Commands.{Pair}
@@ -12,7 +12,7 @@ use Rattle.journal_keeping.specs.Openings.{BeginsLegal}
 use Rattle.journal_keeping.specs.declared.fault.KeepFault.{KeepFault}
 use Rattle.journal_keeping.specs.declared.fault.KeepFault.TheVariants.{Read, Write, Disk, Memory, NotDisk, Damaged, Rejected, NotFlow, Torn, TooLong}
 
--- Behind the entries of legal pairs the bytes are damaged at this place, or have the pair of this number, which isn't legal.
+-- After stored entries that are a valid journal, the bytes are damaged at this place, or have the entry of this number, which isn't valid.
 abbrev pub StopsAs : Version → KeepFault → List ℕ → Type 0
 StopsAs version (Damaged place) bytes =
     (legal : List (Pair Record Outcome)) × (market : Market) × BeginsLegal version bytes legal market place × IsDamagedAt place bytes

@@ -1,4 +1,4 @@
--- Words that only private functions use: what opening a disk and a source comes to.
+-- For private functions alone: what opening a disk and a source results in.
 use Rattle.std.specs.Prelude.{◌≡◌, ◌≤◌, ◌<◌, ℕ, List, length, take, map, Option, None, Some, IfSome, ⊤}
 use Rattle.flow_io.specs.Streams.{Takes}
 use Rattle.flow_io.specs.Windows.{WindowState}
@@ -20,15 +20,15 @@ use Rattle.journal_keeping.specs.Ended.{IsRefused, HasLeftAll}
 use Rattle.journal_keeping.specs.declared.fault.KeepFault.{KeepFault}
 use Rattle.journal_keeping.specs.declared.fault.KeepFault.TheVariants.{Read, Write, Disk, Memory, NotDisk, Damaged, Rejected, NotFlow, Torn, TooLong}
 
--- the disk's bytes were opened as a legal journal with this market, and at the place stands a gate that isn't open
+-- the disk's bytes were opened as a valid journal with this market, and the commit byte at the place, after its entries, isn't set
 abbrev pub IsReadUp : List ℕ → Version → Market → ℕ → DiskState → Type 0
 IsReadUp held version market place now = (old : List (Pair Record Outcome)) × IsOpening held (Legal version old market) × EndsAt version (map records_of old) place now
 
--- and nothing behind it; or the disk was new, and was made one of the version
+-- the journal was opened and the disk holds nothing after that commit byte; or the disk was new, and was made one of the version
 abbrev pub IsBegun : List ℕ → Version → Market → ℕ → DiskState → Type 0
 IsBegun held version market place now = (old : List (Pair Record Outcome)) × OpensAs held version old market × Keeps version (map records_of old) place now
 
--- what a fault at the opening says of the disk's bytes
+-- what a fault at the opening of a disk says of its bytes
 abbrev pub OpensNot : List ℕ → DiskState → KeepFault → Type 0
 OpensNot held end NotDisk = IsRefused held opening.Foreign end
 OpensNot held end (Damaged place) = IsRefused held (opening.Damaged place) end
@@ -41,7 +41,7 @@ OpensNot held end NotFlow = ⊥
 OpensNot held end (Torn place) = ⊥
 OpensNot held end TooLong = ⊥
 
--- a fault at the opening of a disk, whether it tells its bytes or not
+-- a fault that the opening of a disk may have, whether the disk's content is known or not
 abbrev pub IsOfDisk : KeepFault → Type 0
 IsOfDisk NotDisk = ⊤
 IsOfDisk (Damaged place) = ⊤
@@ -54,7 +54,7 @@ IsOfDisk NotFlow = ⊥
 IsOfDisk (Torn place) = ⊥
 IsOfDisk TooLong = ⊥
 
--- A window stands behind the magic of that version, and was filled no further than the limit.
+-- A window is after the magic of this version, and was filled no further than the limit.
 pub record IsBehindMagic (limit : ℕ) (version : Version) (window : WindowState) (before after : Option (List ℕ)) : Type 0 where
   pub limited : window.limit ≡ limit
   pub place : window.place ≡ 8
@@ -66,17 +66,17 @@ pub record IsBehindMagic (limit : ℕ) (version : Version) (window : WindowState
   pub few : length first ≤ limit
   pub held : length first ≤ longest_record
 
--- a version is the one that is wanted, where one is
+-- a version is the wanted one, if one is wanted
 abbrev pub IsWanted : Option Version → Version → Type 0
 IsWanted None version = ⊤
 IsWanted (Some own) version = version ≡ own
 
--- the bytes begin with the magic of no version, or not of the one that is wanted
+-- the bytes begin with the magic of no version, or not with that of the wanted one
 abbrev pub IsNoneOf : Option Version → List ℕ → Type 0
 IsNoneOf None bytes = BeginsWithNone commands.magics bytes
 IsNoneOf (Some own) bytes = (body : List ℕ) → ¬ BeginsWith commands.magics bytes own body
 
--- a fault at the opening of a source
+-- a fault that the opening of a source may have, and what was taken of the source then
 abbrev pub IsOfSource : Option Version → ℕ → Option (List ℕ) → Option (List ℕ) → KeepFault → Type 0
 IsOfSource wanted limit content left NotFlow = IfSome content (λ bytes. IsNoneOf wanted (take limit bytes))
 IsOfSource wanted limit content left Read = IfSome content (λ bytes. (n : ℕ) × IsTaken bytes left n × (n < 8))
@@ -89,7 +89,7 @@ IsOfSource wanted limit content left Write = ⊥
 IsOfSource wanted limit content left (Torn place) = ⊥
 IsOfSource wanted limit content left TooLong = ⊥
 
--- why nothing was served, of a disk that held these bytes: it is refused, or the source is no file of its version
+-- why nothing was served, if the disk held these bytes: the disk is refused, or the source is no file of its version
 abbrev pub NotBegun : ℕ → List ℕ → Option (List ℕ) → DiskState → KeepFault → Type 0
 NotBegun limit held content end NotDisk = IsRefused held opening.Foreign end
 NotBegun limit held content end (Damaged place) = IsRefused held (opening.Damaged place) end
@@ -102,7 +102,7 @@ NotBegun limit held content end Write = ⊥
 NotBegun limit held content end (Torn place) = ⊥
 NotBegun limit held content end TooLong = ⊥
 
--- and how much of the source was taken then
+-- how much of the source was taken if nothing was served
 abbrev pub Unread : ℕ → Option (List ℕ) → Option (List ℕ) → KeepFault → Type 0
 Unread limit content left Read = IfSome content (λ bytes. (n : ℕ) × IsTaken bytes left n × (n < 8))
 Unread limit content left Memory = left ≡ content
@@ -115,7 +115,7 @@ Unread limit content left Write = ⊥
 Unread limit content left (Torn place) = ⊥
 Unread limit content left TooLong = ⊥
 
--- nothing was asked of the source where the disk was refused
+-- `Same` holds if the disk was refused: then nothing was asked of the source
 abbrev pub Asked : KeepFault → Type 0 → Type 0
 Asked NotDisk Same = Same
 Asked (Damaged place) Same = Same

@@ -1,4 +1,4 @@
--- What keeping a journal comes to, by its answer, and on what a later run may begin.
+-- What keeping a journal results in, by its answer, and on what disk a later run may begin.
 use Rattle.std.specs.Prelude.{◌≡◌, ◌⊎◌, ℕ, List, [], ◌++◌, map, Option, Some, IfSome, Result, Ok, Err, ⊤}
 use Rattle.std.specs.List.{flat_map}
 use Rattle.flow_io.specs.Streams.{Grows}
@@ -21,14 +21,14 @@ use Rattle.journal_keeping.specs.Openings as opening
 use Rattle.journal_keeping.specs.declared.fault.KeepFault.{KeepFault}
 use Rattle.journal_keeping.specs.declared.fault.KeepFault.TheVariants.{Read, Write, Disk, Memory, NotDisk, Damaged, Rejected, NotFlow, Torn, TooLong}
 
--- The disk held these bytes, which were opened so, and holds them still.
+-- The disk held these bytes, which were opened so, and still holds them.
 pub record IsRefused (held : List ℕ) (opens : Opening) (end : DiskState) : Type 0 where
   pub is : IsOpening held opens
   pub stays : end.content ≡ Some held
 
--- The disk held the bytes of a legal journal, or was new, and the source these records and this ending, where it tells its bytes, in the
--- version of the disk. All records of it were served, from the market of the old pairs on. The disk keeps the old pairs and behind them
--- the new ones, a crash leaves just that, and out gained just the bytes of the new ones.
+-- The disk held the bytes of a valid journal, or was new, and the source has these records and this ending, if its content is known, in the
+-- version of the disk. All its records were served, from the market after the old entries. The disk keeps the old entries and after them
+-- the new ones, a crash leaves just that, and the output gained exactly the bytes of the new ones.
 pub record HasKeptAll (limit : ℕ) (held : List ℕ) (content : Option (List ℕ)) (end : DiskState) (before after : Option (List ℕ)) (records : List Record) (ending : reading.Ending) : Type 0 where
   pub version : Version
   pub old : List (Pair Record Outcome)
@@ -42,8 +42,8 @@ pub record HasKeptAll (limit : ℕ) (held : List ℕ) (content : Option (List �
   pub keeps : Keeps version (map records_of (old ++ new)) place end
   pub written : Grows before after (flat_map pair_spelling new)
 
--- The source is no command file of the disk's version: the disk keeps the old pairs, and a crash leaves just them. Or it is none at all,
--- and the disk stays new, with what it held.
+-- The source is no command file of the disk's version: the disk keeps the old entries, and a crash leaves just them. Or the disk was new and
+-- the source is no command file at all: the disk stays new, with what it held.
 abbrev pub HasLeftAll : ℕ → List ℕ → Option (List ℕ) → DiskState → Option (List ℕ) → Option (List ℕ) → Type 0
 HasLeftAll limit held content end before after =
     Grows before after []
@@ -51,7 +51,7 @@ HasLeftAll limit held content end before after =
     × IfSome content (λ bytes. ReadsKept version limit bytes reading.NotFlow) × (place : ℕ) × Keeps version (map records_of old) place end)
     ⊎ (IsOpening held New × IfSome content (λ bytes. Reads commands limit bytes reading.NotFlow) × (end.content ≡ Some held) × LeavesOnly end.images held))
 
--- what it comes to where the disk tells these bytes
+-- what keeping a journal results in, if the disk is known to have held these bytes
 abbrev pub ComesTo : (limit : ℕ) → List ℕ → Option (List ℕ) → DiskState → Option (List ℕ) → Option (List ℕ) → Result (Unit {0}) KeepFault → Type 0
 ComesTo limit held content end before after (Ok done) = (records : List Record) × HasKeptAll limit held content end before after records reading.End
 ComesTo limit held content end before after (Err (Torn place)) = (records : List Record) × HasKeptAll limit held content end before after records (reading.Torn place)

@@ -1,4 +1,4 @@
--- What keeping a journal on a disk does to the disk: what a crash may leave while new pairs are added, and afterwards.
+-- What keeping a journal does to the disk: what a crash may leave while new entries are added, and afterwards.
 use Rattle.std.specs.Prelude.{◌≡◌, ◌⊎◌, ℕ, ◌+◌, ◌≤◌, List, [], ◌++◌, Option, Some, IfSome, length, map, take}
 use Rattle.std.specs.List.{flat_map}
 use Rattle.flow_io.specs.Streams.{Grows}
@@ -9,7 +9,7 @@ use Rattle.wire_records.specs.Reading.{StartsWith}
 use Rattle.wire_records.specs.Formats.{commands}
 use Rattle.wire_records.specs.declared.version.Version.{Version}
 use Rattle.flow_orders.specs.Outcomes.{Outcome}
-use Rattle.own_rule.specs.Own.{IsOwnOutcome}
+use Rattle.canonical_rule.specs.Canonical.{IsCanonicalOutcome}
 use Rattle.journal_records.specs.Pairs.{pair_spelling}
 use Rattle.journal_records.specs.Formats.{records_of}
 use Rattle.market_rules.specs.Market.{Market, empty_market}
@@ -19,20 +19,20 @@ use Rattle.disk_edge.specs.Disks.{DiskState, AtEachMoment}
 use Rattle.disk_edge.specs.Images.{Images}
 use Rattle.journal_disk.specs.Entries.{StandsFor}
 
--- the pairs are a legal journal of a version, and lead to this market
+-- the entries are a valid journal of a version, and lead to this market
 abbrev pub IsKeptJournal : Version → List (Pair Record Outcome) → Market → Type 0
 IsKeptJournal version pairs market = IsLegalJournal version pairs market
 
--- the image stands for these pairs of a journal of the version
+-- the image represents these entries of a journal of the version
 abbrev pub StandsForJournal : Version → List (Pair Record Outcome) → Images
 StandsForJournal version pairs image = StandsFor version (map records_of pairs) image
 
--- the image stands for the pairs of a legal journal
+-- the image represents the entries of a valid journal
 abbrev pub IsLegalImage : Images
 IsLegalImage image = (version : Version) × (pairs : List (Pair Record Outcome)) × (market : Market) × IsKeptJournal version pairs market × StandsForJournal version pairs image
 
--- A disk that a run may begin on: it tells what it holds, which stands for these pairs of a legal journal, and a crash leaves
--- a legal journal too, not always that one. A new disk holds no pairs, in any version.
+-- A disk that a run may begin on: its content is known and represents these entries of a valid journal, and any image that a crash may leave
+-- represents a valid journal too, not always that one. A new disk has no entries, in any version.
 pub record HoldsLegal (disk : DiskState) (version : Version) (old : List (Pair Record Outcome)) (market : Market) : Type 0 where
   pub bytes : List ℕ
   pub told : disk.content ≡ Some bytes
@@ -40,37 +40,37 @@ pub record HoldsLegal (disk : DiskState) (version : Version) (old : List (Pair R
   pub stands : StandsForJournal version old bytes
   pub each : (image : List ℕ) → disk.images image → IsLegalImage image
 
--- The version and the market in which a run goes on: those of the old pairs; and of a new disk any version, which is that of its source,
+-- The version and the market that a run continues with: those of the old entries; or on a new disk any version, which is that of its source,
 -- and the empty market.
 abbrev pub GoesOnIn : DiskState → Version → Market → Version → Market → Type 0
 GoesOnIn start version market of from =
     ((of ≡ version) × (from ≡ market)) ⊎ (IfSome start.content (λ bytes. length bytes ≤ 9) × (from ≡ empty_market of))
 
--- The new pairs answer these records by the program's own rule, from the market of the old ones on, and with them they are
--- one legal journal.
+-- The new entries answer these records by the canonical rule, from the market after the old entries, and are one valid journal together with
+-- them.
 pub record GoesOn (version : Version) (old : List (Pair Record Outcome)) (before : Market) (records : List Record) (new : List (Pair Record Outcome)) (after : Market) : Type 0 where
-  pub answers : IsAnswered IsReadAs IsOwnOutcome before records new after
+  pub answers : IsAnswered IsReadAs IsCanonicalOutcome before records new after
   pub journal : IsKeptJournal version (old ++ new) after
 
--- the image stands for the old pairs, and behind them for the first of the new ones: at least and at most so many
+-- the image represents the old entries and then the first `count` of the new ones, with `count` between `least` and `most`
 abbrev pub KeepsFirst : Version → List (Pair Record Outcome) → List (Pair Record Outcome) → ℕ → ℕ → Images
 KeepsFirst version old new least most image = (count : ℕ) × (least ≤ count) × (count ≤ most) × StandsForJournal version (old ++ take count new) image
 
--- At each moment of the call a crash leaves an image that was there at its start, or the old pairs and the first of the new ones.
+-- At each moment of the call a crash leaves an image that was there at its start, or the old entries and the first of the new ones.
 abbrev pub DuringCall : Version → DiskState → DiskState → List (Pair Record Outcome) → List (Pair Record Outcome) → Type 0
 DuringCall version start end old new = AtEachMoment start end (λ image. start.images image ⊎ KeepsFirst version old new 0 (length new) image)
 
--- Afterwards it leaves an image that was there at the start, and no pair was acknowledged; or the old pairs, each
--- acknowledged one, and at most one more.
+-- After the call a crash leaves an image that was there at its start, and no entry was acknowledged; or the old entries, each acknowledged
+-- one, and at most one more.
 abbrev pub AtReturn : Version → DiskState → DiskState → List (Pair Record Outcome) → List (Pair Record Outcome) → ℕ → Type 0
 AtReturn version start end old new acknowledged =
     (image : List ℕ) → end.images image → (start.images image × (acknowledged ≡ 0)) ⊎ KeepsFirst version old new acknowledged (acknowledged + 1) image
 
--- These records were served: the first of those that stand in the first limit bytes of the source, where it tells them; or none.
+-- These records were served: none, or, if the source's content is known, the first ones in its first `limit` bytes.
 abbrev pub AreServed : ℕ → Version → Option (List ℕ) → List Record → Type 0
 AreServed limit version content records = (records ≡ []) ⊎ IfSome content (λ bytes. StartsWith commands limit bytes version records)
 
--- What out gained are these pairs, whole; but that where a write was cut short only a front of the last one may be there.
+-- The output gained these entries, all complete; only if a write was cut short, there may be a prefix of the last one instead of it.
 pub record StandIn (Cut : Type 0) (before after : Option (List ℕ)) (pairs : List (Pair Record Outcome)) : Type 0 where
   pub whole : List (Pair Record Outcome)
   pub last : List (Pair Record Outcome)
@@ -79,7 +79,7 @@ pub record StandIn (Cut : Type 0) (before after : Option (List ℕ)) (pairs : Li
   pub none : ¬ Cut → last ≡ []
   pub written : (text : List ℕ) × Grows before after text × (count : ℕ) × (text ≡ flat_map pair_spelling whole ++ take count (flat_map pair_spelling last))
 
--- What a run does to the disk: these records were served, and their new pairs acknowledged, up to one at most.
+-- What a run does to the disk: these records were served, and their new entries acknowledged, all of them or all but the last.
 pub record Runs (version : Version) (start end : DiskState) (old : List (Pair Record Outcome)) (market : Market) (records : List Record) (new : List (Pair Record Outcome)) (acknowledged : ℕ) : Type 0 where
   pub now : Market
   pub within : acknowledged ≤ length new
@@ -88,8 +88,8 @@ pub record Runs (version : Version) (start end : DiskState) (old : List (Pair Re
   pub during : DuringCall version start end old new
   pub returns : AtReturn version start end old new acknowledged
 
--- What it does to the disk and to out: the records that were served are the first ones of the source, and out gained the pairs that
--- were acknowledged.
+-- What a run does to the disk and to the output: the records that were served are the first of the source, and the output gained the entries
+-- that were acknowledged.
 pub record KeepsOn (limit : ℕ) (content : Option (List ℕ)) (Cut : Type 0) (version : Version) (start end : DiskState) (old : List (Pair Record Outcome)) (market : Market) (before after : Option (List ℕ)) : Type 0 where
   pub records : List Record
   pub new : List (Pair Record Outcome)
@@ -98,7 +98,7 @@ pub record KeepsOn (limit : ℕ) (content : Option (List ℕ)) (Cut : Type 0) (v
   pub runs : Runs version start end old market records new acknowledged
   pub written : StandIn Cut before after (take acknowledged new)
 
--- the same in the version in which it goes on
+-- what a run does to the disk and to the output, in the version that it continues with
 abbrev pub KeepsIn : ℕ → Option (List ℕ) → Type 0 → Version → DiskState → DiskState → List (Pair Record Outcome) → Market → Option (List ℕ) → Option (List ℕ) → Type 0
 KeepsIn limit content Cut version start end old market before after =
     (of : Version) × (from : Market) × GoesOnIn start version market of from × KeepsOn limit content Cut of start end old from before after

@@ -1,4 +1,4 @@
--- What holds of kept journals, whatever code there is.
+-- What holds of kept journals, whatever the code.
 use Rattle.std.specs.Prelude.{◌≡◌, ◌⊎◌, ℕ, ◌^◌, ◌≤◌, List, ◌++◌, Option, length, take}
 use Rattle.wire_records.specs.Records.{Record}
 use Rattle.wire_records.specs.Commands.{Pair}
@@ -13,17 +13,17 @@ use Rattle.journal_keeping.specs.Ended.{MayBeginAgain}
 use Rattle.journal_keeping.specs.Lengths.{BringsAtMost, GrowsAtMost}
 use Rattle.journal_keeping.specs.Openings.{Opening, New, Legal, IsOpening}
 
--- the first pairs of a legal journal are one
-abbrev pub FrontsAreLegal : Type 0
-FrontsAreLegal = (version : Version) (pairs : List (Pair Record Outcome)) (market : Market) (count : ℕ)
+-- the first entries of a valid journal are a valid journal
+abbrev pub PrefixesAreLegal : Type 0
+PrefixesAreLegal = (version : Version) (pairs : List (Pair Record Outcome)) (market : Market) (count : ℕ)
     → IsKeptJournal version pairs market → (before : Market) × IsKeptJournal version (take count pairs) before
 
--- what an image stands for stays when more new pairs come
+-- what an image represents doesn't change when more new entries come
 abbrev pub MorePairsStay : Type 0
 MorePairsStay = (version : Version) (old new more : List (Pair Record Outcome)) (least most later : ℕ) (image : List ℕ)
     → most ≤ length new → most ≤ later → KeepsFirst version old new least most image → KeepsFirst version old (new ++ more) least later image
 
--- old pairs and the first of the new ones are a legal journal
+-- old entries and the first of the new ones are a valid journal
 abbrev pub FirstsAreLegal : Type 0
 FirstsAreLegal = (version : Version) (old new : List (Pair Record Outcome)) (before after : Market) (records : List Record) (least most : ℕ) (image : List ℕ)
     → GoesOn version old before records new after → KeepsFirst version old new least most image → IsLegalImage image
@@ -36,21 +36,21 @@ pub record CanBeginAgain (start end : DiskState) : Type 0 where
   pub returned : (version of : Version) (old new : List (Pair Record Outcome)) (market before after : Market) (records : List Record) (acknowledged : ℕ)
       → HoldsLegal start version old market → GoesOn of old before records new after → AtReturn of start end old new acknowledged
       → (image : List ℕ) → end.images image → IsLegalImage image
-  -- And it can be opened, as a new one or as one of a legal journal, where a crash left at most 2^59 bytes at the start, and the source
-  -- has at most 2^32 within the limit.
+  -- What a crash leaves can be opened, as a new disk or as a valid journal, if a crash left at most 2^59 bytes at the start, and the source
+  -- has at most 2^32 bytes within the limit.
   pub opened : (limit count : ℕ) (content : Option (List ℕ)) → count ≤ 2 ^ 32 → BringsAtMost limit content count → LeavesAtMost (2 ^ 59) start → GrowsAtMost limit content start end → MayBeginAgain start end
       → (image : List ℕ) → end.since start.clock image → (opening : Opening) → IsOpening image opening
       → (opening ≡ New) ⊎ ((version : Version) × (pairs : List (Pair Record Outcome)) × (market : Market) × (opening ≡ Legal version pairs market))
 
--- bytes that keep a legal journal are opened as that, and as nothing else, where they are at most 2^60; a new disk as a new one
+-- at most 2^60 bytes that represent a valid journal are opened as that journal, or as a new disk, and as nothing else
 abbrev pub LegalIsOpened : Type 0
 LegalIsOpened = (version : Version) (pairs : List (Pair Record Outcome)) (market : Market) (bytes : List ℕ) (opening : Opening)
     → IsKeptJournal version pairs market → StandsForJournal version pairs bytes → length bytes ≤ 2 ^ 60 → IsOpening bytes opening → (opening ≡ New) ⊎ (opening ≡ Legal version pairs market)
 
--- a disk's bytes are opened in one way
+-- a disk's bytes are opened in at most one way
 abbrev pub OneOpening : Type 0
 OneOpening = (bytes : List ℕ) (a b : Opening) → IsOpening bytes a → IsOpening bytes b → a ≡ b
 
--- and in some way: that none is one isn't so
+-- a disk's bytes are opened in some way, stated as not denied
 abbrev pub SomeOpening : Type 0
 SomeOpening = (bytes : List ℕ) → IsNotDenied ((opening : Opening) × IsOpening bytes opening)

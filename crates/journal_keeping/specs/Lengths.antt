@@ -1,10 +1,10 @@
--- How long a crash may leave a disk while a journal is kept on it.
+-- How many bytes a crash may leave on a disk while a journal is kept on it.
 use Rattle.std.specs.Prelude.{◌≡◌, ◌⊎◌, ℕ, ◌+◌, ◌*◌, ◌≤◌, List, length, Option, Some}
 use Rattle.flow_io.specs.Windows.{WindowState}
 use Rattle.disk_edge.specs.Disks.{DiskState, AtEachMoment}
 use Rattle.journal_disk.specs.Lengths.{HasAtMost, LeavesAtMost}
 
--- a source has at most so many bytes within the limit: as many as it tells, or as the limit
+-- a source has at most `count` bytes within the limit: `count` is at least the limit, or at least the source's known length
 abbrev pub BringsAtMost : ℕ → Option (List ℕ) → ℕ → Type 0
 BringsAtMost limit content count = (limit ≤ count) ⊎ ((bytes : List ℕ) × (content ≡ Some bytes) × (length bytes ≤ count))
 
@@ -14,6 +14,6 @@ abbrev pub GrowsAtMost : ℕ → Option (List ℕ) → DiskState → DiskState �
 GrowsAtMost limit content start end = (most count : ℕ) → 9 ≤ most → LeavesAtMost most start → BringsAtMost limit content count
     → AtEachMoment start end (HasAtMost (most + 263183 * count))
 
--- behind a window at most so many bytes may be served yet: those up to the limit, or those that are held and left
+-- at most `count` more bytes may be served from a window: `count` is at least those up to the limit, or those held and left in the source
 abbrev pub HasYetAtMost : ℕ → WindowState → Option (List ℕ) → Type 0
 HasYetAtMost count window rest = (window.limit ≤ window.place + count) ⊎ ((left : List ℕ) × (rest ≡ Some left) × (length window.held + length left ≤ count))

@@ -12,6 +12,6 @@ abbrev pub HasTakenMagic : ℕ → List ℕ → Option (List ℕ) → Type 0
 HasTakenMagic limit bytes left =
     (n : ℕ) × IsTaken bytes left n × (version : Version) × (body : List ℕ) × BeginsWith commands.magics (take n (take limit bytes)) version body
 
--- a disk that held these bytes was only looked at where it was new, unless the magic of a command file was taken of the source
+-- a disk that held these bytes and was new was only looked at, unless the magic of a command file was taken of the source
 abbrev pub IsMadeBehindMagic : ℕ → List ℕ → DiskState → DiskState → Option (List ℕ) → Option (List ℕ) → Type 0
 IsMadeBehindMagic limit held start end content left = length held ≤ 9 → OnlyLooks start end ⊎ IfSome content (λ bytes. HasTakenMagic limit bytes left)

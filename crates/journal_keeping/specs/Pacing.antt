@@ -1,4 +1,4 @@
--- How far a source is read while its records are served onto a disk, and where memory may be wanted.
+-- How far a source is read while its records are served and their entries kept, and when memory may run out.
 use Rattle.std.specs.Prelude.{◌≡◌, ◌⊎◌, ◌+◌, ◌<◌, ◌≤◌, ℕ, List, [], ◌∷◌, ◌++◌, length, map, take, All, Option, Some, IfSome, Result, Ok, Err, ⊤}
 use Rattle.std.specs.List.{flat_map}
 use Rattle.flow_io.specs.Streams.{Grows}
@@ -13,7 +13,7 @@ use Rattle.flow_orders.specs.Outcomes.{Outcome}
 use Rattle.journal_records.specs.Pairs.{pair_spelling}
 use Rattle.journal_records.specs.Formats.{records_of}
 use Rattle.market_rules.specs.Market.{Market}
-use Rattle.market_rules.specs.Wanting.{RecordMayWant}
+use Rattle.market_rules.specs.Allocating.{RecordMayAllocate}
 use Rattle.disk_edge.specs.Disks.{DiskState}
 use Rattle.journal_disk.specs.Entries.{Keeps}
 use Rattle.journal_keeping.specs.Keeping.{GoesOn}
@@ -21,11 +21,11 @@ use Rattle.journal_keeping.specs.Openings.{OpensAs}
 use Rattle.journal_keeping.specs.declared.fault.KeepFault.{KeepFault}
 use Rattle.journal_keeping.specs.declared.fault.KeepFault.TheVariants.{Read, Write, Disk, Memory, NotDisk, Damaged, Rejected, NotFlow, Torn, TooLong}
 
--- the records of pairs
+-- the commands' records of entries
 abbrev pub asked_of : List (Pair Record Outcome) → List Record
 asked_of pairs = map (λ (pair : Pair Record Outcome). pair.asked) pairs
 
--- The bytes are a magic and the records of these pairs, and no whole record stands behind them. Out gained just these pairs.
+-- The bytes are a magic and the records of these entries, and no complete record follows. The output gained exactly these entries.
 pub record AnswersAll (bytes : List ℕ) (before after : Option (List ℕ)) : Type 0 where
   pub version : Version
   pub pairs : List (Pair Record Outcome)
@@ -36,7 +36,7 @@ pub record AnswersAll (bytes : List ℕ) (before after : Option (List ℕ)) : Ty
   pub none : BeginsWithNone commands.units rest
   pub written : Grows before after (flat_map pair_spelling pairs)
 
--- These pairs stand whole in what out gained and answer the first records of the bytes, and at most 1,030 bytes were taken past those.
+-- The output gained these entries, complete, which answer the first records of the bytes, and at most 1,030 bytes were taken past those.
 pub record IsNearPairs (limit : ℕ) (bytes : List ℕ) (taken : ℕ) (before after : Option (List ℕ)) : Type 0 where
   pub version : Version
   pub pairs : List (Pair Record Outcome)
@@ -45,19 +45,19 @@ pub record IsNearPairs (limit : ℕ) (bytes : List ℕ) (taken : ℕ) (before af
   pub stands : Grows before after (flat_map pair_spelling pairs ++ more)
   pub near : taken ≤ 8 + length (spell_all commands.units (asked_of pairs)) + 1030
 
--- the source was read no further than 1,030 bytes past the last record whose pair was written, or past the first eight bytes
+-- the source was read no further than 1,030 bytes past the last record whose entry was written, or past the first eight bytes
 abbrev pub IsNear : ℕ → Option (List ℕ) → Option (List ℕ) → Option (List ℕ) → Option (List ℕ) → Type 0
 IsNear limit content left before after =
     IfSome content (λ bytes. (taken : ℕ) × IsTaken bytes left taken × ((taken ≤ 8 + 1030) ⊎ IsNearPairs limit bytes taken before after))
 
--- all whole records that were taken of the source were answered, and no others
+-- all complete records that were taken of the source were answered, and no others
 abbrev pub ReadsAll : ℕ → Option (List ℕ) → Option (List ℕ) → Option (List ℕ) → Option (List ℕ) → Type 0
 ReadsAll limit content left before after =
     IfSome content (λ bytes. (n : ℕ) × IsTaken bytes left n × (((n < 8) × Grows before after []) ⊎ AnswersAll (take n (take limit bytes)) before after))
 
--- What was read and written, by the end: after a fault of the source all whole records that were taken were answered, and no others;
--- where disk or out failed or memory ran out the source was read no further than near the last one that was answered; and where all
--- was done nothing is left of it.
+-- What was read and written, by the result: after a fault of the source all complete records that were taken were answered, and no others;
+-- if the disk or the output failed or memory ran out, the source was read no further than near the last record that was answered; and if
+-- all was done, nothing is left of the source.
 abbrev pub KeepsPace : ℕ → Option (List ℕ) → Option (List ℕ) → Option (List ℕ) → Option (List ℕ) → Result (Unit {0}) KeepFault → Type 0
 KeepsPace limit content left before after (Ok done) = IfSome content (λ bytes. left ≡ Some [])
 KeepsPace limit content left before after (Err Read) = ReadsAll limit content left before after
@@ -71,9 +71,9 @@ KeepsPace limit content left before after (Err NotFlow) = ⊤
 KeepsPace limit content left before after (Err (Torn place)) = ⊤
 KeepsPace limit content left before after (Err TooLong) = ⊤
 
--- The disk held the bytes of a legal journal, and the first records of the source were served, from the market of the old pairs on.
--- Their pairs are kept, and out gained them. Behind them stands a record that may want memory.
-pub record WantsNext (limit : ℕ) (held : List ℕ) (content : Option (List ℕ)) (end : DiskState) (before after : Option (List ℕ)) : Type 0 where
+-- The disk held the bytes of a valid journal, and the first records of the source were served, from the market after the old entries. Their
+-- entries are kept, and the output gained them. Next in the source is a record that may allocate.
+pub record AllocatesNext (limit : ℕ) (held : List ℕ) (content : Option (List ℕ)) (end : DiskState) (before after : Option (List ℕ)) : Type 0 where
   pub version : Version
   pub old : List (Pair Record Outcome)
   pub market : Market
@@ -83,11 +83,11 @@ pub record WantsNext (limit : ℕ) (held : List ℕ) (content : Option (List ℕ
   pub goes_on : GoesOn version old market (asked_of new) new now
   pub next : Record
   pub starts : IfSome content (λ bytes. StartsWith commands limit bytes version (asked_of new ++ next ∷ []))
-  pub wants : RecordMayWant now next
+  pub allocates : RecordMayAllocate now next
   pub place : ℕ
   pub keeps : Keeps version (map records_of (old ++ new)) place end
   pub written : Grows before after (flat_map pair_spelling new)
 
--- where memory ran out: nothing was read or written, or it may be wanted at the next record
+-- when memory may run out: nothing was read or written, or the next record may allocate
 abbrev pub RunsOut : ℕ → List ℕ → Option (List ℕ) → Option (List ℕ) → DiskState → Option (List ℕ) → Option (List ℕ) → Type 0
-RunsOut limit held content left end before after = ((left ≡ content) × (after ≡ before)) ⊎ WantsNext limit held content end before after
+RunsOut limit held content left end before after = ((left ≡ content) × (after ≡ before)) ⊎ AllocatesNext limit held content end before after

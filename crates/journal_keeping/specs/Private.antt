@@ -1,7 +1,7 @@
--- Words that only private functions use: what serving, keeping and writing one pair does.
+-- For private functions alone: what serving a record, keeping its entry and writing it does.
 use Rattle.std.specs.Prelude.{◌≡◌, ◌≢◌, ◌<◌, ◌≤◌, ◌+◌, ◌*◌, ◌^◌, ◌⊎◌, ℕ, List, [], ◌∷◌, ◌++◌, length, drop, take, map, Option, IsSome, Result, Ok, Err, ⊤}
 use Rattle.std.specs.List.{flat_map}
-use Rattle.flow_io.specs.Streams.{Grows, GrowsByFront}
+use Rattle.flow_io.specs.Streams.{Grows, GrowsByPrefix}
 use Rattle.flow_io.specs.Windows.{WindowState}
 use Rattle.wire_records.specs.Records.{Record}
 use Rattle.wire_records.specs.Commands.{Pair}
@@ -10,12 +10,12 @@ use Rattle.wire_records.specs.Grammars.{BeginsWith, BeginsWithNone}
 use Rattle.wire_records.specs.Formats.{commands}
 use Rattle.wire_records.specs.declared.version.Version.{Version}
 use Rattle.flow_orders.specs.Outcomes.{Outcome}
-use Rattle.own_rule.specs.Own.{IsOwnOutcome}
+use Rattle.canonical_rule.specs.Canonical.{IsCanonicalOutcome}
 use Rattle.journal_records.specs.Pairs.{IsPair, pair_spelling}
 use Rattle.journal_records.specs.Formats.{records_of}
 use Rattle.market_rules.specs.Market.{Market}
 use Rattle.market_rules.specs.Journal.{Step}
-use Rattle.market_rules.specs.Wanting.{RecordMayWant}
+use Rattle.market_rules.specs.Allocating.{RecordMayAllocate}
 use Rattle.file_units.specs.declared.units.Front.{Front}
 use Rattle.file_units.specs.declared.units.Front.TheVariants.{Taken, NoBytes, Overlong, Short}
 use Rattle.file_units.specs.declared.units.Ending.{Ending}
@@ -34,24 +34,24 @@ use Rattle.journal_keeping.specs.Pacing.{asked_of}
 use Rattle.journal_keeping.specs.declared.fault.KeepFault.{KeepFault}
 use Rattle.journal_keeping.specs.declared.fault.KeepFault.TheVariants.{Read, Write, Disk, Memory, NotDisk, Damaged, Rejected, NotFlow, Torn, TooLong}
 
--- Records can be served and kept while so many bytes of them are left: their orders get numbers, and their pairs a place.
+-- Up to `left` bytes of records can still be served and kept: there are numbers for their orders, and places on the disk for their entries.
 abbrev pub IsReady : Market → ℕ → ℕ → Type 0
 IsReady market place left = HasNumbers market left × (place + 263183 * left ≤ 2 ^ 61)
 
--- a disk that kept pairs keeps one more, and at each moment since left them with it or without
+-- a disk that kept entries keeps one more, and at each moment since a crash left them with it or without it
 pub record KeepsOneMore (pair : Pair Record Outcome) (from to : ℕ) (old new : DiskState) : Type 0 where
   pub keeps : (version : Version) (pairs : List RecordPair) → Keeps version pairs from old → Keeps version (pairs ++ records_of pair ∷ []) to new
   pub moments : (version : Version) (pairs : List RecordPair) → Keeps version pairs from old → AtEachMoment old new (WithOrWithout version pairs (records_of pair))
 
--- the record at the front of the bytes was answered so, by one step of the market, and the pair may stand in a journal
+-- the first record of the bytes was answered so, by one step of the market, and the entry is within the limits of a journal
 pub record IsServed (bytes : List ℕ) (old : Market) (pair : Pair Record Outcome) (new : Market) : Type 0 where
   pub lawful : commands.units.IsLawful pair.asked
   pub rest : List ℕ
   pub front : bytes ≡ commands.units.spell pair.asked ++ rest
-  pub step : Step IsReadAs IsOwnOutcome old pair.asked pair.answer new
+  pub step : Step IsReadAs IsCanonicalOutcome old pair.asked pair.answer new
   pub fits : IsPair pair
 
--- the record at the front was served, its pair kept, and then written
+-- the first record of the bytes was served, its entry kept, and then written
 pub record TakesNext (n : ℕ) (bytes : List ℕ) (old new : Market) (from to : ℕ) (disk later : DiskState) (before after : Option (List ℕ)) : Type 0 where
   pub pair : Pair Record Outcome
   pub served : IsServed bytes old pair new
@@ -62,32 +62,32 @@ pub record TakesNext (n : ℕ) (bytes : List ℕ) (old new : Market) (from to : 
   pub told : IsSome later.content → IsSome disk.content
   pub written : Grows before after (pair_spelling pair)
 
--- what stands at the front, and what was done with it
+-- what the bytes begin with, and what was done with it
 abbrev pub IsTakenNext : Front → List ℕ → Market → Market → ℕ → ℕ → DiskState → DiskState → Option (List ℕ) → Option (List ℕ) → Type 0
 IsTakenNext (Taken n) bytes old new from to disk later before after = TakesNext n bytes old new from to disk later before after
 IsTakenNext NoBytes bytes old new from to disk later before after = BeginsWithNone commands.units bytes × (bytes ≡ []) × (¬ commands.IsOverlong bytes)
 IsTakenNext Overlong bytes old new from to disk later before after = BeginsWithNone commands.units bytes × commands.IsOverlong bytes
 IsTakenNext Short bytes old new from to disk later before after = BeginsWithNone commands.units bytes × (bytes ≢ []) × (¬ commands.IsOverlong bytes)
 
--- nothing changed where nothing was taken
+-- `Same` holds if nothing was taken: then nothing changed
 abbrev pub IsStill : Front → Type 0 → Type 0
 IsStill (Taken n) Same = ⊤
 IsStill NoBytes Same = Same
 IsStill Overlong Same = Same
 IsStill Short Same = Same
 
--- a whole record stands at the front, and it may want memory
-abbrev pub HasWanting : Market → List ℕ → Type 0
-HasWanting market bytes = (asked : Record) × (rest : List ℕ) × BeginsWith commands.units bytes asked rest × RecordMayWant market asked
+-- the bytes begin with a complete record, which may allocate
+abbrev pub HasAllocating : Market → List ℕ → Type 0
+HasAllocating market bytes = (asked : Record) × (rest : List ℕ) × BeginsWith commands.units bytes asked rest × RecordMayAllocate market asked
 
--- why the record at the front wasn't served, kept and written, where disk and out may have stayed
+-- why the first record wasn't served, kept and written, and whether the disk and the output are unchanged
 module _ (bytes : List ℕ) (old : Market) (from to : ℕ) (disk later : DiskState) (before after : Option (List ℕ)) (SameDisk SameOut : Type 0) where
   abbrev pub BreaksNext : KeepFault → Type 0
-  BreaksNext Memory = SameDisk × SameOut × HasWanting old bytes
+  BreaksNext Memory = SameDisk × SameOut × HasAllocating old bytes
   BreaksNext Disk =
       SameOut × (pair : Pair Record Outcome) × (new : Market) × IsServed bytes old pair new
       × ((version : Version) (pairs : List RecordPair) → Keeps version pairs from disk → AtEachMoment disk later (WithOrWithout version pairs (records_of pair)))
-  BreaksNext Write = (pair : Pair Record Outcome) × (new : Market) × IsServed bytes old pair new × KeepsOneMore pair from to disk later × GrowsByFront before after (pair_spelling pair)
+  BreaksNext Write = (pair : Pair Record Outcome) × (new : Market) × IsServed bytes old pair new × KeepsOneMore pair from to disk later × GrowsByPrefix before after (pair_spelling pair)
   BreaksNext Read = ⊥
   BreaksNext NotDisk = ⊥
   BreaksNext (Damaged place) = ⊥
@@ -96,17 +96,17 @@ module _ (bytes : List ℕ) (old : Market) (from to : ℕ) (disk later : DiskSta
   BreaksNext (Torn place) = ⊥
   BreaksNext TooLong = ⊥
 
--- the pairs so far, and one more for a record that was taken
+-- the entries so far, and one more for a record that was taken
 abbrev pub Adds : List (Pair Record Outcome) → Record → List (Pair Record Outcome) → Unit {0} → Unit {0} → Type 0
 Adds old asked new before after = (pair : Pair Record Outcome) × (pair.asked ≡ asked) × (new ≡ old ++ pair ∷ [])
 
--- What serving has come to, from a market and a place on: these pairs were kept and written.
+-- What serving has done so far, from a market and a place: these entries were kept and written.
 pub record SoFar (start now : DiskState) (before market : Market) (from place : ℕ) (held holds : Option (List ℕ)) (new : List (Pair Record Outcome)) : Type 0 where
   pub written : Grows held holds (flat_map pair_spelling new)
   pub kept : (version : Version) (old : List (Pair Record Outcome)) → IsKeptJournal version old before → Keeps version (map records_of old) from start → HasKept version start now old before place (asked_of new) new market
   pub told : IsSome now.content → IsSome start.content
 
--- an end of keeping as one of going through units
+-- the result of keeping as the result of going through units
 abbrev pub as_going : Result (Unit {0}) KeepFault → Result Ending (TakeFault KeepFault)
 as_going (Ok done) = Ok ending.End
 as_going (Err (Torn place)) = Ok (ending.Torn place)
@@ -120,13 +120,13 @@ as_going (Err (Damaged place)) = Err (fault.Broken (Damaged place))
 as_going (Err (Rejected number)) = Err (fault.Broken (Rejected number))
 as_going (Err NotFlow) = Err (fault.Broken NotFlow)
 
--- it broke off behind the pairs that were written, at the record of the next pair, where there is one; for want of memory at a record
--- that may want it
+-- It broke off after the entries that were written, at the record of the next entry, if there is one. If memory ran out, that record may
+-- allocate.
 abbrev pub Names : Market → (new more : List (Pair Record Outcome)) → List (Pair Record Outcome) → Record → KeepFault → Unit {0} → Unit {0} → Type 0
 Names market new more done asked why before after =
-    (done ≡ new) × ((more ≡ []) ⊎ (asked_of more ≡ asked ∷ [])) × (why ≡ Memory → RecordMayWant market asked)
+    (done ≡ new) × ((more ≡ []) ⊎ (asked_of more ≡ asked ∷ [])) × (why ≡ Memory → RecordMayAllocate market asked)
 
--- where no pair was at hand as it ended
+-- `P` holds unless an entry was being kept or written when it ended
 abbrev pub IfEnded : Result (Unit {0}) KeepFault → Type 0 → Type 0
 IfEnded (Ok done) P = P
 IfEnded (Err (Torn place)) P = P
@@ -140,8 +140,8 @@ IfEnded (Err (Damaged place)) P = ⊥
 IfEnded (Err (Rejected number)) P = ⊥
 IfEnded (Err NotFlow) P = ⊥
 
--- The records from what a window held on were served: these pairs were kept and written, and at the next one it broke off, or there
--- is none.
+-- The records from those that a window held on were served: these entries were kept and written, and it broke off at the next one, if there
+-- is one.
 pub record ServesOn (window : WindowState) (rest left : Option (List ℕ)) (result : Result (Unit {0}) KeepFault) (before : Market) (from : ℕ) (start end : DiskState) (held holds : Option (List ℕ)) : Type 0 where
   pub new : List (Pair Record Outcome)
   pub more : List (Pair Record Outcome)

@@ -2,26 +2,26 @@ use flow_io::{ReadFailed, WriteFailed};
 use journal_disk::DiskFault;
 use std::alloc::AllocError;
 
-/// Why a journal wasn't kept to the end of its source.
+/// Why keeping a journal stopped before the end of its source.
 #[derive(Clone, Copy, Debug, PartialEq, Eq)]
 pub enum KeepFault {
     /// A read of the source failed.
     Read,
-    /// A write of out failed.
+    /// A write of the output failed.
     Write,
-    /// A call of the disk failed. The disk is to be opened again.
+    /// A call of the disk failed. The disk has to be opened again.
     Disk,
-    /// There is no memory for what was asked.
+    /// Memory ran out.
     Memory,
-    /// The disk holds something else than a journal.
+    /// The disk holds something other than a journal.
     NotDisk,
-    /// At this byte of the disk no gate is there, or one that is open and begins no entry of a whole pair.
+    /// At this byte of the disk there is no commit byte, or a set one that no complete entry follows.
     Damaged(u64),
-    /// The kept pair of this number, counted from 1, isn't legal.
+    /// The kept entry of this number, counted from 1, isn't valid.
     Rejected(u64),
-    /// The source is no command file of the version of the disk, or where that is new none at all.
+    /// The source isn't a command file of the disk's version, or, for a new disk, isn't a command file at all.
     NotFlow,
-    /// The source breaks off or states too long a record; the broken record begins at this byte, from 0.
+    /// The source breaks off, or states too long a record; the broken record begins at this byte, counted from 0.
     Torn(u64),
     /// The source has more bytes than the limit.
     TooLong,

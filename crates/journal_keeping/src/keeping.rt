@@ -22,24 +22,27 @@ use disk_edge::Disk;
 use flow_io::{Sink, Source};
 use std::alloc::Global;
 
-/// Serves the records of a command file, each behind the pairs that a disk keeps: its pair is kept on the disk,
-/// and then written to out, before the source is asked for more. A crash at any moment leaves on the disk the pairs that were
-/// kept before, each new one that was written to out, and at most one more; on what it leaves a later call goes on. It leaves at most
-/// 263,183 bytes for each byte of the source more than it might have left before.
+/// Serves the records of a command file after the entries that a disk keeps. The entry of each record is kept on the disk, and then
+/// written to `out`, before the source is asked for more. A crash at any moment leaves on the disk the entries that were kept before, each
+/// new one that was written to `out`, and at most one more; a later call continues with what it leaves. It leaves at most 263,183 bytes
+/// for each byte of the source more than it might have left before, or than the 9 of a new disk.
 ///
-/// First the disk is opened and its pairs are audited, then the source's magic is looked at, which has to be of the disk's version. A new
-/// disk takes the version of the source, whose magic is looked at before anything is written to the disk. So `NotDisk`, `Damaged` and `Rejected`
-/// come where the source wasn't asked yet and nothing was written, and leave what the disk holds. `Damaged` has the place
-/// of the first gate that isn't one, `Rejected` the number of the first kept pair that isn't legal, counted from 1. A disk that keeps no
-/// legal journal is changed at no moment, whatever is answered, and neither is a new one before the magic of a command file was taken. `NotFlow` leaves the pairs that are kept. At `Ok`, `Torn` and `TooLong` all whole records of the first `limit` bytes of the source are served,
-/// kept and written. `Disk`, `Read` and `Write` come only where the count of faults of the disk, the source or out rose, which
-/// stands still in every other case. `Memory` comes before anything is read of the source, or at a record that may want it.
+/// First the disk is opened and its entries are audited; then the magic of the source is looked at, which has to be that of the disk's
+/// version. A new disk takes the version of the source, whose magic is looked at before anything is written to the disk. So `NotDisk`,
+/// `Damaged` and `Rejected` come before the source is asked and before anything is written, and leave what the disk holds. `Damaged` has
+/// the place of the first commit byte that is missing, or is set without a complete entry after it; `Rejected` has the number of the
+/// first kept entry that isn't valid, counted from 1. A disk that isn't new and keeps no valid journal is never changed, whatever the
+/// result; a new one isn't changed before the magic of a command file was taken. `NotFlow` leaves the entries that are kept. At `Ok`,
+/// `Torn` and `TooLong` all complete records of the first `limit` bytes of the source are served, kept and written. `Disk`, `Read` and
+/// `Write` come only if the count of faults of the disk, the source or `out` rose, which stays as it was in every other case. `Memory`
+/// comes before anything is read from the source, or at a record that may allocate.
 ///
-/// The source is read no further than 1,030 bytes past the last record whose pair was written; where a read of it fails, all whole
+/// The source is read no further than 1,030 bytes past the last record whose entry was written; if a read of it fails, all complete
 /// records that were taken are answered. In all at most one byte past the limit is taken.
 ///
-/// It costs the audit of the kept pairs, and of each record what serving it costs, two writes of the disk with a sync each, and one
-/// write of out. A window of the longest command record is held, and a buffer of the longest entry of a disk; the limit is at most 2^32 bytes.
+/// Costs the audit of the kept entries, and for each record what serving it costs, two writes of the disk with a sync each, and one
+/// write of `out`. Holds a window of the longest command record, and a buffer of the longest entry of a disk. The limit is at most 2^32
+/// bytes.
 pub fn keep<S: Source, D: Disk, K: Sink>(
     alloc: Global,
     limit: u64,
@@ -64,7 +67,7 @@ pub fn keep<S: Source, D: Disk, K: Sink>(
         (λ held. IsMadeBehindMagic limit held (D.state disk.old) (D.state disk.new) (S.rest source.old) (S.rest source.new)) }
     ensures taken { TakesAtMost (S.rest source.old) (S.rest source.new) (limit + 1) }
     ensures paced { KeepsPace limit (S.rest source.old) (S.rest source.new) (K.held out.old) (K.held out.new) result }
-    ensures wants { result ≡ Err KeepFault.Memory → IfSome (D.state disk.old).content
+    ensures allocates { result ≡ Err KeepFault.Memory → IfSome (D.state disk.old).content
         (λ held. RunsOut limit held (S.rest source.old) (S.rest source.new) (D.state disk.new) (K.held out.old) (K.held out.new)) }
     ensures unasked { IsRefusal result → (source.new ≡ source.old) × (out.new ≡ out.old) }
     ensures disk_cause { Blames (result ≡ Err KeepFault.Disk) (D.state disk.old).faults (D.state disk.new).faults }

@@ -1,4 +1,4 @@
-//! A disk and a source that are opened: the kept pairs are audited, the magics are looked at, and a new disk is made.
+//! Opens a disk and a source: audits the kept entries, looks at the magics, and makes a new disk.
 ghost use Rattle.std.specs.Prelude.{◌≡◌, ◌≤◌, ◌+◌, ◌^◌, ◌⊎◌, ◌↔◌, ℕ, List, IsTrue, Err, Some, None, IfSome, IsSome, IfOk, IfErr, OnOk, IsErr, length, drop, vec_capacity};
 ghost use Rattle.flow_io.specs.Faults.{Blames};
 ghost use Rattle.flow_io.specs.Streams.{TakesAtMost};
@@ -8,6 +8,7 @@ ghost use Rattle.wire_records.specs.Grammars.{BeginsWith};
 ghost use Rattle.wire_records.specs.Formats.{commands};
 ghost use Rattle.wire_records.specs.declared.version.Version.{Version as version_value};
 ghost use Rattle.flow_orders.specs.Outcomes.{Outcome};
+ghost use Rattle.journal_records.specs.Pairs.{longest_plain_pair};
 ghost use Rattle.market_rules.specs.Market.{Market as market_value, empty_market};
 ghost use Rattle.disk_edge.specs.Disks.{AtEachMoment};
 ghost use Rattle.journal_disk.specs.Looking.{OnlyLooks};
@@ -31,10 +32,10 @@ use market_core::Market;
 use std::alloc::Global;
 use wire_records::{MOST_RECORD, Version, command_version};
 
-// As many bytes has the magic of a command file.
+// The bytes of a command file's magic.
 const MAGIC: usize = 8;
 
-// A source that is opened: behind its magic, with its version.
+// A source that is opened, with its window after the magic, and its version.
 #[derive(Drop)]
 pub(crate) struct OpenSource {
     pub(crate) window: Window,
@@ -49,7 +50,7 @@ pub(crate) struct Begun {
     pub(crate) version: Version,
 }
 
-// Opens a disk of a version so that records can be served behind the pairs that it keeps, which are audited. The buffer is for pairs.
+// Opens a disk of a version, audits the entries that it keeps, and gets it ready to keep more. `pair` is the buffer for entries.
 fn open_kept<D: Disk>(
     alloc: Global,
     disk: &mut D,
@@ -57,7 +58,7 @@ fn open_kept<D: Disk>(
     pair: Vec<u8>,
 ) -> Result<Keeper, KeepFault>
     requires found { IfSome (D.state disk.old).content (λ held. IsFound (Some version) held (D.state disk.old)) }
-    requires room { 1042 ≤ vec_capacity pair }
+    requires room { longest_plain_pair ≤ vec_capacity pair }
     ensures begun { IfOk result (λ keeper. IfSome (D.state disk.old).content
         (λ held. IsBegun held version keeper.session keeper.appender (D.state disk.new))) }
     ensures refused { IfErr result (λ fault. IfSome (D.state disk.old).content (λ held. OpensNot held (D.state disk.new) fault)) }
@@ -67,7 +68,7 @@ fn open_kept<D: Disk>(
         AtEachMoment (D.state disk.old) (D.state disk.new) (λ image. (D.state disk.old).images image ⊎ StandsForJournal v old image) }
     ensures lengths { ReachesAtMost 9 (D.state disk.old) (D.state disk.new) }
     ensures told { OnOk result (IsSome (D.state disk.new).content → IsSome (D.state disk.old).content) }
-    ensures room { IfOk result (λ keeper. 1042 ≤ vec_capacity keeper.pair) }
+    ensures room { IfOk result (λ keeper. longest_plain_pair ≤ vec_capacity keeper.pair) }
     ensures near { IfOk result (λ keeper. (keeper.session.next_order ≤ keeper.appender) × (keeper.appender ≤ 2 ^ 60)) }
     ensures cause { Blames (result ≡ Err KeepFault.Disk) (D.state disk.old).faults (D.state disk.new).faults }
 {
@@ -86,7 +87,7 @@ fn open_kept<D: Disk>(
     }
 }
 
-// Whether a version is the one that is wanted, where one is.
+// Returns whether a version is the wanted one, or any if none is wanted.
 fn is_wanted(wanted: Option<Version>, version: Version) -> bool
     ensures { IsTrue result ↔ IsWanted wanted version }
 {
@@ -96,7 +97,7 @@ fn is_wanted(wanted: Option<Version>, version: Version) -> bool
     }
 }
 
-// A window behind the magic that it holds, where it is that of the wanted version, or of any where none is wanted.
+// Moves a window past the magic that it holds, if that is the magic of the wanted version, or of any version if none is wanted.
 fn behind_magic(window: Window, wanted: Option<Version>) -> Result<OpenSource, KeepFault>
     requires some { 8 ≤ length window.held }
     ensures behind { IfOk result (λ behind. ((body : List ℕ) × BeginsWith commands.magics window.held behind.version body)
@@ -116,7 +117,7 @@ fn behind_magic(window: Window, wanted: Option<Version>) -> Result<OpenSource, K
     Ok(OpenSource { window, version })
 }
 
-// Opens a source behind its magic, which is that of the wanted version.
+// Opens a source, and moves past its magic, which has to be that of the wanted version.
 fn open_source<S: Source>(
     alloc: Global,
     limit: u64,
@@ -153,7 +154,7 @@ fn begin_kept<S: Source, D: Disk>(
     ensures begun { IfOk result (λ b. IfSome (D.state disk.old).content
         (λ held. IsBegun held b.version b.keeper.session b.keeper.appender (D.state disk.new))) }
     ensures behind { IfOk result (λ b. IsBehindMagic limit b.version b.window (S.rest source.old) (S.rest source.new)) }
-    ensures ready { IfOk result (λ b. (b.keeper.session.next_order ≤ b.keeper.appender) × (b.keeper.appender ≤ 2 ^ 60) × (1042 ≤ vec_capacity b.keeper.pair)) }
+    ensures ready { IfOk result (λ b. (b.keeper.session.next_order ≤ b.keeper.appender) × (b.keeper.appender ≤ 2 ^ 60) × (longest_plain_pair ≤ vec_capacity b.keeper.pair)) }
     ensures refused { IfErr result (λ fault. IfSome (D.state disk.old).content (λ held. NotBegun limit held (S.rest source.old) (D.state disk.new) fault)) }
     ensures unread { IfErr result (Unread limit (S.rest source.old) (S.rest source.new)) }
     ensures taken { IsErr result → TakesAtMost (S.rest source.old) (S.rest source.new) (limit + 1) }
@@ -196,7 +197,7 @@ fn begin_new<S: Source, D: Disk>(
     ensures begun { IfOk result (λ b. IfSome (D.state disk.old).content
         (λ held. IsBegun held b.version b.keeper.session b.keeper.appender (D.state disk.new))) }
     ensures behind { IfOk result (λ b. IsBehindMagic limit b.version b.window (S.rest source.old) (S.rest source.new)) }
-    ensures ready { IfOk result (λ b. (b.keeper.session.next_order ≤ b.keeper.appender) × (b.keeper.appender ≤ 2 ^ 60) × (1042 ≤ vec_capacity b.keeper.pair)) }
+    ensures ready { IfOk result (λ b. (b.keeper.session.next_order ≤ b.keeper.appender) × (b.keeper.appender ≤ 2 ^ 60) × (longest_plain_pair ≤ vec_capacity b.keeper.pair)) }
     ensures refused { IfErr result (λ fault. IfSome (D.state disk.old).content (λ held. NotBegun limit held (S.rest source.old) (D.state disk.new) fault)) }
     ensures unread { IfErr result (Unread limit (S.rest source.old) (S.rest source.new)) }
     ensures taken { IsErr result → TakesAtMost (S.rest source.old) (S.rest source.new) (limit + 1) }
@@ -238,8 +239,8 @@ fn begin_new<S: Source, D: Disk>(
     }
 }
 
-// Opens the disk and the source. A disk that is there is opened first, with its pairs; of one that is new the source's magic is looked at
-// first, since it says of which version the disk is made.
+// Opens the disk and the source. A disk that has a version is opened first, with its entries; for a new one the source's magic is looked
+// at first, since it says of which version the disk is made.
 pub(crate) fn begin<S: Source, D: Disk>(
     alloc: Global,
     limit: u64,
@@ -249,7 +250,7 @@ pub(crate) fn begin<S: Source, D: Disk>(
     ensures begun { IfOk result (λ b. IfSome (D.state disk.old).content
         (λ held. IsBegun held b.version b.keeper.session b.keeper.appender (D.state disk.new))) }
     ensures behind { IfOk result (λ b. IsBehindMagic limit b.version b.window (S.rest source.old) (S.rest source.new)) }
-    ensures ready { IfOk result (λ b. (b.keeper.session.next_order ≤ b.keeper.appender) × (b.keeper.appender ≤ 2 ^ 60) × (1042 ≤ vec_capacity b.keeper.pair)) }
+    ensures ready { IfOk result (λ b. (b.keeper.session.next_order ≤ b.keeper.appender) × (b.keeper.appender ≤ 2 ^ 60) × (longest_plain_pair ≤ vec_capacity b.keeper.pair)) }
     ensures refused { IfErr result (λ fault. IfSome (D.state disk.old).content (λ held. NotBegun limit held (S.rest source.old) (D.state disk.new) fault)) }
     ensures unread { IfErr result (Unread limit (S.rest source.old) (S.rest source.new)) }
     ensures taken { IsErr result → TakesAtMost (S.rest source.old) (S.rest source.new) (limit + 1) }

@@ -1,4 +1,4 @@
-//! The pairs that a disk keeps, read and audited one after the other.
+//! Reads the entries that a disk keeps, and audits one after the other.
 ghost use Rattle.std.specs.Prelude.{◌≡◌, ◌≤◌, ◌<◌, ◌+◌, ◌^◌, ◌⊎◌, ℕ, List, [], map, Some, Err, IfOk, IfErr, OnOk};
 ghost use Rattle.flow_io.specs.Faults.{Blames};
 ghost use Rattle.wire_records.specs.Records.{Record};
@@ -21,7 +21,7 @@ use journal_disk::{Ahead, DiskJournal};
 use journal_records::PairView;
 use std::alloc::Global;
 
-// Audits a pair that is kept, the one of this number.
+// Audits a kept entry, which has this number.
 fn judge(audit: &mut Audit, pair: &PairView<'_>, number: u64) -> Result<(), KeepFault>
     requires next { audit.old.next_order + 1 < 2 ^ 64 }
     ensures legal { OnOk result (IsLegalPair audit.old pair.now audit.new) }
@@ -36,13 +36,14 @@ fn judge(audit: &mut Audit, pair: &PairView<'_>, number: u64) -> Result<(), Keep
     }
 }
 
-/// Reads the pairs that a disk keeps one after the other and audits each, up to a gate that isn't open: at Ok all of them are a
-/// legal journal, whose market the audit has. The audit is at the empty market of the disk's version, and the journal stands behind the magic.
+/// Reads the entries that a disk keeps and audits one after the other, up to the first commit byte that isn't set. At `Ok` all of them
+/// are a valid journal, whose market the audit has. The audit has to be at the empty market of the disk's version, and the journal after
+/// the magic.
 ///
-/// `Damaged` has the place of the first gate that isn't one, and `Rejected` the number of the first pair that isn't legal, counted
-/// from 1; `Disk` comes only where the disk's count rose, and `Memory` is free. Nothing of the disk is changed. The disk is read in pieces
-/// of 65,536 bytes, and each pair is audited where it lies there. It costs the audit of the pairs, and the memory of a piece, which has
-/// room for the longest of them.
+/// `Damaged` has the place of the first commit byte that is missing, or is set without a complete entry after it; `Rejected` has the
+/// number of the first entry that isn't valid, counted from 1. `Disk` comes only if the disk's count of faults rose; `Memory` may come at
+/// any time. The disk isn't changed. It is read in pieces of 65,536 bytes, and each entry is audited in place. Costs the audit of the
+/// entries, and memory for a piece, which grows to the longest of them.
 pub fn audit_kept<D: Disk>(
     alloc: Global,
     journal: &mut DiskJournal,

@@ -1,10 +1,10 @@
-//! Records that are served onto a disk, one after the other.
+//! Serves records one after the other, and keeps their entries on a disk.
 //!
-//! The loop is this module's own, since that of `file_units` hands in what is done with a unit as a trait whose ghost states are in
-//! `Type 0`, and the state of a disk is in `Type 1`, with the sets of images that a crash may leave.
+//! The loop is this module's own. That of `file_units` takes what is done with a unit as a trait whose ghost states are in `Type 0`,
+//! but the state of a disk, with the sets of images that a crash may leave, is in `Type 1`.
 ghost use Rattle.std.specs.Prelude.{◌≡◌, ◌≢◌, ◌≤◌, ◌<◌, ◌+◌, ◌-◌, ◌*◌, ◌^◌, ◌⊎◌, ◌++◌, ℕ, List, [], ◌∷◌, length, map, Some, None, Err, IsErr, IfSome, IsSome, IfOk, IfErr, OnOk, OnErr, vec_capacity};
 ghost use Rattle.flow_io.specs.Faults.{Blames};
-ghost use Rattle.flow_io.specs.Streams.{Grows, GrowsByFront};
+ghost use Rattle.flow_io.specs.Streams.{Grows, GrowsByPrefix};
 ghost use Rattle.flow_io.specs.Windows.{Fills, IsWithin};
 ghost use Rattle.flow_io.specs.declared.window.InputEnd.TheVariants.{Source as source_end, Limit as limit_end};
 ghost use Rattle.wire_records.specs.Records.{Record, AreBytes};
@@ -12,6 +12,7 @@ ghost use Rattle.wire_records.specs.Commands.{Pair};
 ghost use Rattle.wire_records.specs.Formats.{commands};
 ghost use Rattle.wire_records.specs.declared.version.Version.{Version};
 ghost use Rattle.flow_orders.specs.Outcomes.{Outcome};
+ghost use Rattle.journal_records.specs.Pairs.{longest_plain_pair};
 ghost use Rattle.journal_records.specs.Formats.{records_of};
 ghost use Rattle.file_units.specs.Units.{StaysReady};
 ghost use Rattle.file_units.specs.Inputs.{HasLongest};
@@ -30,7 +31,7 @@ use file_units::Front;
 use flow_io::{Filled, ReadFailed, Sink, Source, Window};
 use journal_disk::Appender;
 
-// A session and an appender, by which records are served and their pairs kept. One buffer is used for all pairs.
+// Serves records with its session, and keeps their entries with its appender. One buffer is used for all entries.
 #[derive(Drop)]
 pub(crate) struct Keeper {
     pub(crate) session: Session,
@@ -38,7 +39,7 @@ pub(crate) struct Keeper {
     pub(crate) pair: Vec<u8>,
 }
 
-// Keeps a pair, and once it is kept writes it.
+// Keeps an entry on the disk, and then writes it to `out`.
 fn put_pair<D: Disk, K: Sink>(
     appender: &mut Appender,
     pair: &[u8],
@@ -59,7 +60,7 @@ fn put_pair<D: Disk, K: Sink>(
     ensures told { OnOk result (IsSome (D.state disk.new).content → IsSome (D.state disk.old).content) }
     ensures place { OnOk result (appender.new ≡ appender.old + (5 + length pair.now)) }
     ensures written { OnOk result (Grows (K.held out.old) (K.held out.new) pair.now) }
-    ensures cut { result ≡ Err KeepFault.Write → GrowsByFront (K.held out.old) (K.held out.new) pair.now }
+    ensures cut { result ≡ Err KeepFault.Write → GrowsByPrefix (K.held out.old) (K.held out.new) pair.now }
     ensures unasked { result ≡ Err KeepFault.Disk → out.new ≡ out.old }
     ensures refused { IfErr result (λ fault. (fault ≡ KeepFault.Disk) ⊎ (fault ≡ KeepFault.Write)) }
     ensures disk_cause { Blames (result ≡ Err KeepFault.Disk) (D.state disk.old).faults (D.state disk.new).faults }
@@ -74,7 +75,7 @@ fn put_pair<D: Disk, K: Sink>(
     }
 }
 
-// Serves the record at the front of the bytes, if a whole one stands there, keeps its pair, and then writes it.
+// Serves the first record of the bytes, if it is complete, keeps its entry, and then writes it.
 fn keep_next<D: Disk, K: Sink>(
     keeper: &mut Keeper,
     bytes: &[u8],
@@ -82,7 +83,7 @@ fn keep_next<D: Disk, K: Sink>(
     out: &mut K,
 ) -> Result<Front, KeepFault>
     requires ready { (left : ℕ) × (length bytes.now ≤ left) × IsReady keeper.old.session keeper.old.appender left }
-    requires room { 1042 ≤ vec_capacity keeper.old.pair }
+    requires room { longest_plain_pair ≤ vec_capacity keeper.old.pair }
     requires kept { IfSome (D.state disk.old).content
         (λ _. (version : Version) × (pairs : List RecordPair) × Keeps version pairs keeper.old.appender (D.state disk.old)) }
     ensures taken { IfOk result (λ front. IsTakenNext front bytes.now keeper.old.session keeper.new.session
@@ -114,7 +115,7 @@ fn keep_next<D: Disk, K: Sink>(
     }
 }
 
-// The bytes that a window holds, with what their type says of them as a clause.
+// Returns the bytes that a window holds, and states as a clause what their type says of them.
 fn bytes_of(held: &[u8]) -> &[u8]
     ensures value { result.now ≡ held.now }
     ensures bytes { AreBytes held.now }
@@ -122,7 +123,7 @@ fn bytes_of(held: &[u8]) -> &[u8]
     held
 }
 
-// Reads once more behind the held bytes, of which there are fewer than the room.
+// Reads more bytes after the held ones, of which there are fewer than the window's room.
 fn read_on<S: Source>(window: &mut Window, source: &mut S) -> Result<Filled, ReadFailed>
     requires room { length window.old.held < window.old.room }
     requires same { window.old.over ≡ Some source_end → IfSome (S.rest source.old) (λ left. left ≡ []) }
@@ -139,7 +140,7 @@ fn read_on<S: Source>(window: &mut Window, source: &mut S) -> Result<Filled, Rea
     window.fill(source, want)
 }
 
-// Serves the records of a source from what a window holds on, one after the other, each kept and then written before the source
+// Serves the records of a source, from those that a window holds on. Each one's entry is kept, and then written, before the source
 // is asked for more.
 pub(crate) fn serve_on<S: Source, D: Disk, K: Sink>(
     window: &mut Window,
@@ -151,7 +152,7 @@ pub(crate) fn serve_on<S: Source, D: Disk, K: Sink>(
     requires longest { HasLongest commands window.old.room }
     requires open { window.old.over ≡ None }
     requires ready { IsReady keeper.old.session keeper.old.appender (window.old.limit - window.old.place) }
-    requires room { 1042 ≤ vec_capacity keeper.old.pair }
+    requires room { longest_plain_pair ≤ vec_capacity keeper.old.pair }
     requires kept { IfSome (D.state disk.old).content (λ _. (version : Version) × (old : List (Pair Record Outcome))
         × IsKeptJournal version old keeper.old.session × Keeps version (map records_of old) keeper.old.appender (D.state disk.old)) }
     ensures goes { ServesOn window.old (S.rest source.old) (S.rest source.new) result keeper.old.session keeper.old.appender

@@ -1,4 +1,4 @@
--- Outcomes of batches from their spellings.
+-- Outcomes of batches from their encodings.
 use Rattle.std.proofs.Common.{◌≡◌, ◌+◌, ◌*◌, ℕ, ℤ, List, [], ◌++◌, All, length, length-append, append_assoc, sym, ap, ◌∙◌, arith}
 use Rattle.std.specs.List.{flat_map}
 use Rattle.std.proofs.lemmas.List.{append-nil}
@@ -39,13 +39,13 @@ same_clearing c d prices fills residuals gap =
     ap (λ p. made p c.fills c.residuals c.gap) prices ∙ ap (λ f. made d.prices f c.residuals c.gap) fills
     ∙ ap (λ r. made d.prices d.fills r c.gap) residuals ∙ ap (λ g. made d.prices d.fills d.residuals g) gap
 
--- a number with a sign that is a whole rest is read once
+-- a number with a sign that is all of the rest is read in one way
 gap_unique : (a b : ℤ) → IsSigned 16 a → IsSigned 16 b → signed 16 a ≡ signed 16 b → a ≡ b
 gap_unique a b h k e =
     let found = signed_unique 16 a b [] [] (omega arith) h k (append-nil (signed 16 a) ∙ e ∙ sym (append-nil (signed 16 b))) in
     found.0
 
--- two clearings of one spelling are one
+-- two clearings with one encoding are equal
 pub clearing_unique : (m n : ℕ) (c d : Clearing) → IsUnsigned 4 m → IsUnsigned 4 n → IsClearing c → IsClearing d → clearing_spelling m c ≡ clearing_spelling n d → (m ≡ n) × (c ≡ d)
 unfolding clearing_spelling
 clearing_unique m n c d in_m in_n h k same =
@@ -63,7 +63,7 @@ same_skipping s t trace start_dual end_dual =
     let made : List ℕ → ℤ → ℤ → Skipping = λ w a b. record { trace = w; start_dual = a; end_dual = b } in
     ap (λ w. made w s.start_dual s.end_dual) trace ∙ ap (λ a. made t.trace a s.end_dual) start_dual ∙ ap (λ b. made t.trace t.start_dual b) end_dual
 
--- two skips of one spelling are one
+-- two skips with one encoding are equal
 pub skipping_unique : (m n : ℕ) (s t : Skipping) → IsUnsigned 4 m → IsUnsigned 4 n → IsSkipping s → IsSkipping t → skipping_spelling m s ≡ skipping_spelling n t → (m ≡ n) × (s ≡ t)
 unfolding skipping_spelling
 skipping_unique m n s t in_m in_n h k same =
@@ -73,7 +73,7 @@ skipping_unique m n s t in_m in_n h k same =
     let steps = unsigned_unique 4 (length s.trace) (length t.trace) s.trace t.trace h.steps k.steps ends.1 in
     (numbers.0, same_skipping s t steps.1 starts.0 ends.0)
 
--- 26 bytes, eight for each price and residual, and twelve for each fill
+-- 26 bytes, eight for each price and imbalance, and twelve for each fill
 pub clearing_size : (number : ℕ) (c : Clearing) → length (clearing_spelling number c) ≡ 26 + 8 * length c.prices + 12 * length c.fills + 8 * length c.residuals
 unfolding clearing_spelling
 clearing_size number c =

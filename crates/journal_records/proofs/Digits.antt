@@ -23,7 +23,7 @@ one_digit_more n (a ∷ bytes) b = one_digit_more (n * 256 + a) bytes b
 worth_more : (size : ℕ) → 2 ^ (8 * suc size) ≡ 2 ^ (8 * size) * 256
 worth_more size = let e : 8 * suc size ≡ 8 * size + 8 = omega arith in ap (λ k. 2 ^ k) e ∙ pow-add 2 (8 * size) 8
 
--- the digits of a number's spelling are the number
+-- the digits of a number's encoding are the number
 digits_back : (size n : ℕ) → IsUnsigned size n → digits_on 0 (unsigned size n) ≡ n
 unfolding digits_on unsigned
 digits_back zero n fits = omega (arith, fits)
@@ -31,7 +31,7 @@ digits_back (suc size) n fits =
     let high = digits_back size (n / 256) (omega (arith, fits, worth_more size)) in
     one_digit_more 0 (unsigned size (n / 256)) (n % 256) ∙ ap (λ k. k * 256 + n % 256) high ∙ omega arith
 
--- bytes are the spelling of the number of their digits, which fits
+-- bytes are the encoding of the number of their digits, which fits
 digits_spelled : (size : ℕ) (bytes : List ℕ) → length bytes ≡ size → AreBytes bytes → IsUnsigned size (digits_on 0 bytes) × (unsigned size (digits_on 0 bytes) ≡ bytes)
 digits_spelled size bytes len small =
     let found = unsigned_complete size bytes len small in
@@ -48,14 +48,14 @@ stored (negsuc n) = refl
 sign_fits : (n : ℕ) → n < 2 ^ 64 → IsSigned 8 (cast_signed w64 n)
 sign_fits n small = (omega (arith, ints), omega (arith, ints))
 
--- eight bytes spell their number with a sign
+-- eight bytes encode their number with a sign
 sign_spelled : (bytes : List ℕ) → length bytes ≡ 8 → AreBytes bytes → IsSigned 8 (sign_in bytes) × (signed 8 (sign_in bytes) ≡ bytes)
 sign_spelled bytes len small =
     let n = digits_on 0 bytes in
     let digits = digits_spelled 8 bytes len small in
     (sign_fits n digits.0, stored (cast_signed w64 n) ∙ ap (unsigned 8) (of_z-to_z w64 n digits.0) ∙ digits.1)
 
--- twelve bytes spell their fill
+-- twelve bytes encode their fill
 fill_spelled : (bytes : List ℕ) → length bytes ≡ 12 → AreBytes bytes → IsFill (fill_in bytes) × (fill_spelling (fill_in bytes) ≡ bytes)
 unfolding fill_spelling
 fill_spelled bytes len small =

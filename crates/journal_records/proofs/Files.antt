@@ -45,7 +45,7 @@ journals_readable = record {
   overlong = either_over_told most_body most_reply_body (omega arith);
 }
 
--- pairs are spelled as their records are
+-- entries are encoded as their records are
 spelled_alike : (pairs : List (Pair Record Outcome)) → flat_map pair_spelling pairs ≡ spell_all journals.units (map records_of pairs)
 unfolding pair_spelling
 spelled_alike [] = refl
@@ -57,7 +57,7 @@ journal_is_file = record {
   file = λ version pairs. ap (λ xs. journal_magic_of version ++ xs) (spelled_alike pairs);
 }
 
--- a journal states no length above the limit where it has no bytes
+-- no bytes state no length above the limit
 pub short_at_end : EitherStatesOver most_body most_reply_body [] → ⊥
 short_at_end (inl over) = states_none-from_few over.0 [] (omega arith) over.1
 short_at_end (inr later) = none_in_none (records most_body) (record_code most_body (omega arith)) later.0 later.1 later.2.0 later.2.1
@@ -71,7 +71,7 @@ journal_is_read limit version pairs each fits =
     subst (λ (bytes : List ℕ). Reads journals limit bytes (File version (map records_of pairs) End)) (sym same)
     (file_read journals journals_readable short_at_end limit version (map records_of pairs) tt lawful small)
 
--- a pair from its record and its answer
+-- an entry from its record and its answer
 same_pair : (p q : Pair Record Outcome) → p.asked ≡ q.asked → p.answer ≡ q.answer → p ≡ q
 same_pair p q a b =
     let made : Record → Answer Outcome → Pair Record Outcome = λ asked answer. record { asked = asked; answer = answer } in
@@ -80,7 +80,7 @@ same_pair p q a b =
 heads : (a b : Record × Record) (x y : List (Record × Record)) → a ∷ x ≡ b ∷ y → (a ≡ b) × (x ≡ y)
 heads a b x y e = (cc, cc)
 
--- pairs of the same records are the same
+-- entries with the same records are the same
 pairs_unique : (p q : List (Pair Record Outcome)) → All IsPair p → All IsPair q → map records_of p ≡ map records_of q → p ≡ q
 pairs_unique [] [] a b e = refl
 pairs_unique [] (y ∷ ys) a b e = absurd cc

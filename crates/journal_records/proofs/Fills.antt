@@ -30,12 +30,12 @@ fill_at (e ∷ orders) (y ∷ rates) zero d o x count inside order rate =
 fill_at (e ∷ orders) (y ∷ rates) (suc i) d o x count inside order rate =
     fill_at orders rates i d o x (omega (arith, count)) (omega (arith, inside)) order rate
 
--- so many fills are written behind what was there
+-- the first i fills are written after what was there
 pub record AreWritten (fills : List Fill) (old new : List ℕ) (i : ℕ) : Type 0 where
   pub written : new ≡ old ++ flat_map fill_spelling (take i fills)
   pub fit : All IsFill (take i fills)
 
--- one more is written
+-- one more fill is written
 pub one_more : (orders : List Order) (rates : List ℕ) (i : ℕ) (o : Order) (x : ℕ) (old mid new : List ℕ) → length rates ≡ length orders → i < length orders
     → o ≡ get_or orders i o → x ≡ get_or rates i x → o.number < 2 ^ 64 → x < 2 ^ 32
     → AreWritten (fills_of orders rates) old mid i → new ≡ (mid ++ unsigned 8 o.number) ++ unsigned 4 x → AreWritten (fills_of orders rates) old new (i + 1)
@@ -53,14 +53,14 @@ one_more orders rates i o x old mid new count inside order rate small_number sma
       fit = All-more IsFill fills i f within before.fit (subst IsFill (sym at) (small_number, small_rate));
     }
 
--- all are written
+-- all fills are written
 pub all_written : (orders : List Order) (rates : List ℕ) (old new : List ℕ) (i : ℕ) → length rates ≡ length orders → length orders ≤ i
     → AreWritten (fills_of orders rates) old new i → (new ≡ old ++ flat_map fill_spelling (fills_of orders rates)) × All IsFill (fills_of orders rates)
 all_written orders rates old new i count all before =
     let same : take i (fills_of orders rates) ≡ fills_of orders rates = take_all i (fills_of orders rates) (omega (arith, all, length-fills orders rates count)) in
     (before.written ∙ ap (λ xs. old ++ flat_map fill_spelling xs) same, subst (All IsFill) same before.fit)
 
--- the order stands before the rate
+-- a fill's encoding is the order's number and then the rate
 pub apart : (f : Fill) (bytes rest : List ℕ) → bytes ≡ fill_spelling f ++ rest → bytes ≡ unsigned 8 f.order ++ (unsigned 4 f.rate ++ rest)
 unfolding fill_spelling
 apart f bytes rest same = same ∙ append_assoc (unsigned 8 f.order) (unsigned 4 f.rate) rest

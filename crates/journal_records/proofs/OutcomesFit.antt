@@ -1,4 +1,4 @@
--- The numbers of a right outcome fit their widths.
+-- The numbers of an admissible outcome fit their widths.
 use Rattle.std.proofs.Common.{◌≡◌, ℕ, suc, ◌*◌, ◌^◌, ◌<◌, ◌≤◌, ℤ, pos, negsuc, ◌+ℤ◌, ◌-ℤ◌, ◌*ℤ◌, ◌<ℤ◌, List, [], ◌∷◌, map, length, drop, ap, sym, ◌∙◌, arith}
 use Rattle.std.specs.Prelude.{Bool, All, unsigned_abs, slice_index_or}
 use Rattle.std.specs.List.{range_with_len, sum_by}
@@ -20,13 +20,13 @@ use Rattle.flow_orders.specs.Orders.{Order, IsOrder, terms_of, most_orders}
 use Rattle.flow_orders.specs.Excess.{price_for, residual_bound}
 use Rattle.flow_orders.specs.Walks.{IsLegal}
 use Rattle.flow_orders.specs.Trades.{Trade, trades, residual, residual_cost}
-use Rattle.flow_orders.specs.Outcomes.{Fill, Clearing, Skipping, Cleared, Skipped, trades_of, dual_of, end_of, IsRightClearing, IsRightSkip, most_budget}
+use Rattle.flow_orders.specs.Outcomes.{Fill, Clearing, Skipping, Cleared, Skipped, trades_of, dual_of, end_of, IsAdmissibleClearing, IsAdmissibleSkip, most_budget}
 use Rattle.flow_orders.specs.Duals.{movement_of}
-use Rattle.flow_orders.proofs.Book.{IsSound}
+use Rattle.flow_orders.proofs.Book.{IsConsistent}
 use Rattle.flow_orders.proofs.Ranges.{sum_by-most, spread-most, steepness-most}
-use Rattle.flow_orders.proofs.WalkLaws.{right_skips_lower_the_dual}
+use Rattle.flow_orders.proofs.WalkLaws.{admissible_skips_lower_the_dual}
 use Rattle.journal_records.specs.Replies.{IsFill, IsClearing, IsSkipping}
-use Rattle.journal_records.specs.Laws.{RightOutcomesFit}
+use Rattle.journal_records.specs.Laws.{AdmissibleOutcomesFit}
 
 -- a number in range
 fits_in_8 : (z : ℤ) → unsigned_abs z ≤ 2 ^ 62 → IsSigned 8 z
@@ -34,14 +34,14 @@ fits_in_8 (pos n) small = (omega (arith, ints), omega (arith, ints, small))
 fits_in_8 (negsuc n) small = (omega (arith, ints, small), omega (arith, ints))
 
 module _ (orders : List Order) (each : All IsOrder orders) (few : length orders ≤ most_orders) where
-  sound : All IsSound orders
-  sound k d inside = let o = each k d inside in record { limits = o.terms; lawful = o.row }
+  consistent : All IsConsistent orders
+  consistent k d inside = let o = each k d inside in record { limits = o.terms; lawful = o.row }
 
-  -- a residual within its bound is within 2^31
+  -- an imbalance within its bound is within 2^31
   bound_most : (asset : ℕ) → residual_bound orders asset ≤ 2 ^ 31
-  bound_most asset = omega (arith, spread-most orders asset sound, steepness-most orders asset sound, few)
+  bound_most asset = omega (arith, spread-most orders asset consistent, steepness-most orders asset consistent, few)
 
--- each rate is within the room of its order, and so within its width
+-- each rate is within the batch maximum of its order, and so within its width
 fills_fit : (prices : List ℤ) (orders : List Order) (fills : List Fill) → All IsOrder orders → All (λ (o : Order). o.number < 2 ^ 64) orders
     → map (λ (f : Fill). f.order) fills ≡ map (λ (o : Order). o.number) orders
     → All (λ t. IsRounding (terms_of t.order) t.traded (price_for prices t.order)) (trades_of orders fills) → All IsFill fills
@@ -74,16 +74,16 @@ trades_few [] rates = omega arith
 trades_few (o ∷ orders) [] = omega arith
 trades_few (o ∷ orders) (x ∷ rates) = omega (arith, trades_few orders rates)
 
--- a gap of what is lost and what is left over
+-- a gap from what roundings lose and what the imbalances cost fits
 gap_fits : (gap : ℤ) (lost : ℕ) (cost : ℤ) → gap ≡ pos lost -ℤ cost → lost ≤ 2 ^ 74 → unsigned_abs cost ≤ 2 ^ 99 → IsSigned 16 gap
 gap_fits gap lost (pos n) is most small = rw is (omega (arith, ints, most, small), omega (arith, ints, most, small))
 gap_fits gap lost (negsuc n) is most small = rw is (omega (arith, ints, most, small), omega (arith, ints, most, small))
 
 module _ (orders : List Order) (start : List ℤ) (each : All IsOrder orders) (few : length orders ≤ most_orders) (numbered : All (λ (o : Order). o.number < 2 ^ 64) orders) (assets : length start ≤ 64) where
-  residual_most : (c : Clearing) → IsRightClearing orders start c → (asset : ℕ) → asset < length start → unsigned_abs (residual (trades_of orders c.fills) asset) ≤ 2 ^ 31
+  residual_most : (c : Clearing) → IsAdmissibleClearing orders start c → (asset : ℕ) → asset < length start → unsigned_abs (residual (trades_of orders c.fills) asset) ≤ 2 ^ 31
   residual_most c right asset inside = omega (arith, right.bounded asset inside, bound_most orders each few asset)
 
-  cost_most : (c : Clearing) → IsRightClearing orders start c → unsigned_abs (residual_cost c.prices (trades_of orders c.fills)) ≤ 2 ^ 99
+  cost_most : (c : Clearing) → IsAdmissibleClearing orders start c → unsigned_abs (residual_cost c.prices (trades_of orders c.fills)) ≤ 2 ^ 99
   cost_most c right =
       let n = length c.prices in
       let ts = trades_of orders c.fills in
@@ -94,10 +94,10 @@ module _ (orders : List Order) (start : List ℤ) (each : All IsOrder orders) (f
       unsigned_abs-mul_le (price_of c.prices asset) (residual ts asset) (2 ^ 62) (2 ^ 31) (right.small asset (pos 0) within) (residual_most c right asset (omega (arith, within, right.one_price_each)))) in
       omega (arith, all, length-range_with_len 0 n, right.one_price_each, assets)
 
-  fill_count : (c : Clearing) → IsRightClearing orders start c → length c.fills ≡ length orders
+  fill_count : (c : Clearing) → IsAdmissibleClearing orders start c → length c.fills ≡ length orders
   fill_count c right = sym (length-map c.fills (λ (f : Fill). f.order)) ∙ ap length right.numbers ∙ length-map orders (λ (o : Order). o.number)
 
-  clearing_fits : (c : Clearing) → IsRightClearing orders start c → IsClearing c
+  clearing_fits : (c : Clearing) → IsAdmissibleClearing orders start c → IsClearing c
   clearing_fits c right =
       let ts = trades_of orders c.fills in
       let fills = fill_count c right in
@@ -119,7 +119,7 @@ module _ (orders : List Order) (start : List ℤ) (each : All IsOrder orders) (f
             (cost_most c right);
       }
 
--- the assets of a legal walk are below their number
+-- the assets of a valid walk are below their number
 walk_within : {P : Type 0} (n : ℕ) (unsettled : P → ℕ → Bool) (move : P → ℕ → P) (p : P) (walk : List ℕ) → n ≤ 64 → IsLegal n unsettled move p walk → AreBytes walk
 walk_within n unsettled move p [] few legal = All-nil (λ b. b < 256)
 walk_within n unsettled move p (a ∷ walk) few legal = All-cons (λ b. b < 256) a walk (omega (arith, few, legal.0)) (walk_within n unsettled move (move p a) walk few legal.2)
@@ -129,7 +129,7 @@ within_78 : (z : ℤ) → unsigned_abs z ≤ 2 ^ 78 → IsWithin (2 ^ 78) z
 within_78 (pos n) small = (omega (arith, ints), omega (arith, ints, small))
 within_78 (negsuc n) small = (omega (arith, ints, small), omega (arith, ints))
 
--- the dual floors of lawful orders
+-- the dual value of orders within their limits is bounded
 dual_most : (orders : List Order) (prices : List ℤ) → All IsOrder orders → length orders ≤ most_orders → All IsPrice prices → dual_of orders prices ≤ 2 ^ 117
 dual_most orders prices each few small =
     let all = sum_by-most (λ (o : Order). dual_floor (terms_of o) (price_for prices o)) (2 ^ 103) orders
@@ -139,7 +139,7 @@ dual_most orders prices each few small =
     (dual_is_by_cases (terms_of o) h.terms (price_for prices o)).small (within_78 (price_for prices o) (price_is_bounded o.row prices h.row small))) in
     omega (arith, all, few)
 
--- a dual that is at most another and few grains
+-- a dual value within its bound fits
 dual_fits : (z : ℤ) (n : ℕ) → z ≡ pos n → n ≤ 2 ^ 118 → IsSigned 16 z
 dual_fits z n is most = rw is (omega (arith, ints), omega (arith, ints, most))
 
@@ -147,12 +147,12 @@ below : (e f m n : ℕ) → (pos e +ℤ pos m) <ℤ (pos f +ℤ pos n) → f ≤
 below e f m n less most few = omega (arith, ints, less, most, few)
 
 skipping_fits : (parts : ℕ) → 1 ≤ parts → (orders : List Order) (start : List ℤ) (budget : ℕ) → All IsOrder orders → length orders ≤ most_orders → length start ≤ 64 → All IsPrice start → budget ≤ most_budget
-    → (s : Skipping) → IsRightSkip parts orders start budget s → IsSkipping s
+    → (s : Skipping) → IsAdmissibleSkip parts orders start budget s → IsSkipping s
 skipping_fits parts some orders start budget each few assets small moves s right =
     let first : s.start_dual ≡ pos (dual_of orders start) = ap (λ (x : Skipping). x.start_dual) right.duals in
     let last : s.end_dual ≡ pos (dual_of orders (end_of parts orders start s.trace)) = ap (λ (x : Skipping). x.end_dual) right.duals in
     let most = dual_most orders start each few small in
-    let lower = (right_skips_lower_the_dual parts some orders start budget s each right).0 in
+    let lower = (admissible_skips_lower_the_dual parts some orders start budget s each right).0 in
     record {
       start_dual = dual_fits s.start_dual _ first (omega (arith, most));
       end_dual = dual_fits s.end_dual _ last (below _ _ (movement_of parts orders start s.trace) (length orders) (rw (first, last) at lower) most few);
@@ -160,8 +160,8 @@ skipping_fits parts some orders start budget each few assets small moves s right
       trace = walk_within (length start) _ _ start s.trace assets right.legal;
     }
 
-pub right_outcomes_fit : RightOutcomesFit
-right_outcomes_fit parts some orders start budget number (Cleared c) each few numbered assets small moves batch right =
+pub admissible_outcomes_fit : AdmissibleOutcomesFit
+admissible_outcomes_fit parts some orders start budget number (Cleared c) each few numbered assets small moves batch right =
     ((omega (arith, batch), clearing_fits orders start each few numbered assets c right), (omega (arith, right.one_price_each, assets), omega (arith, fill_count orders start each few numbered assets c right, few)))
-right_outcomes_fit parts some orders start budget number (Skipped s) each few numbered assets small moves batch right =
+admissible_outcomes_fit parts some orders start budget number (Skipped s) each few numbered assets small moves batch right =
     ((omega (arith, batch), skipping_fits parts some orders start budget each few assets small moves s right), omega (arith, right.whole, moves))

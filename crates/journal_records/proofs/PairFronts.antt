@@ -1,4 +1,4 @@
--- Pairs of records at the front of bytes.
+-- Entries that bytes begin with.
 use Rattle.std.proofs.Common.{◌≡◌, ◌≢◌, ◌<◌, ◌≤◌, ◌^◌, ℕ, List, [], ◌++◌, inl, inr, length, append_assoc, sym, ap, ◌∙◌, subst, arith}
 use Rattle.wire_records.specs.Records.{Record, IsRecord, spelling, StatesLength, HasNoFront}
 use Rattle.wire_records.specs.Grammars.{BeginsWithNone, both}
@@ -6,12 +6,12 @@ use Rattle.wire_records.specs.Formats.{records, StatesOver, EitherStatesOver}
 use Rattle.wire_records.proofs.Fronts.{no_front-from_few, no_front-from_overlong, states_none-from_few}
 use Rattle.wire_records.proofs.Spelled.{spelling_unique}
 
--- no record at the front, and so no pair
+-- bytes that begin with no record begin with no entry
 pub no_pair-from_first : (limit next : ℕ) (bytes : List ℕ) → HasNoFront limit bytes → BeginsWithNone (both (records limit) (records next)) bytes
 no_pair-from_first limit next bytes none pair rest lawful e =
     none pair.0 (spelling pair.1 ++ rest) lawful.0 (e ∙ append_assoc (spelling pair.0) (spelling pair.1) rest)
 
--- none behind the first record, and so no pair
+-- bytes with no record after the first one begin with no entry
 pub no_pair-from_second : (limit next : ℕ) (bytes left : List ℕ) (first : Record) → limit < 2 ^ 32 → IsRecord limit first → bytes ≡ spelling first ++ left → HasNoFront next left → BeginsWithNone (both (records limit) (records next)) bytes
 no_pair-from_second limit next bytes left first small lawful whole none pair rest both_lawful e =
     let one = spelling_unique limit first pair.0 left (spelling pair.1 ++ rest) small lawful both_lawful.0 (sym whole ∙ e ∙ append_assoc (spelling pair.0) (spelling pair.1) rest) in
@@ -33,28 +33,28 @@ some-from_front limit bytes left first lawful whole none = no_front-from_none li
 pub none_over : (limit : ℕ) (bytes : List ℕ) → bytes ≡ [] → ¬ StatesOver limit bytes
 none_over limit bytes none over = some-from_stated over.0 bytes over.1 none
 
--- nor does a whole record
+-- bytes that begin with a complete record state no length above the limit
 pub whole_not_over : (limit : ℕ) (bytes left : List ℕ) (first : Record) → limit < 2 ^ 32 → IsRecord limit first → bytes ≡ spelling first ++ left → ¬ StatesOver limit bytes
 whole_not_over limit bytes left first small lawful whole over =
     no_front-from_overlong limit over.0 bytes small over.1 over.2 first left lawful whole
 
--- nor do bytes that state no length above it
+-- bytes that state no length above the limit don't state one over it
 pub short_not_over : (limit : ℕ) (bytes : List ℕ) → ((n : ℕ) → StatesLength n bytes → n ≤ limit) → ¬ StatesOver limit bytes
 short_not_over limit bytes within over = omega (arith, over.2, within over.0 over.1)
 
--- no record at the front that is whole or too long
+-- if the first record is neither complete nor too long, no record is too long
 pub neither_over : (limit next : ℕ) (bytes : List ℕ) → HasNoFront limit bytes → (¬ StatesOver limit bytes) → ¬ EitherStatesOver limit next bytes
 neither_over limit next bytes none short (inl over) = short over
 neither_over limit next bytes none short (inr later) = none later.0 later.1 later.2.0 later.2.1
 
--- a whole record at the front, and so it is told behind it
+-- after a complete record, the bytes after it decide
 pub over_behind : (limit next : ℕ) (bytes left : List ℕ) (first : Record) → limit < 2 ^ 32 → IsRecord limit first → bytes ≡ spelling first ++ left → EitherStatesOver limit next bytes → StatesOver next left
 over_behind limit next bytes left first small lawful whole (inl over) = absurd (whole_not_over limit bytes left first small lawful whole over)
 over_behind limit next bytes left first small lawful whole (inr later) =
     let one = spelling_unique limit first later.0 left later.1 small lawful later.2.0 (sym whole ∙ later.2.1) in
     subst (StatesOver next) (sym one.1) later.3
 
--- a whole record and none behind it are some bytes and no pair
+-- a complete record and none after it are some bytes and no entry
 pub broken_behind : (limit next : ℕ) (bytes left : List ℕ) (first : Record) → limit < 2 ^ 32 → IsRecord limit first → bytes ≡ spelling first ++ left → HasNoFront next left → (bytes ≢ []) × BeginsWithNone (both (records limit) (records next)) bytes
 broken_behind limit next bytes left first small lawful whole none =
     (some-from_front limit bytes left first lawful whole, no_pair-from_second limit next bytes left first small lawful whole none)

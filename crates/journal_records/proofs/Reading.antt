@@ -1,4 +1,4 @@
--- Which bodies and records spell an answer.
+-- Which bodies and records encode an answer.
 use Rattle.std.proofs.Common.{◌≡◌, ◌≢◌, ◌<◌, ◌^◌, ℕ, ℤ, List, [], ◌++◌, length, refl, sym, ap, ◌∙◌, arith}
 use Rattle.std.specs.Prelude.{All, if◌then◌else◌, ◌==◌}
 use Rattle.std.specs.List.{flat_map}
@@ -19,7 +19,7 @@ use Rattle.journal_records.specs.Replies.{reply_tag, reply_body, answer_tag, ans
 use Rattle.journal_records.specs.Private.{SpellsCleared, SpellsNoCleared, SpellsSkipped, SpellsNoSkipped, SpellsReply, SpellsNoReply}
 use Rattle.journal_records.proofs.Spelled.{reply_tag-most}
 
--- what stands in a clearing's body from the residuals on, and so on
+-- a clearing's body from the imbalances on, and from each field before them on
 abbrev pub from_residuals : Clearing → List ℕ
 from_residuals c = flat_map (signed 8) c.residuals ++ signed 16 c.gap
 
@@ -35,7 +35,7 @@ from_prices c = flat_map (signed 8) c.prices ++ from_orders c
 abbrev pub from_assets : Clearing → List ℕ
 from_assets c = unsigned 2 (length c.prices) ++ from_prices c
 
--- the batch's number stands before all that
+-- a clearing's body begins with the batch's number
 pub cleared_apart : (body : List ℕ) (b : ClearedBatch) → SpellsCleared body b → body ≡ unsigned 4 b.batch ++ from_assets b.clearing
 unfolding clearing_spelling
 cleared_apart body b s = s.spelled
@@ -63,7 +63,7 @@ cleared_read body batch assets orders prices fills residuals gap a b c d e f g b
   spelled = rw (price_count, fill_count, of_body, of_a, of_b, of_c, of_d, of_e, of_f, of_g, append-nil (signed 16 gap)) refl;
 }
 
--- what stands in a skip's body from the trace's length on, and so on
+-- a skip's body from the trace's length on, and from each field before it on
 abbrev pub from_steps : Skipping → List ℕ
 from_steps s = unsigned 4 (length s.trace) ++ s.trace
 
@@ -73,7 +73,7 @@ from_end s = signed 16 s.end_dual ++ from_steps s
 abbrev pub from_start : Skipping → List ℕ
 from_start s = signed 16 s.start_dual ++ from_end s
 
--- the batch's number stands before all that
+-- a skip's body begins with the batch's number
 pub skipped_apart : (body : List ℕ) (b : SkippedBatch) → SpellsSkipped body b → body ≡ unsigned 4 b.batch ++ from_start b.skipping
 unfolding skipping_spelling
 skipped_apart body b s = s.spelled
@@ -107,7 +107,7 @@ length-reply (Refused refusal) = length-unsigned 1 (code_of refusal)
 pub no_reply_of_size : (tag : ℕ) (body : List ℕ) → length body ≢ size_of tag → SpellsNoReply tag body
 no_reply_of_size tag body other reply s = other (ap length s.spelled ∙ length-reply reply ∙ ap size_of (sym s.tag_is))
 
--- the code of none is no refusal's
+-- a body with a code that no refusal has is no reply's
 pub no_reply_of_code : (body : List ℕ) (code : ℕ) → code < 2 ^ 8 → body ≡ unsigned 1 code → ((refusal : Refusal) → code_of refusal ≢ code) → SpellsNoReply 132 body
 unfolding reply_body
 no_reply_of_code body code fits spelled none Done s = absurd (omega (arith, s.tag_is))
@@ -121,7 +121,7 @@ no_reply_of_code body code fits spelled none (Refused refusal) s =
 answer_parts : (r : Record) (answer : Answer Outcome) → SpellsAnswer r answer → (r.tag ≡ answer_tag answer) × (r.body ≡ answer_body answer)
 answer_parts r answer s = (ap (λ (x : Record). x.tag) s.spelled, ap (λ (x : Record). x.body) s.spelled)
 
--- a record of the tag 133 spells a clearing or nothing
+-- a record of the tag 133 encodes a clearing or nothing
 pub none_cleared : (r : Record) → r.tag ≡ 133 → SpellsNoCleared r.body → (answer : Answer Outcome) → ¬ SpellsAnswer r answer
 unfolding answer_body
 none_cleared r tag none (Plain reply) s = omega (arith, tag, (answer_parts r (Plain reply) s).0, reply_tag-most reply)
@@ -129,7 +129,7 @@ none_cleared r tag none (Batch number (Cleared c)) s =
     none (record { batch = number; clearing = c }) (record { batch = s.fits.0; fits = s.fits.1; spelled = (answer_parts r (Batch number (Cleared c)) s).1 })
 none_cleared r tag none (Batch number (Skipped t)) s = omega (arith, tag, (answer_parts r (Batch number (Skipped t)) s).0)
 
--- a record of the tag 134 spells a skip or nothing
+-- a record of the tag 134 encodes a skip or nothing
 pub none_skipped : (r : Record) → r.tag ≡ 134 → SpellsNoSkipped r.body → (answer : Answer Outcome) → ¬ SpellsAnswer r answer
 unfolding answer_body
 none_skipped r tag none (Plain reply) s = omega (arith, tag, (answer_parts r (Plain reply) s).0, reply_tag-most reply)
@@ -137,7 +137,7 @@ none_skipped r tag none (Batch number (Cleared c)) s = omega (arith, tag, (answe
 none_skipped r tag none (Batch number (Skipped t)) s =
     none (record { batch = number; skipping = t }) (record { batch = s.fits.0; fits = s.fits.1; spelled = (answer_parts r (Batch number (Skipped t)) s).1 })
 
--- a record of another tag spells a plain reply or nothing
+-- a record of another tag encodes a plain reply or nothing
 pub none_plain : (r : Record) → r.tag ≢ 133 → r.tag ≢ 134 → SpellsNoReply r.tag r.body → (answer : Answer Outcome) → ¬ SpellsAnswer r answer
 unfolding answer_body
 none_plain r cleared skipped none (Plain reply) s =

@@ -1,4 +1,4 @@
--- Answers and pairs from their spellings.
+-- Answers and entries from their encodings.
 use Rattle.std.proofs.Common.{◌≡◌, ◌+◌, ◌*◌, ◌≤◌, ℕ, List, ◌++◌, length, length-append, refl, sym, ap, ◌∙◌, append_assoc, arith}
 use Rattle.std.specs.List.{flat_map}
 use Rattle.wire_fields.specs.Numbers.{unsigned, signed}
@@ -30,7 +30,7 @@ same_reply (Order m) b h k tags bodies = absurd (omega (arith, tags))
 same_reply (Refused r) (Refused s) h k tags bodies = ap Refused (code_of-unique r s (number_unique 1 (code_of r) (code_of s) (code_of-byte r) (code_of-byte s) bodies))
 same_reply (Refused r) b h k tags bodies = absurd (omega (arith, tags))
 
--- a plain reply has a tag of its own
+-- the tag of a plain reply is at most 132
 pub reply_tag-most : (a : Reply) → reply_tag a ≤ 132
 reply_tag-most Done = omega arith
 reply_tag-most (Asset n) = omega arith
@@ -38,7 +38,7 @@ reply_tag-most (Account n) = omega arith
 reply_tag-most (Order n) = omega arith
 reply_tag-most (Refused r) = omega arith
 
--- the number and the outcome of a batch
+-- a batch from its number and its outcome
 same_batch : (m n : ℕ) (a b : Outcome) → m ≡ n → a ≡ b → Batch m a ≡ Batch n b
 same_batch m n a b numbers outcomes = ap (λ k. Batch k a) numbers ∙ ap (λ o. Batch n o) outcomes
 
@@ -59,17 +59,17 @@ same_answer (Batch m (Skipped s)) (Batch n (Skipped t)) h k tags bodies =
     let e = skipping_unique m n s t h.0 k.0 h.1 k.1 bodies in
     same_batch m n (Skipped s) (Skipped t) e.0 (ap Skipped e.1)
 
--- a record spells at most one answer
+-- a record encodes at most one answer
 pub answer_unique : (a b : Answer Outcome) → IsAnswer a → IsAnswer b → answer_record a ≡ answer_record b → a ≡ b
 answer_unique a b h k e = same_answer a b h k (ap (λ (r : Record). r.tag) e) (ap (λ (r : Record). r.body) e)
 
--- a pair from its parts
+-- an entry from its parts
 same_pair : (p q : Pair Record Outcome) → p.asked ≡ q.asked → p.answer ≡ q.answer → p ≡ q
 same_pair p q a b =
     let made : Record → Answer Outcome → Pair Record Outcome = λ asked answer. record { asked = asked; answer = answer } in
     ap (λ asked. made asked p.answer) a ∙ ap (λ answer. made q.asked answer) b
 
--- bytes that begin with two pairs begin with one
+-- two entries that the same bytes begin with are one
 pub pair_unique : (p q : Pair Record Outcome) (x y : List ℕ) → IsPair p → IsPair q → pair_spelling p ++ x ≡ pair_spelling q ++ y → (p ≡ q) × (x ≡ y)
 unfolding pair_spelling
 pair_unique p q x y h k e =
@@ -87,14 +87,14 @@ length-reply_body (Account n) = omega (arith, length-unsigned 4 n)
 length-reply_body (Order n) = omega (arith, length-unsigned 8 n)
 length-reply_body (Refused r) = omega (arith, length-unsigned 1 (code_of r))
 
--- a pair with a plain reply takes at most the room that is set aside for one
+-- an entry with a plain reply takes at most the space that is reserved for one
 pub pair_room : (asked : Record) (reply : Reply) → length (pair_spelling (record { asked = asked; answer = Plain reply })) ≤ plain_room asked
 unfolding pair_spelling answer_body
 pair_room asked reply =
     let answered = answer_record (Plain reply) in
     omega (arith, length-append (spelling asked) (spelling answered), length-spelling answered, length-reply_body reply)
 
--- a pair with a batch that cleared takes the room that is set aside for it
+-- an entry with a batch that cleared takes the space that is reserved for it
 pub cleared_pair_room : (asked : Record) (number : ℕ) (c : Clearing) → length c.residuals ≡ length c.prices
     → length (pair_spelling (record { asked = asked; answer = Batch number (Cleared c) })) ≡ cleared_room asked (length c.prices) (length c.fills)
 unfolding pair_spelling answer_body
@@ -128,7 +128,7 @@ put_skip_together old number s n moves count size =
     ∙ joined_skip old (head 134 n) (unsigned 4 number) (signed 16 s.start_dual) (signed 16 s.end_dual) (unsigned 4 (length s.trace)) s.trace
     ∙ head_and_body old (skipping_spelling number s) 134 n (omega (arith, skipping_size number s, count, size))
 
--- a pair with a batch that was skipped takes exactly the room that is set aside for it
+-- an entry with a batch that was skipped takes exactly the space that is reserved for it
 pub skipped_pair_room : (asked : Record) (number : ℕ) (s : Skipping) → length (pair_spelling (record { asked = asked; answer = Batch number (Skipped s) })) ≡ skipped_room asked (length s.trace)
 unfolding pair_spelling answer_body
 skipped_pair_room asked number s =

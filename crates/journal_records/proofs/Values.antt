@@ -10,14 +10,14 @@ use Rattle.wire_records.specs.Records.{AreBytes}
 use Rattle.wire_records.proofs.CodeLaws.{counted_size, counted_unique}
 use Rattle.journal_records.specs.Private.{values_in, SpellValues}
 
--- A spelling of values by so many bytes each, and how a value is read from as many bytes.
+-- An encoding of values by `size` bytes each, and how a value is read from them.
 pub record IsFixed {A : Type 0} (Fits : A → Type 0) (spell : A → List ℕ) (read : List ℕ → A) (size : ℕ) : Type 0 where
   pub size_is : (a : A) → length (spell a) ≡ size
   pub one : (a b : A) (x y : List ℕ) → Fits a → Fits b → spell a ++ x ≡ spell b ++ y → (a ≡ b) × (x ≡ y)
   pub fits : (bytes : List ℕ) → length bytes ≡ size → AreBytes bytes → Fits (read bytes)
   pub spelled : (bytes : List ℕ) → length bytes ≡ size → AreBytes bytes → spell (read bytes) ≡ bytes
 
--- bytes for so many values spell those that are read from them
+-- bytes for n values encode those that are read from them
 pub values_spelled : {A : Type 0} (Fits : A → Type 0) (spell : A → List ℕ) (read : List ℕ → A) (size : ℕ) → IsFixed Fits spell read size → (n : ℕ) (bytes : List ℕ) → length bytes ≡ size * n → AreBytes bytes → SpellValues Fits spell bytes (values_in read size n bytes)
 unfolding values_in
 values_spelled Fits spell read size fixed zero bytes len small =
@@ -46,13 +46,13 @@ length-values read size (suc n) bytes = omega (arith, length-values read size n 
 pub length-spelled : {A : Type 0} (Fits : A → Type 0) (spell : A → List ℕ) (read : List ℕ → A) (size : ℕ) → IsFixed Fits spell read size → (bytes : List ℕ) (values : List A) → SpellValues Fits spell bytes values → length bytes ≡ size * length values
 length-spelled Fits spell read size fixed bytes values spells = ap length spells.spelled ∙ counted_size spell size fixed.size_is values
 
--- bytes spell one list of so many values
+-- bytes encode one list of as many values
 pub values_one : {A : Type 0} (Fits : A → Type 0) (spell : A → List ℕ) (read : List ℕ → A) (size : ℕ) → IsFixed Fits spell read size → (bytes : List ℕ) (p q : List A) → length p ≡ length q → SpellValues Fits spell bytes p → SpellValues Fits spell bytes q → p ≡ q
 values_one Fits spell read size fixed bytes p q len a b =
     let same = counted_unique Fits spell fixed.one p q [] [] a.fit b.fit len (append-nil _ ∙ sym a.spelled ∙ b.spelled ∙ sym (append-nil _)) in
     same.0
 
--- what stands from a place on
+-- the bytes from a place on encode the values from there on
 from_place : {A : Type 0} (spell : A → List ℕ) (size : ℕ) → ((a : A) → length (spell a) ≡ size) → (k : ℕ) (values : List A) → drop (size * k) (flat_map spell values) ≡ flat_map spell (drop k values)
 from_place spell size size_is zero values = let none : size * 0 ≡ 0 = omega arith in ap (λ n. drop n (flat_map spell values)) none
 from_place spell size size_is (suc k) [] = drop_all (size * suc k) [] (omega arith)
@@ -63,24 +63,24 @@ from_place spell size size_is (suc k) (v ∷ values) =
     ∙ ap (drop (size * k)) (drop_at (spell v) (flat_map spell values) size (size_is v))
     ∙ from_place spell size size_is k values
 
--- at a place stands its value
+-- the value at a place is read from its bytes
 pub at_place : {A : Type 0} (Fits : A → Type 0) (spell : A → List ℕ) (read : List ℕ → A) (size : ℕ) → IsFixed Fits spell read size → (bytes : List ℕ) (values : List A) (k : ℕ) (d : A) → SpellValues Fits spell bytes values → k < length values → drop (size * k) bytes ≡ spell (get_or values k d) ++ flat_map spell (drop (k + 1) values)
 at_place Fits spell read size fixed bytes values k d spells within =
     ap (drop (size * k)) spells.spelled ∙ from_place spell size fixed.size_is k values ∙ ap (flat_map spell) (drop_more values k d within)
 
--- what is read of bytes for so many values, as many as were asked for
+-- the bytes encode as many values as were asked for
 pub record AreRead {A : Type 0} (Fits : A → Type 0) (spell : A → List ℕ) (count : ℕ) (bytes : List ℕ) (values : List A) : Type 0 where
   pub count_is : length values ≡ count
   pub spells : SpellValues Fits spell bytes values
 
--- bytes for so many values have them
+-- bytes for n values encode n values
 pub are_read : {A : Type 0} (Fits : A → Type 0) (spell : A → List ℕ) (read : List ℕ → A) (size : ℕ) → IsFixed Fits spell read size → (count n : ℕ) (bytes : List ℕ) → n ≡ count → length bytes ≡ size * count → AreBytes bytes → AreRead Fits spell count bytes (values_in read size n bytes)
 are_read Fits spell read size fixed count n bytes n_is len small = record {
   count_is = length-values read size n bytes ∙ n_is;
   spells = values_spelled Fits spell read size fixed n bytes (len ∙ ap (λ k. size * k) (sym n_is)) small;
 }
 
--- where there is no value, all were read
+-- if there is no next value, all were read
 pub ended : {A : Type 0} (values : List A) (place : ℕ) → None ≡ slice_get values place → length values ≤ place
 ended values place none =
     elim ((slice_get_cases values place).1) [

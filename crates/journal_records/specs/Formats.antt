@@ -1,4 +1,4 @@
--- Journals as files: pairs of records, whatever they ask and answer.
+-- Journals as files: entries of two records each, whatever these ask and answer.
 use Rattle.std.specs.Prelude.{ℕ, List, ◌++◌}
 use Rattle.std.specs.List.{flat_map}
 use Rattle.wire_records.specs.Records.{Record, most_body}
@@ -18,11 +18,11 @@ journal_magic_of One = journal_magic
 journal_magic_of Two = journal_magic_2
 journal_magic_of Three = journal_magic_3
 
--- the bytes of a journal of these pairs, in a version
+-- the bytes of a journal of these entries, in a version
 abbrev pub journal_in : Version → List (Pair Record Outcome) → List ℕ
 journal_in version pairs = journal_magic_of version ++ flat_map pair_spelling pairs
 
--- journals: a command record, and behind it the record of a reply, each with a body within its limit
+-- the format of journals: each entry is a command record followed by the record of a reply, each with a body within its limit
 abbrev pub journals : Format Version (Record × Record)
 journals = record {
   magics = magics journal_magic_of;
@@ -30,6 +30,6 @@ journals = record {
   IsOverlong = EitherStatesOver most_body most_reply_body;
 }
 
--- the two records of a pair
+-- the two records of an entry
 abbrev pub records_of : Pair Record Outcome → Record × Record
 records_of pair = (pair.asked, answer_record pair.answer)

@@ -9,30 +9,30 @@ use Rattle.wire_records.specs.declared.version.Version.{Version}
 use Rattle.wire_records.specs.declared.version.Version.TheVariants.{One}
 use Rattle.weight_rows.specs.Rows.{IsPrice}
 use Rattle.flow_orders.specs.Orders.{Order, IsOrder, most_orders}
-use Rattle.flow_orders.specs.Outcomes.{Clearing, Skipping, Outcome, Cleared, Skipped, IsRightOutcome, most_budget}
+use Rattle.flow_orders.specs.Outcomes.{Clearing, Skipping, Outcome, Cleared, Skipped, IsAdmissibleOutcome, most_budget}
 use Rattle.journal_records.specs.Replies.{answer_record, IsAnswer, most_reply_body, IsWithinLimits}
 use Rattle.journal_records.specs.Pairs.{IsPair, pair_spelling, journal, plain_room, cleared_room, skipped_room}
 use Rattle.journal_records.specs.Formats.{journals, journal_in, records_of}
 
--- a record spells at most one answer
+-- a record encodes at most one answer
 abbrev pub OneAnswer : Type 0
 OneAnswer = (a b : Answer Outcome) → IsAnswer a → IsAnswer b → answer_record a ≡ answer_record b → a ≡ b
 
--- No pair's spelling is a proper front of another's: bytes that begin with two pairs begin with one.
+-- No entry's encoding is a proper prefix of another's: two entries that the same bytes begin with are one.
 abbrev pub OnePair : Type 0
 OnePair = (p q : Pair Record Outcome) (x y : List ℕ) → IsPair p → IsPair q → pair_spelling p ++ x ≡ pair_spelling q ++ y → (p ≡ q) × (x ≡ y)
 
--- a pair with a plain reply takes at most the room that is set aside for one
+-- an entry with a plain reply takes at most the space that is reserved for one
 abbrev pub PairFits : Type 0
 PairFits = (asked : Record) (reply : Reply) → length (pair_spelling (record { asked = asked; answer = Plain reply })) ≤ plain_room asked
 
--- a pair with a batch that cleared takes the room that is set aside for it, and no more
+-- an entry with a batch that cleared takes exactly the space that is reserved for it
 abbrev pub ClearedPairFits : Type 0
 ClearedPairFits =
     (asked : Record) (number : ℕ) (c : Clearing) → length c.residuals ≡ length c.prices
     → length (pair_spelling (record { asked = asked; answer = Batch number (Cleared c) })) ≡ cleared_room asked (length c.prices) (length c.fills)
 
--- a pair with a batch that was skipped takes the room that is set aside for it, and no more
+-- an entry with a batch that was skipped takes exactly the space that is reserved for it
 abbrev pub SkippedPairFits : Type 0
 SkippedPairFits =
     (asked : Record) (number : ℕ) (s : Skipping) → length (pair_spelling (record { asked = asked; answer = Batch number (Skipped s) })) ≡ skipped_room asked (length s.trace)
@@ -46,13 +46,13 @@ abbrev pub BatchRepliesFit : Type 0
 BatchRepliesFit =
     (number : ℕ) (outcome : Outcome) → IsAnswer (Batch number outcome) → IsWithinLimits outcome → IsRecord most_reply_body (answer_record (Batch number outcome))
 
--- The numbers of a right outcome, by whatever parts, fit their widths, and it is within the limits: of few lawful orders with
--- numbers below 2^64, at few start prices within their range.
-abbrev pub RightOutcomesFit : Type 0
-RightOutcomesFit =
+-- The numbers of an admissible outcome, by whatever parts of a unit, fit their widths, and it is within the limits: if there are at
+-- most 16,384 orders, each within its limits and with a number below 2^64, and at most 64 start prices within their range.
+abbrev pub AdmissibleOutcomesFit : Type 0
+AdmissibleOutcomesFit =
     (parts : ℕ) → 1 ≤ parts → (orders : List Order) (start : List ℤ) (budget number : ℕ) (outcome : Outcome)
     → All IsOrder orders → length orders ≤ most_orders → All (λ (o : Order). o.number < 2 ^ 64) orders → length start ≤ 64 → All IsPrice start
-    → budget ≤ most_budget → number < 2 ^ 32 → IsRightOutcome parts orders start budget outcome → IsAnswer (Batch number outcome) × IsWithinLimits outcome
+    → budget ≤ most_budget → number < 2 ^ 32 → IsAdmissibleOutcome parts orders start budget outcome → IsAnswer (Batch number outcome) × IsWithinLimits outcome
 
 -- each list of bytes has exactly one reading as a journal
 abbrev pub OneJournalFile : Type 0
@@ -60,17 +60,17 @@ OneJournalFile =
     (limit : ℕ) (bytes : List ℕ)
     → (r : Reading Version (Record × Record)) × Reads journals limit bytes r × ((s : Reading Version (Record × Record)) → Reads journals limit bytes s → s ≡ r)
 
--- a journal of pairs is the file of their records, and so in each version
+-- a journal is the file of its entries' records, in each version
 pub record JournalIsFile : Type 0 where
   pub one : (pairs : List (Pair Record Outcome)) → journal pairs ≡ journal_in One pairs
   pub file : (version : Version) (pairs : List (Pair Record Outcome)) → journal_in version pairs ≡ journals.magics.spell version ++ spell_all journals.units (map records_of pairs)
 
--- a journal within the limit is read as the records of its pairs, in its version and to its end
+-- a journal within the limit is read as the records of its entries, in its version and to its end
 abbrev pub JournalIsRead : Type 0
 JournalIsRead =
     (limit : ℕ) (version : Version) (pairs : List (Pair Record Outcome)) → All IsPair pairs → length (journal_in version pairs) ≤ limit
     → Reads journals limit (journal_in version pairs) (File version (map records_of pairs) End)
 
--- journals that are the same bytes are of one version, and their pairs are the same
+-- journals that are the same bytes are of one version and have the same entries
 abbrev pub OneJournal : Type 0
 OneJournal = (v w : Version) (p q : List (Pair Record Outcome)) → All IsPair p → All IsPair q → journal_in v p ≡ journal_in w q → (v ≡ w) × (p ≡ q)

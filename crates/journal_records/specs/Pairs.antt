@@ -1,4 +1,4 @@
--- Pairs of a command record and its answer, and the journals that they make up.
+-- Entries, each a command record and its answer, and the journals that they make up.
 use Rattle.std.specs.Prelude.{◌+◌, ◌*◌, ℕ, List, ◌++◌, length, codes}
 use Rattle.std.specs.List.{flat_map}
 use Rattle.wire_records.specs.Records.{Record, IsRecord, spelling, most_body}
@@ -6,13 +6,13 @@ use Rattle.wire_records.specs.Commands.{Pair}
 use Rattle.flow_orders.specs.Outcomes.{Outcome}
 use Rattle.journal_records.specs.Replies.{answer_record, IsAnswer, most_reply_body}
 
--- A pair that may stand in a journal: its numbers fit their widths, and both bodies are within their limits.
+-- An entry that can be in a journal: its numbers fit their widths, and both bodies are within their limits.
 pub record IsPair (pair : Pair Record Outcome) : Type 0 where
   pub asked : IsRecord most_body pair.asked
   pub answer : IsAnswer pair.answer
   pub answered : IsRecord most_reply_body (answer_record pair.answer)
 
--- the bytes of a pair: those of the command record, as it was given, and then those of the answer's record
+-- the bytes of an entry: those of the command record, as it was given, and then those of the answer's record
 unfoldable pub pair_spelling : Pair Record Outcome → List ℕ
 pair_spelling pair = spelling pair.asked ++ spelling (answer_record pair.answer)
 
@@ -20,34 +20,34 @@ pair_spelling pair = spelling pair.asked ++ spelling (answer_record pair.answer)
 abbrev pub journal_magic : List ℕ
 journal_magic = codes "FLOWJNL1"
 
--- of one of version Two
+-- the magic of a journal of version Two
 abbrev pub journal_magic_2 : List ℕ
 journal_magic_2 = codes "FLOWJNL2"
 
--- and of one of version Three
+-- the magic of a journal of version Three
 abbrev pub journal_magic_3 : List ℕ
 journal_magic_3 = codes "FLOWJNL3"
 
--- the bytes of a journal of these pairs, in version One
+-- the bytes of a journal of these entries, in version One
 abbrev pub journal : List (Pair Record Outcome) → List ℕ
 journal pairs = journal_magic ++ flat_map pair_spelling pairs
 
--- the longest pair has as many bytes: two heads of 5 bytes, and both bodies at their limits
+-- the number of bytes of the longest entry: two heads of 5 bytes, and both bodies at their limits
 abbrev pub longest_pair : ℕ
 longest_pair = 263178
 
--- and the longest with a plain reply: the longest command record, and 13 bytes of the reply's
+-- the number of bytes of the longest entry with a plain reply: the longest command record, and 13 bytes of the reply's
 abbrev pub longest_plain_pair : ℕ
 longest_plain_pair = 1042
 
--- how many bytes a pair with any plain reply takes at most
+-- how many bytes an entry with any plain reply takes at most
 abbrev pub plain_room : Record → ℕ
 plain_room asked = length (spelling asked) + 13
 
--- how many bytes a pair with a batch of so many assets and orders takes that cleared
+-- how many bytes the entry of a batch that cleared takes, with this number of assets and orders
 abbrev pub cleared_room : Record → (assets orders : ℕ) → ℕ
 cleared_room asked assets orders = length (spelling asked) + (31 + 16 * assets + 12 * orders)
 
--- how many bytes a pair with a batch takes that was skipped after so many moves
+-- how many bytes the entry of a batch that was skipped takes, with this number of moves
 abbrev pub skipped_room : Record → (moves : ℕ) → ℕ
 skipped_room asked moves = length (spelling asked) + (45 + moves)

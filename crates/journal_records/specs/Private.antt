@@ -1,4 +1,4 @@
--- What the views of batches are made of.
+-- What the views of batches read from their bytes.
 use Rattle.std.specs.Prelude.{◌≡◌, ◌+◌, ◌*◌, ◌/◌, ℕ, zero, suc, ℤ, List, [], ◌∷◌, length, take, drop, All}
 use Rattle.std.specs.List.{flat_map}
 use Rattle.std.specs.Int.{cast_signed, w64}
@@ -8,71 +8,71 @@ use Rattle.flow_orders.specs.Outcomes.{Fill}
 use Rattle.journal_records.specs.Numbered.{ClearedBatch, SkippedBatch}
 use Rattle.journal_records.specs.Replies.{reply_tag, reply_body, fill_spelling, clearing_spelling, skipping_spelling, IsReply, IsFill, IsClearing, IsSkipping}
 
--- the number whose digits to the base 256 are those of n, and behind them these bytes
+-- the number whose digits to the base 256 are those of n, followed by these bytes
 unfoldable pub digits_on : ℕ → List ℕ → ℕ
 digits_on n [] = n
 digits_on n (b ∷ bytes) = digits_on (n * 256 + b) bytes
 
--- the number with a sign of eight bytes
+-- the number with a sign that eight bytes encode
 abbrev pub sign_in : List ℕ → ℤ
 sign_in bytes = cast_signed w64 (digits_on 0 bytes)
 
--- the fill of twelve bytes
+-- the fill that twelve bytes encode
 abbrev pub fill_in : List ℕ → Fill
 fill_in bytes = record { order = digits_on 0 (take 8 bytes); rate = digits_on 0 (drop 8 bytes) }
 
--- so many values, one after the other, each of the same number of bytes
+-- `count` values, one after the other, each of `size` bytes
 unfoldable pub values_in : {A : Type 0} → (List ℕ → A) → (size count : ℕ) → List ℕ → List A
 values_in read size zero bytes = []
 values_in read size (suc count) bytes = read (take size bytes) ∷ values_in read size count (drop size bytes)
 
--- the numbers with a sign of bytes, eight each
+-- the numbers with a sign that bytes encode, eight bytes each
 abbrev pub signs_in : List ℕ → List ℤ
 signs_in bytes = values_in sign_in 8 (length bytes / 8) bytes
 
--- the fills of bytes, twelve each
+-- the fills that bytes encode, twelve bytes each
 abbrev pub fills_in : List ℕ → List Fill
 fills_in bytes = values_in fill_in 12 (length bytes / 12) bytes
 
--- these bytes spell these values, one after the other, and each fits
+-- these bytes encode these values, one after the other, and each fits
 pub record SpellValues {A : Type 0} (Fits : A → Type 0) (spell : A → List ℕ) (bytes : List ℕ) (values : List A) : Type 0 where
   pub fit : All Fits values
   pub spelled : bytes ≡ flat_map spell values
 
--- these bytes spell these numbers with a sign
+-- these bytes encode these numbers with a sign
 abbrev pub SpellSigns : List ℕ → List ℤ → Type 0
 SpellSigns bytes numbers = SpellValues (IsSigned 8) (signed 8) bytes numbers
 
--- these bytes spell these fills
+-- these bytes encode these fills
 abbrev pub SpellFills : List ℕ → List Fill → Type 0
 SpellFills bytes fills = SpellValues IsFill fill_spelling bytes fills
 
--- this body spells this batch that cleared
+-- this body encodes this batch that cleared
 pub record SpellsCleared (body : List ℕ) (b : ClearedBatch) : Type 0 where
   pub batch : IsUnsigned 4 b.batch
   pub fits : IsClearing b.clearing
   pub spelled : body ≡ clearing_spelling b.batch b.clearing
 
--- this body spells no batch that cleared
+-- this body encodes no batch that cleared
 abbrev pub SpellsNoCleared : List ℕ → Type 0
 SpellsNoCleared body = (b : ClearedBatch) → ¬ SpellsCleared body b
 
--- this body spells this batch that was skipped
+-- this body encodes this batch that was skipped
 pub record SpellsSkipped (body : List ℕ) (b : SkippedBatch) : Type 0 where
   pub batch : IsUnsigned 4 b.batch
   pub fits : IsSkipping b.skipping
   pub spelled : body ≡ skipping_spelling b.batch b.skipping
 
--- this body spells no batch that was skipped
+-- this body encodes no batch that was skipped
 abbrev pub SpellsNoSkipped : List ℕ → Type 0
 SpellsNoSkipped body = (b : SkippedBatch) → ¬ SpellsSkipped body b
 
--- this tag and this body spell this plain reply
+-- this tag and this body encode this plain reply
 pub record SpellsReply (tag : ℕ) (body : List ℕ) (reply : Reply) : Type 0 where
   pub fits : IsReply reply
   pub tag_is : tag ≡ reply_tag reply
   pub spelled : body ≡ reply_body reply
 
--- this tag and this body spell no plain reply
+-- this tag and this body encode no plain reply
 abbrev pub SpellsNoReply : ℕ → List ℕ → Type 0
 SpellsNoReply tag body = (reply : Reply) → ¬ SpellsReply tag body reply

@@ -1,4 +1,4 @@
--- The answers to commands, and the record that each is spelled as.
+-- The answers to commands, and the record that each is encoded as.
 use Rattle.std.specs.Prelude.{◌≡◌, ◌≤◌, ℕ, List, [], ◌++◌, length, All}
 use Rattle.std.specs.List.{flat_map}
 use Rattle.wire_fields.specs.Numbers.{unsigned, signed, IsUnsigned, IsSigned}
@@ -38,14 +38,14 @@ unfoldable pub fill_spelling : Fill → List ℕ
 fill_spelling f = unsigned 8 f.order ++ unsigned 4 f.rate
 
 -- the bytes of a batch that cleared: its number, how many prices there are and the prices, how many fills there are and
--- the fills, as many residuals as prices, and the gap
+-- the fills, as many imbalances as prices, and the gap
 unfoldable pub clearing_spelling : ℕ → Clearing → List ℕ
 clearing_spelling number c =
     unsigned 4 number ++ (unsigned 2 (length c.prices) ++ (flat_map (signed 8) c.prices
     ++ (unsigned 4 (length c.fills) ++ (flat_map fill_spelling c.fills ++ (flat_map (signed 8) c.residuals ++ signed 16 c.gap)))))
 
--- the bytes of a batch that was skipped: its number, the duals at the start and at the end, how many moves there are, and
--- the asset of each
+-- the bytes of a batch that was skipped: its number, the dual values at the start and at the end, how many moves there are,
+-- and the asset of each
 unfoldable pub skipping_spelling : ℕ → Skipping → List ℕ
 skipping_spelling number s =
     unsigned 4 number ++ (signed 16 s.start_dual ++ (signed 16 s.end_dual ++ (unsigned 4 (length s.trace) ++ s.trace)))
@@ -72,7 +72,7 @@ IsReply (Refused refusal) = Unit {0}
 abbrev pub IsFill : Fill → Type 0
 IsFill f = IsUnsigned 8 f.order × IsUnsigned 4 f.rate
 
--- a clearing whose numbers fit their widths, with one residual for each price
+-- a clearing whose numbers fit their widths, with one imbalance for each price
 pub record IsClearing (c : Clearing) : Type 0 where
   pub count : IsUnsigned 2 (length c.prices)
   pub prices : All (IsSigned 8) c.prices
@@ -95,7 +95,7 @@ IsAnswer (Plain reply) = IsReply reply
 IsAnswer (Batch number (Cleared clearing)) = IsUnsigned 4 number × IsClearing clearing
 IsAnswer (Batch number (Skipped skipping)) = IsUnsigned 4 number × IsSkipping skipping
 
--- a record spells an answer
+-- a record encodes an answer
 pub record SpellsAnswer (r : Record) (answer : Answer Outcome) : Type 0 where
   pub fits : IsAnswer answer
   pub spelled : r ≡ answer_record answer

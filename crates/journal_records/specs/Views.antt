@@ -1,4 +1,4 @@
--- What contracts see of the views of a journal: the pair at the front of bytes, and the answer that a record spells.
+-- What contracts see of the views of a journal: the entry that bytes begin with, and the answer that a record encodes.
 use Rattle.std.specs.Prelude.{◌≡◌, ◌≢◌, ℕ, List, [], ◌++◌, Option, Some, None, length, drop}
 use Rattle.wire_records.specs.Records.{Record}
 use Rattle.wire_records.specs.Commands.{Answer, Plain, Batch}
@@ -11,7 +11,7 @@ use Rattle.journal_records.specs.declared.pair.PairFramed.TheVariants.{Whole, En
 use Rattle.journal_records.specs.declared.reply_view.ReplyView.{ReplyView}
 use Rattle.journal_records.specs.declared.reply_view.ReplyView.TheVariants as view
 
--- what stands at the front of bytes: a whole pair, nothing, or a rest that begins with no whole pair within the limits
+-- what bytes begin with: a complete entry of `taken` bytes, nothing since there are none, or no complete entry within the limits
 abbrev pub IsPairFront : PairFramed → List ℕ → Type 0
 IsPairFront (Whole pair taken) bytes =
     journals.units.IsLawful pair × (taken ≡ length (journals.units.spell pair)) × (bytes ≡ journals.units.spell pair ++ drop taken bytes)
@@ -24,7 +24,7 @@ answer_of (view.Plain reply) = Plain reply
 answer_of (view.Cleared cleared) = Batch cleared.batch (Cleared cleared.clearing)
 answer_of (view.Skipped skipped) = Batch skipped.batch (Skipped skipped.skipping)
 
--- what a record is read as: the answer that it spells, or none
+-- what a record is read as: the answer that it encodes, or `None` if it encodes none
 abbrev pub IsReplyRead : Record → Option ReplyView → Type 0
 IsReplyRead r (Some seen) = SpellsAnswer r (answer_of seen)
 IsReplyRead r None = (answer : Answer Outcome) → ¬ SpellsAnswer r answer

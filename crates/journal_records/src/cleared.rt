@@ -1,4 +1,4 @@
-//! Pairs whose reply is a batch that cleared.
+//! Entries whose reply is a batch that cleared.
 ghost use Rattle.std.specs.Prelude.{◌≡◌, ◌+◌, ◌*◌, ◌<◌, ◌≤◌, ◌++◌, length, map, All, OnOk, OnErr, vec_len, vec_capacity};
 ghost use Rattle.std.specs.List.{flat_map};
 ghost use Rattle.wire_fields.specs.Numbers.{signed, IsSigned};
@@ -16,13 +16,13 @@ use flow_orders::Order;
 use wire_fields::{put_bytes, put_i64, put_i128, put_u16, put_u32, put_u64};
 use wire_records::{Memory, RecordView, put_head};
 
-// A tag and the length of a body take as many bytes.
+// The number of bytes of a tag and the length of a body.
 const HEAD: usize = 5;
 
-// A body takes as many bytes besides its prices, fills and residuals.
+// The number of bytes of a body besides its prices, fills and imbalances.
 const NUMBERS: usize = 26;
 
-// How many bytes the body takes.
+// Returns the length of the body, in bytes.
 fn body_len(assets: usize, orders: usize) -> usize
     requires assets { assets ≤ 64 }
     requires orders { orders ≤ most_orders }
@@ -31,7 +31,7 @@ fn body_len(assets: usize, orders: usize) -> usize
     NUMBERS + 16 * assets + 12 * orders
 }
 
-// Prices or residuals.
+// Appends prices or imbalances.
 fn put_numbers(out: &mut Vec<u8>, numbers: &[i64])
     requires { vec_len out.old + 8 * length numbers.now ≤ vec_capacity out.old }
     ensures written { out.new.items ≡ out.old.items ++ flat_map (signed 8) numbers.now }
@@ -44,7 +44,7 @@ fn put_numbers(out: &mut Vec<u8>, numbers: &[i64])
     }
 }
 
-// The number of each order, and its rate.
+// Appends the number of each order, and its rate.
 fn put_fills(out: &mut Vec<u8>, orders: &[Order], rates: &[u32])
     requires count { length rates.now ≡ length orders.now }
     requires room { vec_len out.old + 12 * length orders.now ≤ vec_capacity out.old }
@@ -60,7 +60,7 @@ fn put_fills(out: &mut Vec<u8>, orders: &[Order], rates: &[u32])
     }
 }
 
-// The record of the reply.
+// Appends the record of the reply.
 fn put_cleared(batch: u32, orders: &[Order], cleared: &Cleared, out: &mut Vec<u8>)
     requires one_rate_each { length cleared.now.rates ≡ length orders.now }
     requires one_residual_each { length cleared.now.residuals ≡ length cleared.now.prices }
@@ -84,14 +84,14 @@ fn put_cleared(batch: u32, orders: &[Order], cleared: &Cleared, out: &mut Vec<u8
     put_i128(out, cleared.gap);
 }
 
-/// Appends the pair of a batch that cleared: the command record, byte for byte as it was given, and the record of its
-/// reply, with the batch's number, a price in grains and a residual in units for each asset, the number of each order
+/// Appends the entry of a batch that cleared: the command record, byte for byte as it was given, and the record of its
+/// reply, with the batch's number, a price in grains and an imbalance in units for each asset, the number of each order
 /// with its rate in units of its portfolio, and the gap in grains. Rates of 0 are listed too.
 ///
 /// The body of the reply has 26 bytes, 16 for each of at most 64 assets and 12 for each of at most 16,384 orders, so
-/// at most 197,658. The room of the whole pair is taken first, and nothing fails after that; `Memory` comes only where
-/// it wasn't there, and then `out` is as before. The cost is that of the bytes, each of which is written once, and of a
-/// move of `out` where it has to grow.
+/// at most 197,658. The space for the complete entry is reserved first, and nothing fails after that. Fails with `Memory`
+/// only if `out` lacked the capacity, and then `out` is as before. The cost is that of the bytes, each of which is written
+/// once, and of a move of `out` if it has to grow.
 pub fn write_cleared(
     asked: &RecordView<'_>,
     batch: u32,
@@ -110,11 +110,11 @@ pub fn write_cleared(
     ensures stays { OnErr result (out.new.items ≡ out.old.items) }
     ensures room { vec_capacity out.old ≤ vec_capacity out.new }
 
-    // Memory is wanted only where the room isn't there already.
+    // Memory can run out only if the capacity isn't there already.
     ensures wanted { OnErr result (vec_capacity out.old
         < vec_len out.old + cleared_room asked.now (length cleared.now.prices) (length orders.now)) }
 
-    // So the reply is this answer's, and by the laws it is read as it, whatever follows it.
+    // So the record is this answer's, and by the laws it is read back as this answer, whatever follows it.
     ensures fits { OnOk result (IsAnswer (Batch batch (cleared_outcome (clearing_of orders.now cleared.now)))) }
 {
     let body = body_len(cleared.prices.as_slice().len(), orders.len());

@@ -1,4 +1,4 @@
-//! A batch that cleared, where its reply lies.
+//! A batch that cleared, in the bytes of its reply.
 ghost use Rattle.std.specs.Prelude.{◌≡◌, IfOk, IfSome, IfNone};
 ghost use Rattle.journal_records.specs.Private.{SpellsCleared, SpellsNoCleared};
 
@@ -10,10 +10,10 @@ use std::marker::Model;
 use wire_fields::Cursor;
 use wire_records::Memory;
 
-/// What a reply tells of a batch that cleared, with its lists in the borrowed bytes: the batch's number, a price in grains
-/// and a residual in units for each asset, the number of each order with its rate in units of its portfolio, and the gap
-/// in grains. There are at most 65,535 prices, and as many residuals. Contracts see it as these numbers. Each call but
-/// [`to_cleared`](ClearedView::to_cleared) is of constant cost and allocates nothing.
+/// What a reply says of a batch that cleared, with its lists in the borrowed bytes: the batch's number, a price in grains
+/// and an imbalance in units for each asset, the number of each order with its rate in units of its portfolio, and the gap
+/// in grains. There are at most 65,535 prices, and as many imbalances. Contracts see it as these numbers. Each call but
+/// [`to_cleared`](ClearedView::to_cleared) is of constant cost and doesn't allocate.
 #[derive(Drop)]
 pub struct ClearedView<'a> {
     batch: u32,
@@ -40,15 +40,15 @@ impl<'a> Model for ClearedView<'a> {
 impl<'a> ClearedView<'a> {
     ghost use Rattle.batch_outcome.specs.Parts.{rates_in};
 
-    /// The number of the batch.
+    /// Returns the number of the batch.
     pub fn batch(&self) -> u32
         ensures { result ≡ self.now.batch }
     {
         self.batch
     }
 
-    /// The outcome in memory of its own, without the numbers of the orders; `Memory` where there is none for it. It costs
-    /// one pass over the lists.
+    /// Copies the outcome into memory of its own, without the numbers of the orders. Fails only if out of memory. Costs one
+    /// pass over the lists.
     pub fn to_cleared(&self, alloc: Global) -> Result<Cleared, Memory>
         ensures prices { IfOk result (λ cleared. cleared.prices ≡ self.now.clearing.prices) }
         ensures rates { IfOk result (λ cleared. cleared.rates ≡ rates_in self.now.clearing) }
@@ -99,7 +99,7 @@ impl<'a> ClearedParts for ClearedView<'a> {
     }
 }
 
-// The batch that a body spells, or `None` where it spells none. Nothing is looked at beyond the counts and the gap.
+// Returns the batch that a body encodes, or `None` if it encodes none. Only its number, the counts and the gap are read.
 pub(crate) fn cleared_in(body: &[u8]) -> Option<ClearedView<'_>>
     ensures found { IfSome result (λ cleared. SpellsCleared body.now cleared) }
     ensures none { IfNone result (SpellsNoCleared body.now) }

@@ -19,10 +19,10 @@ pub const JOURNAL_MAGIC_3: [u8; 8] = *b"FLOWJNL3";
 /// The longest body of a reply's record in a journal, in bytes.
 pub const MOST_REPLY_BODY: u32 = 262_144;
 
-/// The longest pair, in bytes: the longest command record, the 5 of the reply's head, and its longest body.
+/// The longest entry, in bytes: the longest command record, the 5 of the reply's head, and its longest body.
 pub const MOST_PAIR: usize = MOST_RECORD + 5 + MOST_REPLY_BODY as usize;
 
-/// The first 8 bytes of a journal of a version.
+/// Returns the first 8 bytes of a journal of a version.
 pub fn journal_magic(version: Version) -> [u8; 8]
     ensures { result ≡ journal_magic_of version }
 {
@@ -33,15 +33,15 @@ pub fn journal_magic(version: Version) -> [u8; 8]
     }
 }
 
-/// Whether the bytes begin as a journal of version One, so that pairs stand behind the first 8. Constant cost.
+/// Returns whether the bytes begin with the magic of a journal of version One, so that entries follow it. Constant cost.
 pub fn is_journal(bytes: &[u8]) -> bool
     ensures { IsTrue result ↔ ((body : List ℕ) × BeginsWith journals.magics bytes.now One body) }
 {
     bytes.starts_with(&JOURNAL_MAGIC)
 }
 
-/// The version of which the bytes begin as a journal, so that its pairs stand behind the first 8; `None` exactly where
-/// they begin with no version's magic. Constant cost.
+/// Returns the version with whose journal magic the bytes begin, so that entries follow the first 8, or `None` if they
+/// begin with no version's magic. Constant cost.
 pub fn journal_version(bytes: &[u8]) -> Option<Version>
     ensures exact { (version : Version) → (result ≡ Some version)
         ↔ ((body : List ℕ) × BeginsWith journals.magics bytes.now version body) }

@@ -1,4 +1,4 @@
-//! The number of each order and its rate, where they lie.
+//! The number of each order and its rate, in borrowed bytes.
 ghost use Rattle.std.specs.Prelude.{◌≡◌, ◌+◌, ◌*◌, ◌<◌, ◌^◌, ◌++◌, ℕ, List, All, map, length, slice_get, Option, Some, IfOk, IfSome, IsSomeAnd};
 ghost use Rattle.std.specs.List.{flat_map};
 ghost use Rattle.flow_orders.specs.Outcomes.{Fill};
@@ -10,12 +10,12 @@ use std::marker::Model;
 use wire_fields::Cursor;
 use wire_records::Memory;
 
-// A fill takes as many bytes: eight the number of its order, and four its rate.
+// The number of bytes of a fill: eight for the number of its order, and four for its rate.
 const FILL: usize = 12;
 
 const NUMBER: usize = 8;
 
-// Fills in borrowed bytes, in the order in which they stand there. Contracts see them as the list of the fills.
+// Fills in borrowed bytes, in their order there. Contracts see them as the list of the fills.
 #[derive(Drop)]
 pub(crate) struct FillsView<'a> {
     bytes: &'a [u8],
@@ -33,14 +33,14 @@ impl<'a> Model for FillsView<'a> {
     ghost invariant = { λ v. SpellFills v.bytes.now (fills_in v.bytes.now) };
 }
 
-// The order of the fill at the front of bytes.
+// Returns the order's number in the fill that `bytes` begin with.
 fn order_of(bytes: &[u8]) -> Option<u64>
     ensures { (f : Fill) (rest : List ℕ) → IsFill f → bytes.now ≡ fill_spelling f ++ rest → result ≡ Some f.order }
 {
     Cursor::new(bytes).take_u64()
 }
 
-// The rate of the fill at the front of bytes.
+// Returns the rate in the fill that `bytes` begin with.
 fn rate_of(bytes: &[u8]) -> Option<u32>
     ensures { (f : Fill) (rest : List ℕ) → IsFill f → bytes.now ≡ fill_spelling f ++ rest → result ≡ Some f.rate }
 {
@@ -56,7 +56,7 @@ impl<'a> FillsView<'a> {
         self.bytes.len() / FILL
     }
 
-    // The number of the order at a place, counted from 0; `None` exactly where there are `k` or fewer.
+    // Returns the number of the order at place `k`, counted from 0, or `None` if there are `k` or fewer.
     pub(crate) fn order(&self, k: usize) -> Option<u64>
         ensures { result ≡ slice_get (map (λ (f : Fill). f.order) self.now) k }
     {
@@ -66,7 +66,7 @@ impl<'a> FillsView<'a> {
         order_of(&self.bytes[FILL * k..])
     }
 
-    // The rate of the order at a place.
+    // Returns the rate of the order at place `k`, counted from 0, or `None` if there are `k` or fewer.
     pub(crate) fn rate(&self, k: usize) -> Option<u32>
         ensures { result ≡ slice_get (map (λ (f : Fill). f.rate) self.now) k }
     {
@@ -76,7 +76,7 @@ impl<'a> FillsView<'a> {
         rate_of(&self.bytes[FILL * k..])
     }
 
-    // The rates in a vector of their own.
+    // Copies the rates into a new vector.
     pub(crate) fn to_rates(&self, alloc: Global) -> Result<Vec<u32>, Memory>
         ensures { IfOk result (λ rates. rates.items ≡ map (λ (f : Fill). f.rate) self.now) }
     {
@@ -88,7 +88,7 @@ impl<'a> FillsView<'a> {
     }
 }
 
-// So many fills; `None` where fewer are left.
+// Takes `count` fills, or returns `None` if fewer are left.
 pub(crate) fn take_fills<'a>(cursor: &mut Cursor<'a>, count: usize) -> Option<FillsView<'a>>
     requires few { count < 2 ^ 32 }
     ensures found { IfSome result (λ fills. cursor.old ≡ flat_map fill_spelling fills ++ cursor.new) }

@@ -1,34 +1,35 @@
-//! What holds of the grammar, whatever reads or writes it. Each law is the contract of a function that
+//! What holds of the grammar of journals, whatever reads or writes it. Each law is the contract of a function that
 //! does nothing.
 ghost use Rattle.std.specs.Prelude.{◌≡◌};
 ghost use Rattle.journal_records.specs.Replies.{most_reply_body};
 ghost use Rattle.journal_records.specs.Pairs.{journal_magic, journal_magic_2, journal_magic_3};
-ghost use Rattle.journal_records.specs.Laws.{OneAnswer, OnePair, PairFits, ClearedPairFits, SkippedPairFits, PlainRepliesFit, BatchRepliesFit, RightOutcomesFit, OneJournalFile, JournalIsFile, JournalIsRead, OneJournal};
+ghost use Rattle.journal_records.specs.Laws.{OneAnswer, OnePair, PairFits, ClearedPairFits, SkippedPairFits, PlainRepliesFit, BatchRepliesFit, AdmissibleOutcomesFit, OneJournalFile, JournalIsFile, JournalIsRead, OneJournal};
 
 use crate::{JOURNAL_MAGIC, JOURNAL_MAGIC_2, JOURNAL_MAGIC_3, MOST_REPLY_BODY};
 
-/// A record spells at most one answer.
+/// A record encodes at most one answer.
 pub fn one_answer()
     ensures { OneAnswer }
 {}
 
-/// No pair's spelling is a proper front of another's, so what was written is read again, whatever
+/// No entry's encoding is a proper prefix of another's, so what was written is read back, whatever
 /// follows it.
 pub fn one_pair()
     ensures { OnePair }
 {}
 
-/// A pair with a plain reply takes at most the room that `reserve_plain` takes for its command record.
+/// An entry with a plain reply takes at most the space that `reserve_plain` reserves for its command record.
 pub fn pair_fits()
     ensures { PairFits }
 {}
 
-/// A pair with a batch that cleared takes the room that [`write_cleared`](crate::write_cleared) takes for it, and no more.
+/// An entry with a batch that cleared takes exactly the space that [`write_cleared`](crate::write_cleared) reserves for it.
 pub fn cleared_pair_fits()
     ensures { ClearedPairFits }
 {}
 
-/// A pair with a batch that was skipped takes exactly the room that [`write_skipped`](crate::write_skipped) takes for it.
+/// An entry with a batch that was skipped takes exactly the space that [`write_skipped`](crate::write_skipped) reserves for
+/// it.
 pub fn skipped_pair_fits()
     ensures { SkippedPairFits }
 {}
@@ -44,27 +45,28 @@ pub fn batch_replies_fit()
     ensures { BatchRepliesFit }
 {}
 
-/// The numbers of a right outcome of at most 16,384 lawful orders over at most 64 assets fit their widths, whoever publishes it.
-pub fn right_outcomes_fit()
-    ensures { RightOutcomesFit }
+/// The numbers of an admissible outcome of at most 16,384 orders within their limits over at most 64 assets fit their widths,
+/// whoever publishes it.
+pub fn admissible_outcomes_fit()
+    ensures { AdmissibleOutcomesFit }
 {}
 
-/// Bytes have exactly one reading as a journal: one version, list of pairs of records and ending, or none.
+/// Bytes have exactly one reading as a journal: one version, list of pairs of records and ending, or no journal.
 pub fn one_journal_file()
     ensures { OneJournalFile }
 {}
 
-/// A journal of pairs is the file of their records, in each version, so what was written is what is read.
+/// A journal is the file of its entries' records, in each version, so what was written is what is read.
 pub fn journal_is_file()
     ensures { JournalIsFile }
 {}
 
-/// Journals that are the same bytes are of one version, and their pairs are the same.
+/// Journals that are the same bytes are of one version and have the same entries.
 pub fn one_journal()
     ensures { OneJournal }
 {}
 
-/// A journal within the limit is read as the records of its pairs, in its version and to its end.
+/// A journal within the limit is read as the records of its entries, in its version and to its end.
 pub fn journal_is_read()
     ensures { JournalIsRead }
 {}

@@ -1,25 +1,24 @@
 //! The records of a journal: a command record as it was given, and the record of its one reply.
 //!
-//! [`reserve_plain`] takes the memory of a pair before anything else is done, and [`write_plain`] then
-//! can't fail. [`write_cleared`] writes the pair of a batch that cleared, and [`write_skipped`] that of one that was
+//! [`reserve_plain`] allocates the space of an entry before anything else is done, and [`write_plain`] then
+//! can't fail. [`write_cleared`] writes the entry of a batch that cleared, and [`write_skipped`] that of one that was
 //! skipped, straight from what is published of it.
 //!
-//! [`journal_version`] looks at the magic before the first pair, and says which version it is of.
-//! [`next_pair`] takes a pair off the front of borrowed bytes, [`is_overlong`] says of bytes without one whether any that
-//! follow could make one of them, and [`reply`] says which answer the pair's second record spells. All is read where it
-//! lies: a [`ClearedView`] tells a batch's numbers by their places, and can be checked as it is, and a [`SkippedView`]
-//! lends out its trace.
-//! What holds of all spellings, those of batches among them, and of files as a whole stands in [`laws`].
+//! [`journal_version`] looks at the magic before the first entry, and says which version it is of.
+//! [`next_pair`] reads the entry that borrowed bytes begin with. If they begin with none, [`is_overlong`] says whether no
+//! bytes that follow can complete one. [`reply`] says which answer the entry's second record encodes. Nothing is
+//! copied: a [`ClearedView`] gives a batch's numbers by their places, and can be checked as it is, and a [`SkippedView`]
+//! lends out its trace. What holds of all encodings, those of batches included, and of journals as files is in [`laws`].
 //!
 //! # Costs
 //!
-//! Each byte of a pair is written once, and memory is taken once for a pair, for all of it. A plain pair has at most 13
-//! bytes more than its command record, the pair of a batch that cleared 31 more, 16 for each asset and 12 for each order, and
-//! that of one that was skipped 45 more and one for each move.
+//! Each byte of an entry is written once, after one allocation for all of it. An entry with a plain reply has at most 13
+//! bytes more than its command record, the entry of a batch that cleared 31 more, 16 for each asset and 12 for each order,
+//! and that of one that was skipped 45 more and one for each move.
 //!
-//! Reading a pair or a reply, and each number of a batch, is of constant cost, whatever the length of the body, and
-//! allocates nothing. Only [`ClearedView::to_cleared`] copies: one pass over the assets twice and over the orders once, and
-//! memory for the three lists.
+//! Reading an entry or a reply, and each number of a batch, is of constant cost, whatever the length of the body, and
+//! doesn't allocate. Only [`ClearedView::to_cleared`] copies: two passes over the assets and one over the orders, and it
+//! allocates the three lists.
 #![tactic(auto)]
 
 mod cleared;

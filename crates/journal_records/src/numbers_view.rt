@@ -1,4 +1,4 @@
-//! Numbers with a sign, where they lie.
+//! Numbers with a sign, in borrowed bytes.
 ghost use Rattle.std.specs.Prelude.{◌≡◌, ◌<◌, ◌^◌, ◌++◌, ℕ, ℤ, List, All, length, slice_get, Option, Some, IfOk, IfSome, IsSomeAnd};
 ghost use Rattle.std.specs.List.{flat_map};
 ghost use Rattle.wire_fields.specs.Numbers.{signed, IsSigned};
@@ -9,10 +9,10 @@ use std::marker::Model;
 use wire_fields::Cursor;
 use wire_records::Memory;
 
-// A number takes as many bytes.
+// The number of bytes of a number.
 const NUMBER: usize = 8;
 
-// The same slice, with what its type says of its items as a clause.
+// Returns the slice as it is. Called for its contract: its items are bytes.
 pub(crate) fn as_bytes(bytes: &[u8]) -> &[u8]
     ensures value { result.now ≡ bytes.now }
     ensures bytes { AreBytes result.now }
@@ -20,7 +20,7 @@ pub(crate) fn as_bytes(bytes: &[u8]) -> &[u8]
     bytes
 }
 
-// Prices or residuals in borrowed bytes, one for each asset. Contracts see them as the list of the numbers.
+// Prices or imbalances in borrowed bytes, one for each asset. Contracts see them as the list of the numbers.
 #[derive(Drop)]
 pub(crate) struct NumbersView<'a> {
     bytes: &'a [u8],
@@ -37,7 +37,7 @@ impl<'a> Model for NumbersView<'a> {
     ghost invariant = { λ v. SpellSigns v.bytes.now (signs_in v.bytes.now) };
 }
 
-// The number at the front of bytes.
+// Returns the number that `bytes` begin with.
 fn number_of(bytes: &[u8]) -> Option<i64>
     ensures { (z : ℤ) (rest : List ℕ) → IsSigned 8 z → bytes.now ≡ signed 8 z ++ rest → result ≡ Some z }
 {
@@ -51,7 +51,7 @@ impl<'a> NumbersView<'a> {
         self.bytes.len() / NUMBER
     }
 
-    // The number at a place, counted from 0; `None` exactly where there are `k` or fewer.
+    // Returns the number at place `k`, counted from 0, or `None` if there are `k` or fewer.
     pub(crate) fn number(&self, k: usize) -> Option<i64>
         ensures { result ≡ slice_get self.now k }
     {
@@ -61,7 +61,7 @@ impl<'a> NumbersView<'a> {
         number_of(&self.bytes[NUMBER * k..])
     }
 
-    // The numbers in a vector of their own.
+    // Copies the numbers into a new vector.
     pub(crate) fn to_vec(&self, alloc: Global) -> Result<Vec<i64>, Memory>
         ensures { IfOk result (λ numbers. numbers.items ≡ self.now) }
     {
@@ -73,7 +73,7 @@ impl<'a> NumbersView<'a> {
     }
 }
 
-// So many numbers; `None` where fewer are left.
+// Takes `count` numbers, or returns `None` if fewer are left.
 pub(crate) fn take_numbers<'a>(cursor: &mut Cursor<'a>, count: usize) -> Option<NumbersView<'a>>
     requires few { count < 2 ^ 16 }
     ensures found { IfSome result (λ numbers. cursor.old ≡ flat_map (signed 8) numbers ++ cursor.new) }

@@ -1,4 +1,4 @@
-//! Pairs at the front of bytes.
+//! The entry that bytes begin with.
 ghost use Rattle.std.specs.Prelude.{◌≡◌, ◌↔◌, IsTrue};
 ghost use Rattle.wire_records.specs.Formats.{StatesOver};
 ghost use Rattle.journal_records.specs.Formats.{journals};
@@ -8,8 +8,8 @@ use crate::MOST_REPLY_BODY;
 use std::marker::Model;
 use wire_records::{Framed, MOST_BODY, RecordView, next_record};
 
-/// A whole pair in borrowed bytes: the record of a command, and that of its reply, whatever they hold. Contracts see the
-/// two records. Each of its calls is of constant cost and allocates nothing.
+/// A complete entry in borrowed bytes: the record of a command, and that of its reply, whatever they hold. Contracts see
+/// the two records. Each call is of constant cost and doesn't allocate.
 #[derive(Drop)]
 pub struct PairView<'a> {
     asked: RecordView<'a>,
@@ -25,15 +25,15 @@ impl<'a> Model for PairView<'a> {
 }
 
 impl<'a> PairView<'a> {
-    /// The record of the command.
+    /// Returns the record of the command.
     pub fn asked(&self) -> RecordView<'a>
         ensures { result ≡ self.now.0 }
     {
-        // The clone of a view takes no memory.
+        // The clone of a view doesn't allocate.
         self.asked.clone().unwrap()
     }
 
-    /// The record of the reply.
+    /// Returns the record of the reply.
     pub fn answered(&self) -> RecordView<'a>
         ensures { result ≡ self.now.1 }
     {
@@ -41,20 +41,20 @@ impl<'a> PairView<'a> {
     }
 }
 
-/// What stands at the front of the bytes behind a journal's magic.
+/// What the bytes after a journal's magic begin with.
 #[derive(Drop)]
 pub enum PairFramed<'a> {
-    /// A whole pair, and the number of bytes that it takes.
+    /// A complete entry, and the number of its bytes.
     Whole(PairView<'a>, usize),
     /// No bytes.
     End,
-    /// Some bytes, but no whole pair: one of the two records isn't all there, or states a body above its limit, which is
+    /// Some bytes, but no complete entry: one of the two records is truncated, or states a body above its limit, which is
     /// 1,024 bytes for a command and 262,144 for a reply.
     Broken,
 }
 
-/// What stands at the front of `bytes`. What follows the front isn't looked at, and neither is what the two bodies hold.
-/// Constant cost, and nothing is allocated.
+/// Returns what `bytes` begin with. What follows the entry isn't looked at, and neither is what the two bodies hold.
+/// Constant cost; doesn't allocate.
 pub fn next_pair<'a>(bytes: &'a [u8]) -> PairFramed<'a>
     ensures { IsPairFront result bytes.now }
 {
@@ -73,7 +73,7 @@ pub fn next_pair<'a>(bytes: &'a [u8]) -> PairFramed<'a>
     }
 }
 
-// Whether the record at the front of bytes states a body above the limit.
+// Returns whether the record that `bytes` begin with states a body above the limit.
 fn states_over(bytes: &[u8], limit: u32) -> bool
     ensures { IsTrue result ↔ StatesOver limit bytes.now }
 {
@@ -85,8 +85,8 @@ fn states_over(bytes: &[u8], limit: u32) -> bool
     }
 }
 
-/// Whether the first record at the front of `bytes` that isn't whole, of a command or of the reply behind it, states a
-/// body above its limit: then no bytes that may follow make a pair of it. Constant cost, and nothing is allocated.
+/// Returns whether the first record in `bytes` that isn't complete, a command's or that of the reply after it, states a
+/// body above its limit: then no bytes that may follow make an entry of it. Constant cost; doesn't allocate.
 pub fn is_overlong(bytes: &[u8]) -> bool
     ensures { IsTrue result ↔ journals.IsOverlong bytes.now }
 {

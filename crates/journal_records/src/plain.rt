@@ -1,4 +1,4 @@
-//! Pairs whose reply has no lists.
+//! Entries with a plain reply, one without lists.
 ghost use Rattle.std.specs.Prelude.{◌≡◌, ◌+◌, ◌<◌, ◌≤◌, ◌++◌, OnOk, OnErr, vec_len, vec_capacity};
 ghost use Rattle.wire_records.specs.Records.{spelling};
 ghost use Rattle.wire_records.specs.Commands.{Plain};
@@ -8,29 +8,29 @@ ghost use Rattle.journal_records.specs.Pairs.{pair_spelling, plain_room};
 use wire_fields::{put_bytes, put_u8, put_u16, put_u32, put_u64};
 use wire_records::{MOST_RECORD, Memory, RecordView, Reply, put_head};
 
-// The longest record of a plain reply takes as many bytes.
+// The number of bytes of the longest record of a plain reply.
 const LONGEST_REPLY: usize = 13;
 
-/// The longest pair with a plain reply, in bytes: the longest command record, and the longest record of such a reply.
+/// The longest entry with a plain reply, in bytes: the longest command record, and the longest record of such a reply.
 pub const MOST_PLAIN_PAIR: usize = MOST_RECORD + LONGEST_REPLY;
 
-/// Takes the room of a pair with any plain reply: as many bytes as the command record has, and 13 more, so
-/// that [`write_plain`] can follow. The bytes that are there stay. `Memory` comes only where that room wasn't
-/// there, and then it is as before. The cost is that of a move of `out` where it has to grow.
+/// Reserves the space of an entry with any plain reply: as many bytes as the command record has, and 13 more, so
+/// that [`write_plain`] can follow. The bytes in `out` stay. Fails with `Memory` only if `out` lacked the capacity, which
+/// is then as before. The cost is that of a move of `out` if it has to grow.
 pub fn reserve_plain(asked: &RecordView<'_>, out: &mut Vec<u8>) -> Result<(), Memory>
     ensures room { OnOk result (vec_len out.new + plain_room asked.now ≤ vec_capacity out.new) }
     ensures stays { out.new.items ≡ out.old.items }
     ensures unchanged { OnErr result (vec_capacity out.new ≡ vec_capacity out.old) }
     ensures grown { vec_capacity out.old ≤ vec_capacity out.new }
 
-    // Memory is wanted only where the room isn't there already.
+    // Memory can run out only if the capacity isn't there already.
     ensures wanted { OnErr result (vec_capacity out.old < vec_len out.old + plain_room asked.now) }
 {
     out.reserve(asked.bytes().len() + LONGEST_REPLY)?;
     Ok(())
 }
 
-// The record of a reply.
+// Appends the record of a reply.
 #[tactic(auto, unfolding(crate::specs::Replies::answer_body, crate::specs::Replies::reply_body))]
 fn put_reply(reply: &Reply, out: &mut Vec<u8>)
     requires { vec_len out.old + 13 ≤ vec_capacity out.old }
@@ -59,8 +59,8 @@ fn put_reply(reply: &Reply, out: &mut Vec<u8>)
     }
 }
 
-/// Appends a pair: the command record, byte for byte as it was given, and the record of its reply. `out` has
-/// room for it, as after [`reserve_plain`], so nothing is allocated; the command record is copied once.
+/// Appends an entry: the command record, byte for byte as it was given, and the record of its reply. `out` must have
+/// the capacity, as after [`reserve_plain`], so nothing is allocated; the command record is copied once.
 pub fn write_plain(asked: &RecordView<'_>, reply: &Reply, out: &mut Vec<u8>)
     requires { vec_len out.old + plain_room asked.now ≤ vec_capacity out.old }
     ensures written { out.new.items

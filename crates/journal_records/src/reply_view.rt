@@ -1,4 +1,4 @@
-//! Which answer a record spells.
+//! Which answer a record encodes.
 ghost use Rattle.std.specs.Prelude.{◌≡◌, ◌≢◌, ◌<◌, ◌^◌, length, IfSome, IfNone};
 ghost use Rattle.wire_fields.specs.Numbers.{unsigned};
 ghost use Rattle.journal_records.specs.Private.{SpellsReply, SpellsNoReply};
@@ -9,7 +9,7 @@ use crate::skipped_view::{SkippedView, skipped_in};
 use wire_fields::Cursor;
 use wire_records::{RecordView, Refusal, Reply};
 
-/// The answer that a record spells, with the numbers of a batch in the borrowed bytes.
+/// The answer that a record encodes, with the numbers of a batch in the borrowed bytes.
 #[derive(Drop)]
 pub enum ReplyView<'a> {
     /// The reply to a command other than a batch, or a refusal.
@@ -20,7 +20,7 @@ pub enum ReplyView<'a> {
     Skipped(SkippedView<'a>),
 }
 
-// A number that takes all of a body of 1 byte.
+// Returns the number that a body of 1 byte is.
 fn u8_in(body: &[u8]) -> Option<u8>
     ensures spelled { IfSome result (λ n. body.now ≡ unsigned 1 n) }
     ensures fits { IfSome result (λ n. n < 2 ^ 8) }
@@ -34,7 +34,7 @@ fn u8_in(body: &[u8]) -> Option<u8>
     Some(number)
 }
 
-// A number that takes all of a body of 2 bytes.
+// Returns the number that a body of 2 bytes is.
 fn u16_in(body: &[u8]) -> Option<u16>
     ensures spelled { IfSome result (λ n. body.now ≡ unsigned 2 n) }
     ensures fits { IfSome result (λ n. n < 2 ^ 16) }
@@ -48,7 +48,7 @@ fn u16_in(body: &[u8]) -> Option<u16>
     Some(number)
 }
 
-// A number that takes all of a body of 4 bytes.
+// Returns the number that a body of 4 bytes is.
 fn u32_in(body: &[u8]) -> Option<u32>
     ensures spelled { IfSome result (λ n. body.now ≡ unsigned 4 n) }
     ensures fits { IfSome result (λ n. n < 2 ^ 32) }
@@ -62,7 +62,7 @@ fn u32_in(body: &[u8]) -> Option<u32>
     Some(number)
 }
 
-// A number that takes all of a body of 8 bytes.
+// Returns the number that a body of 8 bytes is.
 fn u64_in(body: &[u8]) -> Option<u64>
     ensures spelled { IfSome result (λ n. body.now ≡ unsigned 8 n) }
     ensures fits { IfSome result (λ n. n < 2 ^ 64) }
@@ -76,7 +76,7 @@ fn u64_in(body: &[u8]) -> Option<u64>
     Some(number)
 }
 
-// The plain reply that a tag and a body spell, or `None` where they spell none.
+// Returns the plain reply that a tag and a body encode, or `None` if they encode none.
 fn plain_in(tag: u8, body: &[u8]) -> Option<Reply>
     ensures found { IfSome result (λ reply. SpellsReply tag body.now reply) }
     ensures none { IfNone result (SpellsNoReply tag body.now) }
@@ -92,9 +92,9 @@ fn plain_in(tag: u8, body: &[u8]) -> Option<Reply>
     }
 }
 
-/// The answer that a record spells, where it lies; `None` exactly where it spells none: its tag is outside 128 to 134, or
-/// its body isn't of the length that its fields state, or the code of a refusal is none's. Constant cost, and
-/// nothing is allocated.
+/// Returns the answer that a record encodes, in the borrowed bytes, or `None` if it encodes none: its tag is outside 128
+/// to 134, or its body hasn't the length that the tag and its counts require, or no refusal has the code. Constant cost;
+/// doesn't allocate.
 pub fn reply<'a>(answered: &RecordView<'a>) -> Option<ReplyView<'a>>
     ensures { IsReplyRead answered.now result }
 {

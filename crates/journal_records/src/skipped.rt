@@ -1,4 +1,4 @@
-//! Pairs whose reply is a batch that was skipped.
+//! Entries whose reply is a batch that was skipped.
 ghost use Rattle.std.specs.Prelude.{◌≡◌, ◌+◌, ◌<◌, ◌≤◌, ◌++◌, length, OnOk, OnErr, vec_len, vec_capacity};
 ghost use Rattle.wire_records.specs.Records.{spelling};
 ghost use Rattle.wire_records.specs.Commands.{Batch};
@@ -11,13 +11,13 @@ use batch_outcome::Skipped;
 use wire_fields::{put_bytes, put_i128, put_u32};
 use wire_records::{Memory, RecordView, put_head};
 
-// A tag and the length of a body take as many bytes.
+// The number of bytes of a tag and the length of a body.
 const HEAD: usize = 5;
 
-// A body takes as many bytes besides its trace.
+// The number of bytes of a body besides its trace.
 const NUMBERS: usize = 40;
 
-// The record of the reply.
+// Appends the record of the reply.
 fn put_skipped(batch: u32, skipped: &Skipped, out: &mut Vec<u8>)
     requires few { length skipped.now.trace ≤ most_budget }
     requires room { vec_len out.old + (45 + length skipped.now.trace) ≤ vec_capacity out.old }
@@ -35,13 +35,13 @@ fn put_skipped(batch: u32, skipped: &Skipped, out: &mut Vec<u8>)
     put_bytes(out, trace);
 }
 
-/// Appends the pair of a batch that was skipped: the command record, byte for byte as it was given, and the record of
-/// its reply, with the batch's number, the dual floors at the start and at the end of its search, in grains, and the
+/// Appends the entry of a batch that was skipped: the command record, byte for byte as it was given, and the record of
+/// its reply, with the batch's number, the dual values at the start and at the end of its search, in grains, and the
 /// asset of each move.
 ///
-/// The body of the reply has 40 bytes and one for each of at most 65,536 moves. The room of the whole pair is taken
-/// first, and nothing fails after that; `Memory` comes only where it wasn't there, and then `out` is as before. The
-/// cost is that of the bytes, each of which is written once, and of a move of `out` where it has to grow.
+/// The body of the reply has 40 bytes and one for each of at most 65,536 moves. The space for the complete entry is
+/// reserved first, and nothing fails after that. Fails with `Memory` only if `out` lacked the capacity, and then `out` is
+/// as before. The cost is that of the bytes, each of which is written once, and of a move of `out` if it has to grow.
 pub fn write_skipped(
     asked: &RecordView<'_>,
     batch: u32,
@@ -56,11 +56,11 @@ pub fn write_skipped(
     ensures stays { OnErr result (out.new.items ≡ out.old.items) }
     ensures room { vec_capacity out.old ≤ vec_capacity out.new }
 
-    // Memory is wanted only where the room isn't there already.
+    // Memory can run out only if the capacity isn't there already.
     ensures wanted { OnErr result (vec_capacity out.old
         < vec_len out.old + skipped_room asked.now (length skipped.now.trace)) }
 
-    // So the reply is this answer's, and by the laws it is read as it, whatever follows it.
+    // So the record is this answer's, and by the laws it is read back as this answer, whatever follows it.
     ensures fits { OnOk result (IsAnswer (Batch batch (skipped_outcome (skipping_of skipped.now)))) }
 {
     out.reserve(asked.bytes().len() + HEAD + NUMBERS + skipped.trace.as_slice().len())?;

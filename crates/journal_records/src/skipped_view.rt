@@ -1,4 +1,4 @@
-//! A batch that was skipped, where its reply lies.
+//! A batch that was skipped, in the bytes of its reply.
 ghost use Rattle.std.specs.Prelude.{◌≡◌, IfSome, IfNone};
 ghost use Rattle.wire_records.specs.Records.{AreBytes};
 ghost use Rattle.journal_records.specs.Private.{SpellsSkipped, SpellsNoSkipped};
@@ -7,9 +7,9 @@ use crate::numbers_view::as_bytes;
 use std::marker::Model;
 use wire_fields::Cursor;
 
-/// What a reply tells of a batch that was skipped, with its trace in the borrowed bytes: the batch's number, the dual
-/// floors at the start and at the end of its search, in grains, and the asset of each move. Contracts see it as these
-/// numbers. Each call is of constant cost and allocates nothing.
+/// What a reply says of a batch that was skipped, with its trace in the borrowed bytes: the batch's number, the dual
+/// values at the start and at the end of its search, in grains, and the asset of each move. Contracts see it as these
+/// numbers. Each call is of constant cost and doesn't allocate.
 #[derive(Drop)]
 pub struct SkippedView<'a> {
     batch: u32,
@@ -30,28 +30,28 @@ impl<'a> Model for SkippedView<'a> {
 }
 
 impl<'a> SkippedView<'a> {
-    /// The number of the batch.
+    /// Returns the number of the batch.
     pub fn batch(&self) -> u32
         ensures { result ≡ self.now.batch }
     {
         self.batch
     }
 
-    /// The dual floor at the start prices, in grains.
+    /// Returns the dual value at the start prices, in grains.
     pub fn start_dual(&self) -> i128
         ensures { result ≡ self.now.skipping.start_dual }
     {
         self.start_dual
     }
 
-    /// The dual floor at the prices where the search ended, in grains.
+    /// Returns the dual value at the prices where the search ended, in grains.
     pub fn end_dual(&self) -> i128
         ensures { result ≡ self.now.skipping.end_dual }
     {
         self.end_dual
     }
 
-    /// The assets that were moved, by their numbers, one for each move.
+    /// Returns the number of the asset of each move, in order.
     pub fn trace(&self) -> &'a [u8]
         ensures value { result.now ≡ self.now.skipping.trace }
         ensures bytes { AreBytes self.now.skipping.trace }
@@ -60,7 +60,7 @@ impl<'a> SkippedView<'a> {
     }
 }
 
-// The batch that a body spells, or `None` where it spells none. The moves aren't looked at.
+// Returns the batch that a body encodes, or `None` if it encodes none. The moves aren't looked at.
 pub(crate) fn skipped_in(body: &[u8]) -> Option<SkippedView<'_>>
     ensures found { IfSome result (λ skipped. SpellsSkipped body.now skipped) }
     ensures none { IfNone result (SpellsNoSkipped body.now) }

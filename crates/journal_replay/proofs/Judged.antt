@@ -1,4 +1,4 @@
--- What going through the pairs of a journal comes to.
+-- What the audit of the entries of a journal results in.
 use Rattle.std.proofs.Common.{◌≡◌, ◌+◌, ℕ, List, [], ◌∷◌, ◌++◌, map, length, Bool, true, false, ◌⊎◌, inl, inr, IsTrue, refl, sym, ap, subst, ◌∙◌, append_assoc, length-append, arith}
 use Rattle.std.specs.Prelude.{All}
 use Rattle.std.proofs.lemmas.List.{append-nil, flat_map_more}
@@ -12,7 +12,7 @@ use Rattle.wire_records.specs.Reading.{Ending, EndsAs, ReadsOn}
 use Rattle.wire_records.specs.declared.version.Version.{Version}
 use Rattle.wire_records.proofs.ReadingLaws.{reads_on_some}
 use Rattle.file_units.specs.Units.{Leads, GoesToEnd, GoesToBreak}
-use Rattle.flow_orders.specs.Outcomes.{Outcome, IsRightOutcome}
+use Rattle.flow_orders.specs.Outcomes.{Outcome, IsAdmissibleOutcome}
 use Rattle.journal_records.specs.Pairs.{IsPair}
 use Rattle.journal_records.specs.Formats.{journals, records_of}
 use Rattle.journal_records.proofs.Files.{journals_readable}
@@ -24,20 +24,20 @@ use Rattle.journal_replay.specs.Audits.{AuditsOn}
 use Rattle.journal_replay.specs.Replays.{FindsFault}
 use Rattle.journal_replay.specs.Private.{State, CountsOne, BreaksOffWith}
 
--- what a step of the audit is
+-- a step of the audit
 abbrev pub Counts : {O : Type 0} → State → Record × Record → State → O → O → Type 0
 Counts old pair new before after = CountsOne old pair new
 
--- where it breaks off
+-- the audit stops at an entry
 abbrev pub Breaks : {O : Type 0} → State → Record × Record → PairFault → O → O → Type 0
 Breaks old pair fault before after = BreaksOffWith old pair fault
 
--- The units are these legal pairs, which lead from a state to another and are counted.
+-- The units are these valid entries, which lead from one state to the other and are counted.
 pub record AreLegal (start new : State) (units : List (Record × Record)) : Type 0 where
   pub legal : List (Pair Record Outcome)
   pub parts : units ≡ map records_of legal
   pub each : All IsPair legal
-  pub steps : Follows IsReadAs IsRightOutcome start.market legal new.market
+  pub steps : Follows IsReadAs IsAdmissibleOutcome start.market legal new.market
   pub pairs : new.pairs ≡ start.pairs + length legal
 
 pub are_legal : {O : Type 0} (start new : State) (before after : O) (units : List (Record × Record)) → All journals.units.IsLawful units → Leads journals Counts start before units new after → AreLegal start new units
@@ -61,13 +61,13 @@ are_legal start new before after (unit ∷ units) each leads =
       pairs = omega (arith, rest.pairs, one.pairs);
     }
 
--- there is more, or not
+-- there are more bytes, or there aren't
 pub told : (more : Bool) → IsTrue more ⊎ (¬ IsTrue more)
 told true = inl refl
 told false = inr (λ e. absurd cc)
 
 module _ {O : Type 0} (version : Version) (place : ℕ) (more : Bool) (bytes : List ℕ) (start new : State) (before after : O) where
-  -- all whole units are legal
+  -- all complete units are valid
   pub all_legal : (ending : Ending) → (goes : GoesToEnd journals Counts place (IsTrue more) bytes ending start new before after) → start.market ≡ empty_market version
       → (are : AreLegal start new goes.units) × AuditsOn version place (IsTrue more) bytes are.legal [] ending new.market
   all_legal ending goes begins =
@@ -78,13 +78,13 @@ module _ {O : Type 0} (version : Version) (place : ℕ) (more : Bool) (bytes : L
           reads = goes.reads;
           judged = record {
             parts = are.parts ∙ sym (append-nil (map records_of are.legal));
-            journal = record { each = are.each; steps = subst (λ (m : Market). Follows IsReadAs IsRightOutcome m are.legal new.market) begins are.steps };
+            journal = record { each = are.each; steps = subst (λ (m : Market). Follows IsReadAs IsAdmissibleOutcome m are.legal new.market) begins are.steps };
             stops = tt;
           };
         },
       )
 
--- units, one more and then more are read on
+-- units, then one more, and then more are read on
 pub read_more : (place : ℕ) (More : Type 0) → More ⊎ (¬ More) → (bytes left rest : List ℕ) (units : List (Record × Record)) (bad : Record × Record) → bytes ≡ spell_all journals.units units ++ left
     → All journals.units.IsLawful units → journals.units.IsLawful bad → left ≡ journals.units.spell bad ++ rest
     → (more : List (Record × Record)) × (ending : Ending) × ReadsOn journals place More bytes (units ++ bad ∷ more) ending
@@ -108,7 +108,7 @@ read_more place More dec bytes left rest units bad begins each lawful front =
       }),
     )
 
--- a unit is illegal, or its command may want memory
+-- a unit is invalid, or its command may allocate
 pub some_fault : {O : Type 0} (version : Version) (place : ℕ) (more : Bool) (bytes : List ℕ) (start : State) (fault : PairFault) (before after : O) → GoesToBreak journals Counts Breaks bytes fault start before after → start.market ≡ empty_market version → start.pairs ≡ 0 → FindsFault version place (IsTrue more) bytes fault
 some_fault version place more bytes start Memory before after goes begins none =
     let are = are_legal start goes.middle before goes.between goes.units goes.each goes.leads in
@@ -118,10 +118,10 @@ some_fault version place more bytes start Memory before after goes begins none =
       next = off.unit;
       rest = off.rest;
       market = goes.middle.market;
-      journal = record { each = are.each; steps = subst (λ (m : Market). Follows IsReadAs IsRightOutcome m are.legal goes.middle.market) begins are.steps };
+      journal = record { each = are.each; steps = subst (λ (m : Market). Follows IsReadAs IsAdmissibleOutcome m are.legal goes.middle.market) begins are.steps };
       lawful = off.lawful;
       begins = goes.begins ∙ ap (λ units. spell_all journals.units units ++ goes.left) are.parts ∙ ap (λ left. spell_all journals.units (map records_of are.legal) ++ left) off.front;
-      wants = off.broken;
+      allocates = off.broken;
     }
 some_fault version place more bytes start (Illegal number) before after goes begins none =
     let are = are_legal start goes.middle before goes.between goes.units goes.each goes.leads in
@@ -138,7 +138,7 @@ some_fault version place more bytes start (Illegal number) before after goes beg
         reads = on.2;
         judged = record {
           parts = ap (λ xs. xs ++ off.unit ∷ on.0) are.parts;
-          journal = record { each = are.each; steps = subst (λ (m : Market). Follows IsReadAs IsRightOutcome m are.legal goes.middle.market) begins are.steps };
+          journal = record { each = are.each; steps = subst (λ (m : Market). Follows IsReadAs IsAdmissibleOutcome m are.legal goes.middle.market) begins are.steps };
           stops = off.broken.0;
         };
       };

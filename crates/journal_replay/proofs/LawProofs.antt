@@ -1,4 +1,4 @@
--- Audits are those of legal journals, and there is one; so with replays.
+-- Each audit that reaches the end is one of a valid journal, bytes have one audit, and the same holds of replays.
 use Rattle.std.proofs.Common.{◌≡◌, ◌≢◌, ◌+◌, ◌<◌, ◌≤◌, ◌⊎◌, ℕ, List, [], ◌∷◌, ◌++◌, map, length, inl, inr, Result, Ok, Err, refl, sym, ap, subst, ◌∙◌, arith}
 use Rattle.std.proofs.lemmas.Bool.{cases_lt}
 use Rattle.std.proofs.lemmas.List.{take_all, append-nil}
@@ -21,11 +21,11 @@ use Rattle.journal_replay.specs.Audits.{Audits}
 use Rattle.journal_replay.specs.Replays.{IsReplayed}
 use Rattle.journal_replay.specs.Laws.{AuditsToEndAreOfLegalJournals, OneAudit, MarketsAreOfLegalJournals, OneReplay}
 
--- all bytes are within the limit where there is no more
+-- all bytes are within the limit if there are no more
 within : (limit : ℕ) (bytes : List ℕ) → (limit < length bytes → ⊥) → length bytes ≤ limit
 within limit bytes none = elim (cases_lt limit (length bytes)) [ inl more ↦ absurd (none more) | inr not ↦ not ]
 
--- legal pairs whose spelling in a version are these bytes, within the limit
+-- valid entries whose encoding in a version is these bytes, within the limit
 abbrev LegalIn : ℕ → List ℕ → List (Pair Record Outcome) → Market → Type 0
 LegalIn limit bytes pairs market = (version : Version) × IsLegalJournal version pairs market × (bytes ≡ journal_in version pairs) × (length bytes ≤ limit)
 
@@ -69,18 +69,18 @@ markets_are bytes market = (
   λ legal. (legal.1, of_legal (length bytes) bytes legal.1 market (legal.0, legal.2, legal.3, omega arith)),
 )
 
--- the answer to an audit of all bytes; none comes at a limit, and any stands here
+-- the result for an audit of all bytes; no audit of all bytes ends at a limit, and the value given for that is arbitrary
 abbrev answer_for : ℕ → List (Record × Record) → Ending → Market → Result Market ReplayFault
 answer_for n (bad ∷ more) ending market = Err (Illegal (n + 1))
 answer_for n [] End market = Ok market
 answer_for n [] (Torn place) market = Err (fault.Torn place)
 answer_for n [] TooLong market = Err Memory
 
--- the answer where the pair of a number is illegal
+-- the result if the entry of a number is invalid
 abbrev illegal : ℕ → Result Market ReplayFault
 illegal n = Err (Illegal n)
 
--- an answer is that the bytes are no journal, or that to an audit
+-- a result says that the bytes are no journal, or is that of an audit
 abbrev Answered : List ℕ → Result Market ReplayFault → Type 0
 Answered bytes answer =
     (Reads journals (length bytes) bytes NotFlow × (answer ≡ Err NotJournal))
@@ -95,7 +95,7 @@ answered bytes (Err (Illegal number)) some replayed =
     inr (replayed.legal, replayed.bad ∷ replayed.more, replayed.ending, replayed.market, replayed.audits, ap illegal replayed.counted)
 answered bytes (Err Memory) some replayed = absurd (some refl)
 
--- a file is no other
+-- a file of some version isn't `NotFlow`
 no_file : (v : Version) (p : List (Record × Record)) (e : Ending) → NotFlow ≡ File v p e → ⊥
 no_file v p e same = absurd cc
 

@@ -1,4 +1,4 @@
--- What a replay of a whole journal comes to.
+-- What a replay of a complete journal results in.
 use Rattle.std.proofs.Common.{◌≡◌, ◌<◌, ◌≤◌, ◌↔◌, ℕ, List, length, take, drop, false, IsTrue, sym, ap, ◌∙◌, length-append, arith}
 use Rattle.std.proofs.lemmas.List.{take_all, take_at, drop_at}
 use Rattle.wire_records.specs.Records.{Record}
@@ -17,19 +17,19 @@ use Rattle.journal_replay.specs.Audits.{AuditsOn, Audits}
 pub begins_with_magic : (version : Version) (bytes : List ℕ) → (body : List ℕ) × BeginsWith journals.magics bytes version body → take 8 bytes ≡ journal_magic_of version
 begins_with_magic version bytes (body, begins) = ap (take 8) begins.1 ∙ take_at (journal_magic_of version) body 8 (eight version)
 
--- and what stands behind it are the others
+-- the bytes after its magic are the others
 pub behind_magic : (version : Version) (bytes body : List ℕ) → BeginsWith journals.magics bytes version body → body ≡ drop 8 bytes
 behind_magic version bytes body begins = sym (drop_at (journal_magic_of version) body 8 (eight version)) ∙ ap (drop 8) (sym begins.1)
 
--- so there are eight at least
+-- bytes that begin as a journal have eight bytes at least
 pub begins_with_eight : (version : Version) (bytes : List ℕ) → (body : List ℕ) × BeginsWith journals.magics bytes version body → 8 ≤ length bytes
 begins_with_eight version bytes (body, begins) = omega (arith, ap length begins.1, length-append (journal_magic_of version) body, eight version)
 
--- an input that is all there has no more
+-- an input that is complete has no more bytes
 none_more : (n : ℕ) → IsTrue false ↔ (n < n)
 none_more n = (λ e. absurd (let no = e in cc), λ less. absurd (omega (arith, less)))
 
--- what is audited behind the magic of bytes that are all there is an audit of them
+-- an audit of the entries after the magic of complete bytes is an audit of the bytes
 pub audits_all : (version : Version) (bytes : List ℕ) (legal : List (Pair Record Outcome)) (behind : List (Record × Record)) (ending : Ending) (market : Market)
     → (body : List ℕ) × BeginsWith journals.magics bytes version body → AuditsOn version 8 (IsTrue false) (drop 8 bytes) legal behind ending market → Audits (length bytes) bytes legal behind ending market
 audits_all version bytes legal behind ending market (body, begins) on =

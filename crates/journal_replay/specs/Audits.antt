@@ -1,4 +1,4 @@
--- What stands in a journal: legal pairs, those behind them, and how the reading ends.
+-- What an audit finds in a journal: valid entries, those that follow them, and how the reading ends.
 use Rattle.std.specs.Prelude.{ℕ, List}
 use Rattle.std.specs.List.{sum_by}
 use Rattle.wire_records.specs.Records.{Record}
@@ -10,14 +10,15 @@ use Rattle.journal_records.specs.Formats.{journals}
 use Rattle.market_rules.specs.Market.{Market}
 use Rattle.batch_audit.specs.Legal.{AreJudged}
 
--- The bytes from a place on are in a version these legal pairs and those behind them, of which the first is illegal; so the reading
--- ends.
+-- The bytes from a place on are, in a version, these valid entries and those after them, of which the first is invalid;
+-- and the reading ends so.
 pub record AuditsOn (version : Version) (place : ℕ) (More : Type 0) (bytes : List ℕ) (legal : List (Pair Record Outcome)) (behind : List (Record × Record)) (ending : Ending) (market : Market) : Type 0 where
   pub units : List (Record × Record)
   pub reads : ReadsOn journals place More bytes units ending
   pub judged : AreJudged version units legal behind market
 
--- The first `limit` bytes are the magic of a journal of a version, these legal pairs and those behind them.
+-- The first `limit` bytes are the magic of a journal of a version, these valid entries, and those after them, of which
+-- the first is invalid.
 pub record Audits (limit : ℕ) (bytes : List ℕ) (legal : List (Pair Record Outcome)) (behind : List (Record × Record)) (ending : Ending) (market : Market) : Type 0 where
   pub version : Version
   pub units : List (Record × Record)
@@ -36,10 +37,10 @@ skipped_by (Plain reply) = 0
 skipped_by (Batch number (Cleared c)) = 0
 skipped_by (Batch number (Skipped s)) = 1
 
--- how many batches cleared
+-- the number of batches that cleared
 abbrev pub cleared_in : List (Pair Record Outcome) → ℕ
 cleared_in pairs = sum_by (λ pair. cleared_by pair.answer) pairs
 
--- how many batches were skipped
+-- the number of batches that were skipped
 abbrev pub skipped_in : List (Pair Record Outcome) → ℕ
 skipped_in pairs = sum_by (λ pair. skipped_by pair.answer) pairs

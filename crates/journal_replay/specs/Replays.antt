@@ -1,4 +1,4 @@
--- What auditing the pairs of a journal answers, and what replaying one does.
+-- What an audit of the entries of a journal returns, and what a replay of a journal does.
 use Rattle.std.specs.Prelude.{◌≡◌, ◌+◌, ℕ, List, [], ◌∷◌, ◌++◌, map, length, Result, Ok, Err}
 use Rattle.wire_records.specs.Records.{Record}
 use Rattle.wire_records.specs.Commands.{Pair}
@@ -10,7 +10,7 @@ use Rattle.file_units.specs.Units.{ending_of}
 use Rattle.flow_orders.specs.Outcomes.{Outcome}
 use Rattle.journal_records.specs.Formats.{journals, records_of}
 use Rattle.market_rules.specs.Market.{Market}
-use Rattle.market_rules.specs.Wanting.{RecordMayWant}
+use Rattle.market_rules.specs.Allocating.{RecordMayAllocate}
 use Rattle.batch_audit.specs.Legal.{IsLegalJournal}
 use Rattle.journal_replay.specs.declared.auditing.Audited.{Audited}
 use Rattle.journal_replay.specs.declared.auditing.PairFault.{PairFault}
@@ -19,12 +19,12 @@ use Rattle.journal_replay.specs.declared.replaying.ReplayFault.{ReplayFault}
 use Rattle.journal_replay.specs.declared.replaying.ReplayFault.TheVariants.{NotJournal, Torn, Illegal, Memory}
 use Rattle.journal_replay.specs.Audits.{AuditsOn, Audits}
 
--- All whole pairs are legal: this is how the reading ends, and the market that they make.
+-- All complete entries are valid: this is how the reading ends, and the market that they make.
 pub record FindsLegal (version : Version) (place : ℕ) (More : Type 0) (bytes : List ℕ) (found : Audited) : Type 0 where
   pub legal : List (Pair Record Outcome)
   pub audits : AuditsOn version place More bytes legal [] (ending_of found.ending) found.market
 
--- A pair is illegal, and it is the first: this is its number, counted from 1.
+-- An entry is invalid, and it is the first: this is its number, counted from 1.
 pub record FindsIllegal (version : Version) (place : ℕ) (More : Type 0) (bytes : List ℕ) (number : ℕ) : Type 0 where
   pub legal : List (Pair Record Outcome)
   pub bad : Record × Record
@@ -34,8 +34,8 @@ pub record FindsIllegal (version : Version) (place : ℕ) (More : Type 0) (bytes
   pub audits : AuditsOn version place More bytes legal (bad ∷ more) ending market
   pub counted : number ≡ length legal + 1
 
--- Legal pairs stand first, and behind them one whose command may want memory of the market that they make.
-pub record FindsWant (version : Version) (bytes : List ℕ) : Type 0 where
+-- Valid entries come first, and after them one whose command may allocate in the market that they make.
+pub record FindsAllocating (version : Version) (bytes : List ℕ) : Type 0 where
   pub legal : List (Pair Record Outcome)
   pub next : Record × Record
   pub rest : List ℕ
@@ -43,14 +43,14 @@ pub record FindsWant (version : Version) (bytes : List ℕ) : Type 0 where
   pub journal : IsLegalJournal version legal market
   pub lawful : journals.units.IsLawful next
   pub begins : bytes ≡ spell_all journals.units (map records_of legal) ++ (journals.units.spell next ++ rest)
-  pub wants : RecordMayWant market next.0
+  pub allocates : RecordMayAllocate market next.0
 
--- by the fault
+-- what an audit found, by the fault that it returns
 abbrev pub FindsFault : Version → ℕ → Type 0 → List ℕ → PairFault → Type 0
 FindsFault version place More bytes (fault.Illegal number) = FindsIllegal version place More bytes number
-FindsFault version place More bytes fault.Memory = FindsWant version bytes
+FindsFault version place More bytes fault.Memory = FindsAllocating version bytes
 
--- the bytes are a journal in which some pair is illegal, and the first is that of this number, counted from 1
+-- the bytes are a journal in which some entry is invalid, and the first such entry has this number, counted from 1
 pub record HasIllegal (limit : ℕ) (bytes : List ℕ) (number : ℕ) : Type 0 where
   pub legal : List (Pair Record Outcome)
   pub bad : Record × Record
@@ -60,19 +60,20 @@ pub record HasIllegal (limit : ℕ) (bytes : List ℕ) (number : ℕ) : Type 0 w
   pub audits : Audits limit bytes legal (bad ∷ more) ending market
   pub counted : number ≡ length legal + 1
 
--- the bytes are the magic of a version, and pairs behind it of which one may want memory
-pub record HasWant (bytes : List ℕ) : Type 0 where
+-- the bytes are the magic of a version, valid entries, and one after them whose command may allocate
+pub record HasAllocation (bytes : List ℕ) : Type 0 where
   pub version : Version
   pub behind : List ℕ
   pub begins : BeginsWith journals.magics bytes version behind
-  pub finds : FindsWant version behind
+  pub finds : FindsAllocating version behind
 
--- what a replay of all the bytes answers: the market of a legal journal, or which comes first of the pair that isn't whole, at
--- its first byte, and the illegal one; or that memory is wanted, behind legal pairs, at one whose command may want it
+-- what a replay of all the bytes returns: the market of a valid journal; or that an entry isn't complete, with the
+-- place of its first byte, or isn't valid, whichever comes first; or that memory ran out after valid entries, at
+-- one whose command may allocate
 abbrev pub IsReplayed : List ℕ → Result Market ReplayFault → Type 0
 IsReplayed bytes (Ok market) = (legal : List (Pair Record Outcome)) × Audits (length bytes) bytes legal [] End market
 IsReplayed bytes (Err NotJournal) = Reads journals (length bytes) bytes NotFlow
 IsReplayed bytes (Err (Torn place)) =
     (legal : List (Pair Record Outcome)) × (market : Market) × Audits (length bytes) bytes legal [] (reading.Torn place) market
 IsReplayed bytes (Err (Illegal number)) = HasIllegal (length bytes) bytes number
-IsReplayed bytes (Err Memory) = HasWant bytes
+IsReplayed bytes (Err Memory) = HasAllocation bytes

@@ -1,4 +1,4 @@
-//! Going through the pairs of a journal.
+//! The audit of the entries of a journal, one after the other.
 ghost use Rattle.std.specs.Prelude.{ℕ, ◌≤◌, IfOk, IfErr, IsTrue, drop, length};
 ghost use Rattle.wire_records.specs.Records.{Record};
 ghost use Rattle.journal_records.specs.Formats.{journals};
@@ -12,25 +12,25 @@ use market_core::Market;
 use std::alloc::Global;
 use wire_records::Version;
 
-/// What an audit of pairs has found where all whole ones are legal.
+/// The result of an audit of entries of which all complete ones are valid.
 #[derive(Drop)]
 pub struct Audited {
     /// How the reading ends.
     pub ending: Ending,
-    /// The market that the pairs make.
+    /// The market that the entries make.
     pub market: Market,
 }
 
-/// Why an audit of pairs breaks off.
+/// Why an audit of entries stops early.
 #[derive(Clone, Copy, PartialEq, Eq)]
 pub enum PairFault {
-    /// The pair of this number, counted from 1, isn't legal, and all before it are.
+    /// The entry of this number, counted from 1, isn't valid, and all before it are.
     Illegal(u64),
-    /// There is no memory to audit the next pair, whose command may want it.
+    /// Out of memory at the audit of the next entry, whose command may allocate.
     Memory,
 }
 
-// The audit of a journal, and how many of its pairs were legal.
+// The audit of a journal, and how many of its entries were valid.
 #[derive(Drop)]
 struct Auditing {
     audit: Audit,
@@ -41,7 +41,7 @@ impl Auditing {
     ghost use Rattle.std.specs.Prelude.{OnOk};
     ghost use Rattle.journal_replay.specs.Private.{state_of};
 
-    // Audits a pair, and counts it where it is legal.
+    // Audits an entry, and counts it if it is valid.
     fn take_pair(&mut self, pair: &PairView<'_>) -> Result<(), PairFault>
         requires room { (left : ℕ) × (5 ≤ left) × HasRoom (state_of self.old) left }
         ensures counted { OnOk result (CountsOne (state_of self.old) pair.now (state_of self.new)) }
@@ -89,13 +89,13 @@ impl TakesUnits<()> for Auditing {
     }
 }
 
-/// Goes through the pairs that stand in the bytes of a journal from a place on, one after the other from the empty market
-/// of the journal's version, and answers what it has found: how the reading ends, where all whole pairs are legal. `more` says whether the journal has
-/// bytes behind these.
+/// Audits the entries in the bytes of a journal from `start` on, one after the other, from the empty market of the
+/// journal's version, and returns how the reading ends and the market, if all complete entries are valid. `more` says
+/// whether the journal has bytes after these.
 ///
-/// `Illegal` where some whole pair isn't legal, with the number of the first, counted from 1 behind the place;
-/// `Memory` where there is none to audit the pair behind some legal ones, and only where its command adds an asset, an account or
-/// an order or holds a batch, and no refusal stops it.
+/// Returns `Illegal` if some complete entry isn't valid, with the number of the first, counted from 1 at `start`.
+/// Returns `Memory` if there is no memory to audit the entry after some valid ones, and only if its command adds an
+/// asset, an account or an order or holds a batch, and no refusal stops it.
 pub fn audit_pairs(
     alloc: Global,
     version: Version,

@@ -1,11 +1,11 @@
-//! Journals from end to end: whether each pair is legal, and the market that they make.
+//! Journals from end to end: whether each entry is valid, and the market that they make.
 //!
-//! [`audit_pairs`] goes through the pairs that stand behind a magic, and [`replay`] through a whole journal in memory. What
-//! holds of audits and replays, whatever code there is, stands in [`laws`].
+//! [`audit_pairs`] audits the entries that follow a magic, and [`replay`] a complete journal in memory. The laws of
+//! audits and replays, whatever code there is, are in [`laws`].
 //!
 //! # Costs
 //!
-//! Each pair is looked at where it lies, once, at the cost of its audit. No memory is taken besides what the audit and its
+//! Each entry is read once, in place, at the cost of its audit. No memory is taken besides what the audit and its
 //! market take.
 #![tactic(auto)]
 

@@ -1,4 +1,4 @@
-//! A whole journal in memory.
+//! The replay of a complete journal in memory.
 ghost use Rattle.journal_replay.specs.Replays.{IsReplayed};
 
 use crate::auditing::{PairFault, audit_pairs};
@@ -8,29 +8,30 @@ use market_core::Market;
 use std::alloc::Global;
 use thiserror::Error;
 
-/// Why bytes give no market.
+/// Why a replay of bytes gives no market.
 #[derive(Clone, Copy, Debug, PartialEq, Eq, Error)]
 pub enum ReplayFault {
-    /// They are no journal: they don't begin with the magic of a version.
+    /// The bytes are no journal: they don't begin with the magic of a version.
     #[error("not a journal")]
     NotJournal,
-    /// They break off or state too long a record; the broken pair begins at this byte, from 0.
+    /// The bytes end within an entry or state too long a record; the broken entry begins at this byte, from 0.
     #[error("torn at byte {0}")]
     Torn(u64),
-    /// The pair of this number, counted from 1, isn't legal.
+    /// The entry of this number, counted from 1, isn't valid.
     #[error("pair {0} is not legal")]
     Illegal(u64),
-    /// There is no memory for what a pair adds to the market, or for the audit of its batch.
+    /// There is no memory for what an entry adds to the market, or for the audit of its batch.
     #[error("no memory")]
     Memory,
 }
 
-/// The market that a journal makes, of the journal's version: `Ok` exactly for the bytes of a legal journal, want of memory
-/// aside, whoever wrote it.
+/// Returns the market that a journal makes, of the journal's version: `Ok` exactly for the bytes of a valid journal,
+/// unless memory runs out, no matter who wrote it.
 ///
-/// `NotJournal` exactly where the first 8 bytes are the magic of no version; `Torn` and `Illegal` where a pair isn't whole or isn't
-/// legal, whichever comes first in the bytes; `Memory` only behind legal pairs at one whose command adds an asset, an account or
-/// an order or holds a batch, and that no refusal stops. Each pair is looked at where it lies, at the cost of its audit.
+/// Returns `NotJournal` exactly if the first 8 bytes are the magic of no version; `Torn` or `Illegal` if an entry isn't
+/// complete or isn't valid, whichever comes first in the bytes; `Memory` only after valid entries at one whose command
+/// adds an asset, an account or an order or holds a batch, and that no refusal stops. Each entry is read in place, at
+/// the cost of its audit.
 pub fn replay(alloc: Global, bytes: &[u8]) -> Result<Market, ReplayFault>
     ensures { IsReplayed bytes.now result }
 {

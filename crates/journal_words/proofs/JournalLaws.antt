@@ -1,4 +1,4 @@
--- Words over the pairs of a journal come to one end and one text, keep a journal, and are without an end for no bytes.
+-- Subcommands over the entries of a journal result in one end and one text, keep a journal, and have an end for all bytes.
 use Rattle.std.proofs.Common.{◌≡◌, ◌+◌, ◌-◌, ◌≤◌, ◌⊎◌, inl, inr, true, ℕ, List, [], ◌∷◌, ◌++◌, map, Option, Some, None, Result, Ok, Err, length, drop, refl, sym, ap, subst, ◌∙◌, arith}
 use Rattle.std.specs.Prelude.{All, OnErr}
 use Rattle.std.proofs.lemmas.List.{drop_at}
@@ -8,16 +8,16 @@ use Rattle.wire_records.specs.Commands.{Answer, Pair}
 use Rattle.wire_records.specs.Versions.{IsReadAs}
 use Rattle.wire_records.specs.declared.version.Version.{Version}
 use Rattle.word_driver.specs.Private.{IsOpened}
-use Rattle.flow_orders.specs.Outcomes.{Outcome, IsRightOutcome}
+use Rattle.flow_orders.specs.Outcomes.{Outcome, IsAdmissibleOutcome}
 use Rattle.journal_records.specs.Pairs.{IsPair}
 use Rattle.journal_records.specs.Formats.{journal_magic_of, journals, records_of}
 use Rattle.journal_records.proofs.Files.{eight}
 use Rattle.journal_records.proofs.Files.{journals_readable, short_at_end}
 use Rattle.journal_records.proofs.Spelled.{answer_unique}
-use Rattle.market_rules.specs.Market.{Market, empty_market, IsSound}
+use Rattle.market_rules.specs.Market.{Market, empty_market, IsConsistent}
 use Rattle.market_rules.specs.Journal.{Follows}
-use Rattle.market_rules.proofs.LawProofs.{journals_hold_deposits, steps_keep_soundness}
-use Rattle.market_rules.proofs.Soundness.{sound-empty}
+use Rattle.market_rules.proofs.LawProofs.{journals_hold_deposits, steps_keep_consistency}
+use Rattle.market_rules.proofs.Consistency.{consistent-empty}
 use Rattle.market_rules.proofs.Versions.{follows_version}
 use Rattle.market_rules.proofs.Promised.{legal_journal_keeps_promises}
 use Rattle.batch_audit.proofs.LawProofs.{one_market, pairs_number_one}
@@ -37,7 +37,7 @@ use Rattle.journal_words.specs.Private.{HasRoom}
 use Rattle.journal_words.proofs.LongestPair.{longest}
 use Rattle.journal_words.proofs.SomeText.{some_text}
 
--- What is watched is told by the pair: one is seen, one reason and one text where it isn't legal, and one at the end.
+-- The entry determines what is watched: what is seen, the reason and the text if it is invalid, and the text at the end.
 pub record IsExactWatch {S B : Type 0} (watch : Watch S B) : Type 0 where
   pub one_sight : (m : Market) (n : ℕ) (pair : Record × Record) (s t r : S) (x y : List ℕ) → watch.Sees m n pair s t x → watch.Sees m n pair s r y → (t ≡ r) × (x ≡ y)
   pub one_reject : (m : Market) (n : ℕ) (pair : Record × Record) (s : S) (b c : B) (x y : List ℕ) → watch.Rejects m n pair s b x → watch.Rejects m n pair s c y → (b ≡ c) × (x ≡ y)
@@ -78,12 +78,12 @@ module _ {S B : Type 0} (watch : Watch S B) where
       closes_or_stops = λ s b x y closes stops. exact.closes_or_stops s.market s.pairs s.seen b x y closes stops;
     }
 
-  -- The units are these legal pairs, which lead from a state to another and are counted.
+  -- The units are these valid entries, which lead from a state to another and are counted.
   pub record AreLegal (start new : Watched S) (units : List (Record × Record)) : Type 0 where
     pub legal : List (Pair Record Outcome)
     pub parts : units ≡ map records_of legal
     pub each : All IsPair legal
-    pub steps : Follows IsReadAs IsRightOutcome start.market legal new.market
+    pub steps : Follows IsReadAs IsAdmissibleOutcome start.market legal new.market
     pub pairs : new.pairs ≡ start.pairs + length legal
 
   pub are_legal : (start new : Watched S) (units : List (Record × Record)) (text : List ℕ) → All journals.units.IsLawful units → Goes (over_pairs watch) start units new text → AreLegal start new units
@@ -110,49 +110,49 @@ module _ {S B : Type 0} (watch : Watch S B) where
   pub over_pairs_is_kept : (start : Version → Watched S) → ((version : Version) → ((start version).market ≡ empty_market version) × ((start version).pairs ≡ 0)) → IsKept (over_pairs watch) start
   over_pairs_is_kept start begins version units s text each goes =
       let are = are_legal (start version) s units text each goes in
-      let from_empty = subst (λ (m : Market). Follows IsReadAs IsRightOutcome m are.legal s.market) (begins version).0 are.steps in
-      let same : s.market.version ≡ version = follows_version IsRightOutcome IsReadAs (empty_market version) are.legal s.market from_empty in
-      let steps = subst (λ (v : Version). Follows IsReadAs IsRightOutcome (empty_market v) are.legal s.market) (sym same) from_empty in
-      let sound = sound-empty s.market.version in
+      let from_empty = subst (λ (m : Market). Follows IsReadAs IsAdmissibleOutcome m are.legal s.market) (begins version).0 are.steps in
+      let same : s.market.version ≡ version = follows_version IsAdmissibleOutcome IsReadAs (empty_market version) are.legal s.market from_empty in
+      let steps = subst (λ (v : Version). Follows IsReadAs IsAdmissibleOutcome (empty_market v) are.legal s.market) (sym same) from_empty in
+      let consistent = consistent-empty s.market.version in
       let none = (begins version).1 in
       record {
         legal = are.legal;
         parts = are.parts;
         journal = record { each = are.each; steps = steps };
         counted = omega (arith, are.pairs, none);
-        deposits = journals_hold_deposits (empty_market s.market.version) are.legal s.market sound steps;
-        keeps = legal_journal_keeps_promises (empty_market s.market.version) are.legal s.market sound steps;
+        deposits = journals_hold_deposits (empty_market s.market.version) are.legal s.market consistent steps;
+        keeps = legal_journal_keeps_promises (empty_market s.market.version) are.legal s.market consistent steps;
       }
 
--- What is watched is there: a legal pair is seen, why it stops at one that isn't, in a sound market, and how it ends.
+-- In a consistent market, each valid entry is seen, each invalid one has a reason to stop, and the end closes or stops.
 pub record HasSight {S B : Type 0} (watch : Watch S B) : Type 0 where
   pub some_sight : (old new : Market) (n : ℕ) (pair : Record × Record) (s : S) → IsLegalPair old pair new → (t : S) × (x : List ℕ) × watch.Sees new n pair s t x
-  pub some_reject : (m : Market) (n : ℕ) (pair : Record × Record) (s : S) → IsSound m → IsIllegalPair m pair → IsNotDenied ((why : B) × (x : List ℕ) × watch.Rejects m n pair s why x)
+  pub some_reject : (m : Market) (n : ℕ) (pair : Record × Record) (s : S) → IsConsistent m → IsIllegalPair m pair → IsNotDenied ((why : B) × (x : List ℕ) × watch.Rejects m n pair s why x)
   pub some_close : (m : Market) (n : ℕ) (s : S) → ((x : List ℕ) × watch.Closes m n s x) ⊎ ((why : B) × (x : List ℕ) × watch.Stops m n s why x)
 
 module _ {S B : Type 0} (watch : Watch S B) (sight : HasSight watch) where
   abbrev HasStep : Watched S → Record × Record → Type 0
   HasStep s u = ((t : Watched S) × (y : List ℕ) × SeesOne watch s u t y) ⊎ ((why : B) × (y : List ℕ) × StopsOne watch s (Some u) why y)
 
-  -- a legal pair leads on, and any other stops it
-  has_step : (s : Watched S) (u : Record × Record) → IsSound s.market → (((m : Market) × IsLegalPair s.market u m) ⊎ (((m : Market) × IsLegalPair s.market u m) → ⊥)) → IsNotDenied (HasStep s u)
-  has_step s u sound (inl (m, legal)) =
+  -- a valid entry leads on, and any other stops the subcommand
+  has_step : (s : Watched S) (u : Record × Record) → IsConsistent s.market → (((m : Market) × IsLegalPair s.market u m) ⊎ (((m : Market) × IsLegalPair s.market u m) → ⊥)) → IsNotDenied (HasStep s u)
+  has_step s u consistent (inl (m, legal)) =
       let seen = sight.some_sight s.market m s.pairs u s.seen legal in
       not_denied (inl (watched watch m (s.pairs + 1) seen.0, seen.1, record { legal = legal; counted = refl; sees = seen.2 }))
-  has_step s u sound (inr not) =
+  has_step s u consistent (inr not) =
       let illegal : IsIllegalPair s.market u = λ m legal. not (m, legal) in
-      follows (λ why. not_denied (inr (why.0, why.1, (illegal, why.2)))) (sight.some_reject s.market s.pairs u s.seen sound illegal)
+      follows (λ why. not_denied (inr (why.0, why.1, (illegal, why.2)))) (sight.some_reject s.market s.pairs u s.seen consistent illegal)
 
-  -- the market stays sound
-  stays_sound : (old new : Watched S) (units : List (Record × Record)) (text : List ℕ) → IsSound old.market → Goes (over_pairs watch) old units new text → IsSound new.market
-  stays_sound old new [] text sound goes = subst IsSound (sym (ap (λ (s : Watched S). s.market) goes.0)) sound
-  stays_sound old new (unit ∷ units) text sound goes =
+  -- the market stays consistent
+  stays_consistent : (old new : Watched S) (units : List (Record × Record)) (text : List ℕ) → IsConsistent old.market → Goes (over_pairs watch) old units new text → IsConsistent new.market
+  stays_consistent old new [] text consistent goes = subst IsConsistent (sym (ap (λ (s : Watched S). s.market) goes.0)) consistent
+  stays_consistent old new (unit ∷ units) text consistent goes =
       let legal = goes.3.legal in
-      stays_sound goes.0 new units goes.2 (steps_keep_soundness.1 old.market unit.0 legal.answer goes.0.market sound legal.step).0 goes.4
+      stays_consistent goes.0 new units goes.2 (steps_keep_consistency.1 old.market unit.0 legal.answer goes.0.market consistent legal.step).0 goes.4
 
-  pub over_pairs_has_next : (start : Version → Watched S) → ((version : Version) → IsSound (start version).market) → HasNext (over_pairs watch) start
+  pub over_pairs_has_next : (start : Version → Watched S) → ((version : Version) → IsConsistent (start version).market) → HasNext (over_pairs watch) start
   over_pairs_has_next start begins = record {
-    some_step = λ version units s x u goes lawful. follows (has_step s u (stays_sound (start version) s units x (begins version) goes)) (one_of ((m : Market) × IsLegalPair s.market u m));
+    some_step = λ version units s x u goes lawful. follows (has_step s u (stays_consistent (start version) s units x (begins version) goes)) (one_of ((m : Market) × IsLegalPair s.market u m));
     some_close = λ version units s x goes. not_denied (sight.some_close s.market s.pairs s.seen);
   }
 
@@ -210,7 +210,7 @@ explain_is_exact = over_pairs_is_exact explaining explaining_is_exact
 pub report_is_exact : IsExact report
 report_is_exact = over_pairs_is_exact telling telling_is_exact
 
--- each legal pair is counted
+-- each valid entry is counted
 some_count : (old new : Market) (n : ℕ) (pair : Record × Record) (s : Counts) → IsLegalPair old pair new → (t : Counts) × (x : List ℕ) × counting.Sees new n pair s t x
 some_count old new n pair s legal = (
   record { cleared = s.cleared + cleared_by legal.answer; skipped = s.skipped + skipped_by legal.answer },
@@ -221,13 +221,13 @@ some_count old new n pair s legal = (
 counting_has_sight : HasSight counting
 counting_has_sight = record {
   some_sight = some_count;
-  some_reject = λ m n pair s sound illegal. not_denied (n + 1, [], (refl, refl));
+  some_reject = λ m n pair s consistent illegal. not_denied (n + 1, [], (refl, refl));
   some_close = λ m n s. inl (counted_line n s.cleared s.skipped, refl);
 }
 
--- something is found of each pair
-some_line : (m : Market) (n : ℕ) (pair : Record × Record) (s : Counts) → IsSound m → IsIllegalPair m pair → IsNotDenied ((why : ℕ) × (x : List ℕ) × explaining.Rejects m n pair s why x)
-some_line m n pair s sound illegal none = each_has_a_finding m pair sound (λ f found. none (n + 1, finding_line (n + 1) f, (refl, record { finding = f; found = found; line = refl })))
+-- something is found of each invalid entry
+some_line : (m : Market) (n : ℕ) (pair : Record × Record) (s : Counts) → IsConsistent m → IsIllegalPair m pair → IsNotDenied ((why : ℕ) × (x : List ℕ) × explaining.Rejects m n pair s why x)
+some_line m n pair s consistent illegal none = each_has_a_finding m pair consistent (λ f found. none (n + 1, finding_line (n + 1) f, (refl, record { finding = f; found = found; line = refl })))
 
 explaining_has_sight : HasSight explaining
 explaining_has_sight = record {
@@ -239,29 +239,29 @@ explaining_has_sight = record {
 telling_has_sight : HasSight telling
 telling_has_sight = record {
   some_sight = λ old new n pair s legal. let text = some_text old new (n + 1) pair legal in (s, text.0, text.1);
-  some_reject = λ m n pair s sound illegal. not_denied (n + 1, [], (refl, refl));
+  some_reject = λ m n pair s consistent illegal. not_denied (n + 1, [], (refl, refl));
   some_close = λ m n s. inl ([], refl);
 }
 
-pub audit_has_next : (start : Version → Watched Counts) → ((version : Version) → IsSound (start version).market) → HasNext audit start
+pub audit_has_next : (start : Version → Watched Counts) → ((version : Version) → IsConsistent (start version).market) → HasNext audit start
 audit_has_next = over_pairs_has_next counting counting_has_sight
 
-pub explain_has_next : (start : Version → Watched Counts) → ((version : Version) → IsSound (start version).market) → HasNext explain start
+pub explain_has_next : (start : Version → Watched Counts) → ((version : Version) → IsConsistent (start version).market) → HasNext explain start
 explain_has_next = over_pairs_has_next explaining explaining_has_sight
 
-pub report_has_next : (start : Version → Watched (Unit {0})) → ((version : Version) → IsSound (start version).market) → HasNext report start
+pub report_has_next : (start : Version → Watched (Unit {0})) → ((version : Version) → IsConsistent (start version).market) → HasNext report start
 report_has_next = over_pairs_has_next telling telling_has_sight
 
 -- ---- room
 
--- the numbers still fit behind a pair
+-- the numbers still fit after an entry
 pub room_more : (old new : Market) (pair : Record × Record) (pairs later left taken : ℕ) → HasRoom old pairs left → IsLegalPair old pair new → later ≡ pairs + 1 → taken ≤ left → 10 ≤ taken → HasRoom new later (left - taken)
 room_more old new pair pairs later left taken room legal number within some = record {
   orders = omega (arith, room.orders, pairs_number_one old pair new legal, within, some);
   counts = omega (arith, room.counts, number, within, some);
 }
 
--- what holds anyhow holds where there is an error
+-- a claim that holds in any case holds if there is an error
 pub where_err : {A E : Type 0} (result : Result A E) (P : Type 0) → P → OnErr result P
 where_err (Ok value) P holds = tt
 where_err (Err error) P holds = holds

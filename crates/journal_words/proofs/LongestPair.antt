@@ -1,4 +1,4 @@
--- In how many bytes it is seen whether a pair stands at the front, or one of its records states too long a body.
+-- How many bytes show whether a complete entry begins there, or one of its records states too long a body.
 use Rattle.std.proofs.Common.{◌≡◌, ◌+◌, ◌≤◌, ℕ, List, ◌++◌, length, inl, inr, append_assoc, length-append, sym, ap, ◌∙◌, arith}
 use Rattle.wire_records.specs.Records.{AreBytes, spelling}
 use Rattle.wire_records.specs.Grammars.{BeginsWithNone}
@@ -10,7 +10,7 @@ use Rattle.file_units.proofs.Longest.{record_or_over, over_stays}
 use Rattle.journal_records.specs.Formats.{journals}
 use Rattle.journal_records.proofs.PairFronts.{no_pair-from_first, no_pair-from_second}
 
--- a whole first record, and then the second or too long a one
+-- a complete first record, and then the second, or one that is too long
 seen : (bytes : List ℕ) → AreBytes bytes → 263178 ≤ length bytes → BeginsWithNone journals.units bytes → EitherStatesOver 1024 262144 bytes
 seen bytes are long none =
     elim (record_or_over 1024 bytes are (omega (arith, long))) [

@@ -1,8 +1,7 @@
 //! What an audit counts.
 ghost use Rattle.std.proofs.Props.{props};
 ghost use Rattle.std.specs.Prelude.{◌≡◌, ◌≢◌, ◌≤◌, ◌++◌, ◌+◌, vec_len, vec_capacity};
-ghost use Rattle.wire_records.specs.declared.version.Version.{Version};
-ghost use Rattle.market_rules.specs.Market.{empty_market};
+ghost use Rattle.market_rules.specs.Market.{Market};
 ghost use Rattle.journal_words.specs.Line.{counted_line};
 ghost use Rattle.journal_words.specs.Words.{counting};
 
@@ -11,15 +10,15 @@ use batch_audit::{Audit, Change};
 use journal_records::PairView;
 use word_driver::{Halt, Memory, put_number};
 
-// As many bytes has the longest line: three numbers of 20 digits, and 34 bytes of words.
+// The bytes of the longest line: three numbers of 20 digits, and 34 bytes between them.
 const MOST_LINE: usize = 94;
 
-// The tags of the replies that tell of a batch.
+// The tags of the replies to a batch.
 const CLEARED: u8 = 133;
 
 const SKIPPED: u8 = 134;
 
-// 1 for a tag that is counted, and 0 for any other.
+// Returns 1 for a tag that is counted, and 0 for any other.
 fn count_of(tag: u8, counted: u8) -> u64
     ensures one { tag ≡ counted → result ≡ 1 }
     ensures none { tag ≢ counted → result ≡ 0 }
@@ -27,7 +26,7 @@ fn count_of(tag: u8, counted: u8) -> u64
     if tag == counted { 1 } else { 0 }
 }
 
-// Appends the line on a legal journal, for which there is room.
+// Appends the line on a valid journal to a buffer that has room for it.
 fn put_line(text: &mut Vec<u8>, pairs: u64, cleared: u64, skipped: u64)
     requires room { vec_len text.old + 94 ≤ vec_capacity text.old }
     ensures put { text.new.items ≡ text.old.items ++ counted_line pairs cleared skipped }
@@ -46,9 +45,9 @@ pub struct Counting {
 }
 
 impl Counting {
-    /// Nothing is counted yet.
+    /// Creates it with nothing counted yet.
     pub fn new() -> Counting
-        ensures within { (version : Version) → ⟦<Counting as OnPair>⟧.is_within result (empty_market version) 0 }
+        ensures within { (market : Market) → ⟦<Counting as OnPair>⟧.is_within result market 0 }
         ensures none { ⟦<Counting as OnPair>⟧.seen result ≡ (λ market. record { cleared = 0; skipped = 0 }) }
     {
         Counting {

@@ -1,8 +1,7 @@
-//! Why the first pair that isn't legal is none.
+//! Why the first invalid entry isn't valid.
 ghost use Rattle.std.proofs.Props.{props};
 ghost use Rattle.std.specs.Prelude.{◌≡◌, ◌≤◌, ◌++◌, ◌+◌, vec_len, vec_capacity};
-ghost use Rattle.wire_records.specs.declared.version.Version.{Version};
-ghost use Rattle.market_rules.specs.Market.{empty_market};
+ghost use Rattle.market_rules.specs.Market.{Market};
 ghost use Rattle.journal_words.specs.Findings.{reply_text, part_text, finding_text, finding_line};
 ghost use Rattle.journal_words.specs.Words.{explaining};
 
@@ -14,7 +13,7 @@ use journal_records::PairView;
 use wire_records::Reply;
 use word_driver::{Halt, Memory, put_number, put_text};
 
-// Appends a plain reply, for which there is room.
+// Appends a plain reply to a buffer that has room for it.
 fn put_reply(text: &mut Vec<u8>, reply: Reply)
     requires room { vec_len text.old + 28 ≤ vec_capacity text.old }
     ensures put { text.new.items ≡ text.old.items ++ reply_text reply }
@@ -30,7 +29,7 @@ fn put_reply(text: &mut Vec<u8>, reply: Reply)
     }
 }
 
-// Appends the part of a clearing that isn't right, for which there is room.
+// Appends the part that makes an outcome inadmissible to a buffer that has room for it.
 fn put_part(text: &mut Vec<u8>, verdict: Verdict)
     requires room { vec_len text.old + 28 ≤ vec_capacity text.old }
     ensures put { text.new.items ≡ text.old.items ++ part_text verdict }
@@ -47,7 +46,7 @@ fn put_part(text: &mut Vec<u8>, verdict: Verdict)
     }
 }
 
-// Appends a plain reply that is expected, for which there is room.
+// Appends a plain reply that is expected to a buffer that has room for it.
 fn put_expected(text: &mut Vec<u8>, reply: Reply)
     requires room { vec_len text.old + 43 ≤ vec_capacity text.old }
     ensures put { text.new.items ≡ text.old.items ++ finding_text (Finding.OtherReply reply) }
@@ -59,7 +58,7 @@ fn put_expected(text: &mut Vec<u8>, reply: Reply)
     put_text(text, b" expected");
 }
 
-// Appends what is found, for which there is room.
+// Appends a finding to a buffer that has room for it.
 fn put_finding(text: &mut Vec<u8>, finding: Finding)
     requires room { vec_len text.old + 51 ≤ vec_capacity text.old }
     ensures put { text.new.items ≡ text.old.items ++ finding_text finding }
@@ -81,7 +80,7 @@ fn put_finding(text: &mut Vec<u8>, finding: Finding)
     }
 }
 
-// Appends the line of what is found of the pair of a number, for which there is room.
+// Appends the line of the finding on an entry, under its number, to a buffer that has room for it.
 fn put_line(text: &mut Vec<u8>, number: u64, finding: Finding)
     requires room { vec_len text.old + 79 ≤ vec_capacity text.old }
     ensures put { text.new.items ≡ text.old.items ++ finding_line number finding }
@@ -92,7 +91,7 @@ fn put_line(text: &mut Vec<u8>, number: u64, finding: Finding)
     put_text(text, b"\n");
 }
 
-/// The counts of an audit, and of the first pair that isn't legal the line of what is found of it.
+/// The counts of an audit, and of the first invalid entry the line of what is found of it.
 #[derive(Drop)]
 pub struct Explaining {
     counting: Counting,
@@ -101,9 +100,9 @@ pub struct Explaining {
 impl Explaining {
     ghost use Rattle.journal_words.specs.Words.{Counts};
 
-    /// Nothing is counted yet.
+    /// Creates it with nothing counted yet.
     pub fn new() -> Explaining
-        ensures within { (version : Version) → ⟦<Explaining as OnPair>⟧.is_within result (empty_market version) 0 }
+        ensures within { (market : Market) → ⟦<Explaining as OnPair>⟧.is_within result market 0 }
         ensures none { ⟦<Explaining as OnPair>⟧.seen result ≡ (λ market. record { cleared = 0; skipped = 0 }) }
     {
         Explaining {

@@ -1,8 +1,8 @@
-//! Words over the pairs of a journal: one audit, and what is done with each legal pair.
+//! Subcommands over the entries of a journal: one audit, and what is done with each valid entry.
 //!
-//! [`Pairs`] is the word: it audits pair after pair, and hands each to an [`OnPair`]. [`Counting`] counts the pairs of
-//! an audit, [`Explaining`] says besides what is found of the first that isn't legal, and [`Telling`] writes the lines of a
-//! report.
+//! [`Pairs`] is the subcommand: it audits one entry after the other, and hands each to an [`OnPair`]. [`Counting`] counts the
+//! entries of an audit, [`Explaining`] also writes what is found of the first invalid entry, and [`Telling`] writes the
+//! lines of a report.
 #![tactic(auto)]
 
 mod counting;

@@ -1,40 +1,39 @@
-//! What is done with the pairs of a journal.
+//! What is done with the entries of a journal.
 ghost use Rattle.std.specs.Prelude.{◌≡◌, ◌≤◌, ◌<◌, ◌+◌, ◌^◌, ℕ, [], Some, IfOk, OnOk, OnErr, vec_len, vec_capacity};
 ghost use Rattle.market_rules.specs.Market.{Market};
 ghost use Rattle.batch_audit.specs.Legal.{IsIllegalPair};
 ghost use Rattle.batch_audit.specs.Judging.{IsChangeOf};
-ghost use Rattle.journal_words.specs.Watching.{Watch, Illegal, SeesOne, WantsOne};
+ghost use Rattle.journal_words.specs.Watching.{Watch, Illegal, SeesOne, AllocatesOne};
 ghost use Rattle.journal_words.specs.Private.{IsClosedBy};
 
 use batch_audit::{Audit, Change};
 use journal_records::PairView;
 use word_driver::{Halt, Memory};
 
-/// What is done with each legal pair of a journal, with the first that isn't, and at the end. The text is put into a
-/// buffer that is empty before. `pairs` is how many legal pairs stand before.
+/// What is done with each valid entry of a journal, with the first invalid one, and at the end. The text is put into a
+/// buffer that is empty before. `pairs` is how many valid entries precede.
 pub trait OnPair {
-    /// Why it stops.
+    /// Why it stops at an invalid entry or at the end.
     type Stop: Copy;
 
-    /// As many bytes the buffer has room for, without more memory.
+    /// How many bytes the buffer has room for without a further allocation.
     const ROOM: usize;
 
     ghost ROOM: { ℕ };
 
     ghost Seen: { Type 0 };
-    // What is seen and written.
+    // What is seen of the entries, and written.
     ghost watch: { Watch Seen Self.Stop };
 
-    // What was seen, where this is the market.
+    // What was seen, when this is the market.
     ghost seen: { Self → Market → Seen };
-    // It is so after so many pairs, which made this market.
+    // Its own invariant, after this many entries, which made this market.
     ghost is_within: { Self → Market → ℕ → Type 0 };
 
-    // That it is a proposition, so that a struct may hold it.
+    // The invariant is a proposition, so that a struct may hold it.
     ghost within_is_prop: { (state : Self) (market : Market) (pairs : ℕ) → IsProp (is_within state market pairs) };
 
-    /// A pair that the audit has just judged legal: makes its change, and does with it what is to be done, before and
-    /// after.
+    /// Takes an entry that the audit has just judged valid: makes its change in the audit, and puts its text into the buffer.
     fn legal(
         &mut self,
         audit: &mut Audit,
@@ -44,7 +43,7 @@ pub trait OnPair {
         text: &mut Vec<u8>,
     ) -> Result<(), Memory>
         requires change { IsChangeOf audit.old pair.now change }
-        requires next { audit.old.next_order + 1 < 2 ^ 63 }
+        requires next { audit.old.next_order + 2 < 2 ^ 64 }
         requires within { is_within self.old audit.old pairs }
         requires few { pairs + 1 < 2 ^ 64 }
         requires empty { text.old.items ≡ [] }
@@ -58,9 +57,9 @@ pub trait OnPair {
         ensures stays { OnErr result (is_within self.new audit.new pairs) }
         ensures next { OnErr result (audit.new.next_order ≤ audit.old.next_order + 1) }
         ensures wanted { OnErr result
-            (WantsOne watch (record { market = audit.old; pairs = pairs; seen = seen self.old audit.old }) (Some pair.now)) };
+            (AllocatesOne watch (record { market = audit.old; pairs = pairs; seen = seen self.old audit.old }) (Some pair.now)) };
 
-    /// The first pair that isn't legal, and why it stops there. The audit is left as it is.
+    /// Takes the first invalid entry, and returns why the subcommand stops there. The audit is unchanged.
     fn illegal(
         &self,
         audit: &mut Audit,
@@ -78,11 +77,10 @@ pub trait OnPair {
         ensures room { vec_capacity text.old ≤ vec_capacity text.new }
         ensures rejects { IfOk result
             (λ why. watch.Rejects audit.old pairs pair.now (seen self.now audit.old) why text.new.items) }
-        ensures wanted { OnErr result (watch.Wants audit.old pairs (Illegal pair.now) (seen self.now audit.old)) };
+        ensures wanted { OnErr result (watch.Allocates audit.old pairs (Illegal pair.now) (seen self.now audit.old)) };
 
-    /// The end of the journal, in whose market the next order gets a number below 2^63. The audit is left as it is.
+    /// Takes the end of the journal. The audit is unchanged.
     fn end(&self, audit: &mut Audit, pairs: u64, text: &mut Vec<u8>) -> Result<(), Halt<Self::Stop>>
-        requires next { audit.old.next_order < 2 ^ 63 }
         requires within { is_within self.now audit.old pairs }
         requires empty { text.old.items ≡ [] }
         requires none { vec_len text.old ≡ 0 }

@@ -1,4 +1,4 @@
-//! The audit of a journal as a word, with what is done with its pairs.
+//! The audit of a journal as a subcommand, with what is done with its entries.
 ghost use Rattle.std.specs.Prelude.{◌≡◌, ◌≤◌, ◌<◌, ◌+◌, ◌^◌, ◌↔◌, ℕ, List, [], length, IsTrue, OnOk, IfErr, Some, vec_len, vec_capacity};
 ghost use Rattle.wire_records.specs.declared.version.Version.{Version};
 ghost use Rattle.market_rules.specs.Market.{empty_market};
@@ -14,19 +14,20 @@ use market_core::Market;
 use std::alloc::Global;
 use word_driver::{Halt, ServesWord};
 
-/// A word over the pairs of a journal, which it audits one after the other from the empty market of the journal's version.
+/// A subcommand over entries: it audits them one after the other, from the empty market of a journal's version or from another
+/// market.
 #[derive(Drop)]
 pub struct Pairs<P: OnPair> {
     alloc: Global,
     audit: Audit,
     pairs: u64,
     on: P,
-    ghost next: { audit.next_order < 2 ^ 63 },
+    ghost next: { audit.next_order + 1 < 2 ^ 64 },
     ghost within: { P.is_within on audit pairs } by { P.within_is_prop on audit pairs },
 }
 
 impl<P: OnPair + Drop> Pairs<P> {
-    /// An audit from the first pair on, with what is done with the pairs. Takes no memory.
+    /// Creates an audit from the first entry of a journal on, with what is done with the entries. Allocates nothing.
     pub fn new(alloc: Global, on: P) -> Pairs<P>
         requires { (version : Version) → P.is_within on (empty_market version) 0 }
         ensures new { ⟦<Pairs<P> as ServesWord>⟧.is_new result }
@@ -41,9 +42,26 @@ impl<P: OnPair + Drop> Pairs<P> {
         }
     }
 
-    // Audits a pair, and does with it what is to be done.
+    /// Creates an audit that continues a market whose next order gets a number below 2^63, with what is done with the entries
+    /// that follow. They are counted from 0. Allocates nothing.
+    pub fn over(alloc: Global, market: Market, on: P) -> Pairs<P>
+        requires within { P.is_within on market 0 }
+        requires next { market.next_order < 2 ^ 63 }
+        ensures state { ⟦<Pairs<P> as ServesWord>⟧.state result
+            ≡ record { market = market; pairs = 0; seen = P.seen on market } }
+        ensures ready { (left : ℕ) → left < 2 ^ 64 → ⟦<Pairs<P> as ServesWord>⟧.is_ready result left }
+    {
+        Pairs {
+            alloc,
+            audit: Audit::over(market),
+            pairs: 0,
+            on,
+        }
+    }
+
+    // Audits an entry, and hands it to `on`.
     fn take_pair(&mut self, pair: &PairView<'_>, text: &mut Vec<u8>) -> Result<(), Halt<P::Stop>>
-        requires next { self.old.audit.next_order + 1 < 2 ^ 63 }
+        requires next { self.old.audit.next_order + 2 < 2 ^ 64 }
         requires few { self.old.pairs + 1 < 2 ^ 64 }
         requires empty { text.old.items ≡ [] }
         requires none { vec_len text.old ≡ 0 }

@@ -8,7 +8,7 @@ use batch_report::report_pair;
 use journal_records::PairView;
 use word_driver::{Halt, Memory};
 
-/// It writes the lines of each legal pair.
+/// Writes the lines of each valid entry.
 #[derive(Drop)]
 pub struct Telling;
 

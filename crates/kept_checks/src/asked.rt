@@ -1,6 +1,6 @@
 //! What a case asks for.
 
-// What the options say. A number of a call is 0 where none fails.
+// What the options say. The number of a call is 0 if none fails.
 #[derive(Clone, Copy)]
 pub(crate) struct Asked {
     pub(crate) disk: usize,
@@ -15,7 +15,7 @@ pub(crate) struct Asked {
 }
 
 impl Asked {
-    // What holds without options.
+    // The defaults of all options.
     pub(crate) fn new() -> Asked {
         Asked {
             disk: 0,

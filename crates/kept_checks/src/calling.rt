@@ -8,16 +8,19 @@ use memory_disk::MemoryDisk;
 use memory_streams::{MemorySink, MemorySource};
 use std::alloc::Global;
 
-// More bytes than a case writes to out, than it has on notes, and than all of its writes to the disk have.
+// More bytes than a case writes to the output.
 const MOST_OUT: usize = 4096;
 
+// More bytes than a case writes to standard error.
 const MOST_NOTES: usize = 64;
 
+// More bytes than all writes of a case to the disk have.
 const ROOM: usize = 1 << 16;
 
-// Of a write that isn't synced a stop leaves the first bytes, so many, and one of these in the place of each other.
+// How many of the first bytes a stop leaves of a write that isn't synced.
 const PARTS: [u64; 3] = [0, 1, 3];
 
+// What a stop leaves in place of each other byte of such a write.
 const FILLS: [u8; 3] = [0x00, 0x01, 0xFF];
 
 // How a call ended, and what it left.
@@ -29,7 +32,7 @@ struct Ended {
     disk: MemoryDisk,
 }
 
-// The call that fails, if one does.
+// Returns the call that fails, if one does.
 fn failing(alloc: Global, call: u64) -> Option<Vec<u64>> {
     let mut calls = Vec::new(alloc);
     if call > 0 {
@@ -52,7 +55,7 @@ fn disk_of(alloc: Global, bytes: &[u8], calls: u32, fails: u64) -> Option<Memory
     MemoryDisk::new(alloc, bytes.to_vec(alloc).ok()?, ROOM, calls, fails).ok()
 }
 
-// Makes the call with these.
+// Makes the call with this source, this disk and these sinks.
 fn call(
     alloc: Global,
     limit: Option<u64>,
@@ -89,7 +92,7 @@ fn end_of(alloc: Global, asked: &Asked, held: &[u8], given: &[u8]) -> Option<End
     })
 }
 
-// Appends the line on notes, where there is one.
+// Appends the line on standard error, if there is one.
 fn put_note(notes: &[u8], told: &mut Told) {
     match str::from_utf8(notes) {
         Ok("") => (),
@@ -150,7 +153,7 @@ fn count_fails(
     Some(())
 }
 
-// Makes the call on what a stop behind so many calls of a disk leaves, by the part that is left of a write and what fills the rest.
+// Makes the call on what a stop after so many calls of a disk leaves, by the part that is left of a write and what fills the rest.
 fn count_stop(
     alloc: Global,
     asked: &Asked,
@@ -207,7 +210,7 @@ fn put_counts(alloc: Global, asked: &Asked, held: &[u8], given: &[u8], told: &mu
     counts.put(alloc, told);
 }
 
-// Appends what a case comes to.
+// Appends the result of a case.
 pub(crate) fn put_case(alloc: Global, options: &str, bytes: &[u8], told: &mut Told) {
     let mut asked = Asked::new();
     for option in options.split_whitespace() {

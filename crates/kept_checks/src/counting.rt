@@ -3,7 +3,7 @@ use crate::calling::put_digits;
 use check_lines::Told;
 use std::alloc::Global;
 
-// A number of an exit and the bytes in out, and how often they came.
+// The number of an exit and the bytes in the output, and how often they came.
 #[derive(Drop)]
 struct Count {
     exit: u8,
@@ -43,7 +43,7 @@ impl Counts {
             .ok()
     }
 
-    // Appends a row for each.
+    // Appends a row for each way.
     pub(crate) fn put(&self, alloc: Global, told: &mut Told) {
         told.put("\n");
         for count in &self.counts {

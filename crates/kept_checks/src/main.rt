@@ -1,24 +1,24 @@
-//! Whole calls of the exchange with a kept journal, over a source, sinks and a disk in memory: a call on each line of standard input,
-//! and what it comes to on standard output. A case more costs no proof.
+//! Complete calls of the exchange with a kept journal, over a source, sinks and a disk in memory: one call on each line of standard
+//! input, and its result on standard output. One more case costs no proof.
 //!
 //! A line is a remark, a name for bytes, or a case, as `check_lines` says; remarks are passed on as they are. A case is
-//! `OPTIONS: PIECES`: the bytes that the disk holds, and behind them those of the source. An option is a name, `=` and a number:
+//! `OPTIONS: PIECES`: the bytes that the disk holds, and after them those of the source. An option is a name, `=` and a number:
 //!
 //! | option | what it says |
 //! |---|---|
 //! | `disk=N` | so many of the bytes are the disk's; else none |
 //! | `limit=N` | the most bytes of the source that are considered; else 2^32 |
-//! | `read=N`, `out=N`, `notes=N` | the read, the write to out or the write to notes that fails, counted from 1 |
+//! | `read=N`, `out=N`, `notes=N` | the read, the write to the output or the write to standard error that fails, counted from 1 |
 //! | `fail=N` | the call of the disk that fails, counted from 1 |
-//! | `calls=N` | the disk's calls behind so many fail; else there are 1,000 |
+//! | `calls=N` | the disk's calls after the first N fail; without it N is 1,000 |
 //! | `fails=N` | the call is made once for each of the disk's first N calls, which fails in it |
-//! | `stops=1` | the call is made, and then once more on what a stop in each of the disk's calls leaves: of each write that isn't synced the first 0, 1 or 3 bytes, and 00, 01 or FF in the place of the rest |
+//! | `stops=1` | the call is made, and then once more on what a stop in each of the disk's calls leaves: of each write that isn't synced the first 0, 1 or 3 bytes, and 00, 01 or FF in place of the rest |
 //!
-//! Printed are the options, the number that the program would exit with, how many bytes stand in out, the line on notes, if there is
-//! one, the records in out, and what the disk holds. Of `fails` and `stops` it is printed how often which number and which bytes in out
-//! came.
+//! Printed are the options, the number that the program would exit with, how many bytes were written, the line on standard error, if there
+//! is one, the records in the output, and what the disk holds. With `fails` and `stops` it is printed how often each number came with each
+//! output.
 //!
-//! What stands in `stdout` comes from the formats of the files and the rules of the market, by hand.
+//! What is in `stdout` comes from the formats of the files and the rules of the market, by hand.
 #![tactic(auto)]
 
 mod asked;
@@ -29,7 +29,7 @@ use check_lines::{Line, Names, Told};
 use std::alloc::Global;
 use std::io;
 
-// Appends what a line comes to.
+// Appends the result of a line.
 fn put_line(alloc: Global, names: &mut Names, line: &str, told: &mut Told) {
     match names.read(line) {
         Some(Line::Remark) => {

@@ -25,7 +25,7 @@ if_some (Some x) P Q f p = f x p
 abbrev pub Kept : Type 0
 Kept = Result (Unit {0}) KeepFault
 
--- the same, said of the status: who is to blame
+-- the blame of a fault, said of the status
 pub blames_as : (P Q : Type 0) (before now : ℕ) → (P → Q) → (Q → P) → Blames P before now → Blames Q before now
 blames_as P Q before now to back blames = record {
   later = blames.later;
@@ -98,7 +98,7 @@ done_back limit (Err NotFlow) e = absurd cc
 done_back limit (Err (Torn place)) e = absurd cc
 done_back limit (Err TooLong) e = absurd cc
 
--- the disk was refused by the one where it was by the other
+-- the status is a refusal only if the result of keeping is one
 pub refusal_back : (limit : ℕ) (result : Kept) → IsRefusal (kept_status limit result) → kept.IsRefusal result
 refusal_back limit (Err NotDisk) r = tt
 refusal_back limit (Err (Damaged place)) r = tt
@@ -137,12 +137,12 @@ module _ (limit : ℕ) (held : List ℕ) (end : DiskState) (before after : Optio
       by_opening (inl legal) = (opening.Legal has.version has.old has.market, legal, (reading.File has.version records ending, (refl, has.reads), refl))
       by_opening (inr new) = (opening.New, new.0, (reading.File has.version records ending, has.reads, refl))
 
-  -- the source was none
+  -- the source was no command file
   asks_left : (bytes : List ℕ) → HasLeftAll limit held (Some bytes) end before after → AsksStatus limit held bytes status.NotFlow
   asks_left bytes (grows, inl kept) = (opening.Legal kept.0 kept.1 kept.2, kept.3, (reading.NotFlow, kept.4, refl))
   asks_left bytes (grows, inr new) = (opening.New, new.0, (reading.NotFlow, new.1, refl))
 
-  -- what it came to is what the bytes ask for, but for faults and want of memory
+  -- but for faults and running out of memory, the result is what the bytes lead to
   asks : (bytes : List ℕ) (result : Kept) → ComesTo limit held (Some bytes) end before after result
       → ((◌≡◌ {A = Kept} result (Err Read)) → ⊥) → ((◌≡◌ {A = Kept} result (Err Write)) → ⊥) → ((◌≡◌ {A = Kept} result (Err Disk)) → ⊥) → kept_status limit result ≢ status.NoMemory
       → AsksStatus limit held bytes (kept_status limit result)

@@ -1,4 +1,4 @@
--- The bytes of a disk and of a source ask for one status.
+-- The bytes of a disk and of a source lead to at most one status.
 use Rattle.std.proofs.Common.{◌≡◌, ℕ, List, refl, sym, ap, ◌∙◌}
 use Rattle.wire_records.specs.Records.{Record}
 use Rattle.wire_records.specs.Reading.{Reading, NotFlow, File}

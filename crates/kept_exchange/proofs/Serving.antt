@@ -1,10 +1,10 @@
 -- A call that keeps a journal does what is promised of it.
 use Rattle.std.proofs.Common.{◌≡◌, ◌≢◌, ◌⊎◌, ◌+◌, ◌≤◌, ◌^◌, inl, inr, ℕ, List, [], subst, length, Option, Some, None, IfSome, Result, Ok, Err, OnOk, OnErr, IsErr, refl, ap}
 use Rattle.flow_io.specs.Faults.{Rose, Blames}
-use Rattle.flow_io.specs.Streams.{Grows, GrowsByFront, TakesAtMost}
+use Rattle.flow_io.specs.Streams.{Grows, GrowsByPrefix, TakesAtMost}
 use Rattle.flow_io.specs.Changes.{Change}
 use Rattle.flow_io.specs.declared.sink.WriteFailed.{WriteFailed}
-use Rattle.flow_io.proofs.Growth.{GrowsByFront-whole}
+use Rattle.flow_io.proofs.Growth.{GrowsByPrefix-whole}
 use Rattle.wire_records.specs.Records.{Record}
 use Rattle.wire_records.specs.Commands.{Pair}
 use Rattle.wire_records.specs.declared.version.Version.{Version}
@@ -26,7 +26,7 @@ use Rattle.kept_exchange.specs.Statuses.{kept_status}
 use Rattle.kept_exchange.specs.Keeping.{ComesToStatus, Determines, ServesKeep}
 use Rattle.kept_exchange.proofs.AsStatus.{Kept, blames_as, read_back, write_back, disk_back, memory_back, done_back, refusal_back, determines}
 
--- what a call keeps, for a wider reason to cut a write short
+-- what a call keeps, for a weaker condition on when a write was cut short
 keeps_wider : (limit : ℕ) (content : Option (List ℕ)) (Cut Wider : Type 0) (version : Version) (start end : DiskState) (old : List (Pair Record Outcome)) (market : Market) (held holds : Option (List ℕ)) → (Cut → Wider)
     → KeepsIn limit content Cut version start end old market held holds → KeepsIn limit content Wider version start end old market held holds
 keeps_wider limit content Cut Wider version start end old market held holds wider (of, from, in_version, keeps) =
@@ -51,31 +51,31 @@ keeps_wider limit content Cut Wider version start end old market held holds wide
       },
     )
 
--- a line that no write failed of was written
+-- the line was written, if no write of it failed
 written : (result : Result (Unit {0}) WriteFailed) (before after : Option (List ℕ)) (line : List ℕ) (faults now : ℕ) → OnOk result (Grows before after line) → Blames (IsErr result) faults now → (¬ Rose faults now) → Grows before after line
 written (Ok x) before after line faults now grows cause still = grows
 written (Err e) before after line faults now grows cause still = absurd (still (cause.rose refl))
 
--- and a front of it in any case
-cut_line : (result : Result (Unit {0}) WriteFailed) (before after : Option (List ℕ)) (line : List ℕ) → OnOk result (Grows before after line) → OnErr result (GrowsByFront before after line) → GrowsByFront before after line
-cut_line (Ok x) before after line grows front = GrowsByFront-whole before after line grows
+-- a prefix of the line was written in any case
+cut_line : (result : Result (Unit {0}) WriteFailed) (before after : Option (List ℕ)) (line : List ℕ) → OnOk result (Grows before after line) → OnErr result (GrowsByPrefix before after line) → GrowsByPrefix before after line
+cut_line (Ok x) before after line grows front = GrowsByPrefix-whole before after line grows
 cut_line (Err e) before after line grows front = front
 
 module _ (limit : ℕ) (result : Kept) (start end : DiskState) (source out : Change) where
-  -- what it came to, as a status
+  -- the result as a status
   ends_as : (content : Option (List ℕ)) → IfSome content (λ held. ComesTo limit held source.before end out.before out.after result)
       → IfSome content (λ held. ComesToStatus limit held source.before end out.before out.after (kept_status limit result))
   ends_as None comes = tt
   ends_as (Some held) comes = (result, comes, refl)
 
-  -- where no count rose and memory was there, the bytes determine it
+  -- if no count rose and memory was there, the bytes determine the status
   completes : (content : Option (List ℕ)) → IfSome content (λ held. ComesTo limit held source.before end out.before out.after result)
       → ((◌≡◌ {A = Kept} result (Err Read)) → ⊥) → ((◌≡◌ {A = Kept} result (Err Write)) → ⊥) → ((◌≡◌ {A = Kept} result (Err Disk)) → ⊥) → kept_status limit result ≢ status.NoMemory
       → IfSome content (λ held. IfSome source.before (λ bytes. Determines limit held bytes (kept_status limit result)))
   completes None comes r w d m = tt
   completes (Some held) comes r w d m = determines limit held end out.before out.after source.before result comes r w d m
 
-  -- how it kept pace, by the status
+  -- how far the source was read, by the status
   paced_by : (other : Kept) → KeepsPace limit source.before source.after out.before out.after result → ◌≡◌ {A = Kept} result other → KeepsPace limit source.before source.after out.before out.after other
   paced_by other paced is = subst (KeepsPace limit source.before source.after out.before out.after) is paced
 
@@ -100,10 +100,10 @@ module _ (limit : ℕ) (result : Kept) (start end : DiskState) (source out : Cha
       → Blames (◌≡◌ {A = Kept} result (Err Read)) source.faults source.faults_after
       → Blames (◌≡◌ {A = Kept} result (Err Write)) out.faults out.faults_after
       → OnOk noting (Grows notes.before notes.after (line_of (kept_status limit result)))
-      → OnErr noting (GrowsByFront notes.before notes.after (line_of (kept_status limit result)))
+      → OnErr noting (GrowsByPrefix notes.before notes.after (line_of (kept_status limit result)))
       → Blames (IsErr noting) notes.faults notes.faults_after
       → ServesKeep limit (kept_status limit result) start end source out notes
-  serves notes noting keeps again lengths comes legal untouched made taken paced wants disk read write line front cause = record {
+  serves notes noting keeps again lengths comes legal untouched made taken paced allocates disk read write line front cause = record {
     keeps = λ version old market holds. keeps_wider limit source.before (◌≡◌ {A = Kept} result (Err Write)) (kept_status limit result ≡ status.WriteFault) version start end old market out.before out.after (ap (kept_status limit)) (keeps version old market holds);
     again = again;
     lengths = lengths;
@@ -116,7 +116,7 @@ module _ (limit : ℕ) (result : Kept) (start end : DiskState) (source out : Cha
     left = λ e. paced_by (Ok tt) paced (done_back limit result e);
     read = λ e. paced_by (Err Read) paced (read_back limit result e);
     near = near_by paced;
-    wants = λ e. wants (memory_back limit result e);
+    allocates = λ e. allocates (memory_back limit result e);
     disks = blames_as _ _ _ _ (ap (kept_status limit)) (disk_back limit result) disk;
     reads = blames_as _ _ _ _ (ap (kept_status limit)) (read_back limit result) read;
     writes = blames_as _ _ _ _ (ap (kept_status limit)) (write_back limit result) write;

@@ -1,4 +1,4 @@
--- The bytes of a disk and of a source ask for some status.
+-- The bytes of a disk and of a source lead to some status.
 use Rattle.std.proofs.Common.{◌≡◌, ◌⊎◌, ⊎_elim, inl, inr, ℕ, List, take, refl, sym, ◌∙◌}
 use Rattle.std.proofs.lemmas.Bool.{cases_eq}
 use Rattle.wire_records.specs.Records.{Record}
@@ -19,7 +19,7 @@ use Rattle.flow_exchange.specs.Statuses.{reading_status}
 use Rattle.kept_exchange.specs.Statuses.{AsksStatus}
 use Rattle.kept_exchange.specs.Laws.{SomeStatus}
 
--- what a source is read as behind a disk of a version
+-- what a source is read as with a disk of a version
 kept_as : (version : Version) (limit : ℕ) (bytes : List ℕ) (reading : Reading Version Record) → Reads commands limit bytes reading → (kept : Reading Version Record) × ReadsKept version limit bytes kept
 kept_as version limit bytes NotFlow none = (NotFlow, λ body begins. none version body begins.0 begins.1)
 kept_as version limit bytes (File of records ending) reads = ⊎_elim

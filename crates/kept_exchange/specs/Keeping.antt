@@ -1,7 +1,7 @@
--- What the program does with the words `keep FILE`: what a crash may leave on the disk, what out gains, and which status comes.
+-- What the program does when asked to `keep FILE`: what a crash may leave on the disk, what the output gains, and which status comes.
 use Rattle.std.specs.Prelude.{◌≡◌, ◌≢◌, ◌⊎◌, ◌+◌, ◌≤◌, ◌^◌, ℕ, List, [], length, Option, Some, IfSome, Result}
 use Rattle.flow_io.specs.Faults.{Rose, Blames}
-use Rattle.flow_io.specs.Streams.{Grows, GrowsByFront, TakesAtMost}
+use Rattle.flow_io.specs.Streams.{Grows, GrowsByPrefix, TakesAtMost}
 use Rattle.flow_io.specs.Changes.{Change}
 use Rattle.wire_records.specs.Records.{Record}
 use Rattle.wire_records.specs.Commands.{Pair}
@@ -22,12 +22,12 @@ use Rattle.flow_exchange.specs.declared.status.Status.TheVariants.{Done, ReadFau
 use Rattle.flow_exchange.specs.Statuses.{line_of}
 use Rattle.kept_exchange.specs.Statuses.{kept_status, AsksStatus}
 
--- It ended so, and came to this: what was found on the disk and in the source, and what then stands on the disk and in out.
+-- The status is that of the result of keeping, which says what the disk and the source held, and what the disk and the output have then.
 abbrev pub ComesToStatus : ℕ → List ℕ → Option (List ℕ) → DiskState → Option (List ℕ) → Option (List ℕ) → Status → Type 0
 ComesToStatus limit held content end before after status =
     (result : Result (Unit {0}) KeepFault) × ComesTo limit held content end before after result × (status ≡ kept_status limit result)
 
--- the bytes of the disk and of the source ask for this status, and for no other
+-- the bytes of the disk and of the source lead to this status, and to no other
 abbrev pub Determines : ℕ → List ℕ → List ℕ → Status → Type 0
 Determines limit held bytes status =
     AsksStatus limit held bytes status × ((other : Status) → AsksStatus limit held bytes other → other ≡ status)
@@ -38,44 +38,44 @@ IsRefusal status = (status ≡ NotDisk) ⊎ ((place : ℕ) × (status ≡ Damage
 
 -- What a call does that keeps a journal on a disk, with a limit of its input.
 pub record ServesKeep (limit : ℕ) (status : Status) (start end : DiskState) (source out notes : Change) : Type 0 where
-  -- Where a crash may leave legal journals alone as it begins, a crash at each moment leaves what it might have left then, or the old
-  -- pairs and the first of the new ones, which answer the first records of the source and are one legal journal with the old ones.
-  -- Afterwards it leaves each pair that was acknowledged, and at most one more; and these are what out gained. A new disk takes the
-  -- version of its source, and any other keeps its own.
+  -- If a crash can leave only valid journals at the start, then at each moment a crash leaves what it might have left then, or the old
+  -- entries and the first of the new ones, which answer the first records of the source and are one valid journal with the old ones.
+  -- After the call it leaves each entry that was acknowledged, and at most one more; the output gained the acknowledged entries. A new
+  -- disk takes the version of its source, and any other keeps its own.
   pub keeps : (version : Version) (old : List (Pair Record Outcome)) (market : Market) → HoldsLegal start version old market
       → KeepsIn limit source.before (status ≡ WriteFault) version start end old market out.before out.after
-  -- What a crash leaves is then a disk of which all this holds again.
+  -- What a crash leaves of such a disk is again a disk of which all this holds.
   pub again : (version : Version) (old : List (Pair Record Outcome)) (market : Market) → HoldsLegal start version old market → MayBeginAgain start end
-  -- And it leaves at each moment at most 263,183 bytes for each byte of the source more than it might have left at the start, or than the
-  -- 9 of a new disk. So where that was at most 2^59, and the source has at most 2^32 bytes, what it leaves has at most 2^60.
+  -- At each moment a crash leaves at most 263,183 bytes for each byte of the source more than it might have left at the start, or than the
+  -- 9 of a new disk. So if that was at most 2^59, and the source has at most 2^32 bytes, what it leaves has at most 2^60.
   pub lengths : IfSome start.content (λ held. GrowsAtMost limit source.before start end)
-  -- Such a disk isn't refused, where it has at most 2^60 bytes.
+  -- A disk that holds a valid journal of at most 2^60 bytes isn't refused.
   pub opens : (version : Version) (old : List (Pair Record Outcome)) (market : Market) → HoldsLegal start version old market
       → IfSome start.content (λ held. length held ≤ 2 ^ 60) → ¬ IsRefusal status
-  -- Which status comes, and what then stands on the disk and in out.
+  -- Which status comes, and what the disk and the output have then.
   pub ends : IfSome start.content (λ held. ComesToStatus limit held source.before end out.before out.after status)
-  -- Where no count rose, the status is want of memory or the one that the bytes determine.
+  -- If no count of faults rose, the status is NoMemory or the one that the bytes determine.
   pub complete : (¬ Rose start.faults end.faults) → (¬ Rose source.faults source.faults_after) → (¬ Rose out.faults out.faults_after) → status ≢ NoMemory
       → IfSome start.content (λ held. IfSome source.before (λ bytes. Determines limit held bytes status))
-  -- A disk that keeps no legal journal, as it is no kept file, is damaged, or has a pair that isn't legal, is changed at no moment, whatever
-  -- the status, and nothing is read or written then.
+  -- A disk that keeps no valid journal (it is no kept file, is damaged, or has an entry that isn't valid) is never changed, whatever the
+  -- status, and nothing is read or written then.
   pub untouched : IfSome start.content (λ held. KeepNone held → OnlyLooks start end × (source.after ≡ source.before) × (out.after ≡ out.before))
-  -- A new disk is changed at no moment, whatever the status, unless the magic of a command file was taken of the source.
+  -- A new disk is never changed, whatever the status, unless the magic of a command file was taken of the source.
   pub made : IfSome start.content (λ held. IsMadeBehindMagic limit held start end source.before source.after)
-  -- How much of the source was taken, and that nothing is left of it on Done.
+  -- At most one byte past the limit was taken of the source, and nothing is left of it at Done.
   pub taken : TakesAtMost source.before source.after (limit + 1)
   pub left : status ≡ Done → IfSome source.before (λ bytes. source.after ≡ Some [])
-  -- After a fault of the source all whole records that were taken were answered, and no others.
+  -- After a fault of the source all complete records that were taken were answered, and no others.
   pub read : status ≡ ReadFault → ReadsAll limit source.before source.after out.before out.after
-  -- Where a write failed, the disk failed, or memory ran out, the source was read no further than 1,030 bytes past the last record whose
-  -- pair was written, or past the first eight bytes.
+  -- If a write failed, the disk failed, or memory ran out, the source was read no further than 1,030 bytes past the last record whose
+  -- entry was written, or past the first eight bytes.
   pub near : (status ≡ WriteFault) ⊎ (status ≡ DiskFault) ⊎ (status ≡ NoMemory) → IsNear limit source.before source.after out.before out.after
-  -- Memory runs out before anything is read or written, or at a record that may want it.
-  pub wants : status ≡ NoMemory → IfSome start.content (λ held. RunsOut limit held source.before source.after end out.before out.after)
-  -- A fault is answered only where its count rose, and else the count stays.
+  -- Memory runs out before anything is read or written, or at a record that may allocate.
+  pub allocates : status ≡ NoMemory → IfSome start.content (λ held. RunsOut limit held source.before source.after end out.before out.after)
+  -- A fault is answered only if its count rose; otherwise the count stays.
   pub disks : Blames (status ≡ DiskFault) start.faults end.faults
   pub reads : Blames (status ≡ ReadFault) source.faults source.faults_after
   pub writes : Blames (status ≡ WriteFault) out.faults out.faults_after
-  -- Notes grew by the line of the status, or by a front of it where a write of it failed. That changes nothing else.
+  -- Standard error gained the line of the status, or a prefix of it if a write of it failed. Such a fault changes nothing else.
   pub noted : (¬ Rose notes.faults notes.faults_after) → Grows notes.before notes.after (line_of status)
-  pub cut : GrowsByFront notes.before notes.after (line_of status)
+  pub cut : GrowsByPrefix notes.before notes.after (line_of status)

@@ -5,7 +5,7 @@ ghost use Rattle.kept_exchange.specs.Statuses.{kept_status};
 use flow_exchange::Status;
 use journal_keeping::KeepFault;
 
-// Of a run that keeps a journal.
+// Returns the status of a run that keeps a journal.
 pub(crate) fn status_of(ended: Result<(), KeepFault>, limit: u64) -> Status
     ensures { result ≡ kept_status limit ended }
 {

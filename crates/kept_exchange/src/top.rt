@@ -1,4 +1,4 @@
-//! The call that the program makes for the words `keep FILE`.
+//! The call that the program makes when asked to `keep FILE`.
 ghost use Rattle.std.specs.Prelude.{◌≡◌, ◌≤◌, ◌^◌};
 ghost use Rattle.flow_io.specs.Changes.{change};
 ghost use Rattle.kept_exchange.specs.Keeping.{IsRefusal, ServesKeep};
@@ -10,7 +10,7 @@ use flow_io::{Sink, Source};
 use journal_keeping::keep;
 use std::alloc::Global;
 
-/// The call with the input limit handed in, which is at most 2^32: [`flow_disk`] has it at 2^32.
+/// Does what [`flow_disk`] does, with another limit of the input, which is at most 2^32 bytes.
 pub fn flow_disk_limited<S: Source, D: Disk, K: Sink, N: Sink>(
     alloc: Global,
     limit: u64,
@@ -22,7 +22,7 @@ pub fn flow_disk_limited<S: Source, D: Disk, K: Sink, N: Sink>(
     requires few { limit ≤ 2 ^ 32 }
     ensures serves { ServesKeep limit result (D.state disk.old) (D.state disk.new) (change S.rest S.faults source.old source.new)
         (change K.held K.faults out.old out.new) (change N.held N.faults notes.old notes.new) }
-    // The disk is refused: nothing is read from the source, and nothing is written to out.
+    // If the disk is refused, nothing is read from the source, and nothing is written to `out`.
     ensures idle { IsRefusal result → (source.new ≡ source.old) × (out.new ≡ out.old) }
 {
     let ended = keep(alloc, limit, source, disk, out);
@@ -31,26 +31,28 @@ pub fn flow_disk_limited<S: Source, D: Disk, K: Sink, N: Sink>(
     status
 }
 
-/// Serves a command file and keeps its journal on a disk, behind the pairs that the disk keeps already.
+/// Serves a command file and keeps its journal on a disk, after the entries that the disk keeps already.
 ///
-/// The disk is opened first, its pairs are read and audited, and what a crash left behind them is cut off. Then the command file is read
+/// The disk is opened first, its entries are read and audited, and what a crash left after them is cut off. Then the command file is read
 /// from the source, at most 2^32 bytes; it has to be of the version of the disk. A new disk takes the version of the command file, whose
-/// magic is looked at before anything is written to the disk. Each record is served by the market of all pairs before it. Its pair is put onto the disk by two
-/// writes, each with a sync, and only then written to out, by one write, before the source is asked for more; no magic is written to out.
-/// So a crash at any moment takes nothing away of what stands in out, and leaves at most one pair more.
+/// magic is looked at before anything is written to the disk. Each record is served by the market after all entries before it. Its entry
+/// is put onto the disk by two writes, each with a sync, and only then written to `out`, by one write, before the source is asked for
+/// more; no magic is written to `out`. So a crash at any moment takes nothing away of what was written to `out`, and leaves at most one
+/// entry more.
 ///
-/// `NotDisk` says that the disk holds something else: more than 9 bytes that begin with none of its magics, or more than 2^60. `Damaged` has
-/// the place, in bytes from 0, of the first gate that isn't one, and `Rejected` the number of the first kept pair that isn't legal, counted
-/// from 1. None of these comes of a crash. A disk that keeps no legal journal is changed
-/// at no moment, whatever the status. `DiskFault` comes only where a call of the disk failed;
-/// the disk is then to be opened again. The others are those of `run`, but that a source of another version than the disk is `NotFlow` too. On every
-/// status but `Done` it writes one line to notes; a fault of notes changes nothing.
+/// `NotDisk` says that the disk holds something else: more than 9 bytes that begin with none of its magics, or more than 2^60. `Damaged`
+/// has the place, in bytes from 0, of the first commit byte that is missing, or is set without a complete entry after it; `Rejected` has
+/// the number of the first kept entry that isn't valid, counted from 1. None of these comes of a crash. A disk that isn't new and keeps
+/// no valid journal is never changed, whatever the status. `DiskFault` comes only if a call of the disk failed; the disk has to be opened
+/// again then. The other statuses are those of `run`, but a source of another version than the disk is `NotFlow` too. With every status
+/// but `Done` one line is written to `notes`; a fault of `notes` changes nothing.
 ///
-/// The source is read no further than 1,030 bytes past the last record whose pair was written, and past the limit one byte at most; where a
-/// read of it fails, all whole records that were taken are answered. `NoMemory` comes before it is read, or at a record that may want memory.
+/// The source is read no further than 1,030 bytes past the last record whose entry was written, and at most one byte past the limit; if a
+/// read of it fails, all complete records that were taken are answered. `NoMemory` comes before it is read, or at a record that may
+/// allocate.
 ///
-/// It costs the audit of the kept pairs, and of each record what `run` costs and the two syncs. Memory is that of the market, a window
-/// of 1,029 bytes and the longest entry, 263,183 bytes.
+/// Costs the audit of the kept entries, and for each record what `run` costs and the two syncs. Memory is that of the market, a window of
+/// 1,029 bytes and the longest entry, 263,183 bytes.
 pub fn flow_disk<S: Source, D: Disk, K: Sink, N: Sink>(
     alloc: Global,
     source: &mut S,

@@ -1,8 +1,8 @@
-//! The words that ask for a kept journal.
+//! The command line that asks for a kept journal.
 ghost use Rattle.std.specs.Prelude.{ℕ, List, map, string_bytes, IfSome, IfNone};
 ghost use Rattle.kept_exchange.specs.Words.{AskKeep};
 
-/// The file that the words `keep FILE` name, which may be the empty word. `None` comes exactly where the words are any others.
+/// Returns the file that the words `keep FILE` name, which may be the empty word; `None` exactly if the words are any others.
 pub fn kept_file(words: &[String]) -> Option<&str>
     ensures file { IfSome result (λ file. AskKeep (map string_bytes words.now) file.now) }
     ensures none { IfNone result ((file : List ℕ) → ¬ AskKeep (map string_bytes words.now) file) }

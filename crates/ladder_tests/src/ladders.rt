@@ -3,10 +3,10 @@ use curve_ladder::{Ladder, LadderFault, Point, PointList, Segment, ladder_fault}
 use std::alloc::{AllocError, Global};
 use std::test::Fail;
 
-// Points as pairs of a price and a rate.
+// Points, each a price and a rate.
 type Points<'a> = &'a [(i64, u32)];
 
-// No price is farther away from 0.
+// The price farthest from 0 that a point may have.
 const FAR: i64 = 268_435_456;
 
 fn points_of(alloc: Global, pairs: Points<'_>) -> Result<PointList, AllocError> {
@@ -20,7 +20,7 @@ fn points_of(alloc: Global, pairs: Points<'_>) -> Result<PointList, AllocError> 
     Ok(PointList::new(points))
 }
 
-// The ladder of points and turns, or None where they have a fault.
+// Returns the ladder of points and turns, or `None` if they have a fault.
 fn ladder_of(alloc: Global, pairs: Points<'_>, turns: u32) -> Result<Option<Ladder>, AllocError> {
     let points = points_of(alloc, pairs)?;
     if ladder_fault(points.as_slice(), turns).is_some() {
@@ -29,7 +29,7 @@ fn ladder_of(alloc: Global, pairs: Points<'_>, turns: u32) -> Result<Option<Ladd
     Ok(Some(Ladder::new(points, turns)))
 }
 
-// Three points, of which the rate falls by 600 and then by 400.
+// Three points, between which the rate falls by 600 and then by 400.
 const THREE: [(i64, u32); 3] = [(90, 1000), (100, 400), (110, 0)];
 
 #[test]

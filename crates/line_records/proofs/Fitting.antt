@@ -11,13 +11,14 @@ use Rattle.order_text.specs.Lines.{commands_of, Leaves, Leave}
 use Rattle.order_text.proofs.ShortRows.{rows_are_short}
 use Rattle.order_text.proofs.Fitting.{commands_fit as line_fits}
 use Rattle.line_records.specs.Lines.{Say}
+use Rattle.line_records.specs.Laws.{CommandsFit}
 
 -- the tickers that a command leaves are tickers
 still_tickers : (tickers : List (List ℕ)) (command : Command) (after : List (List ℕ)) → AreTickers tickers → Leaves tickers command after → AreTickers after
 still_tickers tickers command after are (inl added) = rw added.2 (AreTickers-push tickers added.0 are added.1.1)
 still_tickers tickers command after are (inr not) = rw not.1 are
 
--- and those that commands leave
+-- the tickers that several commands leave are tickers
 all_still_tickers : (tickers : List (List ℕ)) (commands : List Command) (after : List (List ℕ)) → AreTickers tickers → Leave tickers commands after → AreTickers after
 all_still_tickers tickers [] after are leaves = rw leaves are
 all_still_tickers tickers (command ∷ commands) after are leaves = all_still_tickers leaves.0 commands after (still_tickers tickers command leaves.0 are leaves.1) leaves.2
@@ -36,9 +37,9 @@ module _ (version : Version) where
         All-append (IsOfVersion version) (commands_of said.0) said.1 here.1 more.2,
       )
 
-  -- no tickers are tickers
-  no_tickers : AreTickers []
-  no_tickers = record { valid = All-nil IsTicker; distinct = λ i j d below within. absurd (omega (arith, below, within)); few = omega arith }
+  pub commands_fit : CommandsFit version
+  commands_fit known lines commands tickers are say = all_fit known lines commands tickers are say
 
-  pub commands_fit : (lines : List (List ℕ)) (commands : List Command) (tickers : List (List ℕ)) → Say version [] lines commands tickers → All IsCommand commands × All HasShortRow commands × All (IsOfVersion version) commands
-  commands_fit lines commands tickers say = all_fit [] lines commands tickers no_tickers say
+-- no tickers are tickers
+pub no_tickers : AreTickers []
+no_tickers = record { valid = All-nil IsTicker; distinct = λ i j d below within. absurd (omega (arith, below, within)); few = omega arith }

@@ -13,7 +13,7 @@ use Rattle.line_records.specs.declared.encode.EncodeFault.TheVariants.{NoCommand
 use Rattle.line_records.specs.Lines.{IsPiece, ended_by_feeds, AreLines, Say, spell_commands}
 use Rattle.line_records.specs.Encoded.{HasEncoded, IsEncoded}
 use Rattle.line_records.specs.Private.{EncodesLine, IsLineEncoded, IsRecordWritten, AreWritten}
-use Rattle.flow_io.proofs.Growth.{Grows-more, GrowsByFront-more}
+use Rattle.flow_io.proofs.Growth.{Grows-more, GrowsByPrefix-more}
 use Rattle.line_records.proofs.Pieces.{ended_lines, line_found, no_line_found, lines_behind, told}
 use Rattle.line_records.proofs.Saying.{say_more, no_more}
 use Rattle.wire_records.specs.declared.version.Version.{Version}
@@ -23,31 +23,33 @@ use Rattle.order_text.specs.Lines.{Asked, Alone, commands_of, Says}
 pub slice_size : (place size : ℕ) → place + size - place ≡ size
 slice_size place size = omega arith
 
--- what is told to be empty is so
+-- a list that a test finds empty is empty
 pub empty_where : (xs : List ℕ) (empty : Bool) → empty ≡ (length xs == 0) → empty ≡ true → xs ≡ []
 empty_where xs empty is yes_is = no_more xs (eqb-true (length xs) 0 (sym is ∙ yes_is))
 
--- what is told not to be empty isn't
+-- a list that a test finds not empty isn't
 pub some_where : (xs : List ℕ) (empty : Bool) → empty ≡ (length xs == 0) → empty ≡ false → xs ≢ []
 some_where xs empty is no_is none = true≢false (sym (eq-eqb (length xs) 0 (ap length none)) ∙ sym is ∙ no_is)
 
--- what is told to be false isn't true
+-- what is `false` isn't true
 pub not_where : (more : Bool) → more ≡ false → ¬ IsTrue more
 not_where more no_is is = true≢false (sym is ∙ no_is)
 
-module _ (version : Version) where
-  -- What going through the lines before a place of the text has done.
-  pub record HasGone (text : List ℕ) (place number : ℕ) (tickers : List (List ℕ)) (before after : Option (List ℕ)) : Type 0 where
-    pub ended : List (List ℕ)
-    pub commands : List Command
-    pub whole : text ≡ ended_by_feeds ended ++ drop place text
-    pub pieces : All IsPiece ended
-    pub say : Say version [] ended commands tickers
-    pub written : Grows before after (spell_commands commands)
-    pub counted : number ≡ length ended + 1
-    pub few : length ended ≤ place
-    pub within : place ≤ length text
+-- records of more commands
+records_more : (commands more : List Command) → spell_commands (commands ++ more) ≡ spell_commands commands ++ spell_commands more
+records_more commands more = flat_map-append (λ command. spelling (record_of command)) commands more
 
+-- the text, with one line more of it that is ended
+line_ended : (text : List ℕ) (place size : ℕ) (ended : List (List ℕ)) → text ≡ ended_by_feeds ended ++ drop place text → IsFirstByte (is_byte 10) (drop place text) (Some size)
+    → text ≡ ended_by_feeds (ended ++ take size (drop place text) ∷ []) ++ drop (place + (size + 1)) text
+line_ended text place size ended whole first =
+    let line = take size (drop place text) in
+    let found = line_found (drop place text) size first in
+    whole ∙ ap (λ xs. ended_by_feeds ended ++ xs) (found.0.1 ∙ ap (λ xs. ended_lines.spell line ++ xs) (drop-drop (size + 1) place text))
+    ∙ sym (append_assoc (ended_by_feeds ended) (ended_lines.spell line) (drop (place + (size + 1)) text))
+    ∙ ap (λ xs. xs ++ drop (place + (size + 1)) text) (flat_map_more ended_lines.spell [] ended line)
+
+module _ (version : Version) where
   -- a line alone
   one_line : (tickers : List (List ℕ)) (line : List ℕ) (asked : Asked) (next : List (List ℕ)) → Says version tickers line asked next → Say version tickers (line ∷ []) (commands_of asked) next
   one_line tickers line asked next says = inr (asked, [], next, says, (refl, refl), sym (append-nil (commands_of asked)))
@@ -72,21 +74,20 @@ module _ (version : Version) where
   command_encoded tickers line number command next result before after says is =
       commands_encoded tickers line number (Alone command) next result before after says (alone_written command result before after is)
 
-  -- records of more commands
-  records_more : (commands more : List Command) → spell_commands (commands ++ more) ≡ spell_commands commands ++ spell_commands more
-  records_more commands more = flat_map-append (λ command. spelling (record_of command)) commands more
+module _ (version : Version) (known : List (List ℕ)) where
+  -- What going through the lines before a place of the text has done.
+  pub record HasGone (text : List ℕ) (place number : ℕ) (tickers : List (List ℕ)) (before after : Option (List ℕ)) : Type 0 where
+    pub ended : List (List ℕ)
+    pub commands : List Command
+    pub whole : text ≡ ended_by_feeds ended ++ drop place text
+    pub pieces : All IsPiece ended
+    pub say : Say version known ended commands tickers
+    pub written : Grows before after (spell_commands commands)
+    pub counted : number ≡ length ended + 1
+    pub few : length ended ≤ place
+    pub within : place ≤ length text
 
-  -- the text, with one line more of it that is ended
-  line_ended : (text : List ℕ) (place size : ℕ) (ended : List (List ℕ)) → text ≡ ended_by_feeds ended ++ drop place text → IsFirstByte (is_byte 10) (drop place text) (Some size)
-      → text ≡ ended_by_feeds (ended ++ take size (drop place text) ∷ []) ++ drop (place + (size + 1)) text
-  line_ended text place size ended whole first =
-      let line = take size (drop place text) in
-      let found = line_found (drop place text) size first in
-      whole ∙ ap (λ xs. ended_by_feeds ended ++ xs) (found.0.1 ∙ ap (λ xs. ended_lines.spell line ++ xs) (drop-drop (size + 1) place text))
-      ∙ sym (append_assoc (ended_by_feeds ended) (ended_lines.spell line) (drop (place + (size + 1)) text))
-      ∙ ap (λ xs. xs ++ drop (place + (size + 1)) text) (flat_map_more ended_lines.spell [] ended line)
-
-  -- one line more
+  -- one more line is encoded
   pub one_more : (text : List ℕ) (place size number : ℕ) (tickers next : List (List ℕ)) (before between after : Option (List ℕ)) → HasGone text place number tickers before between
       → IsFirstByte (is_byte 10) (drop place text) (Some size) → EncodesLine version tickers (take (place + size - place) (drop place text)) next between after → HasGone text (place + (size + 1)) (number + 1) next before after
   one_more text place size number tickers next before between after so first encoded =
@@ -99,7 +100,7 @@ module _ (version : Version) where
         commands = so.commands ++ one.commands;
         whole = line_ended text place size so.ended so.whole first;
         pieces = All-push IsPiece so.ended line so.pieces found.0.0;
-        say = say_more version [] tickers next so.ended (line ∷ []) so.commands one.commands so.say one.say;
+        say = say_more version known tickers next so.ended (line ∷ []) so.commands one.commands so.say one.say;
         written = rw (records_more so.commands one.commands) (Grows-more before between after (spell_commands so.commands) (spell_commands one.commands) so.written one.written);
         counted = omega (arith, so.counted, length-append so.ended (line ∷ []));
         few = omega (arith, so.few, length-append so.ended (line ∷ []));
@@ -108,7 +109,7 @@ module _ (version : Version) where
 
   module _ (More : Type 0) (text : List ℕ) (place number : ℕ) (tickers next : List (List ℕ)) (before between after : Option (List ℕ)) (so : HasGone text place number tickers before between) (line : List ℕ) (rest : List (List ℕ)) (split : AreLines More text (so.ended ++ line ∷ rest)) where
     -- the next line stopped it
-    stopped : (fault : EncodeFault) → IsLineEncoded version tickers line number next (Err fault) between after → IsEncoded version More text (Err fault) before after
+    stopped : (fault : EncodeFault) → IsLineEncoded version tickers line number next (Err fault) between after → IsEncoded version known More text (Err fault) before after
     stopped (NoCommand bad) at = record {
       commands = so.commands;
       read = record {
@@ -130,9 +131,9 @@ module _ (version : Version) where
         tickers = next;
         split = split;
         front = sym (append_assoc so.ended (line ∷ []) rest);
-        say = say_more version [] tickers next so.ended (line ∷ []) so.commands (commands_of at.0) so.say (one_line tickers line at.0 next at.1);
+        say = say_more version known tickers next so.ended (line ∷ []) so.commands (commands_of at.0) so.say (one_line version tickers line at.0 next at.1);
       },
-      rw (records_more so.commands (commands_of at.0)) (GrowsByFront-more before between after (spell_commands so.commands) (spell_commands (commands_of at.0)) so.written at.2),
+      rw (records_more so.commands (commands_of at.0)) (GrowsByPrefix-more before between after (spell_commands so.commands) (spell_commands (commands_of at.0)) so.written at.2),
     )
     stopped Memory at = (
       so.commands,
@@ -141,7 +142,7 @@ module _ (version : Version) where
     )
 
     -- all lines were read, and this was the last
-    all_read : rest ≡ [] → EncodesLine version tickers line next between after → HasEncoded version More text None before after
+    all_read : rest ≡ [] → EncodesLine version tickers line next between after → HasEncoded version known More text None before after
     all_read none one = record {
       commands = so.commands ++ one.commands;
       read = record {
@@ -149,7 +150,7 @@ module _ (version : Version) where
         read = so.ended ++ line ∷ [];
         tickers = next;
         split = split;
-        say = say_more version [] tickers next so.ended (line ∷ []) so.commands one.commands so.say one.say;
+        say = say_more version known tickers next so.ended (line ∷ []) so.commands one.commands so.say one.say;
         stops = ap (λ xs. so.ended ++ line ∷ xs) none;
       };
       written = rw (records_more so.commands one.commands) (Grows-more before between after (spell_commands so.commands) (spell_commands one.commands) so.written one.written);
@@ -157,7 +158,7 @@ module _ (version : Version) where
 
   -- a line that is ended stopped it
   pub stopped_within : (more : Bool) (text : List ℕ) (place size number : ℕ) (tickers next : List (List ℕ)) (before between after : Option (List ℕ)) (fault : EncodeFault) → HasGone text place number tickers before between
-      → IsFirstByte (is_byte 10) (drop place text) (Some size) → IsLineEncoded version tickers (take (place + size - place) (drop place text)) number next (Err fault) between after → IsEncoded version (IsTrue more) text (Err fault) before after
+      → IsFirstByte (is_byte 10) (drop place text) (Some size) → IsLineEncoded version tickers (take (place + size - place) (drop place text)) number next (Err fault) between after → IsEncoded version known (IsTrue more) text (Err fault) before after
   stopped_within more text place size number tickers next before between after fault so first at =
       let line = take size (drop place text) in
       let pieces = All-push IsPiece so.ended line so.pieces (line_found (drop place text) size first).0.0 in
@@ -165,9 +166,9 @@ module _ (version : Version) where
       stopped (IsTrue more) text place number tickers next before between after so line behind.0 (subst (λ lines. AreLines (IsTrue more) text lines) (append_assoc so.ended (line ∷ []) behind.0) behind.1) fault
       (subst (λ n. IsLineEncoded version tickers (take n (drop place text)) number next (Err fault) between after) (slice_size place size) at)
 
-  -- there is no line behind the last line feed
+  -- there is no line after the last line feed
   pub ended_text : (more : Bool) (text : List ℕ) (place number : ℕ) (tickers : List (List ℕ)) (before after : Option (List ℕ)) → HasGone text place number tickers before after
-      → IsFirstByte (is_byte 10) (drop place text) None → IsTrue more ⊎ (drop place text ≡ []) → IsEncoded version (IsTrue more) text (Ok tt) before after
+      → IsFirstByte (is_byte 10) (drop place text) None → IsTrue more ⊎ (drop place text ≡ []) → IsEncoded version known (IsTrue more) text (Ok tt) before after
   ended_text more text place number tickers before after so none ends = record {
     commands = so.commands;
     read = record {
@@ -191,7 +192,7 @@ module _ (version : Version) where
   -- the last line ended it
   pub last_line : (more : Bool) (text : List ℕ) (place number : ℕ) (tickers next : List (List ℕ)) (before between after : Option (List ℕ)) (result : Result (Unit {0}) EncodeFault) → HasGone text place number tickers before between
       → IsFirstByte (is_byte 10) (drop place text) None → (¬ IsTrue more) → drop place text ≢ [] → IsLineEncoded version tickers (drop place text) number next result between after
-      → IsEncoded version (IsTrue more) text result before after
+      → IsEncoded version known (IsTrue more) text result before after
   last_line more text place number tickers next before between after (Ok done) so none not some is =
       all_read (IsTrue more) text place number tickers next before between after so (drop place text) [] (record {
         ended = so.ended;

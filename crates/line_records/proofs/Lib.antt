@@ -4,4 +4,3 @@ pub mod OneSplits
 pub mod OneReadings
 pub mod Fitting
 mod Going
-pub mod Encoding

@@ -22,7 +22,7 @@ none_in_piece bytes piece line rest lawful is =
 pub empty_piece : IsPiece []
 empty_piece has = absurd (omega (arith, has.1))
 
--- a piece with one more byte at its front, which is no line feed
+-- a piece with one more byte before it, which is no line feed
 piece_more : (byte : ℕ) (bytes : List ℕ) → byte ≢ 10 → IsPiece bytes → IsPiece (byte ∷ bytes)
 piece_more byte bytes not piece (zero, inside, is) = not is
 piece_more byte bytes not piece (suc k, inside, is) = piece (k, omega (arith, inside), is)
@@ -35,7 +35,7 @@ piece_rest byte bytes piece has = piece (Contains-append_right (byte ∷ []) byt
 piece_first : (byte : ℕ) (bytes : List ℕ) → IsPiece (byte ∷ bytes) → byte ≢ 10
 piece_first byte bytes piece is = piece (0, omega arith, is)
 
--- one line more at the front
+-- one byte more at the start of the first line
 line_more : (byte : ℕ) (bytes line rest : List ℕ) → byte ≢ 10 → BeginsWith ended_lines bytes line rest → BeginsWith ended_lines (byte ∷ bytes) (byte ∷ line) rest
 line_more byte bytes line rest not begins = (piece_more byte line not begins.0, ap (λ xs. byte ∷ xs) begins.1)
 
@@ -101,7 +101,7 @@ pub any_or_none : (xs : List ℕ) → (xs ≡ []) ⊎ (xs ≢ [])
 any_or_none [] = inl refl
 any_or_none (x ∷ xs) = inr (λ e. absurd cc)
 
--- all lines, where the lines that are ended and the piece behind them are known
+-- all lines, if the lines that are ended and the piece after them are known
 pub all_lines : (More : Type 0) → More ⊎ (¬ More) → (bytes : List ℕ) (ended : List (List ℕ)) (last : List ℕ) → bytes ≡ ended_by_feeds ended ++ last → All IsPiece ended → IsPiece last
     → (rest : List (List ℕ)) × AreLines More bytes (ended ++ rest)
 all_lines More more bytes ended last whole pieces piece =
@@ -114,7 +114,7 @@ all_lines More more bytes ended last whole pieces piece =
           ]
     ]
 
--- all lines, where the first ones are known
+-- all lines, if the first ones are known
 pub lines_behind : (More : Type 0) → More ⊎ (¬ More) → (bytes behind : List ℕ) (ended : List (List ℕ)) → bytes ≡ ended_by_feeds ended ++ behind → All IsPiece ended
     → (rest : List (List ℕ)) × AreLines More bytes (ended ++ rest)
 lines_behind More more bytes behind ended whole pieces =

@@ -1,4 +1,4 @@
--- What lines say, one after the other.
+-- What lines ask for, one after the other.
 use Rattle.std.proofs.Common.{◌≡◌, ◌≢◌, ℕ, List, [], ◌∷◌, ◌++◌, inl, inr, Result, Ok, Err, length, length-append, append_assoc, append-nil, get_or, drop, map, refl, sym, ap, subst, ◌∙◌, arith}
 use Rattle.wire_records.specs.Commands.{Command}
 use Rattle.wire_records.specs.Views.{command_in}
@@ -8,7 +8,7 @@ use Rattle.order_text.specs.declared.line.LineRead.TheVariants.{Blank, Asks, Man
 use Rattle.order_text.specs.declared.line.LineFault.{LineFault}
 use Rattle.order_text.specs.declared.line.LineFault.TheVariants.{NoCommand, Memory}
 use Rattle.order_text.specs.Lines.{IsBlank, Alone, OfLadder, commands_of, Leave, Says, SaysNothing}
-use Rattle.order_text.specs.Answers.{IsRead, wants_memory}
+use Rattle.order_text.specs.Answers.{IsRead, may_run_out}
 use Rattle.order_text.proofs.OneAnswers.{one_saying, none_is_unanswered}
 use Rattle.line_records.specs.Lines.{Say}
 
@@ -17,20 +17,20 @@ pub no_more : {A : Type 0} (xs : List A) → length xs ≡ 0 → xs ≡ []
 no_more [] none = refl
 no_more (x ∷ xs) none = absurd (omega (arith, none))
 
--- what commands leave, and then more commands
+-- the tickers that commands and then more commands leave
 leaves_more : (first second third : List (List ℕ)) (commands more : List Command) → Leave first commands second → Leave second more third → Leave first (commands ++ more) third
 leaves_more first second third [] more a b = subst (λ t. Leave t more third) a b
 leaves_more first second third (command ∷ commands) more a b = (a.0, a.1, leaves_more a.0 second third commands more a.2 b)
 
 module _ (version : Version) where
-  -- what lines leave is what their commands leave
+  -- the tickers after lines are those after their commands
   pub lines_leave : (lines : List (List ℕ)) (commands : List Command) (tickers after : List (List ℕ)) → Say version tickers lines commands after → Leave tickers commands after
   lines_leave [] commands tickers after say = rw say.0 say.1
   lines_leave (line ∷ lines) commands tickers after (inl blank) = lines_leave lines commands tickers after blank.1
   lines_leave (line ∷ lines) commands tickers after (inr said) =
       rw said.5 (leaves_more tickers said.2 after (commands_of said.0) said.1 said.3.leaves (lines_leave lines said.1 said.2 after said.4))
 
-  -- what lines say, and then more lines
+  -- what lines and then more lines ask for
   pub say_more : (first second third : List (List ℕ)) (lines more : List (List ℕ)) (commands others : List Command) → Say version first lines commands second → Say version second more others third
       → Say version first (lines ++ more) (commands ++ others) third
   say_more first second third [] more commands others a b = rw (a.0, ← a.1) b
@@ -43,19 +43,19 @@ module _ (version : Version) where
   Stops tickers [] = Unit {0}
   Stops tickers (line ∷ lines) = SaysNothing version tickers line
 
-  -- a line that says nothing says nothing else
+  -- a line that asks for nothing asks for no commands
   nothing_said : (tickers : List (List ℕ)) (line : List ℕ) (lines : List (List ℕ)) (commands : List Command) (after : List (List ℕ)) → SaysNothing version tickers line → Say version tickers (line ∷ lines) commands after → ⊥
   nothing_said tickers line lines commands after none (inl blank) = none.written blank.0
   nothing_said tickers line lines commands after none (inr says) = none.no_command says.0 says.3.asks
 
-  -- Lines that were said, and more of the same lines.
+  -- Lines and their commands, and more of the same lines.
   pub record GoesOn (lines other : List (List ℕ)) (commands others : List Command) : Type 0 where
     pub rest : List (List ℕ)
     pub asked : List Command
     pub lines_are : other ≡ lines ++ rest
     pub commands_are : others ≡ commands ++ asked
 
-  -- lines of one list say the same as far as both go
+  -- two first parts of one list of lines ask for the same as far as both go
   pub goes_on : (tickers : List (List ℕ)) (lines more other rest : List (List ℕ)) (commands others : List Command) (after next : List (List ℕ)) → lines ++ more ≡ other ++ rest
       → Say version tickers lines commands after → Say version tickers other others next → Stops next rest → GoesOn lines other commands others
   goes_on tickers [] more other rest commands others after next same a b stops =
@@ -86,11 +86,11 @@ module _ (version : Version) where
       }
 
   -- two that both stop are the same
-  pub stop_alike : (lines more other rest : List (List ℕ)) (commands others : List Command) (after next : List (List ℕ)) → lines ++ more ≡ other ++ rest
-      → Say version [] lines commands after → Say version [] other others next → Stops after more → Stops next rest → (lines ≡ other) × (commands ≡ others)
-  stop_alike lines more other rest commands others after next same a b stops ends =
-      let on = goes_on [] lines more other rest commands others after next same a b ends in
-      let back = goes_on [] other rest lines more others commands next after (sym same) b a stops in
+  pub stop_alike : (known lines more other rest : List (List ℕ)) (commands others : List Command) (after next : List (List ℕ)) → lines ++ more ≡ other ++ rest
+      → Say version known lines commands after → Say version known other others next → Stops after more → Stops next rest → (lines ≡ other) × (commands ≡ others)
+  stop_alike known lines more other rest commands others after next same a b stops ends =
+      let on = goes_on known lines more other rest commands others after next same a b ends in
+      let back = goes_on known other rest lines more others commands next after (sym same) b a stops in
       let none : on.rest ≡ [] = no_more on.rest (omega (arith, ap length on.lines_are, ap length back.lines_are, length-append lines on.rest, length-append other back.rest)) in
       let no : on.asked ≡ [] = no_more on.asked (omega (arith, ap length on.commands_are, ap length back.commands_are, length-append commands on.asked, length-append others back.asked)) in
       (sym (on.lines_are ∙ ap (λ xs. lines ++ xs) none ∙ append-nil lines), sym (on.commands_are ∙ ap (λ xs. commands ++ xs) no ∙ append-nil commands))
@@ -105,8 +105,8 @@ module _ (version : Version) where
     pub say : Say version tickers read commands after
     pub stops : Stops after more
 
-  -- one line more at the front, by its answer
-  stopped_more : (tickers : List (List ℕ)) (line : List ℕ) (lines after : List (List ℕ)) (result : Result LineRead LineFault) → result ≢ wants_memory → IsRead version tickers line after result → HasStopped after lines
+  -- one more line before the others, by its answer
+  stopped_more : (tickers : List (List ℕ)) (line : List ℕ) (lines after : List (List ℕ)) (result : Result LineRead LineFault) → result ≢ may_run_out → IsRead version tickers line after result → HasStopped after lines
       → HasStopped tickers (line ∷ lines)
   stopped_more tickers line lines after (Ok Blank) told is so = record {
     read = line ∷ so.read;

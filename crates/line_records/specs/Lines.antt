@@ -11,12 +11,12 @@ use Rattle.order_text.specs.Lines.{IsBlank, Asked, commands_of, Says, SaysNothin
 abbrev pub IsPiece : List ℕ → Type 0
 IsPiece piece = ¬ Contains piece 10
 
--- pieces, each with a line feed behind it
+-- pieces, each followed by a line feed
 abbrev pub ended_by_feeds : List (List ℕ) → List ℕ
 ended_by_feeds pieces = flat_map (λ piece. piece ++ 10 ∷ []) pieces
 
--- The lines of these bytes, where the text may have more behind them: the pieces before line feeds, and the piece behind
--- the last line feed, where it isn't empty and the text has no more.
+-- The lines of these bytes, which more of the text may follow: the pieces before line feeds, and the piece after the last line
+-- feed, if it isn't empty and the text has no more.
 pub record AreLines (More : Type 0) (bytes : List ℕ) (lines : List (List ℕ)) : Type 0 where
   pub ended : List (List ℕ)
   pub last : List ℕ
@@ -31,20 +31,22 @@ spell_commands commands = flat_map (λ command. spelling (record_of command)) co
 
 -- In a version.
 module _ (version : Version) where
-  -- the lines ask for these commands of the version, one line after the other, from the tickers of the lines before on, and leave these tickers;
-  -- a blank line asks for none
+  -- the lines ask for these commands of the version, one line after the other, given the tickers of the lines before, and `after` are
+  -- the tickers after them; a blank line asks for none
   abbrev pub Say : List (List ℕ) → List (List ℕ) → List Command → List (List ℕ) → Type 0
   Say tickers [] commands after = (commands ≡ []) × (after ≡ tickers)
   Say tickers (line ∷ lines) commands after =
       (IsBlank line × Say tickers lines commands after)
       ⊎ ((asked : Asked) × (rest : List Command) × (next : List (List ℕ)) × Says version tickers line asked next × Say next lines rest after × (commands ≡ commands_of asked ++ rest))
 
-  -- these are all the lines, or the next one is no command and this is its number, counted from 1
+  -- `read` are all the lines, or the next one is neither blank nor a command and has this number, counted from 1
   abbrev pub StopsAt : List (List ℕ) → List (List ℕ) → List (List ℕ) → Option ℕ → Type 0
   StopsAt tickers read lines None = lines ≡ read
   StopsAt tickers read lines (Some number) =
       (bad : List ℕ) × (more : List (List ℕ)) × (lines ≡ read ++ bad ∷ more) × SaysNothing version tickers bad × (number ≡ length read + 1)
 
+-- In a version, from the tickers on that are known before the first line.
+module _ (version : Version) (known : List (List ℕ)) where
   -- The lines before the first that is no command, or all of them, ask for these commands. Each text has one such reading, by
   -- the laws.
   pub record AreRead (More : Type 0) (bytes : List ℕ) (bad : Option ℕ) (commands : List Command) : Type 0 where
@@ -52,8 +54,8 @@ module _ (version : Version) where
     pub read : List (List ℕ)
     pub tickers : List (List ℕ)
     pub split : AreLines More bytes lines
-    pub say : Say [] read commands tickers
-    pub stops : StopsAt tickers read lines bad
+    pub say : Say version known read commands tickers
+    pub stops : StopsAt version tickers read lines bad
 
   -- The first lines ask for these commands.
   pub record AreFirst (More : Type 0) (bytes : List ℕ) (commands : List Command) : Type 0 where
@@ -63,9 +65,9 @@ module _ (version : Version) where
     pub tickers : List (List ℕ)
     pub split : AreLines More bytes lines
     pub front : lines ≡ read ++ more
-    pub say : Say [] read commands tickers
+    pub say : Say version known read commands tickers
 
-  -- The first lines ask for these commands, and the one behind them isn't blank.
+  -- The first lines ask for these commands, and the line after them isn't blank.
   pub record HaveNext (More : Type 0) (bytes : List ℕ) (commands : List Command) : Type 0 where
     pub lines : List (List ℕ)
     pub read : List (List ℕ)
@@ -74,5 +76,5 @@ module _ (version : Version) where
     pub tickers : List (List ℕ)
     pub split : AreLines More bytes lines
     pub front : lines ≡ read ++ next ∷ more
-    pub say : Say [] read commands tickers
+    pub say : Say version known read commands tickers
     pub written : ¬ IsBlank next

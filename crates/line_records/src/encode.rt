@@ -1,4 +1,4 @@
-//! The lines of a text, one after the other.
+//! The lines of a text, encoded one after the other.
 ghost use Rattle.std.specs.Prelude.{◌≡◌, ◌++◌, map, Err, IsTrue, OnOk, All};
 ghost use Rattle.flow_io.specs.Faults.{Blames};
 ghost use Rattle.wire_records.specs.CommandRecords.{HasShortRow};
@@ -21,11 +21,11 @@ pub enum EncodeFault {
     NoCommand(u64),
     /// A write failed.
     Write,
-    /// There is no memory for a line.
+    /// Memory ran out at a line.
     Memory,
 }
 
-// Writes the record of a command by one call. The buffer holds it meanwhile.
+// Writes the record of a command by one call of the sink. Before that it is built in `records`.
 fn write_record<K: Sink>(
     records: &mut Vec<u8>,
     command: &Command,
@@ -40,7 +40,7 @@ fn write_record<K: Sink>(
     out.write(records).map_err(|_| EncodeFault::Write)
 }
 
-// Appends the records of commands.
+// Appends the records of commands to `records`.
 fn put_records(records: &mut Vec<u8>, commands: &[Command]) -> Result<(), Memory>
     requires short { All (λ command. HasShortRow (command_in command)) commands.now }
     ensures { OnOk result (records.new.items ≡ records.old.items ++ spell_commands (map command_in commands.now)) }
@@ -51,7 +51,7 @@ fn put_records(records: &mut Vec<u8>, commands: &[Command]) -> Result<(), Memory
     Ok(())
 }
 
-// Writes the records of commands by one call, so all are there before the first of them is written.
+// Writes the records of commands by one call of the sink, so all are built before the first of them is written.
 fn write_records<K: Sink>(
     records: &mut Vec<u8>,
     commands: &[Command],
@@ -66,7 +66,7 @@ fn write_records<K: Sink>(
     out.write(records).map_err(|_| EncodeFault::Write)
 }
 
-// What is kept from line to line: the tickers of those before, and the buffer of a line's records.
+// What is kept from line to line: the tickers of the lines before, and the buffer for a line's records.
 #[derive(Drop)]
 struct Encoding {
     alloc: Global,
@@ -77,7 +77,7 @@ struct Encoding {
 impl Encoding {
     ghost use Rattle.line_records.specs.Private.{IsLineEncoded};
 
-    // Writes the records of the commands that a line asks for, by one call.
+    // Writes the records of the commands that a line asks for, by one call of the sink.
     fn encode_line<K: Sink>(
         &mut self,
         version: Version,
@@ -103,27 +103,28 @@ impl Encoding {
     }
 }
 
-/// Writes the records of the commands of a version that the lines of a text ask for, those of a line by one call. The lines are
-/// the pieces before line feeds, and the piece behind the last line feed, where it isn't empty and there is no `more` of the
-/// text.
+/// Writes the records of the commands of a version that the lines of a text ask for, those of a line by one call of the
+/// sink. The lines are the pieces before line feeds, and the piece after the last line feed, if it isn't empty and there is
+/// no `more` of the text.
 ///
-/// `NoCommand` with its number comes exactly at the first line that is neither blank nor a command; the records of the
-/// lines before it are written. `Write` comes only where the sink's count of faults rose, and `Memory` only at a line that
-/// isn't blank; the records of the first lines are written then, those of the last line perhaps in part after `Write`. The cost is
-/// that of reading the lines. Memory: what one line takes, and its records: one, or up to 32 of a ladder.
+/// Fails with `NoCommand` and the line's number at the first line that is neither blank nor a command; the records of the
+/// lines before it are written. Fails with `Write` only if the sink's count of faults rose, and with `Memory` only at a line
+/// that isn't blank; the records of the lines before are then written, and after `Write` perhaps a part of that line's. The
+/// cost is that of reading the lines. Memory: what one line takes, and its records: one, or up to 32 of a ladder.
 pub fn encode_lines<K: Sink>(
     alloc: Global,
     version: Version,
+    tickers: TickerTable,
     text: &[u8],
     more: bool,
     out: &mut K,
 ) -> Result<(), EncodeFault>
-    ensures encoded { IsEncoded version (IsTrue more) text.now result (K.held out.old) (K.held out.new) }
+    ensures encoded { IsEncoded version tickers (IsTrue more) text.now result (K.held out.old) (K.held out.new) }
     ensures cause { Blames (result ≡ Err EncodeFault.Write) (K.faults out.old) (K.faults out.new) }
 {
     let mut encoding = Encoding {
         alloc,
-        tickers: TickerTable::new(alloc),
+        tickers,
         records: Vec::new(alloc),
     };
     let mut place = 0;

@@ -1,4 +1,4 @@
--- Products of whole numbers, and how large they can be.
+-- Products of integers, and how large they can be.
 use Rattle.std.proofs.Common.{◌≡◌, ℕ, zero, suc, ◌+◌, ◌*◌, ◌≤◌, ℤ, pos, negsuc, ◌+ℤ◌, ◌-ℤ◌, ◌*ℤ◌, sym, ap, ◌∙◌, arith}
 use Rattle.std.specs.Prelude.{unsigned_abs}
 use Rattle.std.proofs.Math.IntN.{suc_ℤ-*ℤ, pred_ℤ-*ℤ, zero-*ℤ, -ℤ-+ℤ_cancel}
@@ -25,16 +25,16 @@ negsuc-*ℤ-add zero b c =
 negsuc-*ℤ-add (suc a) b c =
     omega (arith, ints, negsuc-*ℤ-add a b c, pred_ℤ-*ℤ (negsuc a) (b +ℤ c), pred_ℤ-*ℤ (negsuc a) b, pred_ℤ-*ℤ (negsuc a) c)
 
--- a product with a sum
+-- a factor is distributed over a sum
 pub *ℤ-add : (a b c : ℤ) → a *ℤ (b +ℤ c) ≡ a *ℤ b +ℤ a *ℤ c
 *ℤ-add (pos a) b c = pos-*ℤ-add a b c
 *ℤ-add (negsuc a) b c = negsuc-*ℤ-add a b c
 
--- a product with a difference
+-- a factor is distributed over a difference
 pub *ℤ-sub : (a b c : ℤ) → a *ℤ b ≡ a *ℤ (b -ℤ c) +ℤ a *ℤ c
 *ℤ-sub a b c = sym (ap (λ x. a *ℤ x) (-ℤ-+ℤ_cancel b c)) ∙ *ℤ-add a (b -ℤ c) c
 
--- products of three factors
+-- products are associative
 pub *ℤ-assoc : (a b c : ℤ) → a *ℤ b *ℤ c ≡ a *ℤ (b *ℤ c)
 *ℤ-assoc a b c =
     let p = product_is a b in

@@ -1,4 +1,4 @@
--- The sum of whole numbers over a list.
+-- The sum of integers over a list.
 use Rattle.std.specs.Prelude.{ℤ, pos, ◌+ℤ◌, List, [], ◌∷◌}
 
 -- the sum of f over the members of a list

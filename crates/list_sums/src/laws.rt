@@ -1,28 +1,28 @@
-//! What holds of sums over lists of any type. Each law is the contract of a function that does nothing.
+//! Laws of sums over lists of any type. Each law is the contract of a function that does nothing.
 
 ghost use Rattle.list_sums.specs.Laws.{SumsJoin, SumsPush, SumsSet, SumsAgree, SumsKeepOrder, SumsOfZeros, SumsAdd, SumsSubtract, SumsScale, SumsAreBounded, SumsMap, SumsExchange};
 
-/// The sum over joined lists is that of both.
+/// The sum over two joined lists is the sum over the first plus the sum over the second.
 pub fn sums_join<T>()
     ensures { SumsJoin T }
 {}
 
-/// A member that is pushed adds what it counts for.
+/// Pushing a member adds its summand to the sum.
 pub fn sums_push<T>()
     ensures { SumsPush T }
 {}
 
-/// Where a member is replaced, the sum changes as that member's part does.
+/// Replacing a member changes the sum by as much as it changes that member's summand.
 pub fn sums_set<T>()
     ensures { SumsSet T }
 {}
 
-/// Sums whose parts are equal, member by member, are equal.
+/// Sums whose summands are equal, member by member, are equal.
 pub fn sums_agree<T>()
     ensures { SumsAgree T }
 {}
 
-/// Sums whose parts are in order, member by member, are in order.
+/// Sums whose summands are in order, member by member, are in order.
 pub fn sums_keep_order<T>()
     ensures { SumsKeepOrder T }
 {}
@@ -32,32 +32,32 @@ pub fn sums_of_zeros<T>()
     ensures { SumsOfZeros T }
 {}
 
-/// A sum of sums is the sum of both.
+/// The sum of `f + g` is the sum of `f` plus the sum of `g`.
 pub fn sums_add<T>()
     ensures { SumsAdd T }
 {}
 
-/// A sum of differences is the difference of both.
+/// The sum of `f - g` is the sum of `f` minus the sum of `g`.
 pub fn sums_subtract<T>()
     ensures { SumsSubtract T }
 {}
 
-/// A sum whose parts are scaled is the scaled sum.
+/// The sum of `c` times `f` is `c` times the sum of `f`.
 pub fn sums_scale<T>()
     ensures { SumsScale T }
 {}
 
-/// A sum of parts of at most m, in absolute value, is at most m times their number.
+/// A sum of summands of at most `m`, in absolute value, is at most `m` times their number in absolute value.
 pub fn sums_are_bounded<T>()
     ensures { SumsAreBounded T }
 {}
 
-/// The sum over a mapped list is the sum of the parts that its members come to.
+/// The sum of `f` over a mapped list is the sum over the list of `f` after the map.
 pub fn sums_map<T, U>()
     ensures { SumsMap T U }
 {}
 
-/// Two sums, one within the other, may be exchanged.
+/// Two nested sums may be exchanged.
 pub fn sums_exchange<T, U>()
     ensures { SumsExchange T U }
 {}

@@ -1,7 +1,7 @@
-//! The sum of whole numbers over a list: what all accounts hold together, or what a row of weights costs.
+//! The sum of integers over a list, such as what all accounts hold together or what a portfolio costs.
 //!
-//! The crate has one definition, `specs/Sums.antt`, and what holds of it: each function of [`laws`] is a law
-//! over lists of any type, and does nothing when it runs.
+//! The crate has one definition, `specs/Sums.antt`, and its laws: each function of [`laws`] is a law over
+//! lists of any type, and does nothing when it runs.
 #![tactic(auto)]
 
 pub mod laws;

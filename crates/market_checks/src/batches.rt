@@ -8,10 +8,10 @@ use check_lines::Told;
 use market_core::Market;
 use std::alloc::Global;
 
-// So many batches are held at most.
+// The most batches that are held.
 const MOST_BATCHES: u32 = 1 << 24;
 
-// A batch that was skipped: a market counts it, and the orders that end with it leave.
+// Returns a batch that was skipped: a market counts it, and the orders that end with it leave.
 fn skipped(alloc: Global) -> Outcome
     ensures { (m : market_value) → MaySettle m result }
 {
@@ -22,7 +22,7 @@ fn skipped(alloc: Global) -> Outcome
     })
 }
 
-// Skips batches until so many were held.
+// Skips batches until this many were held.
 fn hold(market: &mut Market, outcome: &Outcome, count: u32)
     requires few { count ≤ most_batches }
     requires skipped { (m : market_value) → MaySettle m outcome.now }
@@ -50,7 +50,7 @@ fn put_row(market: &Market, told: &mut Told) {
     told.put("\n");
 }
 
-// Holds so many batches, and appends the row.
+// Holds batches until there were this many, and appends the row.
 fn put_held(alloc: Global, market: &mut Market, count: u32, told: &mut Told) {
     if count > MOST_BATCHES {
         return told.give_up();
@@ -69,7 +69,7 @@ fn put_counts(alloc: Global, market: &mut Market, counts: &str, told: &mut Told)
     }
 }
 
-// The same, of a market in which none was held.
+// Holds batches up to each of the counts, in a market that held none, and appends its row.
 pub(crate) fn put_allowed(alloc: Global, counts: &str, told: &mut Told) {
     put_counts(alloc, &mut Market::new(alloc), counts, told);
 }

@@ -1,4 +1,4 @@
-//! Markets as bytes, and again from them.
+//! Markets that are written as bytes, and read again.
 use crate::state::put_market;
 use check_lines::Told;
 use journal_replay::replay;
@@ -17,14 +17,14 @@ fn write(market: &mut Market, bytes: &mut Vec<u8>) -> Option<()> {
     write_market(market, bytes).ok()
 }
 
-// Whether the market is written so, or None where there is no memory.
+// Returns whether the market is written as these bytes, or `None` if memory ran out.
 fn is_written_so(alloc: Global, market: &mut Market, bytes: &[u8]) -> Option<bool> {
     let mut written = Vec::new(alloc);
     write(market, &mut written)?;
     Some(written.as_slice() == bytes)
 }
 
-// Whether a market is written as the first bytes, so many.
+// Returns whether a market is written as the first `taken` bytes.
 fn is_written_again(
     alloc: Global,
     market: &mut Market,
@@ -70,8 +70,8 @@ pub(crate) fn put_kept(alloc: Global, journal: &[u8], told: &mut Told) {
     put_read(alloc, &bytes, told);
 }
 
-// Whether a market is read of bytes. It is written so again, or there is no answer.
-fn is_sound(alloc: Global, bytes: &[u8]) -> Option<bool> {
+// Returns whether a market is read from bytes. If it isn't written so again, there is no answer.
+fn is_consistent(alloc: Global, bytes: &[u8]) -> Option<bool> {
     match read_market(alloc, bytes) {
         Err(SnapshotFault::NotSound) => Some(false),
         Err(SnapshotFault::Memory) => None,
@@ -82,18 +82,18 @@ fn is_sound(alloc: Global, bytes: &[u8]) -> Option<bool> {
     }
 }
 
-// How many bytes are checkpoints, and how many aren't.
+// How many byte strings are checkpoints, and how many aren't.
 #[derive(Drop)]
 struct Counts {
-    sound: u32,
+    consistent: u32,
     others: u32,
 }
 
 impl Counts {
-    // Counts one more, or answers None where it isn't known.
-    fn add(&mut self, is_sound: Option<bool>) -> Option<()> {
-        match is_sound {
-            Some(true) => self.sound = self.sound.wrapping_add(1),
+    // Counts one more, or returns `None` if it isn't known.
+    fn add(&mut self, is_consistent: Option<bool>) -> Option<()> {
+        match is_consistent {
+            Some(true) => self.consistent = self.consistent.wrapping_add(1),
             Some(false) => self.others = self.others.wrapping_add(1),
             None => return None,
         }
@@ -101,30 +101,30 @@ impl Counts {
     }
 }
 
-// Turns those bits of a byte over that this one has.
+// Flips the bits of a byte that are set in `bits`.
 fn turn(bytes: &mut [u8], place: usize, bits: u8) {
     if place < bytes.len() {
         bytes[place] ^= bits;
     }
 }
 
-// Turns bits of each byte over in turn, and back again, and counts what is read then.
+// Flips bits of each byte in turn, and back again, and counts what is read then.
 fn count_turned(alloc: Global, bits: u8, bytes: &mut [u8], counts: &mut Counts, told: &mut Told) {
     for place in 0..bytes.len() {
         turn(bytes, place, bits);
-        told.keep(counts.add(is_sound(alloc, bytes)));
+        told.keep(counts.add(is_consistent(alloc, bytes)));
         turn(bytes, place, bits);
     }
 }
 
-// Turns bits of each byte over in turn, and appends how many are checkpoints then, and how many aren't.
+// Flips bits of each byte in turn, and appends how many of the results are checkpoints, and how many aren't.
 pub(crate) fn put_turned(alloc: Global, bits: u8, bytes: &mut [u8], told: &mut Told) {
     let mut counts = Counts {
-        sound: 0,
+        consistent: 0,
         others: 0,
     };
     count_turned(alloc, bits, bytes, &mut counts, told);
-    told.put_number("  ", i128::from(counts.sound));
+    told.put_number("  ", i128::from(counts.consistent));
     told.put_number(" sound, ", i128::from(counts.others));
     told.put(" not sound\n");
 }

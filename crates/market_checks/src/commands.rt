@@ -50,7 +50,7 @@ fn put_batch(market: &Market, budget: u32, told: &mut Told) {
     }
 }
 
-// Appends what becomes of a record.
+// Appends the answer to a record.
 fn put_answer(market: &mut Market, asked: &RecordView<'_>, told: &mut Told) {
     if market.next_number() >= MANY {
         return told.give_up();

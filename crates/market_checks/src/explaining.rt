@@ -1,4 +1,4 @@
-//! Why pairs aren't legal.
+//! Why entries aren't valid.
 use crate::MANY;
 use crate::commands::put_reply;
 use batch_audit::{Audit, Finding};
@@ -46,7 +46,7 @@ fn put_finding(found: Finding, told: &mut Told) {
     }
 }
 
-// What is found of the pair, which is then made where it is legal.
+// Returns what is found of the entry, which is then applied if it is valid.
 fn find(audit: &mut Audit, pair: &PairView<'_>) -> Option<Finding> {
     if audit.market().next_number() >= MANY {
         return None;
@@ -56,7 +56,7 @@ fn find(audit: &mut Audit, pair: &PairView<'_>) -> Option<Finding> {
     Some(found)
 }
 
-// The same, of the pair that these bytes are.
+// Returns what is found of the entry that these bytes are.
 fn find_one(audit: &mut Audit, pair: &[u8]) -> Option<Finding> {
     match next_pair(pair) {
         PairFramed::Whole(pair, _) => find(audit, &pair),
@@ -64,7 +64,7 @@ fn find_one(audit: &mut Audit, pair: &[u8]) -> Option<Finding> {
     }
 }
 
-// Appends what was found of a pair, where it isn't legal.
+// Appends what was found of an entry, if it isn't valid.
 fn put_found(found: Option<Finding>, number: usize, told: &mut Told) {
     match found {
         Some(Finding::Legal) => (),
@@ -78,14 +78,14 @@ fn put_found(found: Option<Finding>, number: usize, told: &mut Told) {
     }
 }
 
-// Appends what is found of each pair that isn't legal.
+// Appends what is found of each entry that isn't valid.
 fn put_all_found(audit: &mut Audit, pairs: &[&[u8]], told: &mut Told) {
     for (place, pair) in pairs.iter().enumerate() {
         put_found(find_one(audit, pair), place + 1, told);
     }
 }
 
-// The same, of the pairs in these bytes.
+// Appends what is found of each entry in these bytes that isn't valid.
 pub(crate) fn put_explained(alloc: Global, bytes: &[u8], told: &mut Told) {
     let mut audit = Audit::new(alloc);
     match pairs(alloc, bytes) {

@@ -1,4 +1,4 @@
-//! Journals as a whole.
+//! Complete journals.
 use crate::state::put_market;
 use check_lines::Told;
 use file_units::Ending;
@@ -6,7 +6,7 @@ use journal_records::journal_version;
 use journal_replay::{Audited, PairFault, ReplayFault, audit_pairs, replay};
 use std::alloc::Global;
 
-// As many bytes has the magic of a journal.
+// The bytes of a journal's magic.
 const MAGIC: usize = 8;
 
 fn put_ending(ending: Ending, told: &mut Told) {
@@ -17,14 +17,14 @@ fn put_ending(ending: Ending, told: &mut Told) {
     }
 }
 
-// Appends what was found where all pairs are legal.
+// Appends what was found if all entries are valid.
 fn put_found(alloc: Global, found: &mut Audited, told: &mut Told) {
     put_ending(found.ending, told);
     told.put("\n");
     put_market(alloc, &mut found.market, told);
 }
 
-// Audits the pairs behind the magic, and appends what was found.
+// Audits the entries after the magic, and appends what was found.
 pub(crate) fn put_ended(alloc: Global, journal: &[u8], more: bool, told: &mut Told) {
     if journal.len() < MAGIC {
         return told.give_up();

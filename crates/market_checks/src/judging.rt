@@ -1,4 +1,4 @@
-//! Whether pairs are legal, and what is reported of them.
+//! Whether entries are valid, and what is reported of them.
 use crate::MANY;
 use crate::state::put_market;
 use batch_audit::{Audit, Legality};
@@ -7,7 +7,7 @@ use check_lines::{Told, pairs};
 use journal_records::{PairFramed, PairView, next_pair};
 use std::alloc::Global;
 
-// Whether the pair is legal.
+// Returns whether the entry is valid.
 fn judge(audit: &mut Audit, pair: &PairView<'_>) -> Option<Legality> {
     if audit.market().next_number() >= MANY {
         return None;
@@ -15,7 +15,7 @@ fn judge(audit: &mut Audit, pair: &PairView<'_>) -> Option<Legality> {
     audit.pair(pair).ok()
 }
 
-// Whether the pair that these bytes are is legal.
+// Returns whether the entry that these bytes are is valid.
 fn judge_one(audit: &mut Audit, pair: &[u8]) -> Option<Legality> {
     match next_pair(pair) {
         PairFramed::Whole(pair, _) => judge(audit, &pair),
@@ -31,7 +31,7 @@ fn put_legality(legality: Option<Legality>, told: &mut Told) {
     }
 }
 
-// Appends whether each pair is legal.
+// Appends whether each entry is valid.
 fn put_legalities(audit: &mut Audit, pairs: &[&[u8]], told: &mut Told) {
     told.put(" ");
     for pair in pairs {
@@ -40,7 +40,7 @@ fn put_legalities(audit: &mut Audit, pairs: &[&[u8]], told: &mut Told) {
     told.put("\n");
 }
 
-// Judges each pair. Then come the rows of the market.
+// Judges each entry. Then come the rows of the market.
 pub(crate) fn put_judged(alloc: Global, bytes: &[u8], told: &mut Told) {
     let mut audit = Audit::new(alloc);
     match pairs(alloc, bytes) {
@@ -50,7 +50,7 @@ pub(crate) fn put_judged(alloc: Global, bytes: &[u8], told: &mut Told) {
     put_market(alloc, &mut audit.into_market(), told);
 }
 
-// Appends the text of the pair, which has to be legal.
+// Appends the text of the entry, which has to be valid.
 fn report(audit: &mut Audit, pair: &PairView<'_>, number: u64, text: &mut Vec<u8>) -> Option<()> {
     if audit.market().next_number() >= MANY {
         return None;
@@ -61,7 +61,7 @@ fn report(audit: &mut Audit, pair: &PairView<'_>, number: u64, text: &mut Vec<u8
     }
 }
 
-// The same, of the pair that these bytes are.
+// Appends the text of the entry that these bytes are, which has to be valid.
 fn report_one(audit: &mut Audit, pair: &[u8], number: u64, text: &mut Vec<u8>) -> Option<()> {
     match next_pair(pair) {
         PairFramed::Whole(pair, _) => report(audit, &pair, number, text),
@@ -69,7 +69,7 @@ fn report_one(audit: &mut Audit, pair: &[u8], number: u64, text: &mut Vec<u8>) -
     }
 }
 
-// Reports each pair, and appends the lines of the text.
+// Reports each entry, and appends the lines of the text.
 fn put_reports(audit: &mut Audit, pairs: &[&[u8]], text: &mut Vec<u8>, told: &mut Told) {
     for (place, pair) in pairs.iter().enumerate() {
         told.keep(report_one(audit, pair, place as u64 + 1, text));
@@ -77,7 +77,7 @@ fn put_reports(audit: &mut Audit, pairs: &[&[u8]], text: &mut Vec<u8>, told: &mu
     told.put_text(text);
 }
 
-// The same, of the pairs in these bytes.
+// Reports each entry in these bytes, and appends the lines of the text.
 pub(crate) fn put_report(alloc: Global, bytes: &[u8], told: &mut Told) {
     let mut audit = Audit::new(alloc);
     let mut text = Vec::new(alloc);

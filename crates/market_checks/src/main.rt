@@ -1,23 +1,23 @@
-//! Calls of the market and of what stands on it up to the program: one on each line of standard input, and what it comes to
-//! on standard output. A case more costs no proof.
+//! Calls of the market and of the crates between it and the program: one call on each line of standard input, and its result on
+//! standard output. One more case costs no proof.
 //!
-//! A line is a remark, a name for bytes, or a case, as `check_lines` says; remarks are passed on as they are. A case is a
-//! call and its bytes, which begin with the empty market:
+//! A line is a remark, a name for bytes, or a case, as `check_lines` says; remarks are passed on as they are. A case is a call and its
+//! bytes; each begins with the empty market:
 //!
 //! | case | what is done, and what is printed |
 //! |---|---|
 //! | `market: RECORDS` | each record is read and served: the reply that the market says it will get, and the one that it gets; or why it is unread, or whether its batch is allowed, which isn't held. Then the market |
 //! | `batches N N ..:` | batches are skipped until so many were held, and each time budgets of 0, 1, 65,536 and 65,537 are asked for: the code of the refusal, or `allowed` |
-//! | `serve: RECORDS` | a session serves each record: its pair. Then the market |
-//! | `audit: PAIRS` | each pair is judged: `legal` or `illegal`. Then the market |
-//! | `explain: PAIRS` | each pair that isn't legal: its number, and why |
-//! | `report: PAIRS` | each pair is judged and, where it is legal, reported: the text |
-//! | `ending: JOURNAL` | the pairs behind the magic are audited: how the reading ends. Then the market. With `ending more:` there are more bytes behind these |
+//! | `serve: RECORDS` | a session serves each record: its entry. Then the market |
+//! | `audit: PAIRS` | each entry is judged: `legal` or `illegal`. Then the market |
+//! | `explain: PAIRS` | each entry that isn't valid: its number, and why |
+//! | `report: PAIRS` | each entry is judged and, if it is valid, reported: the text |
+//! | `ending: JOURNAL` | the entries after the magic are audited: how the reading ends. Then the market. With `ending more:` there are more bytes after these |
 //! | `replay: JOURNAL` | the market, or the text of the fault |
-//! | `resume: JOURNAL` | the journal ends behind each of its pairs in turn, the magic alone first, is replayed, and a session over its market serves the commands of the pairs behind: how many bytes the new pairs have, and whether they are as they were |
+//! | `resume: JOURNAL` | the journal is cut after each of its entries in turn, the magic alone first, and replayed, and a session over its market serves the commands of the entries after the cut: how many bytes the new entries have, and whether they are as they were |
 //! | `snapshot: BYTES` | the bytes are read as a checkpoint: `not sound`, or how many of them it has, and whether its market is written so again. Then the market |
 //! | `checkpoint: JOURNAL` | the journal is replayed and its market written, and these bytes are read, as by `snapshot` |
-//! | `turned N: BYTES` | the bits of N are turned over in each of the bytes in turn: how many of these are checkpoints, of markets that are written so again, and how many aren't |
+//! | `turned N: BYTES` | the bits of N are flipped in each of the bytes in turn: how many of the results are checkpoints, of markets that are written so again, and how many aren't |
 //! | `faults N:` | the texts of all faults of a replay, with this number |
 //!
 //! So
@@ -36,10 +36,10 @@
 //! ```
 //!
 //! Of a market are printed, one row each: the tickers; the prices at which a batch would start, in grains; what each
-//! account and then the exchange hold, the money in grains and behind the comma the units of each asset; the numbers of the
+//! account and then the exchange hold, the money in grains and after the comma the units of each asset; the numbers of the
 //! live orders; the number that the next order gets, and how many batches were held.
 //!
-//! What stands in `stdout` comes from the formats of the files and the rules of the market, by hand; the numbers of batches
+//! What is in `stdout` comes from the formats of the files and the rules of the market, by hand; the numbers of batches
 //! are computed outside.
 #![tactic(auto)]
 
@@ -74,7 +74,7 @@ fn put_turned(alloc: Global, bits: &str, bytes: &mut [u8], told: &mut Told) {
     }
 }
 
-// Appends what a case comes to.
+// Appends the result of a case.
 fn put_case(alloc: Global, words: &str, bytes: &mut [u8], told: &mut Told) {
     let (call, with) = words.split_once(' ').unwrap_or((words, ""));
     match call {
@@ -95,7 +95,7 @@ fn put_case(alloc: Global, words: &str, bytes: &mut [u8], told: &mut Told) {
     }
 }
 
-// Appends what a line comes to.
+// Appends the result of a line.
 fn put_line(alloc: Global, names: &mut Names, line: &str, told: &mut Told) {
     match names.read(line) {
         Some(Line::Remark) => {

@@ -1,4 +1,4 @@
-//! Going on from a journal that ends behind one of its pairs.
+//! Resumes from a journal that was cut after one of its entries.
 use crate::serving::serve_one;
 use check_lines::{Told, pairs};
 use exchange_session::Session;
@@ -6,23 +6,23 @@ use journal_replay::replay;
 use market_core::Market;
 use std::alloc::Global;
 
-// As many bytes has the magic of a journal.
+// The bytes of a journal's magic.
 const MAGIC: usize = 8;
 
-// Appends the pairs that a session answers to the commands of other pairs.
+// Appends the entries that a session answers to the commands of other entries.
 fn serve_all(session: &mut Session, pairs: &[&[u8]], answered: &mut Vec<u8>, told: &mut Told) {
     for pair in pairs {
         told.keep(serve_one(session, pair, answered));
     }
 }
 
-// The same of a session over this market.
+// Appends the entries that a session over this market answers to the commands of other entries.
 fn serve_over(market: Market, pairs: &[&[u8]], answered: &mut Vec<u8>, told: &mut Told) {
     let mut session = Session::over(market);
     serve_all(&mut session, pairs, answered, told);
 }
 
-// Appends the pairs that a session over the market of a journal answers to the commands of other pairs.
+// Appends the entries that a session over the market of a journal answers to the commands of other entries.
 fn serve_behind(
     alloc: Global,
     journal: &[u8],
@@ -36,7 +36,7 @@ fn serve_behind(
     }
 }
 
-// Appends whether the pairs that are served behind so many are those of the journal.
+// Appends whether the entries that are served after the first `count` are those of the journal.
 fn put_cut(alloc: Global, first: &[u8], behind: &[u8], count: usize, told: &mut Told) {
     let mut answered = Vec::new(alloc);
     match pairs(alloc, behind) {
@@ -52,7 +52,7 @@ fn put_cut(alloc: Global, first: &[u8], behind: &[u8], count: usize, told: &mut 
     }
 }
 
-// Ends the journal behind so many pairs, of which the last one ends here, and appends what is served from there on.
+// Cuts the journal after `count` entries, at this byte, and appends what is served from there on.
 fn put_cut_at(alloc: Global, journal: &[u8], end: usize, count: usize, told: &mut Told) {
     match journal.split_at_checked(end) {
         Some((first, behind)) => put_cut(alloc, first, behind, count, told),
@@ -60,7 +60,7 @@ fn put_cut_at(alloc: Global, journal: &[u8], end: usize, count: usize, told: &mu
     }
 }
 
-// Ends the journal behind each of its pairs in turn, the magic alone first, and appends what is served from there on.
+// Cuts the journal after each of its entries in turn, after the magic first, and appends what is served from there on.
 pub(crate) fn put_resumed(alloc: Global, journal: &[u8], told: &mut Told) {
     let (magic, behind) = journal.split_at(journal.len().min(MAGIC));
     put_cut_at(alloc, journal, magic.len(), 0, told);
@@ -70,7 +70,7 @@ pub(crate) fn put_resumed(alloc: Global, journal: &[u8], told: &mut Told) {
     }
 }
 
-// The same behind each of these pairs, of which the first one begins here.
+// Cuts the journal after each of these entries in turn, of which the first begins here, and appends what is served from there on.
 fn put_cuts(alloc: Global, journal: &[u8], begin: usize, pairs: &[&[u8]], told: &mut Told) {
     let mut end = begin;
     for (place, pair) in pairs.iter().enumerate() {

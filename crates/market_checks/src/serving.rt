@@ -1,4 +1,4 @@
-//! The pairs that a session answers.
+//! The entries that a session answers.
 ghost use Rattle.wire_records.specs.Records.{IsRecord, most_body};
 
 use crate::MANY;
@@ -8,7 +8,7 @@ use exchange_session::Session;
 use std::alloc::Global;
 use wire_records::{Framed, MOST_BODY, RecordView, next_record};
 
-// Serves a record, and appends its pair.
+// Serves a record, and appends its entry.
 fn serve(session: &mut Session, asked: &RecordView<'_>, pairs: &mut Vec<u8>) -> Option<()>
     requires { IsRecord most_body asked.now }
 {
@@ -26,7 +26,7 @@ pub(crate) fn serve_one(session: &mut Session, record: &[u8], pairs: &mut Vec<u8
     }
 }
 
-// Serves each record, and appends the rows of their pairs.
+// Serves each record, and appends the rows of their entries.
 fn put_served(session: &mut Session, records: &[&[u8]], pairs: &mut Vec<u8>, told: &mut Told) {
     for record in records {
         told.keep(serve_one(session, record, pairs));
@@ -34,7 +34,7 @@ fn put_served(session: &mut Session, records: &[&[u8]], pairs: &mut Vec<u8>, tol
     told.put_records(pairs, pairs.len());
 }
 
-// Serves each record, and appends the rows of their pairs. Then come those of the market.
+// Serves each record, and appends the rows of their entries. Then come those of the market.
 pub(crate) fn put_pairs(alloc: Global, bytes: &[u8], told: &mut Told) {
     let mut session = Session::new(alloc);
     let mut pairs = Vec::new(alloc);

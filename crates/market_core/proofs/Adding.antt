@@ -1,4 +1,4 @@
--- What the market answers to a new asset and to a new account.
+-- The market's reply to a new asset and to a new account.
 use Rattle.std.proofs.Common.{◌≡◌, ℕ, ◌+◌, ◌≤◌, ◌<◌, inl, inr, List, [], ◌∷◌, ◌++◌, length, Some, None, Result, Ok, Err, OnOk, OnErr, refl, ap, sym, subst, ◌∙◌, arith}
 use Rattle.std.specs.Prelude.{Contains, pos, ℤ}
 use Rattle.std.proofs.lemmas.Option.{slice_get_within, get_or_from_slice_get}
@@ -15,10 +15,10 @@ use Rattle.flow_accounts.specs.Answers.{RefusesAccount}
 use Rattle.flow_accounts.specs.declared.fault.AccountFault.{AccountFault}
 use Rattle.flow_accounts.specs.declared.fault.AccountFault.TheVariants as fault
 use Rattle.flow_orders.specs.Outcomes.{BatchRule}
-use Rattle.market_rules.specs.Market.{Market, IsSound}
+use Rattle.market_rules.specs.Market.{Market, IsConsistent}
 use Rattle.market_rules.specs.Step.{FirstRefusal, Serves, NoOutcome}
 use Rattle.market_core.specs.Private.{IsAnswered, refusal_for, ticker_refusal}
-use Rattle.market_core.proofs.Fitting.{sound-served, of_each}
+use Rattle.market_core.proofs.Fitting.{consistent-served, of_each}
 
 -- a ticker that can be added is refused by nothing
 pub addable_is_accepted : (m : Market) (ticker : List ℕ) → IsAddable m.tickers ticker → FirstRefusal m (AddAsset ticker) None
@@ -43,21 +43,21 @@ module _ (Rule : BatchRule) where
       }
 
   module _ (old new : Market) (ticker : List ℕ) (same : new ≡ old) where
-    -- it isn't valid
+    -- the ticker isn't valid
     pub refuses-bad_ticker : (IsTicker ticker → ⊥) → Serves Rule old (AddAsset ticker) (Plain (Refused BadTicker)) new
     refuses-bad_ticker bad = record { first = Some BadTicker; refused = inl (bad, refl); answered = (refl, same) }
 
-    -- it is there
+    -- the ticker is taken
     pub refuses-taken : (number : ℕ) → IsTicker ticker → HasNumber old.tickers number ticker → Serves Rule old (AddAsset ticker) (Plain (Refused TickerTaken)) new
     refuses-taken number valid has =
         let there : Contains old.tickers ticker = (number, slice_get_within old.tickers number ticker has, get_or_from_slice_get old.tickers number ticker ticker has) in
         record { first = Some TickerTaken; refused = inr (valid, inl (there, refl)); answered = (refl, same) }
 
-    -- there are too many
+    -- there are too many assets
     pub refuses-full : IsTicker ticker → (Contains old.tickers ticker → ⊥) → ticker_limit ≤ length old.tickers → Serves Rule old (AddAsset ticker) (Plain (Refused AssetLimit)) new
     refuses-full valid absent many = record { first = Some AssetLimit; refused = inr (valid, inr (absent, inl (many, refl))); answered = (refl, same) }
 
-  -- it isn't added, for another cause than want of memory
+  -- the asset isn't added, for another cause than running out of memory
   pub refuses-ticker_fault : (old new : Market) (ticker : List ℕ) (why : TickerFault) → new ≡ old
       → (why ≡ tickers.BadTicker → IsTicker ticker → ⊥)
       → ((number : ℕ) → why ≡ tickers.Taken number → IsTicker ticker × HasNumber old.tickers number ticker)
@@ -78,11 +78,11 @@ module _ (Rule : BatchRule) where
   serves-open_account m now few opened =
       record { first = None; refused = inr (λ full. omega (arith, few, full), refl); answered = (refl, ap (λ b. record m { balances = b }) opened) }
 
-  -- there are too many
+  -- there are too many accounts
   pub refuses-account : (m new : Market) → account_count m.balances ≡ most_accounts → new ≡ m → Serves Rule m OpenAccount (Plain (Refused AccountLimit)) new
   refuses-account m new full same = record { first = Some AccountLimit; refused = inl (omega (arith, full), refl); answered = (refl, same) }
 
-  -- an account isn't opened, for another cause than want of memory
+  -- the account isn't opened, for another cause than running out of memory
   pub refuses-account_fault : (m new : Market) (why : AccountFault) → RefusesAccount m.balances why → IsAnswered why → new ≡ m → Serves Rule m OpenAccount (Plain (Refused (refusal_for why))) new
   refuses-account_fault m new fault.Full full answered same = refuses-account m new full same
   refuses-account_fault m new fault.NoAccount refused answered same = absurd refused
@@ -94,8 +94,8 @@ module _ (Rule : BatchRule) where
   refuses-account_fault m new (fault.InUse used) refused answered same = absurd refused
   refuses-account_fault m new fault.Memory refused answered same = absurd answered
 
--- whether an account was opened or not, a sound market stays sound
-pub sound-opened : (m : Market) (now : Balances) (outcome : Result ℕ AccountFault) → IsSound m → OnOk outcome (account_count m.balances < most_accounts)
-    → OnOk outcome (now ≡ open_account m.balances) → OnErr outcome (now ≡ m.balances) → IsSound (record m { balances = now })
-sound-opened m now (Ok number) sound few opened same = sound-served m OpenAccount _ (record m { balances = now }) (of_each m.version OpenAccount (omega arith) (omega arith)) sound (serves-open_account NoOutcome m now few opened)
-sound-opened m now (Err why) sound few opened same = subst (λ b. IsSound (record m { balances = b })) (sym same) sound
+-- whether an account was opened or not, a consistent market stays consistent
+pub consistent-opened : (m : Market) (now : Balances) (outcome : Result ℕ AccountFault) → IsConsistent m → OnOk outcome (account_count m.balances < most_accounts)
+    → OnOk outcome (now ≡ open_account m.balances) → OnErr outcome (now ≡ m.balances) → IsConsistent (record m { balances = now })
+consistent-opened m now (Ok number) consistent few opened same = consistent-served m OpenAccount _ (record m { balances = now }) (of_each m.version OpenAccount (omega arith) (omega arith)) consistent (serves-open_account NoOutcome m now few opened)
+consistent-opened m now (Err why) consistent few opened same = subst (λ b. IsConsistent (record m { balances = b })) (sym same) consistent

@@ -1,4 +1,4 @@
--- What the market answers, by what its accounts and its tickers answer.
+-- The market's replies, by the results of its accounts and its tickers.
 use Rattle.std.proofs.Common.{◌≡◌, ℕ, inl, inr, Result, Ok, Err, Some, None, OnOk, OnErr, IsOk, ◌↔◌, refl, ap, arith}
 use Rattle.std.specs.Prelude.{IfErr, MatchResult}
 use Rattle.std.proofs.lemmas.Int.{ints}
@@ -17,7 +17,7 @@ use Rattle.market_rules.specs.Market.{Market}
 use Rattle.market_rules.specs.Step.{Serves}
 use Rattle.market_core.specs.Private.{refusal_for}
 
--- the reply that an outcome gives
+-- the reply for the result of a change of an account
 abbrev pub Replies : {T : Type 0} → Result T AccountFault → Reply → Type 0
 Replies outcome reply = MatchResult outcome (λ _. reply ≡ Done) (λ why. reply ≡ Refused (refusal_for why))
 
@@ -82,7 +82,7 @@ module _ (Rule : BatchRule) (m : Market) (now : Balances) where
   serves-deposit_units account asset units (Err (fault.InUse used)) reply accepted refused ok err is = absurd refused
   serves-deposit_units account asset units (Err fault.Memory) reply accepted refused ok err is = absurd refused
 
-  -- a withdrawal, where what the orders of the account need is reserved
+  -- a withdrawal of money: what the orders of the account need is reserved
   pub serves-withdraw_money : {T : Type 0} (account ticks : ℕ) (outcome : Result T AccountFault) (reply : Reply) → let reserved = needed_money m.orders account in
       (IsOk outcome ↔ AcceptsMoneyWithdrawal m.balances account ticks reserved) → IfErr outcome (RefusesMoneyWithdrawal m.balances account ticks reserved)
       → OnOk outcome (now ≡ change_money m.balances account (neg_ℤ (grains ticks))) → OnErr outcome (now ≡ m.balances) → Replies outcome reply
@@ -140,7 +140,7 @@ module _ (Rule : BatchRule) (m : Market) (now : Balances) where
   serves-withdraw_units account asset units (Err (fault.InUse used)) reply accepted refused ok err is = absurd refused
   serves-withdraw_units account asset units (Err fault.Memory) reply accepted refused ok err is = absurd refused
 
-  -- a credit in money, where what the orders of the account need is reserved
+  -- a credit in money: what the orders of the account need is reserved
   pub serves-set_money_credit : {T : Type 0} (account ticks : ℕ) (outcome : Result T AccountFault) (reply : Reply) → let reserved = needed_money m.orders account in
       (IsOk outcome ↔ AcceptsMoneyCredit m.balances account ticks reserved) → IfErr outcome (RefusesMoneyCredit m.balances account ticks reserved)
       → OnOk outcome (now ≡ set_money_credit m.balances account ticks) → OnErr outcome (now ≡ m.balances) → Replies outcome reply
@@ -169,7 +169,7 @@ module _ (Rule : BatchRule) (m : Market) (now : Balances) where
   serves-set_money_credit account ticks (Err (fault.NotFree free)) reply accepted refused ok err is = absurd refused
   serves-set_money_credit account ticks (Err fault.Memory) reply accepted refused ok err is = absurd refused
 
-  -- and in an asset
+  -- a credit in an asset: what the orders of the account need of it is reserved
   pub serves-set_unit_credit : {T : Type 0} (account asset units : ℕ) (outcome : Result T AccountFault) (reply : Reply) → let reserved = needed_units m.orders account asset in
       (IsOk outcome ↔ AcceptsUnitCredit m.balances account asset units reserved) → IfErr outcome (RefusesUnitCredit m.balances account asset units reserved)
       → OnOk outcome (now ≡ set_unit_credit m.balances account asset units) → OnErr outcome (now ≡ m.balances) → Replies outcome reply

@@ -1,4 +1,4 @@
--- What the market would answer, by what its accounts and its book would.
+-- The replies that the market would give, by the results that its accounts and its book would have.
 use Rattle.market_rules.specs.Step.{NoOutcome}
 use Rattle.std.proofs.Common.{◌≡◌, ℕ, inl, inr, Bool, true, false, IsTrue, Result, Ok, Err, Some, None, OnOk, OnErr, IsOk, ◌↔◌, pos, neg_ℤ, true≢false, refl, sym}
 use Rattle.std.specs.Prelude.{IfErr}
@@ -15,7 +15,7 @@ use Rattle.market_core.specs.Expected.{IsExpected}
 use Rattle.market_core.specs.Private.{cancel_reply}
 use Rattle.market_core.proofs.Answering.{Replies, serves-deposit_money, serves-deposit_units, serves-withdraw_money, serves-withdraw_units, serves-set_money_credit, serves-set_unit_credit}
 
--- the balances after a change that an outcome allows, or else those before
+-- the balances after a change if the result allows it, and else those before
 made : {T : Type 0} (outcome : Result T AccountFault) (changed kept : Balances) → (now : Balances) × OnOk outcome (now ≡ changed) × OnErr outcome (now ≡ kept)
 made (Ok x) changed kept = (changed, refl, tt)
 made (Err why) changed kept = (kept, tt, refl)
@@ -63,7 +63,7 @@ module _ (m : Market) where
       let now = made outcome (set_unit_credit m.balances account asset units) m.balances in
       (record m { balances = now.0 }, serves-set_unit_credit NoOutcome m now.0 account asset units outcome reply accepted refused now.1 now.2 is)
 
-  -- the order would be taken out, or it isn't there
+  -- the order would be cancelled, or there is no such order
   pub expects-cancel : (account number : ℕ) (there : Bool) → IsAccount m.balances account → (IsTrue there ↔ HasOrder m.orders account number)
       → IsExpected m (CancelOrder account number) (cancel_reply there)
   expects-cancel account number true opened is =

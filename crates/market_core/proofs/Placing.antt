@@ -1,4 +1,4 @@
--- What an order that is asked for needs of its account, entry by entry; and a cancelled one.
+-- What an order that is asked for needs of its account, leg by leg; and a cancelled order.
 use Rattle.std.proofs.Common.{◌≡◌, ℕ, ◌+◌, ◌-◌, ◌*◌, ◌<◌, ◌≤◌, ◌↔◌, inl, inr, Bool, true, false, List, [], ◌∷◌, ◌++◌, ℤ, pos, negsuc, ◌≤ℤ◌, Option, Some, None, IsTrue, IsFalse, length, ⊎_elim, refl, sym, ap, ◌∙◌, subst, arith}
 use Rattle.std.specs.Prelude.{slice_get, slice_index_or, All, IfSome}
 use Rattle.std.proofs.lemmas.Int.{ints}
@@ -6,7 +6,7 @@ use Rattle.std.proofs.lemmas.Bool.{cases_lt, false≢true}
 use Rattle.std.proofs.lemmas.List.{length-map, get_or-map}
 use Rattle.std.proofs.lemmas.Option.{slice_get_within, get_or_from_slice_get}
 use Rattle.weight_rows.specs.declared.entries.Entry.{Entry}
-use Rattle.weight_rows.specs.Rows.{IsLawfulRow, assets_of, weight_in}
+use Rattle.weight_rows.specs.Rows.{IsWeightVector, assets_of, weight_in}
 use Rattle.weight_rows.proofs.RowLawProofs.{entries_give_weights, named_assets_weigh}
 use Rattle.flow_accounts.specs.Balances.{IsAccount, IsAsset}
 use Rattle.wire_records.specs.Commands.{Request, Place, CancelOrder, Plain}
@@ -17,18 +17,18 @@ use Rattle.demand_curve.specs.Numbers.{or_zero}
 use Rattle.flow_orders.specs.Orders.{Order, most_orders, price_of_ticks, sold}
 use Rattle.flow_orders.specs.Outcomes.{BatchRule}
 use Rattle.order_book.specs.Book.{Book, HasOrder, without}
-use Rattle.market_rules.specs.Market.{Market, IsSound, usable_money, usable_units}
+use Rattle.market_rules.specs.Market.{Market, IsConsistent, usable_money, usable_units}
 use Rattle.market_rules.specs.Step.{◌unless◌else◌, FirstRefusal, RefusesRow, Serves, placed, IsAffordable}
 use Rattle.market_core.specs.Private.{cancel_reply, RefusesNumbers, HasRightNumbers, no_other, IsFreeFor}
 use Rattle.market_rules.proofs.Accepted.{past_when, past_unless, not_least}
 
--- ---- entry by entry
+-- ---- leg by leg
 
--- an entry that was read stands within the row
+-- a leg that was read is within the weight vector
 pub read_within : (row : List Entry) (place : ℕ) (e : Entry) → Some e ≡ slice_get row place → place < length row
 read_within row place e read = slice_get_within row place e (sym read)
 
--- what holds of the entries so far and of the one that was read holds of one more
+-- what holds of the legs so far and of the one that was read holds of one more
 pub one_more : (P : Entry → Type 0) (row : List Entry) (place : ℕ) (e : Entry) → Some e ≡ slice_get row place
     → ((k : ℕ) (d : Entry) → k < place → P (slice_index_or row k d)) → P e
     → (k : ℕ) (d : Entry) → k < place + 1 → P (slice_index_or row k d)
@@ -40,7 +40,7 @@ one_more P row place e read before here k d below =
     subst (λ n. P (slice_index_or row n d)) same (subst P (sym (get_or_from_slice_get row place e d (sym read))) here))
     (cases_lt k place)
 
--- the entry that was read doesn't have what all have
+-- if the leg that was read lacks a property, not all legs have it
 pub one_lacks : (P : Entry → Type 0) (row : List Entry) (place : ℕ) (e : Entry) → Some e ≡ slice_get row place → (P e → ⊥) → All P row → ⊥
 one_lacks P row place e read lacks all =
     lacks (subst P (get_or_from_slice_get row place e e (sym read)) (all place e (read_within row place e read)))
@@ -56,8 +56,8 @@ asset_at row k d asset inside = get_or-map (λ (e : Entry). e.asset) row k d ass
 negative_is_not_none : (n : ℕ) → negsuc n ≡ pos 0 → ⊥
 negative_is_not_none n is = omega (arith, ints, is)
 
--- the units that each entry sells are free exactly where those of each asset are
-pub free_by_entries : (m : Market) (account cap : ℕ) (row : List Entry) → IsLawfulRow row → All (λ e. IsAsset m.balances e.asset) row
+-- the units that each leg sells are free exactly if those of each asset are
+pub free_by_entries : (m : Market) (account cap : ℕ) (row : List Entry) → IsWeightVector row → All (λ e. IsAsset m.balances e.asset) row
     → ((asset : ℕ) → IsAsset m.balances asset → pos 0 ≤ℤ usable_units m account asset)
     → All (λ e. pos (sold e.weight * cap) ≤ℤ usable_units m account e.asset) row
     → (asset : ℕ) → IsAsset m.balances asset → pos (sold (weight_in row asset) * cap) ≤ℤ usable_units m account asset
@@ -75,22 +75,22 @@ free_by_entries m account cap row lawful assets some each asset there = by_weigh
         subst (λ a. pos (sold (negsuc n) * cap) ≤ℤ usable_units m account a) is_asset
         (subst (λ w. pos (sold w * cap) ≤ℤ usable_units m account (slice_index_or row named.0 d).asset) weight here)
 
-pub entries_are_free : (m : Market) (account cap : ℕ) (row : List Entry) → IsLawfulRow row → All (λ e. IsAsset m.balances e.asset) row
+pub entries_are_free : (m : Market) (account cap : ℕ) (row : List Entry) → IsWeightVector row → All (λ e. IsAsset m.balances e.asset) row
     → ((asset : ℕ) → IsAsset m.balances asset → pos (sold (weight_in row asset) * cap) ≤ℤ usable_units m account asset)
     → All (λ e. pos (sold e.weight * cap) ≤ℤ usable_units m account e.asset) row
 entries_are_free m account cap row lawful assets free k d inside =
     subst (λ w. pos (sold w * cap) ≤ℤ usable_units m account (slice_index_or row k d).asset) (entries_give_weights row lawful k d inside)
     (free (slice_index_or row k d).asset (assets k d inside))
 
--- what an order needs is free exactly where its money is and the units of each entry are
-pub affordable_is : (m : Market) (r : Request) (free : Bool) → IsSound m → IsAccount m.balances r.account → IsLawfulRow r.row → All (λ e. IsAsset m.balances e.asset) r.row
+-- what an order needs is free exactly if its money and the units of each leg are
+pub affordable_is : (m : Market) (r : Request) (free : Bool) → IsConsistent m → IsAccount m.balances r.account → IsWeightVector r.row → All (λ e. IsAsset m.balances e.asset) r.row
     → pos (or_zero (price_of_ticks r.high) * r.cap) ≤ℤ usable_money m r.account
     → (IsTrue free ↔ All (λ e. pos (sold e.weight * r.cap) ≤ℤ usable_units m r.account e.asset) r.row)
     → (IsTrue free ↔ IsFreeFor m r)
-affordable_is m r free sound account lawful assets money is =
+affordable_is m r free consistent account lawful assets money is =
     let whole : r.cap ≡ r.cap - 0 = omega arith in
     let some : (asset : ℕ) → IsAsset m.balances asset → pos 0 ≤ℤ usable_units m r.account asset =
-    λ asset there. omega (arith, ints, sound.covered.units r.account asset account there) in (
+    λ asset there. omega (arith, ints, consistent.covered.units r.account asset account there) in (
       λ yes. record {
         money = subst (λ n. pos (or_zero (price_of_ticks r.high) * n) ≤ℤ usable_money m r.account) whole money;
         units = λ asset there. subst (λ n. pos (sold (weight_in r.row asset) * n) ≤ℤ usable_units m r.account asset) whole
@@ -100,7 +100,7 @@ affordable_is m r free sound account lawful assets money is =
           (λ asset there. subst (λ n. pos (sold (weight_in r.row asset) * n) ≤ℤ usable_units m r.account asset) (sym whole) (affordable.units asset there))),
     )
 
--- whatever its last batch is
+-- what is free for an order without a last batch is free for one with any last batch
 pub free_until : (m : Market) (last : Option ℕ) (r : Request) → IsFreeFor m r → IsAffordable m (placed m last r)
 free_until m last r free = record { money = free.money; units = free.units }
 
@@ -109,7 +109,7 @@ free_from m last r free = record { money = free.money; units = free.units }
 
 -- ---- refusals in parts
 
--- a refusal for the numbers is the first, whatever the others are
+-- a refusal for the numbers is the first one, whatever the others are
 pub refuses_numbers : (m : Market) (r : Request) (others : Option Refusal → Type 0) (first : Option Refusal) → RefusesNumbers m r no_other first → RefusesNumbers m r others first
 refuses_numbers m r others first (inl here) = inl here
 refuses_numbers m r others first (inr (account, inl here)) = inr (account, inl here)
@@ -117,11 +117,11 @@ refuses_numbers m r others first (inr (account, inr (limits, inl here))) = inr (
 refuses_numbers m r others first (inr (account, inr (limits, inr (rate, inl here)))) = inr (account, inr (limits, inr (rate, inl here)))
 refuses_numbers m r others first (inr (account, inr (limits, inr (rate, inr (cap, none))))) = absurd none
 
--- where the numbers are right, the others decide
+-- if account and numbers are valid, the others decide
 pub passes_numbers : (m : Market) (r : Request) (others : Option Refusal → Type 0) (first : Option Refusal) → HasRightNumbers m r → others first → RefusesNumbers m r others first
 passes_numbers m r others first right other = inr (right.account, inr (right.limits, inr (right.rate, inr (right.cap, other))))
 
--- a refusal for the row doesn't depend on the last batch
+-- a refusal for the weight vector, the full book or the needs doesn't depend on the last batch
 refuses_row : (m : Market) (last : Option ℕ) (r : Request) (first : Option Refusal) → RefusesRow m (placed m None r) first → RefusesRow m (placed m last r) first
 refuses_row m last r first (inl here) = inl here
 refuses_row m last r first (inr (row, inl here)) = inr (row, inl here)
@@ -129,18 +129,18 @@ refuses_row m last r first (inr (row, inr (assets, inl here))) = inr (row, inr (
 refuses_row m last r first (inr (row, inr (assets, inr (few, inl (dear, is))))) = inr (row, inr (assets, inr (few, inl ((λ free. dear (free_from m last r free)), is))))
 refuses_row m last r first (inr (row, inr (assets, inr (few, inr (free, none))))) = inr (row, inr (assets, inr (few, inr (free_until m last r free, none))))
 
--- what decides where the numbers are right
+-- the refusals that decide once account and numbers are valid
 abbrev pub BehindNumbers : Market → Option ℕ → Request → Option Refusal → Type 0
 BehindNumbers m last r = BadLast unless IfSome last (λ batch. m.batches < batch) else RefusesRow m (placed m last r)
 
--- so the first refusal of an order, by its parts
+-- the first refusal of an order, by its parts
 pub first_of_place : (m : Market) (last : Option ℕ) (r : Request) (first : Option Refusal) → HasRightNumbers m r → IfSome last (λ batch. m.batches < batch) → RefusesRow m (placed m None r) first → FirstRefusal m (Place last r) first
 first_of_place m last r first right later row = passes_numbers m r (BehindNumbers m last r) first right (inr (later, refuses_row m last r first row))
 
 pub too_late : (m : Market) (last : Option ℕ) (r : Request) → HasRightNumbers m r → ¬ IfSome last (λ batch. m.batches < batch) → FirstRefusal m (Place last r) (Some BadLast)
 too_late m last r right over = passes_numbers m r (BehindNumbers m last r) (Some BadLast) right (inl (over, refl))
 
--- where no refusal holds, there is place for one order more
+-- if no refusal holds, there is room for one more order
 row_is_few : (m : Market) (o : Order) → RefusesRow m o None → length m.orders < most_orders
 row_is_few m o first =
     let row = past_unless first in
@@ -167,11 +167,11 @@ serves-place Rule m last r o orders first is made = record {
 -- ---- cancels
 
 module _ (Rule : BatchRule) (m : Market) (account number : ℕ) where
-  -- the account isn't there
+  -- there is no such account
   pub refuses-no_account : (new : Market) → (IsAccount m.balances account → ⊥) → new ≡ m → Serves Rule m (CancelOrder account number) (Plain (Refused NoAccount)) new
   refuses-no_account new none same = record { first = Some NoAccount; refused = inl (none, refl); answered = (refl, same) }
 
-  -- the order is taken out, or it isn't there
+  -- the order is cancelled, or there is no such order
   pub serves-cancel : (cancelled : Bool) (old new : Book) → IsAccount m.balances account
       → (IsTrue cancelled ↔ HasOrder old.orders account number) → (IsFalse cancelled → new ≡ old) → (IsTrue cancelled → new.orders ≡ without old.orders number)
       → Serves Rule (record m { orders = old.orders }) (CancelOrder account number) (Plain (cancel_reply cancelled)) (record m { orders = new.orders })

@@ -1,4 +1,4 @@
--- The prices at which a batch starts, one after the other.
+-- The prices at which a batch starts, one by one.
 use Rattle.std.proofs.Common.{◌≡◌, ℕ, ◌+◌, ◌<◌, ◌^◌, ℤ, List, [], ◌∷◌, ◌++◌, map, length, take, get_or, to_z, of_z, ap, sym, ◌∙◌, arith}
 use Rattle.std.specs.Prelude.{All}
 use Rattle.std.specs.Int.{w64}
@@ -15,7 +15,7 @@ same_price x price = to_z-of_z w64 x (fits_signed_from_abs w64 x (omega (arith, 
 same_cut : (x : ℤ) → IsWithin (2 ^ 60) x → to_z w64 (of_z w64 x) ≡ x
 same_cut x within = to_z-of_z w64 x (fits_signed_from_abs w64 x (omega (arith, ints, within)))
 
--- one price more is cut
+-- one more price is cut
 pub cut_more : (last : List ℤ) (i : ℕ) (items : List ℤ) (d x : ℤ) → i < length last → All IsPrice last → items ≡ map cut_price (take i last)
     → x ≡ cut_price (to_z w64 (of_z w64 (get_or last i d))) → IsWithin (2 ^ 60) x
     → items ++ to_z w64 (of_z w64 x) ∷ [] ≡ map cut_price (take (i + 1) last)

@@ -1,8 +1,8 @@
--- What the fields of a market stand for.
+-- The market that the fields of the program's market represent.
 use Rattle.market_core.specs.declared.market.Market.TheInside.{Inside}
 use Rattle.market_rules.specs.Market.{Market}
 
--- the market that the fields stand for
+-- the market that the fields represent
 abbrev pub market_in : Inside → Market
 market_in m = record {
   version = m.version;

@@ -1,10 +1,10 @@
--- What is left of a market whose live orders were looked at in one list.
+-- A market after its live orders were lent as one list.
 use Rattle.std.specs.Prelude.{◌≡◌, ⊤}
 use Rattle.std.specs.Borrow.{follows_so, Fml, MutBor}
 use mathlib.Core.Option.{none}
 use Rattle.market_rules.specs.Market.{Market}
 use Rattle.market_core.specs.contracts.market.Market.{the_row}
 
--- once the list is no longer used, the market is as it was
+-- once the list is no longer used, the market is as it was before
 abbrev pub StaysAsListed : MutBor Market → Fml
 StaysAsListed market = follows_so the_row the_row market.ghost_name none (λ _ _. ⊤) (λ after. after ≡ market.now)

@@ -1,4 +1,4 @@
--- Words that only private functions of the market use.
+-- Definitions that only private functions of the market use.
 use Rattle.std.specs.Prelude.{Bool, true, false, Option, None}
 use Rattle.demand_curve.specs.Demand.{most_rate}
 use Rattle.flow_accounts.specs.Balances.{IsAccount}
@@ -15,7 +15,7 @@ use Rattle.wire_records.specs.declared.reply.Refusal.TheVariants.{AssetLimit, Ti
 use Rattle.wire_records.specs.declared.reply.Reply.{Reply}
 use Rattle.wire_records.specs.declared.reply.Reply.TheVariants.{Done, Refused}
 
--- every fault but want of memory is answered by a refusal
+-- the fault is answered by a refusal: any fault but running out of memory
 abbrev pub IsAnswered : AccountFault → Type 0
 IsAnswered fault.Memory = ⊥
 IsAnswered fault.NoAccount = Unit {0}
@@ -27,7 +27,7 @@ IsAnswered (fault.NotFree free) = Unit {0}
 IsAnswered fault.CreditLimit = Unit {0}
 IsAnswered (fault.InUse used) = Unit {0}
 
--- the refusal for a fault; want of memory has none, and any stands here
+-- the refusal for a fault of the accounts; running out of memory has none, and the value given for it is arbitrary
 abbrev pub refusal_for : AccountFault → Refusal
 refusal_for fault.NoAccount = NoAccount
 refusal_for fault.NoAsset = NoAsset
@@ -39,19 +39,19 @@ refusal_for fault.CreditLimit = CreditLimit
 refusal_for (fault.InUse used) = CreditInUse
 refusal_for fault.Memory = NoAccount
 
--- the refusal for a fault of a ticker; want of memory has none, and any stands here
+-- the refusal for a fault of a ticker; running out of memory has none, and the value given for it is arbitrary
 abbrev pub ticker_refusal : TickerFault → Refusal
 ticker_refusal ticker.BadTicker = BadTicker
 ticker_refusal (ticker.Taken number) = TickerTaken
 ticker_refusal ticker.Full = AssetLimit
 ticker_refusal ticker.Memory = BadTicker
 
--- the reply to a cancel, by whether the order is there
+-- the reply to a cancel, by whether the order is live
 abbrev pub cancel_reply : Bool → Reply
 cancel_reply true = Done
 cancel_reply false = Refused NoOrder
 
--- the refusals that an order meets for its account and its numbers; then others decide
+-- the refusals of an order for its account and its numbers, in their order; if none of them holds, the others decide
 abbrev pub RefusesNumbers : Market → Request → (Option Refusal → Type 0) → Option Refusal → Type 0
 RefusesNumbers m r others =
     NoAccount unless IsAccount m.balances r.account else
@@ -59,17 +59,17 @@ RefusesNumbers m r others =
     BadRate unless IsFrom1To most_rate r.rate else
     BadCap unless IsFrom1To most_cap r.cap else others
 
--- its account is there, and its numbers are as they should be
+-- no refusal of an order for its account or its numbers holds
 pub record HasRightNumbers (m : Market) (r : Request) : Type 0 where
   pub account : IsAccount m.balances r.account
   pub limits : AreLimits r.low r.high
   pub rate : IsFrom1To most_rate r.rate
   pub cap : IsFrom1To most_cap r.cap
 
--- no other refusal
+-- no refusal is the first one here: after these tests nothing decides
 abbrev pub no_other : Option Refusal → Type 0
 no_other first = ⊥
 
--- what an order on a request needs is free, whatever its last batch
+-- the account has free what the order of a request needs, whatever its last batch
 abbrev pub IsFreeFor : Market → Request → Type 0
 IsFreeFor m r = IsAffordable m (placed m None r)

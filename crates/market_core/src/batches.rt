@@ -4,7 +4,7 @@ ghost use Rattle.demand_curve.specs.Demand.{IsWithin};
 ghost use Rattle.wire_records.specs.Commands.{RunBatch};
 ghost use Rattle.batch_outcome.specs.Published.{clearing_of, outcome_of};
 ghost use Rattle.flow_orders.specs.Outcomes.{Cleared as ClearedBatch};
-ghost use Rattle.market_rules.specs.Market.{IsSound, most_batches, start_prices, cut_price};
+ghost use Rattle.market_rules.specs.Market.{IsConsistent, most_batches, start_prices, cut_price};
 ghost use Rattle.market_rules.specs.Step.{FirstRefusal, after_batch};
 ghost use Rattle.market_rules.specs.Settling.{MaySettle, MaySettleAt};
 
@@ -19,10 +19,10 @@ use wire_records::{Memory, Refusal};
 // The highest budget of a batch, in moves.
 const MOST_BUDGET: u32 = 65_536;
 
-// A batch starts with prices within so many grains of 0.
+// The start prices of a batch are within this many grains of 0.
 const FARTHEST_START: i64 = 1 << 60;
 
-// A price, cut to the range in which a search starts.
+// Returns the price, cut to the range of start prices: within 2^60 grains of 0.
 fn cut_price(price: i64) -> i64
     ensures value { result ≡ cut_price price }
     ensures range { IsWithin (2 ^ 60) result }
@@ -31,8 +31,8 @@ fn cut_price(price: i64) -> i64
 }
 
 impl Market {
-    /// Whether a batch with this budget of moves may be held now, or else the first refusal: `BadBudget` exactly where
-    /// the budget isn't from 1 to 65,536, then `BatchLimit` exactly where 2^24 batches were held.
+    /// Returns `Ok` if a batch with this budget of moves may be held now, and else the first refusal: `BadBudget`
+    /// exactly if the budget isn't from 1 to 65,536, then `BatchLimit` exactly if 2^24 batches were held.
     pub fn batch_allowed(&self, budget: u32) -> Result<(), Refusal>
         ensures first { MatchResult result
             (λ _. FirstRefusal self.now (RunBatch budget) None)
@@ -48,24 +48,25 @@ impl Market {
         Ok(())
     }
 
-    /// How many batches were held, cleared or skipped: at most 2^24.
+    /// Returns how many batches were held, cleared or skipped: at most 2^24.
     pub fn batches(&self) -> u32
         ensures value { result ≡ self.now.batches }
-        ensures sound { IsSound self.now }
+        ensures consistent { IsConsistent self.now }
     {
         self.batches
     }
 
-    /// The exchange's own account, which takes what rounding leaves over.
+    /// Returns the exchange's own account, which takes the rounding imbalances of batches.
     pub fn exchange(&self) -> &ResidualAccount
         ensures value { result.now ≡ self.now.exchange }
-        ensures sound { IsSound self.now }
+        ensures consistent { IsConsistent self.now }
     {
         &self.exchange
     }
 
-    /// The prices at which a batch starts, in grains, by the assets' numbers: the last cleared ones, each cut to the range
-    /// from -2^60 to 2^60, and 0 for an asset that was never priced. `Memory` is the one fault: there is none for the list.
+    /// Returns the prices at which a batch starts, in grains, by the assets' numbers: the last cleared prices, each cut
+    /// to the range from -2^60 to 2^60, and 0 for an asset that was never priced. The only error is `Memory`: there is
+    /// no memory for the list.
     pub fn start_prices(&self, alloc: Global) -> Result<PriceList, Memory>
         ensures value { IfOk result (λ prices. prices ≡ start_prices self.now) }
         ensures range { IfOk result (All (IsWithin (2 ^ 60))) }
@@ -78,14 +79,14 @@ impl Market {
         Ok(PriceList::new(prices))
     }
 
-    /// Counts a batch that ended so. Where it cleared it is settled: each account pays for its orders' rates and
-    /// receives their units, the exchange takes the other side of the residuals, each order is filled by its rate and
-    /// leaves once it is filled to its cap, and the prices are the last ones. Either way the orders leave whose last
-    /// batch it was; a batch that was skipped changes nothing else.
+    /// Counts a batch with this outcome. A batch that cleared is settled: each account pays for its orders' rates and
+    /// receives their units, the exchange takes the imbalances, each order is filled by its rate and leaves the book
+    /// once it is filled to its cap, and the prices become the last cleared ones. In either case the orders leave whose
+    /// last batch this was; a batch that was skipped changes nothing else.
     ///
-    /// The outcome is right for the live orders and the start prices, and fewer than 2^24 batches were held. It takes
-    /// no memory and can't fail. It costs two passes over the entries of the live orders, however many accounts there
-    /// are, and one over the orders and the entries of those that leave.
+    /// The outcome is admissible for the live orders and the start prices, and fewer than 2^24 batches were held. The
+    /// call takes no memory and can't fail. It costs two passes over the legs of the live orders, however many accounts
+    /// there are, and one over the orders and the legs of those that leave.
     pub fn settle(&mut self, outcome: &Outcome)
         requires right { MaySettle self.old outcome.now }
         requires more { self.old.batches < most_batches }

@@ -1,4 +1,5 @@
-//! What would be answered: the command that a record spells, and the reply that a command gets. Nothing is changed.
+//! What the market would reply: the command that a record encodes, and the reply that a command gets. Nothing is
+//! changed.
 ghost use Rattle.std.specs.Prelude.{◌≡◌, ℕ, ◌+◌, ◌<◌, ◌^◌, Ok, Err, IfOk, IfErr, length};
 ghost use Rattle.wire_records.specs.Commands.{AddAsset, OpenAccount, DepositMoney, DepositAsset, WithdrawMoney, WithdrawAsset, Place, CancelOrder, RunBatch, SetMoneyCredit, SetUnitCredit};
 ghost use Rattle.wire_records.specs.CommandRecords.{IsCommand};
@@ -14,7 +15,7 @@ use crate::orders::cancel_reply;
 use flow_accounts::AccountFault;
 use wire_records::{BodyFault, CommandView, PlaceView, RecordView, Refusal, Reply};
 
-// The refusal of a record that can't be served.
+// Returns the refusal of a record that can't be served.
 fn body_refusal(fault: BodyFault) -> Refusal
     ensures { result ≡ refusal_of fault }
 {
@@ -25,9 +26,9 @@ fn body_refusal(fault: BodyFault) -> Refusal
 }
 
 impl Market {
-    /// The command of the market's version that a record spells, with its fields in the borrowed bytes, or the refusal
-    /// that the record gets: `UnknownTag` exactly where no command of the version has the tag, `BadBody` exactly where
-    /// one has it, but not this body. Constant cost.
+    /// Returns the command of the market's version that a record encodes, with its fields borrowed from the record's
+    /// bytes, or the refusal that the record gets: `UnknownTag` exactly if no command of the version has the tag,
+    /// `BadBody` exactly if one has it, but not this body. Constant cost.
     pub fn read<'a>(&self, asked: &RecordView<'a>) -> Result<CommandView<'a>, Refusal>
         ensures command { IfOk result (λ command. IsReadAs self.now.version asked.now (Ok (command_of command))) }
         ensures fault { IfErr result (λ refusal. (why : body_fault) × IsReadAs self.now.version asked.now (Err why) × (refusal ≡ refusal_of why)) }
@@ -41,12 +42,13 @@ impl Market {
         }
     }
 
-    /// The reply that a command gets now: the one that [`Market::apply`] answers where memory isn't wanted. The command
-    /// is of the market's version and holds no batch, and the number that the next order gets is below 2^64 - 1.
+    /// Returns the reply that a command gets now: the one that [`Market::apply`] gives unless memory runs out. The
+    /// command is of the market's version and holds no batch, and the number that the next order gets is below
+    /// 2^64 - 1.
     ///
-    /// It takes no memory. The cost is constant, however many accounts and orders there are, but that an order is looked
-    /// at entry by entry, and that one to be cancelled is found by its number, in as many steps as the count of live
-    /// orders has bits.
+    /// Takes no memory. The cost is constant, however many accounts and orders there are, with two exceptions: an order
+    /// is checked leg by leg, and an order to be cancelled is found by its number, in as many steps as the count of
+    /// live orders has bits.
     pub fn expected(&self, command: &CommandView<'_>) -> Reply
         requires command { IsCommand (command_of command.now) }
         requires version { IsOfVersion self.now.version (command_of command.now) }

@@ -1,8 +1,8 @@
 //! The program's market: what it keeps from one command to the next, and what each command makes of it.
 //!
-//! What a market is and does is said in `market_rules`. Each call of [`Market`] that changes it is one step of these
-//! definitions, and `Expected` in `specs` says which reply a command gets. [`Market::restore`] makes a market of its parts,
-//! where they are those of a sound one.
+//! `market_rules` defines what a market is and does. Each call of [`Market`] that changes it is one step of these
+//! definitions, and `Expected` in `specs` defines which reply a command gets. [`Market::restore`] makes a market of its
+//! parts, if they are the parts of a consistent one.
 #![tactic(auto)]
 
 mod batches;

@@ -20,8 +20,8 @@ use std::marker::Model;
 use ticker_table::{TickerFault, TickerTable};
 use wire_records::{CommandView, Memory, Refusal, Reply, Version};
 
-/// The version, the assets by their tickers, all balances, the exchange's own account, the live orders, the number that
-/// the next order gets, how many batches were held, and the last cleared prices.
+/// A market: its version, the assets by their tickers, all balances, the exchange's own account, the live orders, the
+/// number that the next order gets, how many batches were held, and the last cleared prices.
 #[derive(Drop)]
 pub struct Market {
     pub(crate) version: Version,
@@ -36,17 +36,17 @@ pub struct Market {
 }
 
 impl Model for Market {
-    ghost use Rattle.market_rules.specs.Market.{Market as market_value, IsSound};
+    ghost use Rattle.market_rules.specs.Market.{Market as market_value, IsConsistent};
     ghost use Rattle.market_core.specs.Kept.{market_in};
 
     ghost Value = { market_value };
 
     ghost view = { market_in };
 
-    ghost invariant = { λ m. IsSound (market_in m) };
+    ghost invariant = { λ m. IsConsistent (market_in m) };
 }
 
-// The refusal for a fault of the accounts.
+// Returns the refusal for a fault of the accounts. `Memory` has none, and is excluded.
 pub(crate) fn refusal_of(fault: AccountFault) -> Refusal
     requires { IsAnswered fault }
     ensures value { result ≡ refusal_for fault }
@@ -65,7 +65,7 @@ pub(crate) fn refusal_of(fault: AccountFault) -> Refusal
     }
 }
 
-// The refusal for a fault of a ticker.
+// Returns the refusal for a fault of a ticker. `Memory` has none, and is excluded.
 pub(crate) fn ticker_refusal(fault: TickerFault) -> Refusal
     requires { ¬ (fault ≡ TickerFault.Memory) }
     ensures value { result ≡ ticker_refusal fault }
@@ -79,7 +79,7 @@ pub(crate) fn ticker_refusal(fault: TickerFault) -> Refusal
     }
 }
 
-// The reply to a deposit or a withdrawal.
+// Returns the reply to a change of an account: a deposit, a withdrawal or a credit.
 pub(crate) fn reply_to<T: Copy>(outcome: Result<T, AccountFault>) -> Reply
     requires { ForErr outcome IsAnswered }
     ensures { MatchResult outcome (λ _. result ≡ Reply.Done) (λ fault. result ≡ Reply.Refused (refusal_for fault)) }
@@ -93,19 +93,19 @@ pub(crate) fn reply_to<T: Copy>(outcome: Result<T, AccountFault>) -> Reply
 impl Market {
     ghost use Rattle.weight_rows.specs.Rows.{price_of};
     ghost use Rattle.flow_accounts.specs.Balances.{IsAsset};
-    ghost use Rattle.market_rules.specs.Market.{empty_market, parts_of, IsSound};
+    ghost use Rattle.market_rules.specs.Market.{empty_market, parts_of, IsConsistent};
     ghost use Rattle.market_rules.specs.Step.{FirstRefusal, ServesPlain};
-    ghost use Rattle.market_rules.specs.Wanting.{MayWant};
+    ghost use Rattle.market_rules.specs.Allocating.{MayAllocate};
     ghost use Rattle.market_core.specs.Listing.{StaysAsListed};
 
-    /// A market of version One with no asset and no account. Takes no memory.
+    /// Makes a market of version One with no asset and no account. Takes no memory.
     pub fn new(alloc: Global) -> Market
         ensures { result ≡ empty_market One }
     {
         Market::new_in(alloc, Version::One)
     }
 
-    /// A market of a version with no asset and no account. Takes no memory.
+    /// Makes a market of a version with no asset and no account. Takes no memory.
     pub fn new_in(alloc: Global, version: Version) -> Market
         ensures { result ≡ empty_market version }
     {
@@ -122,12 +122,12 @@ impl Market {
         }
     }
 
-    /// Serves one command of the market's version that holds no batch, and answers its reply. Only a new asset, account
-    /// or order may want memory; then nothing is changed. The number that the next order gets is below 2^64 - 1.
+    /// Serves one command of the market's version that holds no batch, and returns its reply. Only a new asset, account
+    /// or order may run out of memory; then nothing is changed. The number that the next order gets is below 2^64 - 1.
     ///
-    /// The cost is that of the command's own fields, however many accounts and orders there are; for a cancel that is so on
-    /// average, since the gaps that cancelled orders leave are closed together, at the latest when they are as many as the
-    /// live ones.
+    /// The cost is that of the command's own fields, however many accounts and orders there are. For a cancel that is
+    /// the average cost: the gaps that cancelled orders leave are closed together, at the latest when there are as many
+    /// gaps as live orders.
     pub fn apply(&mut self, command: &CommandView<'_>) -> Result<Reply, Memory>
         requires command { IsCommand (command_of command.now) }
         requires version { IsOfVersion self.old.version (command_of command.now) }
@@ -135,8 +135,8 @@ impl Market {
         requires next { self.old.next_order + 1 < 2 ^ 64 }
         ensures served { IfOk result (λ reply. ServesPlain self.old (command_of command.now) (Plain reply) self.new) }
         ensures stays { OnErr result (self.new ≡ self.old) }
-        // Memory is wanted only by a new asset, account or order, and only where no refusal holds.
-        ensures wanted { OnErr result (MayWant self.old (command_of command.now)) }
+        // Only a new asset, account or order may run out of memory, and only if no refusal holds.
+        ensures wanted { OnErr result (MayAllocate self.old (command_of command.now)) }
     {
         match *command {
             CommandView::AddAsset(ticker) => self.add_asset(ticker),
@@ -170,8 +170,8 @@ impl Market {
         }
     }
 
-    /// Makes the step of a command that no refusal stops, as [`Market::apply`] does, and answers its reply. An order isn't
-    /// tested again, so it costs what its record and its own entries cost.
+    /// Makes the step of a command that no refusal stops, as [`Market::apply`] does, and returns its reply. An order
+    /// isn't tested again, so it costs what its record and its legs cost.
     pub fn make(&mut self, command: &CommandView<'_>) -> Result<Reply, Memory>
         requires command { IsCommand (command_of command.now) }
         requires version { IsOfVersion self.old.version (command_of command.now) }
@@ -180,7 +180,7 @@ impl Market {
         requires accepted { FirstRefusal self.old (command_of command.now) None }
         ensures served { IfOk result (λ reply. ServesPlain self.old (command_of command.now) (Plain reply) self.new) }
         ensures stays { OnErr result (self.new ≡ self.old) }
-        ensures wanted { OnErr result (MayWant self.old (command_of command.now)) }
+        ensures wanted { OnErr result (MayAllocate self.old (command_of command.now)) }
     {
         match *command {
             CommandView::PlaceOrder(ref place) => self.add_order(None, place),
@@ -189,16 +189,16 @@ impl Market {
         }
     }
 
-    /// The version of the market: which commands it has.
+    /// Returns the version of the market, which says which commands it has.
     pub fn version(&self) -> Version
         ensures value { result ≡ self.now.version }
-        ensures sound { IsSound self.now }
+        ensures consistent { IsConsistent self.now }
     {
         self.version
     }
 
-    /// In how many parts of a unit it is said where a move of a price ends, by the version: from 1, which is in whole units,
-    /// to 256.
+    /// Returns in how many parts of a unit the excess is counted that ends a price move, by the version: from 1, which
+    /// means whole units, to 256.
     pub fn parts(&self) -> u16
         ensures value { result ≡ parts_of self.now.version }
         ensures few { (1 ≤ result) × (result ≤ 256) }
@@ -206,52 +206,52 @@ impl Market {
         parts_of(self.version)
     }
 
-    /// The allocator of its collections.
+    /// Returns the allocator of the market's collections.
     pub fn alloc(&self) -> Global
-        ensures sound { IsSound self.now }
+        ensures consistent { IsConsistent self.now }
     {
         self.alloc
     }
 
-    /// The tickers of the assets, by the assets' numbers.
+    /// Returns the tickers of the assets, by the assets' numbers.
     pub fn tickers(&self) -> &TickerTable
         ensures value { result.now ≡ self.now.tickers }
-        ensures sound { IsSound self.now }
+        ensures consistent { IsConsistent self.now }
     {
         &self.tickers
     }
 
-    /// The accounts, which hold all that was deposited less what was withdrawn.
+    /// Returns the accounts. With the exchange's own account they hold all that was deposited less what was withdrawn.
     pub fn accounts(&self) -> &Accounts
         ensures value { result.now ≡ self.now.balances }
-        ensures sound { IsSound self.now }
+        ensures consistent { IsConsistent self.now }
     {
         &self.accounts
     }
 
-    /// The live orders, by ascending numbers: at most 16,384. Where orders were cancelled since they were last asked for,
-    /// it takes one pass over the book, which closes the gaps that these left. The market is as before.
+    /// Returns the live orders, by ascending numbers: at most 16,384. If orders were cancelled since the last call,
+    /// this takes one pass over the book, which closes the gaps that they left. The market is as before.
     pub fn orders(&mut self) -> &[Order]
         ensures value { result.now ≡ self.old.orders }
-        ensures sound { IsSound self.old }
+        ensures consistent { IsConsistent self.old }
         ensures* after { sem 𝓛 (StaysAsListed self.entry) }
     {
         self.book.orders()
     }
 
-    /// The number that the next order gets, from 1.
+    /// Returns the number that the next order gets, from 1.
     pub fn next_number(&self) -> u64
         ensures value { result ≡ self.now.next_order }
-        ensures sound { IsSound self.now }
+        ensures consistent { IsConsistent self.now }
     {
         self.next_order
     }
 
-    /// The last cleared price of an asset, in grains, 0 where it was never priced, or `None` exactly where the asset isn't
-    /// there.
+    /// Returns the last cleared price of an asset, in grains, 0 if it was never priced, or `None` exactly if there is
+    /// no such asset.
     pub fn last_price(&self, asset: u16) -> Option<i64>
         ensures value { SomeIff result (IsAsset self.now.balances asset) (price_of self.now.last_prices asset) }
-        ensures sound { IsSound self.now }
+        ensures consistent { IsConsistent self.now }
     {
         self.last_prices.as_slice().get(usize::from(asset)).copied()
     }
@@ -260,7 +260,7 @@ impl Market {
         requires { length ticker.now ≡ 8 }
         ensures served { IfOk result (λ reply. ServesPlain self.old (AddAsset ticker.now) (Plain reply) self.new) }
         ensures stays { OnErr result (self.new ≡ self.old) }
-        ensures wanted { OnErr result (MayWant self.old (AddAsset ticker.now)) }
+        ensures wanted { OnErr result (MayAllocate self.old (AddAsset ticker.now)) }
     {
         let mut bytes = [0u8; 8];
         bytes.copy_from_slice(ticker);
@@ -279,7 +279,7 @@ impl Market {
     fn open_account(&mut self) -> Result<Reply, Memory>
         ensures served { IfOk result (λ reply. ServesPlain self.old OpenAccount (Plain reply) self.new) }
         ensures stays { OnErr result (self.new ≡ self.old) }
-        ensures wanted { OnErr result (MayWant self.old OpenAccount) }
+        ensures wanted { OnErr result (MayAllocate self.old OpenAccount) }
     {
         match self.accounts.add_account() {
             Ok(number) => Ok(Reply::Account(number)),

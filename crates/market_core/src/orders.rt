@@ -1,15 +1,15 @@
-//! Orders: placed where they can be paid and delivered, and cancelled.
+//! Orders: placed if they can be paid and delivered, and cancelled.
 ghost use Rattle.std.specs.Prelude.{◌≡◌, ◌+◌, ◌*◌, ◌<◌, ◌≤◌, ◌^◌, ◌↔◌, ◌≤ℤ◌, pos, IsTrue, IfOk, IfSome, IfNone, Some, None, OnErr, All};
 ghost use Rattle.demand_curve.specs.Numbers.{or_zero};
-ghost use Rattle.weight_rows.specs.Rows.{IsLawfulRow, IsLawfulWeight};
+ghost use Rattle.weight_rows.specs.Rows.{IsWeightVector, IsLawfulWeight};
 ghost use Rattle.flow_accounts.specs.Balances.{IsAccount, IsAsset, money_with_credit, units_with_credit};
 ghost use Rattle.flow_orders.specs.Orders.{AreLimits, IsFrom1To, most_cap, price_of_ticks, sold};
 ghost use Rattle.wire_records.specs.Commands.{Place, CancelOrder, Plain};
 ghost use Rattle.wire_records.specs.Versions.{IsOfVersion};
 ghost use Rattle.wire_records.specs.CommandRecords.{IsCommand};
-ghost use Rattle.market_rules.specs.Market.{IsSound, usable_money, usable_units};
+ghost use Rattle.market_rules.specs.Market.{IsConsistent, usable_money, usable_units};
 ghost use Rattle.market_rules.specs.Step.{FirstRefusal, RefusesRow, placed, ServesPlain};
-ghost use Rattle.market_rules.specs.Wanting.{MayWant};
+ghost use Rattle.market_rules.specs.Allocating.{MayAllocate};
 ghost use Rattle.market_core.specs.Private.{cancel_reply, RefusesNumbers, HasRightNumbers, no_other, IsFreeFor};
 
 use crate::Market;
@@ -18,10 +18,10 @@ use flow_orders::{Order, OrderFault, money_need, order_fault, unit_need};
 use weight_rows::{Entry, WeightRow};
 use wire_records::{Memory, PlaceView, Refusal, Reply, RowView};
 
-// No more orders are live.
+// The most orders that are live at once.
 const MOST_ORDERS: usize = market_rules::MOST_ORDERS as usize;
 
-// The reply to a cancel, by whether the order is there.
+// Returns the reply to a cancel, by whether the order is live.
 pub(crate) fn cancel_reply(there: bool) -> Reply
     ensures { result ≡ cancel_reply there }
 {
@@ -43,7 +43,7 @@ impl Market {
         requires next { self.old.next_order + 1 < 2 ^ 64 }
         ensures served { IfOk result (λ reply. ServesPlain self.old (Place last place.now) (Plain reply) self.new) }
         ensures stays { OnErr result (self.new ≡ self.old) }
-        ensures wanted { OnErr result (MayWant self.old (Place last place.now)) }
+        ensures wanted { OnErr result (MayAllocate self.old (Place last place.now)) }
     {
         if let Some(refusal) = self.place_refusal(last, place) {
             return Ok(Reply::Refused(refusal));
@@ -63,7 +63,7 @@ impl Market {
         requires accepted { FirstRefusal self.old (Place last place.now) None }
         ensures served { IfOk result (λ reply. ServesPlain self.old (Place last place.now) (Plain reply) self.new) }
         ensures stays { OnErr result (self.new ≡ self.old) }
-        ensures wanted { OnErr result (MayWant self.old (Place last place.now)) }
+        ensures wanted { OnErr result (MayAllocate self.old (Place last place.now)) }
     {
         self.book.reserve_one()?;
         let row = WeightRow::new(place.row().to_list(self.alloc)?);
@@ -92,7 +92,7 @@ impl Market {
         cancel_reply(self.book.cancel(account, number))
     }
 
-    // The first refusal of an order that is asked for, if any holds.
+    // Returns the first refusal of an order that is asked for, if any holds.
     pub(crate) fn place_refusal(&self, last: Option<u32>, place: &PlaceView<'_>) -> Option<Refusal>
         ensures { FirstRefusal self.now (Place last place.now) result }
     {
@@ -106,7 +106,7 @@ impl Market {
         self.row_refusal(place)
     }
 
-    // Whether the last batch of an order, if it has one, is still to come.
+    // Returns whether the last batch of an order, if it has one, is still to come.
     fn is_to_come(&self, last: Option<u32>) -> bool
         ensures { IsTrue result ↔ IfSome last (λ batch. self.now.batches < batch) }
     {
@@ -116,7 +116,7 @@ impl Market {
         }
     }
 
-    // The first refusal of an order for its account and its numbers.
+    // Returns the first refusal of an order for its account or its numbers, if any holds.
     fn numbers_refusal(&self, place: &PlaceView<'_>) -> Option<Refusal>
         ensures some { IfSome result (λ refusal. RefusesNumbers self.now place.now no_other (Some refusal)) }
         ensures none { IfNone result (HasRightNumbers self.now place.now) }
@@ -132,8 +132,8 @@ impl Market {
         }
     }
 
-    // The first refusal of an order with right numbers, whatever its last batch is: for its row, for a full book, or for
-    // what it needs.
+    // Returns the first refusal of an order whose account and numbers are valid, whatever its last batch is: for its
+    // weight vector, for a full book, or for what it needs.
     fn row_refusal(&self, place: &PlaceView<'_>) -> Option<Refusal>
         requires { HasRightNumbers self.now place.now }
         ensures { RefusesRow self.now (placed self.now None place.now) result }
@@ -154,9 +154,9 @@ impl Market {
         None
     }
 
-    // Whether each asset that the entries name is there.
+    // Returns whether there is an asset for each leg.
     fn has_assets(&self, row: &RowView<'_>) -> bool
-        requires { IsLawfulRow row.now }
+        requires { IsWeightVector row.now }
         ensures { IsTrue result ↔ All (λ e. IsAsset self.now.balances e.asset) row.now }
     {
         let count = self.accounts.assets();
@@ -170,34 +170,34 @@ impl Market {
         true
     }
 
-    // Whether the account has free what the order needs.
+    // Returns whether the account has free what the order needs.
     fn is_affordable(&self, place: &PlaceView<'_>) -> bool
         requires account { IsAccount self.now.balances place.now.account }
         requires limits { AreLimits place.now.low place.now.high }
         requires cap { IsFrom1To most_cap place.now.cap }
-        requires row { IsLawfulRow place.now.row }
+        requires row { IsWeightVector place.now.row }
         requires assets { All (λ e. IsAsset self.now.balances e.asset) place.now.row }
         ensures { IsTrue result ↔ IsFreeFor self.now place.now }
     {
         self.is_money_free(place) && self.are_units_free(place.account(), &place.row(), place.cap())
     }
 
-    // Whether the account has free the money that the order may pay.
+    // Returns whether the account has free the money that the order may pay.
     fn is_money_free(&self, place: &PlaceView<'_>) -> bool
         requires account { IsAccount self.now.balances place.now.account }
         requires limits { AreLimits place.now.low place.now.high }
         requires cap { IsFrom1To most_cap place.now.cap }
         ensures value { IsTrue result ↔ (pos (or_zero (price_of_ticks place.now.high) * place.now.cap) ≤ℤ usable_money self.now place.now.account) }
-        ensures sound { IsSound self.now }
+        ensures consistent { IsConsistent self.now }
     {
         money_need(place.high(), place.cap()) <= self.usable_money(place.account())
     }
 
-    // Whether the account has free the units that an order of this row and cap may sell.
+    // Returns whether the account has free the units that an order of this weight vector and cap may sell.
     fn are_units_free(&self, account: u32, row: &RowView<'_>, cap: u64) -> bool
         requires account { IsAccount self.now.balances account }
         requires cap { cap ≤ most_cap }
-        requires row { IsLawfulRow row.now }
+        requires row { IsWeightVector row.now }
         requires assets { All (λ e. IsAsset self.now.balances e.asset) row.now }
         ensures { IsTrue result ↔ All (λ e. pos (sold e.weight * cap) ≤ℤ usable_units self.now account e.asset) row.now }
     {
@@ -211,7 +211,7 @@ impl Market {
         true
     }
 
-    // Whether the account has free the units of an entry that an order of this cap may sell.
+    // Returns whether the account has free the units of a leg that an order of this cap may sell.
     fn is_free(&self, account: u32, entry: Entry, cap: u64) -> bool
         requires account { IsAccount self.now.balances account }
         requires cap { cap ≤ most_cap }
@@ -222,16 +222,17 @@ impl Market {
         i128::from(unit_need(entry.weight, cap)) <= self.usable_units(account, entry.asset)
     }
 
-    // The money of an account that its orders may still use, in grains: its balance and credit, less what they need.
+    // Returns the money of an account that its orders may still use, in grains: its balance and credit, less what they
+    // need.
     fn usable_money(&self, account: u32) -> i128
         requires { IsAccount self.now.balances account }
         ensures value { result ≡ usable_money self.now account }
-        ensures sound { IsSound self.now }
+        ensures consistent { IsConsistent self.now }
     {
         self.money_with_credit(account) - self.book.money_needed(account)
     }
 
-    // The money of an account and its credit, in grains.
+    // Returns the money of an account plus its credit, in grains.
     fn money_with_credit(&self, account: u32) -> i128
         requires { IsAccount self.now.balances account }
         ensures { result ≡ money_with_credit self.now.balances account }
@@ -241,7 +242,8 @@ impl Market {
         held + credit
     }
 
-    // The units of an asset in an account that its orders may still use.
+    // Returns the units of an asset that the orders of an account may still use: balance and credit, less what they
+    // need.
     fn usable_units(&self, account: u32, asset: u16) -> i128
         requires account { IsAccount self.now.balances account }
         requires asset { IsAsset self.now.balances asset }
@@ -250,7 +252,7 @@ impl Market {
         self.units_with_credit(account, asset) - self.book.units_needed(account, asset)
     }
 
-    // The units of an asset in an account and its credit.
+    // Returns the units of an asset in an account plus its credit.
     fn units_with_credit(&self, account: u32, asset: u16) -> i128
         requires account { IsAccount self.now.balances account }
         requires asset { IsAsset self.now.balances asset }

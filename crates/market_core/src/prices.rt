@@ -3,17 +3,17 @@ ghost use Rattle.std.specs.Prelude.{◌≡◌, ◌<◌, ◌≤◌, [], ◌∷◌
 ghost use Rattle.flow_accounts.specs.Balances.{asset_count};
 ghost use Rattle.flow_accounts.specs.Parts.{ArePlacesOf};
 ghost use Rattle.flow_accounts.specs.Places.{HasSpare};
-ghost use Rattle.sound_parts.specs.Tests.{IsInShape};
+ghost use Rattle.consistent_parts.specs.Tests.{IsInShape};
 
 use flow_accounts::PLACES;
 use market_parts::MarketParts;
 use std::marker::Model;
 
-// The last cleared price of each asset, in grains, and 0 for one that was never priced. There are 64 places, so that
-// nothing grows. Contracts see the list of prices, by the assets' numbers.
+// The last cleared price of each asset, in grains, and 0 for one that was never priced. There are 64 places, so nothing
+// grows. Contracts see the list of prices, by the assets' numbers.
 #[derive(Drop)]
 pub(crate) struct LastPrices {
-    // Of the places as many are in use as there are assets; the others are 0.
+    // As many places are in use as there are assets; the others are 0.
     prices: [i64; PLACES],
     assets: u16,
 }
@@ -30,7 +30,7 @@ impl Model for LastPrices {
 }
 
 impl LastPrices {
-    // No prices.
+    // Makes an empty list of prices.
     pub(crate) fn new() -> LastPrices
         ensures { result ≡ [] }
     {
@@ -40,7 +40,7 @@ impl LastPrices {
         }
     }
 
-    // The last prices that are read.
+    // Reads the last cleared prices of a market's parts.
     pub(crate) fn read<P: MarketParts>(parts: &P) -> LastPrices
         requires shape { IsInShape (P.balances parts.now) (P.parts parts.now) }
         requires few { asset_count (P.balances parts.now) ≤ 64 }
@@ -52,7 +52,7 @@ impl LastPrices {
         }
     }
 
-    // The prices, by the assets' numbers.
+    // Returns the prices, by the assets' numbers.
     pub(crate) fn as_slice(&self) -> &[i64]
         ensures value { result.now ≡ self.now }
         ensures few { length self.now ≤ 64 }
@@ -60,7 +60,7 @@ impl LastPrices {
         &self.prices[..usize::from(self.assets)]
     }
 
-    // One asset more, which was never priced.
+    // Appends the price 0, of a new asset, which was never priced.
     pub(crate) fn add_asset(&mut self)
         requires { length self.old < 64 }
         ensures { self.new ≡ self.old ++ pos 0 ∷ [] }
@@ -68,7 +68,7 @@ impl LastPrices {
         self.assets += 1;
     }
 
-    // Other prices of as many assets.
+    // Replaces the prices by others, of as many assets.
     pub(crate) fn set(&mut self, prices: &[i64])
         requires { length prices.now ≡ length self.old }
         ensures { self.new ≡ prices.now }
@@ -77,7 +77,7 @@ impl LastPrices {
     }
 }
 
-// The places for the prices that are read.
+// Reads the last cleared prices of a market's parts into their places.
 fn prices_of<P: MarketParts>(parts: &P) -> [i64; PLACES]
     requires shape { IsInShape (P.balances parts.now) (P.parts parts.now) }
     requires few { asset_count (P.balances parts.now) ≤ 64 }
@@ -90,7 +90,7 @@ fn prices_of<P: MarketParts>(parts: &P) -> [i64; PLACES]
     prices
 }
 
-// Places for prices, none of them in use.
+// Returns places for prices, none of them in use.
 fn no_prices() -> [i64; PLACES]
     ensures { HasSpare 0 result }
 {

@@ -1,14 +1,14 @@
--- The parts of a market, as readers give them, and the market that they are the parts of.
+-- The parts of a market, as readers give them, and the market that has these parts.
 use Rattle.std.specs.Prelude.{◌≡◌, ℕ, ◌<◌, ◌^◌, ℤ, List, [], map, length, slice_get, Option, option_map}
 use Rattle.weight_rows.specs.declared.entries.Entry.{Entry}
 use Rattle.wire_records.specs.declared.version.Version.{Version}
 use Rattle.wire_records.specs.Versions.{number_of}
 use Rattle.flow_accounts.specs.Balances.{Account, Balances, asset_count}
 use Rattle.flow_orders.specs.Orders.{Order, price_of_ticks}
-use Rattle.market_rules.specs.Market.{Market, IsSound}
+use Rattle.market_rules.specs.Market.{Market, IsConsistent}
 use Rattle.market_parts.specs.declared.order.OrderParts.{OrderParts}
 
--- an order as it is read: as it is kept, but with its limits in ticks
+-- an order as it is read: like an order of the market, but with its limits in ticks
 pub record ReadOrder : Type 0 where
   pub number : ℕ
   pub account : ℕ
@@ -69,14 +69,14 @@ pub record HasParts (p : Parts) (m : Market) : Type 0 where
   pub version : p.version ≡ number_of m.version
   pub market : m ≡ market_of m.version p
 
--- the parts of a sound market whose next number is below 2^63
-pub record AreSound (p : Parts) : Type 0 where
+-- the parts of a consistent market whose next order number is below 2^63
+pub record AreConsistent (p : Parts) : Type 0 where
   pub market : Market
   pub parts : HasParts p market
-  pub sound : IsSound market
+  pub consistent : IsConsistent market
   pub next : p.next_order < 2 ^ 63
 
--- what is read of an order beside its entries: its numbers, and how many entries it has
+-- what is read of an order except its legs: its numbers, and how many legs it has
 abbrev pub numbers_of : ReadOrder → OrderParts
 numbers_of o = record {
   number = o.number;
@@ -90,7 +90,7 @@ numbers_of o = record {
   entries = length o.row;
 }
 
--- the row of an order that was read, or no entry where there is no order
+-- the legs of an order that was read, or none if there is no order
 abbrev pub row_of : Option ReadOrder → List Entry
 row_of (Option.Some o) = o.row
 row_of Option.None = []

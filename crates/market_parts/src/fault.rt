@@ -1,15 +1,15 @@
-//! Why no market is made of its parts.
+//! Why parts aren't made into a market.
 ghost use Rattle.std.specs.Prelude.{◌≡◌};
 ghost use Rattle.market_parts.specs.declared.fault.RestoreFault.TheVariants.{Memory};
 
 use std::alloc::AllocError;
 
-/// Why no market is made of its parts.
+/// Why parts aren't made into a market.
 #[derive(Clone, Copy, Debug, PartialEq, Eq)]
 pub enum RestoreFault {
-    /// They are the parts of no sound market, or the number that the next order gets is 2^63 or more.
+    /// They are the parts of no consistent market, or the number that the next order gets is 2^63 or more.
     Unsound,
-    /// There is no memory for the market.
+    /// Memory ran out.
     Memory,
 }
 

@@ -1,8 +1,8 @@
 //! The numbers of an order that is read.
 
-/// An order as it is read, beside the entries of its row: its number and account, its limit prices in ticks, its rate in
-/// units per batch, its cap and what is filled of it in units, the number of the last batch in which it trades, 0 where
-/// it has none, and how many entries its row has.
+/// An order as it is read, except its legs: its number and account, its limit prices in ticks, its rate in units per
+/// batch, its cap and what is filled of it in units, the number of the last batch in which it trades, or 0 if it has
+/// none, and how many legs it has.
 #[derive(Clone, Copy, PartialEq, Eq)]
 pub struct OrderParts {
     pub number: u64,

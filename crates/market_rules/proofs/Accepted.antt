@@ -7,11 +7,11 @@ use Rattle.wire_records.specs.declared.reply.Refusal.{Refusal}
 none_some : (r : Refusal) → None ≡ Some r → ⊥
 none_some r e = cc
 
--- no refusal where the condition is a fault: it doesn't hold, and there is none among the others
+-- no refusal `when` a condition holds: it doesn't hold, and there is no refusal among the others
 pub past_when : {C Others : Type 0} {r : Refusal} → (C × (None ≡ Some r)) ⊎ ((¬ C) × Others) → (¬ C) × Others
 past_when {C} {Others} {r} first = elim first [ inl here ↦ absurd (none_some r here.1) | inr there ↦ there ]
 
--- no refusal where the condition is wanted: it holds, and there is none among the others
+-- no refusal `unless` a condition holds: it holds, and there is no refusal among the others
 pub past_unless : {C Others : Type 0} {r : Refusal} → ((¬ C) × (None ≡ Some r)) ⊎ (C × Others) → C × Others
 past_unless {C} {Others} {r} first = elim first [ inl here ↦ absurd (none_some r here.1) | inr there ↦ there ]
 

@@ -9,7 +9,7 @@ use Rattle.std.proofs.lemmas.List.Elements.{All-cons, All-nil}
 use Rattle.std.proofs.Math.Seq.{drop-append_seam}
 use Rattle.std.proofs.lemmas.Slice.Eq.{bytes_eq-Decides}
 use Rattle.weight_rows.specs.declared.entries.Entry.{Entry}
-use Rattle.weight_rows.specs.Rows.{IsLawfulRow, IsLawfulWeight, assets_of}
+use Rattle.weight_rows.specs.Rows.{IsWeightVector, IsLawfulWeight, assets_of}
 use Rattle.ticker_table.specs.Tickers.{IsTicker, IsNameCharacter}
 use Rattle.ticker_table.proofs.Names.{IsTicker-from_parts}
 use Rattle.demand_curve.specs.Demand.{IsWithin}
@@ -19,7 +19,7 @@ use Rattle.market_rules.specs.Market.{usable_money, usable_units, Market}
 use Rattle.market_rules.specs.Step.{IsAffordable}
 use Rattle.order_book.specs.Book.{HasOrder}
 
--- it holds, or it doesn't
+-- a statement holds, or it doesn't
 abbrev pub Either : Type 0 → Type 0
 Either P = P ⊎ (P → ⊥)
 
@@ -52,7 +52,7 @@ either_lt_z a b = by_lt_z {P = Either (a <ℤ b)} a b (λ below. inl below) (λ 
 pub either_le_z : (a b : ℤ) → Either (a ≤ℤ b)
 either_le_z a b = by_lt_z {P = Either (a ≤ℤ b)} b a (λ below. inr (λ le. omega (arith, ints, below, le))) (λ above. inl above)
 
--- of all numbers below one
+-- all numbers below n satisfy a condition, or not all do
 pub either_below : (n : ℕ) (P : ℕ → Type 0) → ((k : ℕ) → Either (P k)) → Either ((k : ℕ) → k < n → P k)
 either_below zero P each = inl (λ k inside. absurd (omega (arith, inside)))
 either_below (suc n) P each =
@@ -65,7 +65,7 @@ either_below (suc n) P each =
           ]
     ]
 
--- of some number below one
+-- some number below n satisfies a condition, or none does
 pub either_some_below : (n : ℕ) (P : ℕ → Type 0) → ((k : ℕ) → Either (P k)) → Either ((k : ℕ) × (k < n) × P k)
 either_some_below zero P each = inr (λ some. omega (arith, some.1))
 either_some_below (suc n) P each =
@@ -78,7 +78,7 @@ either_some_below (suc n) P each =
           ]
     ]
 
--- of all members of a list
+-- all members of a list satisfy a condition, or not all do
 pub either_all : {X : Type 0} (P : X → Type 0) (xs : List X) → ((x : X) → Either (P x)) → Either (All P xs)
 either_all P [] each = inl (All-nil P)
 either_all P (x ∷ xs) each =
@@ -91,7 +91,7 @@ either_all P (x ∷ xs) each =
           ]
     ]
 
--- of some member
+-- some member of a list satisfies a condition, or none does
 pub either_contains : {X : Type 0} (P : X → Type 0) (xs : List X) → ((x : X) → Either (P x)) → Either ((x : X) × Contains xs x × P x)
 either_contains P [] each = inr (λ some. omega (arith, some.1.1))
 either_contains {X} P (x ∷ xs) each =
@@ -122,7 +122,7 @@ within_same bound z = either_both (either_le_z _ z) (either_le_z z _)
 pub either_limits : (low high : ℤ) → Either (AreLimits low high)
 either_limits low high = either_same (λ p. (p.0, p.1.0, p.1.1)) (λ p. (p.0, (p.1, p.2))) (either_both (within_same (2 ^ 28) low) (either_both (within_same (2 ^ 28) high) (either_lt_z low high)))
 
-pub either_row : (row : List Entry) → Either (IsLawfulRow row)
+pub either_row : (row : List Entry) → Either (IsWeightVector row)
 either_row row =
     either_same
     (λ p. record { some = p.0.0; few = p.0.1; ascending = λ k inside. p.1.0 k (omega (arith, inside)) inside; weights = p.1.1 })

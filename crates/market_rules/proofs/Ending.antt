@@ -30,7 +30,7 @@ still_in_time m n o version batches other time =
 pub all_in_time : (m : Market) (orders : List Order) → All (IsLiveOrder m) orders → All (IsInTime m) orders
 all_in_time m orders live k d inside = (live k d inside).in_time
 
--- all go on where none has this last batch
+-- all go on if none has this last batch
 pub all_go_on : (batch : ℕ) (orders : List Order) → All (λ (o : Order). o.last ≢ batch) orders → going_on batch orders ≡ orders
 all_go_on batch [] none = refl
 all_go_on batch (o ∷ orders) none =

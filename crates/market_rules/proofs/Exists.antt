@@ -1,4 +1,4 @@
--- Every command has a first refusal or none, and is served without a batch where no batch is due.
+-- Every command has a first refusal or none, and is served without a batch if no batch is due.
 use Rattle.std.proofs.Common.{ℕ, ◌<◌, ◌⊎◌, ◌≡◌, inl, inr, Option, Some, None, refl, ⊎_elim}
 use Rattle.std.specs.Prelude.{IfSome}
 use Rattle.flow_orders.specs.Orders.{most_cap}

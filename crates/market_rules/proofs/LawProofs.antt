@@ -1,4 +1,4 @@
--- What an answer of a batch tells of a step.
+-- What a step is, if its answer is a batch; and the laws.
 use Rattle.std.proofs.Common.{Result, Ok, Err, ◌<◌, ◌≤◌, ◌⊎◌, inl, inr, arith, length, map, List, ◌≡◌, ℕ, pos, ◌+ℤ◌, ◌+◌, ◌-◌, Option, Some, None, refl, ap, sym, subst, ◌∙◌}
 use Rattle.std.proofs.lemmas.Bool.{cases_lt}
 use Rattle.flow_accounts.specs.Balances.{Credit, IsAsset, no_credit, credit_of, money_credit_of, unit_credit_of}
@@ -9,26 +9,26 @@ use Rattle.flow_orders.proofs.TradeFacts.{All-trades}
 use Rattle.market_rules.proofs.Ending.{all_go_on, goes_on}
 use Rattle.wire_records.proofs.Numbered.{first_tags}
 use Rattle.market_rules.proofs.Versions.{some_parts, step_version}
-use Rattle.market_rules.proofs.Lawful.{sound_is_lawful}
+use Rattle.market_rules.proofs.Lawful.{consistent_is_lawful}
 use Rattle.market_rules.proofs.OwnNeeds.{needs-filter}
 use Rattle.flow_orders.specs.Duals.{movement_of}
-use Rattle.flow_orders.specs.Outcomes.{Fill, Skipping, Outcome, BatchRule, Cleared, Skipped, IsRightOutcome}
+use Rattle.flow_orders.specs.Outcomes.{Fill, Skipping, Outcome, BatchRule, Cleared, Skipped, IsAdmissibleOutcome}
 use Rattle.wire_records.specs.Commands.{Command, AddAsset, OpenAccount, Place, RunBatch, Answer, Plain, Batch}
 use Rattle.wire_records.specs.declared.reply.Refusal.{Refusal}
 use Rattle.wire_records.specs.declared.reply.Reply.{Reply}
 use Rattle.wire_records.specs.declared.reply.Reply.TheVariants.{Done, Asset as AssetAdded, Account as AccountOpened, Order as OrderPlaced, Refused}
-use Rattle.market_rules.specs.Market.{Market, IsSound, IsInTime, IsNoCredit, parts_of, start_prices}
+use Rattle.market_rules.specs.Market.{Market, IsConsistent, IsInTime, IsNoCredit, parts_of, start_prices}
 use Rattle.wire_records.specs.declared.command.BodyFault.{BodyFault}
 use Rattle.market_rules.specs.Step.{NoOutcome, ServesPlain, FirstRefusal, Accepts, Answers, Serves, ServesRead, after_batch}
-use Rattle.market_rules.specs.Laws.{MarketIsDetermined, JournalsDetermineTheMarket, OneRefusal, PlainCommandsHaveOneAnswer, PlainCommandsHoldNoBatch, StepsKeepSoundness, HeldIsDeposited, BatchesKeepTotals, SkipsOnlyEndOrders, OrdersEndInTime, VersionOneIsAsBefore, BatchesOfVersionOne, OrdersMayLeave, SkipsLowerTheDual, LargeBudgetsClear, ClearedBatchesAreOptimal, FillsKeepCaps, SequencesCompose, LimitsAgree, JournalsHoldDeposits, LegalStepsNumberOne}
+use Rattle.market_rules.specs.Laws.{MarketIsDetermined, JournalsDetermineTheMarket, OneRefusal, PlainCommandsHaveOneAnswer, PlainCommandsHoldNoBatch, StepsKeepConsistency, HeldIsDeposited, BatchesKeepTotals, SkipsOnlyEndOrders, OrdersEndInTime, VersionOneIsAsBefore, BatchesOfVersionOne, OrdersMayLeave, SkipsLowerTheDual, LargeBudgetsClear, ClearedBatchesAreOptimal, FillsKeepCaps, SequencesCompose, LimitsAgree, JournalsHoldDeposits, LegalStepsNumberOne}
 use Rattle.std.proofs.lemmas.Int.{ints}
 use Rattle.std.proofs.lemmas.List.{length-map, get_or_past}
 use Rattle.std.proofs.lemmas.List.Elements.{All-filter, All-map}
-use Rattle.flow_orders.proofs.WalkLaws.{walks_lower_the_dual, right_skips_lower_the_dual, right_clearings_are_optimal}
+use Rattle.flow_orders.proofs.WalkLaws.{walks_lower_the_dual, admissible_skips_lower_the_dual, admissible_clearings_are_optimal}
 use Rattle.std.specs.Prelude.{All, Contains, slice_index_or, ◌<ℤ◌}
 use Rattle.market_rules.proofs.OneStep.{HasOneOutcome, one_first, one_service}
 use Rattle.market_rules.proofs.OneJournal.{step_market, journal_market, follows-append, follows-parts}
-use Rattle.market_rules.proofs.Soundness.{sound_served, sound_step, sound_follows, sound-empty}
+use Rattle.market_rules.proofs.Consistency.{consistent_served, consistent_step, consistent_follows, consistent-empty}
 use Rattle.market_rules.proofs.HeldTotals.{batch_keeps_held, held_money_is, held_units_are, held_money_changes, held_units_change, more_money, more_units}
 use Rattle.market_rules.proofs.Fills.{fills_within_cap, live_fills_within_cap}
 use Rattle.wire_records.specs.Versions.{IsReadAs, IsOfVersion}
@@ -116,17 +116,17 @@ module _ (Rule : BatchRule) where
       (again.0, is.1, again.1)
 
 pub one_refusal : OneRefusal
-one_refusal old c r a m n first other = refused_once IsRightOutcome old c r a m n first other
+one_refusal old c r a m n first other = refused_once IsAdmissibleOutcome old c r a m n first other
 
 pub plain_commands_have_one_answer : PlainCommandsHaveOneAnswer
-plain_commands_have_one_answer old c a b m n none first other = one_service IsRightOutcome old c a b m n (no_batch IsRightOutcome old c none) first other
+plain_commands_have_one_answer old c a b m n none first other = one_service IsAdmissibleOutcome old c a b m n (no_batch IsAdmissibleOutcome old c none) first other
 
 -- an accepted command that is no batch is accepted by any rule
 accepted_by_any : (Rule Other : BatchRule) (m : Market) (c : Command) (a : Answer Outcome) (n : Market) → ((budget : ℕ) → ¬ (c ≡ RunBatch budget)) → Accepts Rule m c a n → Accepts Other m c a n
 accepted_by_any Rule Other m (RunBatch budget) a n none accepts = absurd (none budget refl)
 accepted_by_any Rule Other m command a n none accepts = accepts
 
--- and it is served so
+-- a command that is no batch is served by any rule
 pub served_by_any : (Rule Other : BatchRule) (m : Market) (c : Command) (a : Answer Outcome) (n : Market) → ((budget : ℕ) → ¬ (c ≡ RunBatch budget)) → Serves Rule m c a n → Serves Other m c a n
 served_by_any Rule Other m c a n none serves = record { first = serves.first; refused = serves.refused; answered = by_first serves.first serves.answered }
   where
@@ -143,7 +143,7 @@ plain_by_any Rule m c a n serves = record { first = serves.first; refused = serv
     by_first None answered = accepted_by_any NoOutcome Rule m c a n (λ budget is. (subst (λ d. Accepts NoOutcome m d a n) is answered).1) answered
 
 pub plain_commands_hold_no_batch : PlainCommandsHoldNoBatch
-plain_commands_hold_no_batch old c a n = (plain_by_any IsRightOutcome old c a n, served_by_any IsRightOutcome NoOutcome old c a n)
+plain_commands_hold_no_batch old c a n = (plain_by_any IsAdmissibleOutcome old c a n, served_by_any IsAdmissibleOutcome NoOutcome old c a n)
 
 same_assets : (m : Market) (o : Outcome) (asset : ℕ) → IsAsset m.balances asset → IsAsset (after_batch m o).balances asset
 same_assets m (Cleared c) asset is = is
@@ -154,9 +154,9 @@ batch_of_version : (version : Version) (budget : ℕ) → IsOfVersion version (R
 batch_of_version version budget = (omega arith, first_tags version)
 
 pub batches_keep_totals : BatchesKeepTotals
-batches_keep_totals old c n o new sound serves =
-    let batch = batch_of IsRightOutcome old c n o new serves in
-    let both = batch_keeps_held IsReadAs read_own old new o sound (sound_served old c (Batch n o) new (subst (IsOfVersion old.version) (sym batch.command_is) (batch_of_version old.version batch.budget)) sound serves) batch.made in
+batches_keep_totals old c n o new consistent serves =
+    let batch = batch_of IsAdmissibleOutcome old c n o new serves in
+    let both = batch_keeps_held IsReadAs read_own old new o consistent (consistent_served old c (Batch n o) new (subst (IsOfVersion old.version) (sym batch.command_is) (batch_of_version old.version batch.budget)) consistent serves) batch.made in
     (both.0, λ asset is. both.1 asset is (subst (λ (m : Market). IsAsset m.balances asset) (sym batch.made) (same_assets old o asset is)))
 
 pub batch_count : (m : Market) (o : Outcome) → (after_batch m o).batches ≡ m.batches + 1
@@ -172,15 +172,15 @@ trades_later m o n is time = elim time [ inl none ↦ inl none | inr some ↦ in
 
 pub orders_end_in_time : OrdersEndInTime
 orders_end_in_time = record {
-  before = λ old c n outcome new sound serves k d inside.
-      let batch = batch_of IsRightOutcome old c n outcome new serves in
-      may_trade old (slice_index_or old.orders k d) n batch.number_is (sound.live k d inside).in_time;
-  after = λ old c n outcome new sound serves k d inside.
-      let batch = batch_of IsRightOutcome old c n outcome new serves in
-      let after = sound_served old c (Batch n outcome) new (subst (IsOfVersion old.version) (sym batch.command_is) (batch_of_version old.version batch.budget)) sound serves in
+  before = λ old c n outcome new consistent serves k d inside.
+      let batch = batch_of IsAdmissibleOutcome old c n outcome new serves in
+      may_trade old (slice_index_or old.orders k d) n batch.number_is (consistent.live k d inside).in_time;
+  after = λ old c n outcome new consistent serves k d inside.
+      let batch = batch_of IsAdmissibleOutcome old c n outcome new serves in
+      let after = consistent_served old c (Batch n outcome) new (subst (IsOfVersion old.version) (sym batch.command_is) (batch_of_version old.version batch.budget)) consistent serves in
       trades_later new (slice_index_or new.orders k d) n (batch.number_is ∙ sym (ap (λ (x : Market). x.batches) batch.made ∙ batch_count old outcome)) (after.live k d inside).in_time;
   stays = λ old c n s new o serves live other.
-      let batch = batch_of IsRightOutcome old c n (Skipped s) new serves in
+      let batch = batch_of IsAdmissibleOutcome old c n (Skipped s) new serves in
       subst (λ (x : Market). Contains x.orders o) (sym batch.made) (goes_on (old.batches + 1) old.orders o live (λ e. other (e ∙ sym batch.number_is)));
 }
 
@@ -202,12 +202,12 @@ no_credit_at credits k none =
     ]
 
 pub version_one_is_as_before : VersionOneIsAsBefore
-version_one_is_as_before m sound one =
-    let none : (account : ℕ) → IsNoCredit (credit_of m.balances account) = λ account. no_credit_at m.balances.credits (account - 1) (sound.credit.none one) in
+version_one_is_as_before m consistent one =
+    let none : (account : ℕ) → IsNoCredit (credit_of m.balances account) = λ account. no_credit_at m.balances.credits (account - 1) (consistent.credit.none one) in
     let money : (account : ℕ) → money_credit_of m.balances account ≡ 0 = λ account. (none account).ticks in
     let units : (account asset : ℕ) → unit_credit_of m.balances account asset ≡ 0 = λ account asset. zeros_at (credit_of m.balances account).units asset (none account).units in
-    let lawful = sound_is_lawful m sound in
-    let lasts : All (λ (o : Order). o.last ≡ 0) m.orders = λ k d inside. no_last m (slice_index_or m.orders k d) one (sound.live k d inside).in_time in
+    let lawful = consistent_is_lawful m consistent in
+    let lasts : All (λ (o : Order). o.last ≡ 0) m.orders = λ k d inside. no_last m (slice_index_or m.orders k d) one (consistent.live k d inside).in_time in
     record {
       lasts = lasts;
       goes_on = λ batch some. all_go_on batch m.orders (λ k d inside same. let last = lasts k d inside in omega (arith, last, same, some));
@@ -227,12 +227,12 @@ staying_lasts orders rates lasts =
 
 pub batches_of_version_one : BatchesOfVersionOne
 batches_of_version_one = record {
-  cleared = λ old c sound one.
-      let before = version_one_is_as_before old sound one in
+  cleared = λ old c consistent one.
+      let before = version_one_is_as_before old consistent one in
       let rates = map (λ (f : Fill). f.rate) c.fills in
       all_go_on (old.batches + 1) (staying (trades old.orders rates)) (λ k d inside same. let last = staying_lasts old.orders rates before.lasts k d inside in omega (arith, last, same));
-  skipped = λ old s sound one.
-      let before = version_one_is_as_before old sound one in
+  skipped = λ old s consistent one.
+      let before = version_one_is_as_before old consistent one in
       ap (λ (l : List Order). record old { orders = l; batches = old.batches + 1 }) (before.goes_on (old.batches + 1) (omega arith));
 }
 
@@ -240,80 +240,80 @@ pub orders_may_leave : OrdersMayLeave
 orders_may_leave b stays orders covers = needs-filter b stays orders covers
 
 pub skips_only_end_orders : SkipsOnlyEndOrders
-skips_only_end_orders old c n s new serves = (batch_of IsRightOutcome old c n (Skipped s) new serves).made
+skips_only_end_orders old c n s new serves = (batch_of IsAdmissibleOutcome old c n (Skipped s) new serves).made
 
 pub market_is_determined : MarketIsDetermined
-market_is_determined old asked a m n first other = step_market IsReadAs one_reading IsRightOutcome old asked a m n first other
+market_is_determined old asked a m n first other = step_market IsReadAs one_reading IsAdmissibleOutcome old asked a m n first other
 
 pub journals_determine_the_market : JournalsDetermineTheMarket
-journals_determine_the_market old pairs m n first other = journal_market IsReadAs one_reading IsRightOutcome old pairs m n first other
+journals_determine_the_market old pairs m n first other = journal_market IsReadAs one_reading IsAdmissibleOutcome old pairs m n first other
 
-pub steps_keep_soundness : StepsKeepSoundness
-steps_keep_soundness = (sound-empty, λ old asked a new sound step. (sound_step IsReadAs read_own old asked a new sound step, step_version IsRightOutcome IsReadAs old asked a new step))
+pub steps_keep_consistency : StepsKeepConsistency
+steps_keep_consistency = (consistent-empty, λ old asked a new consistent step. (consistent_step IsReadAs read_own old asked a new consistent step, step_version IsAdmissibleOutcome IsReadAs old asked a new step))
 
 pub held_is_deposited : HeldIsDeposited
 held_is_deposited = record {
-  money = λ old pairs new sound follows. held_money_changes IsReadAs read_own old pairs new sound follows;
-  units = λ old pairs new asset sound before after follows. held_units_change IsReadAs read_own old pairs new asset sound before after follows;
+  money = λ old pairs new consistent follows. held_money_changes IsReadAs read_own old pairs new consistent follows;
+  units = λ old pairs new asset consistent before after follows. held_units_change IsReadAs read_own old pairs new asset consistent before after follows;
   all_money = λ version pairs m follows. held_money_is IsReadAs read_own version pairs m follows;
   all_units = λ version pairs m asset is follows. held_units_are IsReadAs read_own version pairs m asset is follows;
 }
 
 pub journals_hold_deposits : JournalsHoldDeposits
-journals_hold_deposits start pairs m sound follows =
+journals_hold_deposits start pairs m consistent follows =
     record {
-      sound = sound_follows IsReadAs read_own start pairs m sound follows;
-      money = more_money IsReadAs read_own start pairs m sound follows;
-      units = λ asset _. more_units IsReadAs read_own start pairs m asset sound follows;
+      consistent = consistent_follows IsReadAs read_own start pairs m consistent follows;
+      money = more_money IsReadAs read_own start pairs m consistent follows;
+      units = λ asset _. more_units IsReadAs read_own start pairs m asset consistent follows;
     }
 
 pub fills_keep_caps : FillsKeepCaps
 fills_keep_caps = record {
-  placed = λ old before after pair m number cap sound follows places. fills_within_cap IsReadAs read_own one_reading old before after pair m number cap sound follows places;
-  live = λ old pairs m o sound live follows. live_fills_within_cap IsReadAs read_own one_reading old pairs m o sound live follows;
+  placed = λ old before after pair m number cap consistent follows places. fills_within_cap IsReadAs read_own one_reading old before after pair m number cap consistent follows places;
+  live = λ old pairs m o consistent live follows. live_fills_within_cap IsReadAs read_own one_reading old pairs m o consistent live follows;
 }
 
 pub sequences_compose : SequencesCompose
 sequences_compose = record {
-  joined = λ old mid new pairs more first second. follows-append IsReadAs one_reading IsRightOutcome old mid new pairs more first second;
-  apart = λ old new pairs more all. follows-parts IsReadAs one_reading IsRightOutcome old new pairs more all;
+  joined = λ old mid new pairs more first second. follows-append IsReadAs one_reading IsAdmissibleOutcome old mid new pairs more first second;
+  apart = λ old new pairs more all. follows-parts IsReadAs one_reading IsAdmissibleOutcome old new pairs more all;
 }
 
 pub cleared_batches_are_optimal : ClearedBatchesAreOptimal
-cleared_batches_are_optimal old command number c new sound serves =
-    let batch = batch_of IsRightOutcome old command number (Cleared c) new serves in
+cleared_batches_are_optimal old command number c new consistent serves =
+    let batch = batch_of IsAdmissibleOutcome old command number (Cleared c) new serves in
     let count : length (start_prices old) ≡ length old.last_prices = length-map old.last_prices _ in
-    right_clearings_are_optimal old.orders (start_prices old) c
-    (λ k d inside. (sound.live k d inside).order)
-    (λ k d inside j e within. let there = (sound.live k d inside).assets j e within in omega (arith, there, count, sound.one_each.prices))
+    admissible_clearings_are_optimal old.orders (start_prices old) c
+    (λ k d inside. (consistent.live k d inside).order)
+    (λ k d inside j e within. let there = (consistent.live k d inside).assets j e within in omega (arith, there, count, consistent.one_each.prices))
     batch.ruled
 
--- what a right skip lowers, of a sound market's orders
-skip_lowers : (old : Market) (command : Command) (number : ℕ) (s : Skipping) (new : Market) → IsSound old → Serves IsRightOutcome old command (Batch number (Skipped s)) new
+-- what an admissible skip lowers, for the orders of a consistent market
+skip_lowers : (old : Market) (command : Command) (number : ℕ) (s : Skipping) (new : Market) → IsConsistent old → Serves IsAdmissibleOutcome old command (Batch number (Skipped s)) new
     → ((s.end_dual +ℤ pos (movement_of (parts_of old.version) old.orders (start_prices old) s.trace)) <ℤ (s.start_dual +ℤ pos (length old.orders))) × (length s.trace ≤ movement_of (parts_of old.version) old.orders (start_prices old) s.trace) × (1 ≤ 1)
-skip_lowers old command number s new sound serves =
-    let right = (batch_of IsRightOutcome old command number (Skipped s) new serves).ruled in
-    let lowers = right_skips_lower_the_dual (parts_of old.version) (some_parts old.version) old.orders (start_prices old) _ s (λ k d inside. (sound.live k d inside).order) right in
+skip_lowers old command number s new consistent serves =
+    let right = (batch_of IsAdmissibleOutcome old command number (Skipped s) new serves).ruled in
+    let lowers = admissible_skips_lower_the_dual (parts_of old.version) (some_parts old.version) old.orders (start_prices old) _ s (λ k d inside. (consistent.live k d inside).order) right in
     (lowers.0, omega (arith, lowers.1, right.whole), omega arith)
 
 pub skips_lower_the_dual : SkipsLowerTheDual
 skips_lower_the_dual = record {
-  movement = λ old command number s new sound serves. (skip_lowers old command number s new sound serves).0;
-  moves = λ old command number s new sound serves.
-      let both = skip_lowers old command number s new sound serves in
-      omega (arith, ints, both.0, both.1, (batch_of IsRightOutcome old command number (Skipped s) new serves).ruled.whole, both.2);
+  movement = λ old command number s new consistent serves. (skip_lowers old command number s new consistent serves).0;
+  moves = λ old command number s new consistent serves.
+      let both = skip_lowers old command number s new consistent serves in
+      omega (arith, ints, both.0, both.1, (batch_of IsAdmissibleOutcome old command number (Skipped s) new serves).ruled.whole, both.2);
 }
 
 same_budget : (a b : ℕ) → RunBatch a ≡ RunBatch b → a ≡ b
 same_budget a b e = cc
 
 pub large_budgets_clear : LargeBudgetsClear
-large_budgets_clear old budget number (Cleared c) new sound large serves = (c, refl)
-large_budgets_clear old budget number (Skipped s) new sound large serves =
-    let batch = batch_of IsRightOutcome old (RunBatch budget) number (Skipped s) new serves in
+large_budgets_clear old budget number (Cleared c) new consistent large serves = (c, refl)
+large_budgets_clear old budget number (Skipped s) new consistent large serves =
+    let batch = batch_of IsAdmissibleOutcome old (RunBatch budget) number (Skipped s) new serves in
     let right = batch.ruled in
-    let each : All IsOrder old.orders = λ k d inside. (sound.live k d inside).order in
-    let lowers = right_skips_lower_the_dual (parts_of old.version) (some_parts old.version) old.orders (start_prices old) batch.budget s each right in
+    let each : All IsOrder old.orders = λ k d inside. (consistent.live k d inside).order in
+    let lowers = admissible_skips_lower_the_dual (parts_of old.version) (some_parts old.version) old.orders (start_prices old) batch.budget s each right in
     let bounded = walks_lower_the_dual.bounded (parts_of old.version) (some_parts old.version) old.orders (start_prices old) s.trace each right.legal in
     absurd (omega (arith, large, lowers.1, bounded, right.whole, same_budget budget batch.budget batch.command_is))
 
@@ -338,4 +338,4 @@ module _ (Rule : BatchRule) where
   read_numbers_one m (Err why) a n served = rw served.1 (omega arith)
 
 pub legal_steps_number_one : LegalStepsNumberOne
-legal_steps_number_one old asked a new step = read_numbers_one IsRightOutcome old step.read a new step.served
+legal_steps_number_one old asked a new step = read_numbers_one IsAdmissibleOutcome old step.read a new step.served

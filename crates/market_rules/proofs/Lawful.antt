@@ -1,4 +1,4 @@
--- The balances of a sound market are within the widths that they are kept in.
+-- The balances of a consistent market are within the widths that they are kept in.
 use Rattle.std.proofs.Common.{◌≡◌, ℕ, ◌+◌, ◌-◌, ◌^◌, ◌≤◌, ◌<◌, pos, ◌≤ℤ◌, length, ap, sym, subst, ◌∙◌, arith}
 use Rattle.std.specs.Prelude.{slice_index_or, unsigned_abs, neg_ℤ}
 use Rattle.std.proofs.lemmas.Int.{ints}
@@ -7,7 +7,7 @@ use Rattle.flow_accounts.specs.Balances.{Account, Balances, IsAccount, IsAsset, 
 use Rattle.flow_accounts.specs.Lawful.{AreLawful, IsLawfulAccount, IsLawfulCredit, IsMoneyBalance, IsUnitBalance, IsUnitTotal}
 use Rattle.flow_accounts.specs.Sums.{money_of_all, units_of_all}
 use Rattle.flow_orders.specs.Orders.{money_need, unit_need}
-use Rattle.market_rules.specs.Market.{Market, IsSound}
+use Rattle.market_rules.specs.Market.{Market, IsConsistent}
 use Rattle.fill_caps.proofs.Joined.{OweLittle, owe_little, range_least, money_fits, units_fit}
 use Rattle.fill_caps.proofs.Needs.{own_not_negative}
 use Rattle.fill_caps.proofs.Totals.{money_by_account, units_by_account}
@@ -18,68 +18,68 @@ account_at b k d inside =
     let at : k + 1 - 1 ≡ k = omega arith in
     get_or_default b.accounts k d (empty_account 0) inside ∙ ap (λ i. slice_index_or b.accounts i (empty_account 0)) (sym at)
 
-module _ (m : Market) (sound : IsSound m) where
+module _ (m : Market) (consistent : IsConsistent m) where
   exchange_money : unsigned_abs m.exchange.money ≤ 2 ^ 123
-  exchange_money = omega (arith, sound.widths.exchange_money, sound.few_batches)
+  exchange_money = omega (arith, consistent.widths.exchange_money, consistent.few_batches)
 
   exchange_units : (asset : ℕ) → IsAsset m.balances asset → unsigned_abs (units_in m.exchange asset) ≤ 2 ^ 55
   exchange_units asset is_asset =
-      let most = sound.widths.exchange_units asset (pos 0) (omega (arith, is_asset, sound.one_each.exchange)) in
-      omega (arith, most, sound.few_batches)
+      let most = consistent.widths.exchange_units asset (pos 0) (omega (arith, is_asset, consistent.one_each.exchange)) in
+      omega (arith, most, consistent.few_batches)
 
   -- the credit line of an account is within its limits
   pub credit_line : (account : ℕ) → IsAccount m.balances account → IsLawfulCredit (asset_count m.balances) (credit_of m.balances account)
-  credit_line account there = sound.credit.lawful (account - 1) (no_credit 0) (omega (arith, there.0, there.1, sound.one_each.credits))
+  credit_line account there = consistent.credit.lawful (account - 1) (no_credit 0) (omega (arith, there.0, there.1, consistent.one_each.credits))
 
   pub owes_little : OweLittle m.balances
-  owes_little = owe_little m.balances m.orders sound.covered sound.few_accounts
+  owes_little = owe_little m.balances m.orders consistent.covered consistent.few_accounts
       (λ account there. (credit_line account there).ticks)
       (λ account asset there is_asset. let c = credit_line account there in c.units asset 0 (subst (λ n. asset < n) (sym c.one_each) is_asset))
 
   pub money_of_each : (account : ℕ) → IsAccount m.balances account → IsMoneyBalance (money_of m.balances account)
-  money_of_each = money_fits m.balances owes_little m.exchange.money m.exchange.money m.balances.total_money sound.totals.money sound.widths.total_money exchange_money (omega (arith, ints))
+  money_of_each = money_fits m.balances owes_little m.exchange.money m.exchange.money m.balances.total_money consistent.totals.money consistent.widths.total_money exchange_money (omega (arith, ints))
 
   total_at : (asset : ℕ) → IsAsset m.balances asset → total_units_of m.balances asset ≤ℤ pos (2 ^ 60)
-  total_at asset is_asset = sound.widths.total_units asset (pos 0) is_asset
+  total_at asset is_asset = consistent.widths.total_units asset (pos 0) is_asset
 
   pub units_of_each : (asset : ℕ) → IsAsset m.balances asset → (account : ℕ) → IsAccount m.balances account → IsUnitBalance (units_of m.balances account asset)
   units_of_each asset is_asset =
       units_fit m.balances owes_little asset is_asset (units_in m.exchange asset) (units_in m.exchange asset) (total_units_of m.balances asset)
-      (sound.totals.units asset is_asset) (total_at asset is_asset) (exchange_units asset is_asset) (omega (arith, ints))
+      (consistent.totals.units asset is_asset) (total_at asset is_asset) (exchange_units asset is_asset) (omega (arith, ints))
 
   -- all accounts together owe little
   money_least : neg_ℤ (pos (2 ^ 88)) ≤ℤ money_of_all m.balances
   money_least =
       let least = range_least (λ k. money_of m.balances k) (2 ^ 72) 1 (account_count m.balances) (λ k low high. owes_little.money k (low, omega (arith, high))) in
-      omega (arith, ints, least, money_by_account m.balances, sound.few_accounts)
+      omega (arith, ints, least, money_by_account m.balances, consistent.few_accounts)
 
   units_least : (asset : ℕ) → IsAsset m.balances asset → neg_ℤ (pos (2 ^ 56)) ≤ℤ units_of_all m.balances asset
   units_least asset is_asset =
       let least = range_least (λ k. units_of m.balances k asset) (2 ^ 40) 1 (account_count m.balances) (λ k low high. owes_little.units k asset (low, omega (arith, high)) is_asset) in
-      omega (arith, ints, least, units_by_account m.balances asset, sound.few_accounts)
+      omega (arith, ints, least, units_by_account m.balances asset, consistent.few_accounts)
 
-  pub sound_is_lawful : AreLawful m.balances
-  sound_is_lawful = record {
-    few_accounts = sound.few_accounts;
-    few_assets = omega (arith, sound.tickers.few, sound.one_each.tickers);
+  pub consistent_is_lawful : AreLawful m.balances
+  consistent_is_lawful = record {
+    few_accounts = consistent.few_accounts;
+    few_assets = omega (arith, consistent.tickers.few, consistent.one_each.tickers);
     accounts = λ k d inside.
         let there : IsAccount m.balances (k + 1) = (omega arith, omega (arith, inside)) in
         subst (IsLawfulAccount (asset_count m.balances)) (sym (account_at m.balances k d inside)) (record {
           money = money_of_each (k + 1) there;
-          one_each = ap (λ (a : Account). length a.units) (sym (account_at m.balances k d inside)) ∙ sound.one_each.accounts k d inside;
+          one_each = ap (λ (a : Account). length a.units) (sym (account_at m.balances k d inside)) ∙ consistent.one_each.accounts k d inside;
           units = λ j e within.
               let units = (account_of m.balances (k + 1)).units in
-              let count : length units ≡ asset_count m.balances = ap (λ (a : Account). length a.units) (sym (account_at m.balances k d inside)) ∙ sound.one_each.accounts k d inside in
+              let count : length units ≡ asset_count m.balances = ap (λ (a : Account). length a.units) (sym (account_at m.balances k d inside)) ∙ consistent.one_each.accounts k d inside in
               subst IsUnitBalance (get_or_default units j (pos 0) e within) (units_of_each j (omega (arith, within, count)) (k + 1) there);
         });
-    one_credit_each = sound.one_each.credits;
-    credits = sound.credit.lawful;
+    one_credit_each = consistent.one_each.credits;
+    credits = consistent.credit.lawful;
     within_credit = record {
-      money = λ account there. omega (arith, ints, own_not_negative money_need account m.orders, sound.covered.money account there);
-      units = λ account asset there is_asset. omega (arith, ints, own_not_negative (unit_need asset) account m.orders, sound.covered.units account asset there is_asset);
+      money = λ account there. omega (arith, ints, own_not_negative money_need account m.orders, consistent.covered.money account there);
+      units = λ account asset there is_asset. omega (arith, ints, own_not_negative (unit_need asset) account m.orders, consistent.covered.units account asset there is_asset);
     };
-    total_money = (omega (arith, ints, sound.totals.money, money_least, exchange_money), sound.widths.total_money);
+    total_money = (omega (arith, ints, consistent.totals.money, money_least, exchange_money), consistent.widths.total_money);
     total_units = λ k d inside.
         subst IsUnitTotal (get_or_default m.balances.total_units k (pos 0) d inside)
-        (omega (arith, ints, sound.totals.units k inside, units_least k inside, exchange_units k inside), total_at k inside);
+        (omega (arith, ints, consistent.totals.units k inside, units_least k inside, exchange_units k inside), total_at k inside);
   }

@@ -11,9 +11,9 @@ pub mod OneJournal
 pub mod OneStep
 mod OwnNeeds
 pub mod Promised
-mod SoundBalances
-pub mod SoundBatch
-mod SoundOrders
-pub mod Soundness
+mod ConsistentBalances
+pub mod ConsistentBatch
+mod ConsistentOrders
+pub mod Consistency
 pub mod Starts
 pub mod Versions

@@ -16,12 +16,12 @@ module _ {R : Type 0} (Reads : Version → R → Result Command BodyFault → Ty
     read_market old (Ok c) a x y first other = one_market Rule old c a x y first other
     read_market old (Err r) a x y first other = first.1 ∙ sym other.1
 
-    -- old market, record and answer determine the new market
+    -- the old market, the record and the answer determine the new market
     pub step_market : (old : Market) (asked : R) (a : Answer Outcome) (x y : Market) → Step Reads Rule old asked a x → Step Reads Rule old asked a y → x ≡ y
     step_market old asked a x y first other =
         read_market old first.read a x y first.served (rw (one_reading old.version asked first.read other.read first.spelled other.spelled) other.served)
 
-    -- a legal journal determines the market after it
+    -- a valid journal determines the market after it
     pub journal_market : (old : Market) (pairs : List (Pair R Outcome)) (x y : Market) → Follows Reads Rule old pairs x → Follows Reads Rule old pairs y → x ≡ y
     journal_market old [] x y first other = first ∙ sym other
     journal_market old (pair ∷ pairs) x y first other =
@@ -33,7 +33,7 @@ module _ {R : Type 0} (Reads : Version → R → Result Command BodyFault → Ty
     follows-append old mid new [] more first second = subst (λ m. Follows Reads Rule m more new) first second
     follows-append old mid new (pair ∷ pairs) more first second = (first.0, first.1, follows-append first.0 mid new pairs more first.2 second)
 
-    -- and come apart
+    -- a sequence of steps splits at any entry
     pub follows-parts : (old new : Market) (pairs more : List (Pair R Outcome)) → Follows Reads Rule old (pairs ++ more) new → (mid : Market) × Follows Reads Rule old pairs mid × Follows Reads Rule mid more new
     follows-parts old new [] more all = (old, refl, all)
     follows-parts old new (pair ∷ pairs) more all =

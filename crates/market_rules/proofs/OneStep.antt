@@ -1,4 +1,4 @@
--- A step has one outcome: old market, command and answer determine the new market, and a command that is no batch gets one answer.
+-- A step is determined: by old market, command and answer the new market, and of a command that is no batch the answer too.
 use Rattle.std.proofs.Common.{◌≡◌, ◌+◌, ℕ, Option, Some, None, inl, inr, sym, ap, ◌∙◌}
 use Rattle.flow_orders.specs.Outcomes.{Outcome, BatchRule}
 use Rattle.wire_records.specs.Commands.{Command, OpenAccount, DepositAsset, WithdrawAsset, Place, CancelOrder, RunBatch, SetUnitCredit, Answer, Batch}
@@ -6,7 +6,7 @@ use Rattle.wire_records.specs.declared.reply.Refusal.{Refusal}
 use Rattle.market_rules.specs.Market.{Market, parts_of, start_prices}
 use Rattle.market_rules.specs.Step.{◌when◌else◌, ◌unless◌else◌, accept, FirstRefusal, Accepts, Answers, Serves, after_batch}
 
--- there is one first refusal
+-- there is at most one first refusal
 abbrev pub IsOne : (Option Refusal → Type 0) → Type 0
 IsOne V = (x y : Option Refusal) → V x → V y → x ≡ y
 
@@ -37,7 +37,7 @@ one_first m (Place last r) = one_unless _ _ _ (one_unless _ _ _ (one_unless _ _ 
 one_first m (SetUnitCredit account asset units) = one_unless _ _ _ (one_unless _ _ _ (one_when _ _ _ (one_when _ _ _ one_accept)))
 one_first m command = one_unless _ _ _ (one_when _ _ _ (one_when _ _ _ one_accept))
 
--- how a batch may end
+-- for any rule of the outcomes of a batch
 module _ (Rule : BatchRule) where
   -- an accepted command that got the same answer made the same market
   accepted_market : (m : Market) (c : Command) (a : Answer Outcome) (x y : Market) → Accepts Rule m c a x → Accepts Rule m c a y → x ≡ y
@@ -52,12 +52,12 @@ module _ (Rule : BatchRule) where
   answered_market m c (Some r) a x y first other = first.1 ∙ sym other.1
   answered_market m c None a x y first other = accepted_market m c a x y first other
 
-  -- old market, command and answer determine the new market
+  -- the old market, the command and the answer determine the new market
   pub one_market : (old : Market) (c : Command) (a : Answer Outcome) (x y : Market) → Serves Rule old c a x → Serves Rule old c a y → x ≡ y
   one_market old c a x y first other =
       answered_market old c first.first a x y first.answered (rw (one_first old c first.first other.first first.refused other.refused) other.answered)
 
-  -- a batch may end in one way only
+  -- the rule allows at most one outcome of a batch
   abbrev pub HasOneOutcome : Market → Command → Type 0
   HasOneOutcome m (RunBatch budget) = (o p : Outcome) → Rule (parts_of m.version) m.orders (start_prices m) budget o → Rule (parts_of m.version) m.orders (start_prices m) budget p → o ≡ p
   HasOneOutcome m _ = Unit {0}

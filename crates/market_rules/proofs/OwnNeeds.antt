@@ -12,7 +12,7 @@ use Rattle.flow_orders.specs.Orders.{Order, own_sum, money_need, unit_need, need
 use Rattle.fill_caps.specs.Covers.{CoversNeeds}
 use Rattle.flow_orders.proofs.OwnSums.{own_sum-append}
 
--- an asset above all that a row names has no weight in it
+-- an asset above all that a weight vector names has no weight in it
 pub weight_above : (row : List Entry) (asset : ℕ) → All (λ e. e.asset < asset) row → weight_in row asset ≡ pos 0
 unfolding weight_in
 weight_above [] asset below = refl
@@ -23,7 +23,7 @@ weight_above (e ∷ row) asset below =
     (eqb_tells e.asset asset)
 
 module _ {X : Type 0} (whose : X → ℕ) (f : X → ℤ) where
-  -- nobody's own, or only zeros: nothing
+  -- an account's own sum is 0 if nothing is its own, or if all is zero
   pub own_sum-none : (account : ℕ) (xs : List X) → All (λ x. whose x ≢ account) xs → own_sum whose account f xs ≡ pos 0
   own_sum-none account [] none = refl
   own_sum-none account (x ∷ xs) none =
@@ -38,7 +38,7 @@ module _ {X : Type 0} (whose : X → ℕ) (f : X → ℤ) where
       let rest = own_sum-zeros account xs (λ k d inside. zeros (suc k) d (omega (arith, inside))) in
       ⊎_elim (λ same. rw same.0 (omega (arith, ints, here, rest))) (λ other. rw other.0 (omega (arith, ints, rest))) (eqb_tells (whose x) account)
 
-  -- a filter leaves at most as much of what isn't negative
+  -- a filter doesn't raise a sum of what isn't negative
   pub own_sum-filter : (account : ℕ) (p : X → Bool) (xs : List X) → ((x : X) → pos 0 ≤ℤ f x) → own_sum whose account f (filter p xs) ≤ℤ own_sum whose account f xs
   own_sum-filter account p [] positive = omega (arith, ints)
   own_sum-filter account p (x ∷ xs) positive =
@@ -48,11 +48,11 @@ module _ {X : Type 0} (whose : X → ℕ) (f : X → ℤ) where
       (λ dropped. rw dropped (⊎_elim (λ same. rw same.0 (omega (arith, ints, rest, positive x))) (λ other. rw other.0 (omega (arith, ints, rest))) (eqb_tells (whose x) account)))
       (cases_Bool (p x))
 
-  -- one more
+  -- the sum with one more element
   pub own_sum-push : (account : ℕ) (xs : List X) (x : X) → own_sum whose account f (xs ++ x ∷ []) ≡ own_sum whose account f xs +ℤ cond (eqb (whose x) account) (f x) (pos 0)
   own_sum-push account xs x = let all = own_sum-append whose f account xs (x ∷ []) in omega (arith, ints, all)
 
--- orders that leave need nothing
+-- needs stay covered when orders leave
 pub needs-filter : (b : Balances) (p : Order → Bool) (orders : List Order) → CoversNeeds b orders → CoversNeeds b (filter p orders)
 needs-filter b p orders covers = record {
   money = λ account there.
@@ -63,7 +63,7 @@ needs-filter b p orders covers = record {
       omega (arith, ints, less, covers.units account asset there is_asset);
 }
 
--- an order that is placed needs what is free
+-- needs stay covered when an order is placed that needs what is free
 pub needs-push : (b : Balances) (orders : List Order) (o : Order) → CoversNeeds b orders
     → pos (money_need o) ≤ℤ (money_with_credit b o.account -ℤ needed_money orders o.account)
     → ((asset : ℕ) → IsAsset b asset → pos (unit_need asset o) ≤ℤ (units_with_credit b o.account asset -ℤ needed_units orders o.account asset))

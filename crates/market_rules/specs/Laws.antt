@@ -13,93 +13,94 @@ use Rattle.wire_records.specs.declared.version.Version.TheVariants.{One}
 use Rattle.wire_records.specs.declared.reply.Refusal.{Refusal}
 use Rattle.wire_records.specs.declared.reply.Reply.TheVariants.{Refused}
 use Rattle.flow_orders.specs.Orders.{Order, most_ticks}
-use Rattle.flow_orders.specs.Outcomes.{Outcome, Fill, Clearing, Cleared, Skipping, Skipped, dual_of, trades_of, IsRightOutcome}
+use Rattle.flow_orders.specs.Outcomes.{Outcome, Fill, Clearing, Cleared, Skipping, Skipped, dual_of, trades_of, IsAdmissibleOutcome}
 use Rattle.flow_orders.specs.Trades.{staying, going_on}
 use Rattle.flow_orders.specs.Duals.{movement_of}
 use Rattle.flow_orders.specs.Welfare.{IsOptimalWithin}
-use Rattle.market_rules.specs.Market.{Market, empty_market, IsSound, parts_of, start_prices, held_money, held_units, free_money, free_units, usable_money, usable_units}
+use Rattle.market_rules.specs.Market.{Market, empty_market, IsConsistent, parts_of, start_prices, held_money, held_units, free_money, free_units, usable_money, usable_units}
 use Rattle.market_rules.specs.Step.{Serves, ServesPlain, after_batch}
 use Rattle.market_rules.specs.Journal.{Step, Follows, money_added, units_added, AddTogether, Places, HoldsDeposits, fills_of}
 use Rattle.market_rules.specs.Promises.{KeepsPromises}
 
--- the pairs lead from a market to another one by steps
+-- the entries lead from one market to another by steps, with any admissible outcomes of batches
 abbrev pub Leads : Market → List (Pair Record Outcome) → Market → Type 0
-Leads = Follows IsReadAs IsRightOutcome
+Leads = Follows IsReadAs IsAdmissibleOutcome
 
--- old market, record and answer determine the new market
+-- the old market, the record and the answer determine the new market
 abbrev pub MarketIsDetermined : Type 0
 MarketIsDetermined = (old : Market) (asked : Record) (answer : Answer Outcome) (m n : Market)
-    → Step IsReadAs IsRightOutcome old asked answer m → Step IsReadAs IsRightOutcome old asked answer n → m ≡ n
+    → Step IsReadAs IsAdmissibleOutcome old asked answer m → Step IsReadAs IsAdmissibleOutcome old asked answer n → m ≡ n
 
--- and so a legal journal determines the market after it
+-- valid entries determine the market after them
 abbrev pub JournalsDetermineTheMarket : Type 0
 JournalsDetermineTheMarket = (old : Market) (pairs : List (Pair Record Outcome)) (m n : Market)
     → Leads old pairs m → Leads old pairs n → m ≡ n
 
--- where a command is refused, a batch too, it gets no other answer, and nothing changes
+-- a command that is refused, a batch included, has no other answer, and changes nothing
 abbrev pub OneRefusal : Type 0
 OneRefusal = (old : Market) (command : Command) (refusal : Refusal) (answer : Answer Outcome) (m n : Market)
-    → Serves IsRightOutcome old command (Plain (Refused refusal)) m → Serves IsRightOutcome old command answer n
+    → Serves IsAdmissibleOutcome old command (Plain (Refused refusal)) m → Serves IsAdmissibleOutcome old command answer n
     → (answer ≡ Plain (Refused refusal)) × (m ≡ old) × (n ≡ old)
 
--- a command that is no batch gets one answer, also where any right outcome of a batch is accepted
+-- a command that is no batch has one answer, even if any admissible outcome of a batch is accepted
 abbrev pub PlainCommandsHaveOneAnswer : Type 0
 PlainCommandsHaveOneAnswer = (old : Market) (command : Command) (a b : Answer Outcome) (m n : Market)
     → ((budget : ℕ) → ¬ (command ≡ RunBatch budget))
-    → Serves IsRightOutcome old command a m → Serves IsRightOutcome old command b n → (a ≡ b) × (m ≡ n)
+    → Serves IsAdmissibleOutcome old command a m → Serves IsAdmissibleOutcome old command b n → (a ≡ b) × (m ≡ n)
 
--- what is served without a batch is served so where any right outcome of a batch is accepted, and a command that is no batch is served
--- in no other way
+-- what is served without a batch is served alike if any admissible outcome of a batch is accepted, and a command that is no batch is
+-- served in no other way
 abbrev pub PlainCommandsHoldNoBatch : Type 0
 PlainCommandsHoldNoBatch = (old : Market) (command : Command) (answer : Answer Outcome) (new : Market)
-    → (ServesPlain old command answer new → Serves IsRightOutcome old command answer new)
-    × (((budget : ℕ) → ¬ (command ≡ RunBatch budget)) → Serves IsRightOutcome old command answer new → ServesPlain old command answer new)
+    → (ServesPlain old command answer new → Serves IsAdmissibleOutcome old command answer new)
+    × (((budget : ℕ) → ¬ (command ≡ RunBatch budget)) → Serves IsAdmissibleOutcome old command answer new → ServesPlain old command answer new)
 
--- the empty market of each version is sound, and every step keeps a market sound, and its version
-abbrev pub StepsKeepSoundness : Type 0
-StepsKeepSoundness = ((version : Version) → IsSound (empty_market version)) × ((old : Market) (asked : Record) (answer : Answer Outcome) (new : Market)
-    → IsSound old → Step IsReadAs IsRightOutcome old asked answer new → IsSound new × (new.version ≡ old.version))
+-- the empty market of each version is consistent, and every step keeps a market consistent, and its version
+abbrev pub StepsKeepConsistency : Type 0
+StepsKeepConsistency = ((version : Version) → IsConsistent (empty_market version)) × ((old : Market) (asked : Record) (answer : Answer Outcome) (new : Market)
+    → IsConsistent old → Step IsReadAs IsAdmissibleOutcome old asked answer new → IsConsistent new × (new.version ≡ old.version))
 
--- from a sound market on what is held changes by the accepted deposits less the accepted withdrawals; in the empty market nothing is held
+-- from a consistent market on, what is held changes by the accepted deposits less the accepted withdrawals; in a journal, which begins
+-- with the empty market, it is exactly that
 pub record HeldIsDeposited : Type 0 where
-  pub money : (old : Market) (pairs : List (Pair Record Outcome)) (new : Market) → IsSound old → Leads old pairs new
+  pub money : (old : Market) (pairs : List (Pair Record Outcome)) (new : Market) → IsConsistent old → Leads old pairs new
       → (added : ℤ) × AddTogether (IsReadAs old.version) money_added pairs added × (held_money new ≡ held_money old +ℤ added)
   pub units : (old : Market) (pairs : List (Pair Record Outcome)) (new : Market) (asset : ℕ)
-      → IsSound old → IsAsset old.balances asset → IsAsset new.balances asset → Leads old pairs new
+      → IsConsistent old → IsAsset old.balances asset → IsAsset new.balances asset → Leads old pairs new
       → (added : ℤ) × AddTogether (IsReadAs old.version) (units_added asset) pairs added × (held_units new asset ≡ held_units old asset +ℤ added)
   pub all_money : (version : Version) (pairs : List (Pair Record Outcome)) (m : Market) → Leads (empty_market version) pairs m → AddTogether (IsReadAs version) money_added pairs (held_money m)
   pub all_units : (version : Version) (pairs : List (Pair Record Outcome)) (m : Market) (asset : ℕ) → IsAsset m.balances asset → Leads (empty_market version) pairs m
       → AddTogether (IsReadAs version) (units_added asset) pairs (held_units m asset)
 
--- from a sound market on steps lead to a sound one, and what it holds more is the accepted deposits less the accepted withdrawals
+-- steps from a consistent market lead to a consistent one, which holds more by the accepted deposits less the accepted withdrawals
 abbrev pub JournalsHoldDeposits : Type 0
 JournalsHoldDeposits = (start : Market) (pairs : List (Pair Record Outcome)) (m : Market)
-    → IsSound start → Leads start pairs m → HoldsDeposits IsReadAs start pairs m
+    → IsConsistent start → Leads start pairs m → HoldsDeposits IsReadAs start pairs m
 
 -- a batch changes nothing that is held in total
 abbrev pub BatchesKeepTotals : Type 0
 BatchesKeepTotals = (old : Market) (command : Command) (number : ℕ) (outcome : Outcome) (new : Market)
-    → IsSound old → Serves IsRightOutcome old command (Batch number outcome) new
+    → IsConsistent old → Serves IsAdmissibleOutcome old command (Batch number outcome) new
     → (held_money new ≡ held_money old) × ((asset : ℕ) → IsAsset old.balances asset → held_units new asset ≡ held_units old asset)
 
--- a batch that is skipped is counted, the orders leave whose last batch it was, and nothing else changes
+-- a batch that is skipped is counted, the orders whose last batch it was leave, and nothing else changes
 abbrev pub SkipsOnlyEndOrders : Type 0
 SkipsOnlyEndOrders = (old : Market) (command : Command) (number : ℕ) (skipping : Skipping) (new : Market)
-    → Serves IsRightOutcome old command (Batch number (Skipped skipping)) new
+    → Serves IsAdmissibleOutcome old command (Batch number (Skipped skipping)) new
     → new ≡ record old { orders = going_on (old.batches + 1) old.orders; batches = old.batches + 1 }
 
--- the batch of an order's last number is the last in which it trades, and it isn't live after it; an order that isn't filled to
--- its cap and has another last batch, or none, stays
+-- an order trades in no batch after its last one, and isn't live after it; a batch that is skipped ends no order with another last
+-- batch, or with none
 pub record OrdersEndInTime : Type 0 where
-  pub before : (old : Market) (command : Command) (number : ℕ) (outcome : Outcome) (new : Market) → IsSound old
-      → Serves IsRightOutcome old command (Batch number outcome) new → All (λ (o : Order). (o.last ≡ 0) ⊎ (number ≤ o.last)) old.orders
-  pub after : (old : Market) (command : Command) (number : ℕ) (outcome : Outcome) (new : Market) → IsSound old
-      → Serves IsRightOutcome old command (Batch number outcome) new → All (λ (o : Order). (o.last ≡ 0) ⊎ (number < o.last)) new.orders
+  pub before : (old : Market) (command : Command) (number : ℕ) (outcome : Outcome) (new : Market) → IsConsistent old
+      → Serves IsAdmissibleOutcome old command (Batch number outcome) new → All (λ (o : Order). (o.last ≡ 0) ⊎ (number ≤ o.last)) old.orders
+  pub after : (old : Market) (command : Command) (number : ℕ) (outcome : Outcome) (new : Market) → IsConsistent old
+      → Serves IsAdmissibleOutcome old command (Batch number outcome) new → All (λ (o : Order). (o.last ≡ 0) ⊎ (number < o.last)) new.orders
   pub stays : (old : Market) (command : Command) (number : ℕ) (s : Skipping) (new : Market) (o : Order)
-      → Serves IsRightOutcome old command (Batch number (Skipped s)) new → Contains old.orders o → o.last ≢ number → Contains new.orders o
+      → Serves IsAdmissibleOutcome old command (Batch number (Skipped s)) new → Contains old.orders o → o.last ≢ number → Contains new.orders o
 
--- no order has a last batch and no account has credit, so a batch ends no order, an order may use what is free, and no account
--- owes anything
+-- no order has a last batch and no account has credit, so no batch is an order's last one, an order may need exactly what is free,
+-- and no account owes anything
 pub record VersionOneHasNeither (m : Market) : Type 0 where
   pub lasts : All (λ (o : Order). o.last ≡ 0) m.orders
   pub goes_on : (batch : ℕ) → 1 ≤ batch → going_on batch m.orders ≡ m.orders
@@ -110,66 +111,67 @@ pub record VersionOneHasNeither (m : Market) : Type 0 where
   pub no_debt : (account : ℕ) → IsAccount m.balances account → pos 0 ≤ℤ money_of m.balances account
   pub no_short : (account asset : ℕ) → IsAccount m.balances account → IsAsset m.balances asset → pos 0 ≤ℤ units_of m.balances account asset
 
--- a sound market of version One has neither last batches nor credit
+-- a consistent market of version One has neither last batches nor credit
 abbrev pub VersionOneIsAsBefore : Type 0
-VersionOneIsAsBefore = (m : Market) → IsSound m → m.version ≡ One → VersionOneHasNeither m
+VersionOneIsAsBefore = (m : Market) → IsConsistent m → m.version ≡ One → VersionOneHasNeither m
 
--- what a market of version One makes of a batch: it is settled or counted, and no order leaves but one that is filled to its cap
+-- after a batch in a consistent market of version One, only orders that are filled to their caps have left; a skip is only counted
 pub record BatchesOfVersionOne : Type 0 where
-  pub cleared : (old : Market) (c : Clearing) → IsSound old → old.version ≡ One
+  pub cleared : (old : Market) (c : Clearing) → IsConsistent old → old.version ≡ One
       → (after_batch old (Cleared c)).orders ≡ staying (trades_of old.orders c.fills)
-  pub skipped : (old : Market) (s : Skipping) → IsSound old → old.version ≡ One → after_batch old (Skipped s) ≡ record old { batches = old.batches + 1 }
+  pub skipped : (old : Market) (s : Skipping) → IsConsistent old → old.version ≡ One → after_batch old (Skipped s) ≡ record old { batches = old.batches + 1 }
 
--- from a sound market on no order's fills pass the cap that it was placed with, nor that of an order that is live
+-- from a consistent market on, no order's fills pass the cap that it was placed with, and those of an order that is live at the start,
+-- with what was filled of it before, don't pass its cap
 pub record FillsKeepCaps : Type 0 where
-  pub placed : (old : Market) (before after : List (Pair Record Outcome)) (pair : Pair Record Outcome) (m : Market) (number cap : ℕ) → IsSound old
+  pub placed : (old : Market) (before after : List (Pair Record Outcome)) (pair : Pair Record Outcome) (m : Market) (number cap : ℕ) → IsConsistent old
       → Leads old (before ++ pair ∷ after) m → Places (IsReadAs old.version) number cap pair → fills_of number (before ++ pair ∷ after) ≤ cap
-  pub live : (old : Market) (pairs : List (Pair Record Outcome)) (m : Market) (o : Order) → IsSound old → Contains old.orders o
+  pub live : (old : Market) (pairs : List (Pair Record Outcome)) (m : Market) (o : Order) → IsConsistent old → Contains old.orders o
       → Leads old pairs m → o.filled + fills_of o.number pairs ≤ o.cap
 
--- no balanced rates beat the rates of a cleared batch by more than the published gap
+-- no balanced rates have more welfare than the rates of a cleared batch and its published gap together
 abbrev pub ClearedBatchesAreOptimal : Type 0
 ClearedBatchesAreOptimal = (old : Market) (command : Command) (number : ℕ) (c : Clearing) (new : Market)
-    → IsSound old → Serves IsRightOutcome old command (Batch number (Cleared c)) new
+    → IsConsistent old → Serves IsAdmissibleOutcome old command (Batch number (Cleared c)) new
     → IsOptimalWithin c.gap old.orders (map (λ (f : Fill). f.rate) c.fills)
 
--- the dual floors of a skipped batch tell its movement, and so a grain for each of its moves, up to the number of orders
+-- the published dual values of a skipped batch fall by more than its movement less the number of orders, and by more than a grain for
+-- each move less the number of orders
 pub record SkipsLowerTheDual : Type 0 where
   pub movement : (old : Market) (command : Command) (number : ℕ) (s : Skipping) (new : Market)
-      → IsSound old → Serves IsRightOutcome old command (Batch number (Skipped s)) new
+      → IsConsistent old → Serves IsAdmissibleOutcome old command (Batch number (Skipped s)) new
       → (s.end_dual +ℤ pos (movement_of (parts_of old.version) old.orders (start_prices old) s.trace)) <ℤ (s.start_dual +ℤ pos (length old.orders))
   pub moves : (old : Market) (command : Command) (number : ℕ) (s : Skipping) (new : Market)
-      → IsSound old → Serves IsRightOutcome old command (Batch number (Skipped s)) new
+      → IsConsistent old → Serves IsAdmissibleOutcome old command (Batch number (Skipped s)) new
       → (s.end_dual +ℤ pos (length s.trace)) <ℤ (s.start_dual +ℤ pos (length old.orders))
 
--- a batch whose budget is above the dual floor at its start plus the number of orders clears
+-- a batch clears if its budget is above the dual value at its start prices plus the number of orders
 abbrev pub LargeBudgetsClear : Type 0
 LargeBudgetsClear = (old : Market) (budget number : ℕ) (outcome : Outcome) (new : Market)
-    → IsSound old → dual_of old.orders (start_prices old) + length old.orders < budget
-    → Serves IsRightOutcome old (RunBatch budget) (Batch number outcome) new → (c : Clearing) × (outcome ≡ Cleared c)
+    → IsConsistent old → dual_of old.orders (start_prices old) + length old.orders < budget
+    → Serves IsAdmissibleOutcome old (RunBatch budget) (Batch number outcome) new → (c : Clearing) × (outcome ≡ Cleared c)
 
--- sequences of steps compose, and come apart
+-- two sequences of steps compose to one, and a sequence splits at any entry
 pub record SequencesCompose : Type 0 where
   pub joined : (old mid new : Market) (pairs more : List (Pair Record Outcome)) → Leads old pairs mid → Leads mid more new → Leads old (pairs ++ more) new
   pub apart : (old new : Market) (pairs more : List (Pair Record Outcome)) → Leads old (pairs ++ more) new
       → (mid : Market) × Leads old pairs mid × Leads mid more new
 
--- the limits that two crates keep, each by its own name, are the same: as many tickers as assets, and limit prices as on a curve
+-- limits that two crates define, each under its own name, agree: as many tickers as assets, and the range of limit prices
 pub record LimitsAgree : Type 0 where
   pub assets : ticker_limit ≡ most_assets
   pub ticks : 2 ^ 32 * most_ticks ≡ 2 ^ 60
 
--- a step gives out at most one number of an order, also where any right outcome of a batch is accepted
+-- a step gives out at most one order number, even if any admissible outcome of a batch is accepted
 abbrev pub LegalStepsNumberOne : Type 0
 LegalStepsNumberOne = (old : Market) (asked : Record) (answer : Answer Outcome) (new : Market)
-    → Step IsReadAs IsRightOutcome old asked answer new → new.next_order ≤ old.next_order + 1
+    → Step IsReadAs IsAdmissibleOutcome old asked answer new → new.next_order ≤ old.next_order + 1
 
--- from a sound market on steps keep the promises of the exchange, and so every legal journal does
+-- steps from a consistent market keep the promises of the exchange, and so every valid journal does
 abbrev pub LegalJournalsKeepPromises : Type 0
 LegalJournalsKeepPromises = (start : Market) (pairs : List (Pair Record Outcome)) (m : Market)
-    → IsSound start → Leads start pairs m → KeepsPromises IsReadAs start pairs
+    → IsConsistent start → Leads start pairs m → KeepsPromises IsReadAs start pairs
 
--- settling keeps what live orders need covered, whichever orders leave: what each account holds, with its credit, is at least what
--- its orders need that are still live
+-- if each account, with its credit, covers what its orders need, it covers what the remaining ones need, whichever orders leave
 abbrev pub OrdersMayLeave : Type 0
 OrdersMayLeave = (b : Balances) (stays : Order → Bool) (orders : List Order) → CoversNeeds b orders → CoversNeeds b (filter stays orders)

@@ -3,5 +3,5 @@ pub mod Settling
 pub mod Step
 pub mod Journal
 pub mod Promises
-pub mod Wanting
+pub mod Allocating
 pub mod Laws

@@ -1,4 +1,4 @@
--- The market: what is kept from one command to the next, and what holds of it at all times.
+-- The market: what is kept from one command to the next, and the invariant that holds of it at all times.
 use Rattle.std.specs.Prelude.{◌≡◌, ◌≢◌, ◌⊎◌, ℕ, ◌*◌, ◌^◌, ◌<◌, ◌≤◌, ℤ, pos, neg_ℤ, ◌+ℤ◌, ◌-ℤ◌, ◌≤ℤ◌, unsigned_abs, List, [], map, length, All, AllPairs}
 use Rattle.std.specs.Int.{int_min, int_max}
 use Rattle.weight_rows.specs.Rows.{IsPrice}
@@ -12,13 +12,13 @@ use Rattle.flow_accounts.specs.Sums.{money_of_all, units_of_all}
 use Rattle.flow_orders.specs.Orders.{Order, IsOrder, most_orders, needed_money, needed_units}
 use Rattle.fill_caps.specs.Covers.{CoversNeeds}
 
--- no more batches are held
+-- the most batches that a market holds
 abbrev pub most_batches : ℕ
 most_batches = 2 ^ 24
 
--- the version; tickers in the order of their numbers; balances, credits and totals; the exchange's own account; the live orders,
--- ascending; the number that the next order gets; how many batches were held; and the last cleared price of each asset, 0 where
--- there is none
+-- the version; tickers in the order of the assets' numbers; balances, credits and totals; the exchange's account; the live orders, by
+-- ascending number; the number that the next order gets; how many batches were held; and the last cleared price of each asset, in
+-- grains, 0 if there is none
 pub record Market : Type 0 where
   pub version : Version
   pub tickers : List (List ℕ)
@@ -33,21 +33,21 @@ pub record Market : Type 0 where
 abbrev pub empty_market : Version → Market
 empty_market version = record { version = version; tickers = []; balances = no_balances; exchange = empty_account 0; orders = []; next_order = 1; batches = 0; last_prices = [] }
 
--- a price, cut to the range in which a search starts
+-- a price, cut to the range in which a search starts: within 2^60 grains of 0
 abbrev pub cut_price : ℤ → ℤ
 cut_price price = int_max (neg_ℤ (pos (2 ^ 60))) (int_min (pos (2 ^ 60)) price)
 
--- how many parts of a unit say where a move ends, in each version
+-- the number of parts of a unit in which it is counted where a move ends, in each version
 abbrev pub parts_of : Version → ℕ
 parts_of One = 1
 parts_of Two = 1
 parts_of Three = 256
 
--- the prices at which a batch starts
+-- the prices at which the search of a batch starts, in grains: the last prices, cut
 abbrev pub start_prices : Market → List ℤ
 start_prices market = map cut_price market.last_prices
 
--- the money that accounts and exchange hold together
+-- the money that accounts and exchange hold together, in grains
 abbrev pub held_money : Market → ℤ
 held_money m = money_of_all m.balances +ℤ m.exchange.money
 
@@ -55,23 +55,23 @@ held_money m = money_of_all m.balances +ℤ m.exchange.money
 abbrev pub held_units : Market → ℕ → ℤ
 held_units m asset = units_of_all m.balances asset +ℤ units_in m.exchange asset
 
--- the money of an account that its orders don't need
+-- the free money of an account, in grains: what it has less what its orders need, without its credit
 abbrev pub free_money : Market → ℕ → ℤ
 free_money m account = money_of m.balances account -ℤ needed_money m.orders account
 
--- the units of an asset in an account that its orders don't need
+-- the free units of an asset in an account: what it has less what its orders need, without its credit
 abbrev pub free_units : Market → ℕ → ℕ → ℤ
 free_units m account asset = units_of m.balances account asset -ℤ needed_units m.orders account asset
 
--- the money of an account that its orders may still use: what isn't needed of its balance and its credit
+-- the money that a new order of an account may need at most, in grains: balance and credit, less what its orders need
 abbrev pub usable_money : Market → ℕ → ℤ
 usable_money m account = money_with_credit m.balances account -ℤ needed_money m.orders account
 
--- the units of an asset in an account that its orders may still use
+-- the units of an asset that a new order of an account may need at most: balance and credit, less what its orders need
 abbrev pub usable_units : Market → ℕ → ℕ → ℤ
 usable_units m account asset = units_with_credit m.balances account asset -ℤ needed_units m.orders account asset
 
--- there is one ticker, one last price, one credit line for each account, and in each account one balance for each asset
+-- each asset has one ticker, one last price, and one balance in each account and in the exchange's; each account has one credit line
 pub record HasOneEach (m : Market) : Type 0 where
   pub tickers : length m.tickers ≡ asset_count m.balances
   pub prices : length m.last_prices ≡ asset_count m.balances
@@ -83,8 +83,8 @@ pub record HasOneEach (m : Market) : Type 0 where
 abbrev pub IsInTime : Market → Order → Type 0
 IsInTime m o = (o.last ≡ 0) ⊎ ((m.version ≢ One) × (m.batches < o.last))
 
--- a live order of a market: it is within the limits, its number was given out, its account and its assets are there, and its last
--- batch is still to come
+-- a live order of a market: it is within its limits, its number was given out, its account and its assets exist, and its last
+-- batch, if it has one, is still to come
 pub record IsLiveOrder (m : Market) (o : Order) : Type 0 where
   pub order : IsOrder o
   pub numbered : (1 ≤ o.number) × (o.number < m.next_order)
@@ -92,7 +92,7 @@ pub record IsLiveOrder (m : Market) (o : Order) : Type 0 where
   pub assets : All (λ e. IsAsset m.balances e.asset) o.row
   pub in_time : IsInTime m o
 
--- a credit line of zeros
+-- a credit line is all zeros
 pub record IsNoCredit (c : Credit) : Type 0 where
   pub ticks : c.ticks ≡ 0
   pub units : All (λ u. u ≡ 0) c.units
@@ -107,15 +107,15 @@ pub record HoldsTotals (m : Market) : Type 0 where
   pub money : held_money m ≡ m.balances.total_money
   pub units : (asset : ℕ) → IsAsset m.balances asset → held_units m asset ≡ total_units_of m.balances asset
 
--- totals are at most their limits, and the exchange holds no more than its batches can have brought
+-- totals are at most their limits, and the exchange is no further from 0 than its batches can have brought it
 pub record IsWithinWidths (m : Market) : Type 0 where
   pub total_money : m.balances.total_money ≤ℤ money_limit
   pub total_units : All (λ units. units ≤ℤ unit_limit) m.balances.total_units
   pub exchange_money : unsigned_abs m.exchange.money ≤ m.batches * 2 ^ 99
   pub exchange_units : All (λ units. unsigned_abs units ≤ m.batches * 2 ^ 31) m.exchange.units
 
--- A market is sound.
-pub record IsSound (m : Market) : Type 0 where
+-- A market is consistent. This is its invariant: the empty market is consistent, and every step keeps it so.
+pub record IsConsistent (m : Market) : Type 0 where
   pub one_each : HasOneEach m
   pub tickers : AreTickers m.tickers
   pub live : All (IsLiveOrder m) m.orders

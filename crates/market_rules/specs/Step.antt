@@ -1,7 +1,7 @@
--- One step of the market: the first refusal of a command, or what the accepted command is answered and makes of the market.
---     How a batch may end is a rule of its own, which is handed in: any right outcome, or the program's own one.
+-- One step of the market: the first refusal of a command, or the answer to the accepted command and the market after it. Which
+-- outcomes a batch may have is a parameter, a rule: any admissible outcome, or the program's canonical one.
 use Rattle.std.specs.Prelude.{◌≡◌, ℕ, ◌+◌, ◌<◌, ◌≤◌, pos, neg_ℤ, ◌+ℤ◌, ◌≤ℤ◌, ◌<ℤ◌, [], ◌∷◌, ◌++◌, length, ◌⊎◌, Option, Some, None, unwrap_or, IfSome, Result, Ok, Err, All, Contains}
-use Rattle.weight_rows.specs.Rows.{IsLawfulRow}
+use Rattle.weight_rows.specs.Rows.{IsWeightVector}
 use Rattle.wire_records.specs.Commands.{Request, Command, AddAsset, OpenAccount, DepositMoney, DepositAsset, WithdrawMoney, WithdrawAsset, Place, CancelOrder, RunBatch, SetMoneyCredit, SetUnitCredit, Answer, Plain, Batch}
 use Rattle.wire_records.specs.declared.reply.Reply.TheVariants as reply
 use Rattle.wire_records.specs.declared.reply.Refusal.{Refusal}
@@ -23,19 +23,19 @@ use Rattle.fill_caps.specs.Settlement.{settled_balances, settled_exchange}
 -- ---- refusals
 
 infixr 1 ◌when◌else◌ ◌unless◌else◌
--- this refusal is the first where its condition holds, and otherwise the others decide
+-- this refusal is the first if its condition holds, and otherwise the ones after it decide
 abbrev pub ◌when◌else◌ : Refusal → Type 0 → (Option Refusal → Type 0) → Option Refusal → Type 0
 ◌when◌else◌ refusal condition others first = (condition × (first ≡ Some refusal)) ⊎ ((¬ condition) × others first)
 
--- the same where its condition doesn't hold
+-- this refusal is the first if its condition doesn't hold, and otherwise the ones after it decide
 abbrev pub ◌unless◌else◌ : Refusal → Type 0 → (Option Refusal → Type 0) → Option Refusal → Type 0
 ◌unless◌else◌ refusal condition others first = ((¬ condition) × (first ≡ Some refusal)) ⊎ (condition × others first)
 
--- no refusal is left
+-- the end of a list of refusals: none of them holds
 abbrev pub accept : Option Refusal → Type 0
 accept first = first ≡ None
 
--- the order that is placed on a request, with its last batch, or 0 where it has none
+-- the order that a request places: limits in grains, nothing filled, and the last batch in which it trades, or 0 if it has none
 abbrev pub placed : Market → Option ℕ → Request → Order
 placed market last r = record {
   number = market.next_order;
@@ -49,20 +49,20 @@ placed market last r = record {
   last = unwrap_or last 0;
 }
 
--- what an order needs is free in its account, its credit included
+-- its account, credit included, has what the order needs beside what the account's other orders need
 pub record IsAffordable (market : Market) (o : Order) : Type 0 where
   pub money : pos (money_need o) ≤ℤ usable_money market o.account
   pub units : (asset : ℕ) → IsAsset market.balances asset → pos (unit_need asset o) ≤ℤ usable_units market o.account asset
 
--- the refusals that an order meets once its numbers are as they should be: for its row, for a full book, or for what it needs
+-- the refusals of an order whose numbers are within their limits: for its weight vector, for a full book, or for what it needs
 abbrev pub RefusesRow : Market → Order → Option Refusal → Type 0
 RefusesRow m o =
-    BadRow unless IsLawfulRow o.row else
+    BadRow unless IsWeightVector o.row else
     NoAsset unless All (λ e. IsAsset m.balances e.asset) o.row else
     OrderLimit when most_orders ≤ length m.orders else
     NotFree unless IsAffordable m o else accept
 
--- the first refusal of a command whose condition holds, if any does
+-- the first refusal of a command: the conditions in the order in which they are tested, or None if no refusal holds
 abbrev pub FirstRefusal : Market → Command → Option Refusal → Type 0
 FirstRefusal m (AddAsset ticker) =
     BadTicker unless IsTicker ticker else
@@ -112,8 +112,8 @@ FirstRefusal m (SetUnitCredit account asset units) =
 
 -- ---- accepted commands
 
--- the market after a batch: a cleared one is settled at its prices; and either way the orders leave whose last batch it was, and
--- the batch is counted
+-- the market after a batch: one that cleared is settled at its prices, and orders filled to their caps leave; in either case the
+-- orders whose last batch it was leave, and the batch is counted
 abbrev pub after_batch : Market → Outcome → Market
 after_batch m (Cleared c) = record m {
   balances = settled_balances c.prices (trades_of m.orders c.fills) m.balances;
@@ -124,16 +124,17 @@ after_batch m (Cleared c) = record m {
 }
 after_batch m (Skipped s) = record m { orders = going_on (m.batches + 1) m.orders; batches = m.batches + 1 }
 
--- this is answered, and this market is made
+-- the answer is `given`, and the new market is `made`
 abbrev pub gives : Answer Outcome → Market → Answer Outcome → Market → Type 0
 gives given made answer new = (answer ≡ given) × (new ≡ made)
 
--- a batch is held: it ends by the rule and the version's parts, its outcome is answered, and the market is the one after it
+-- a batch is held: its outcome is one that the rule allows with the version's parts of a unit, the answer is this outcome under the
+-- batch's number, and the new market is the one after it
 abbrev pub holds_batch : BatchRule → Market → ℕ → Answer Outcome → Market → Type 0
 holds_batch Rule m budget answer new =
     (outcome : Outcome) × Rule (parts_of m.version) m.orders (start_prices m) budget outcome × gives (Batch (m.batches + 1) outcome) (after_batch m outcome) answer new
 
--- what an accepted command is answered, and the market after it
+-- the answer to an accepted command, and the market after it
 abbrev pub Accepts : BatchRule → Market → Command → Answer Outcome → Market → Type 0
 Accepts Rule m (AddAsset ticker) = gives (Plain (reply.Asset (length m.tickers))) (record m {
   tickers = m.tickers ++ ticker ∷ [];
@@ -152,31 +153,31 @@ Accepts Rule m (RunBatch budget) = holds_batch Rule m budget
 Accepts Rule m (SetMoneyCredit account ticks) = gives (Plain reply.Done) (record m { balances = set_money_credit m.balances account ticks })
 Accepts Rule m (SetUnitCredit account asset units) = gives (Plain reply.Done) (record m { balances = set_unit_credit m.balances account asset units })
 
--- the first refusal is answered and changes nothing; where there is none, the command is accepted
+-- the first refusal is the answer and changes nothing; if there is none, the command is accepted
 abbrev pub Answers : BatchRule → Market → Command → Option Refusal → Answer Outcome → Market → Type 0
 Answers Rule m command (Some first) = gives (Plain (reply.Refused first)) m
 Answers Rule m command None = Accepts Rule m command
 
--- a command gets its answer, and makes the new market of the old one
+-- a command gets this answer, and leads from the old market to the new one
 pub record Serves (Rule : BatchRule) (old : Market) (command : Command) (answer : Answer Outcome) (new : Market) : Type 0 where
   pub first : Option Refusal
   pub refused : FirstRefusal old command first
   pub answered : Answers Rule old command first answer new
 
--- no batch ends by this rule
+-- the rule that allows no outcome of a batch
 abbrev pub NoOutcome : BatchRule
 NoOutcome parts orders start budget outcome = ⊥
 
--- a command is served and no batch is held: the command is no batch, or it is a batch that is refused
+-- a command is served and no batch is held: the command isn't RunBatch, or it is refused
 abbrev pub ServesPlain : Market → Command → Answer Outcome → Market → Type 0
 ServesPlain = Serves NoOutcome
 
--- the refusal of a record that can't be served
+-- the refusal of a record that is no command
 abbrev pub refusal_of : BodyFault → Refusal
 refusal_of fault.UnknownTag = refusals.UnknownTag
 refusal_of fault.BadBody = refusals.BadBody
 
--- what a step does with what a record is read as: a command is served, and else the record is refused
+-- what a step does with what a record is read as: a command is served, and anything else is refused and changes nothing
 abbrev pub ServesRead : BatchRule → Market → Result Command BodyFault → Answer Outcome → Market → Type 0
 ServesRead Rule old (Ok command) = Serves Rule old command
 ServesRead Rule old (Err why) = gives (Plain (reply.Refused (refusal_of why))) old

@@ -1,10 +1,10 @@
 //! What the market is and does, apart from the program that keeps one: definitions, and what holds of them.
 //!
-//! The definitions in `specs` are those that everything above cites: `Market` (what is kept, and when it is sound), `Step`
-//! (the first refusal of a command, or what it is answered and makes of the market), `Journal` (sequences of steps, totals,
-//! fills), `Promises` (what a journal promises of batches and fills), `Wanting` (where memory may be wanted), `Settling`
-//! (which outcomes a market settles). Each function of [`laws`] is a law of theirs, and does nothing when it runs. What code
-//! takes of them are numbers alone: [`parts_of`], [`MOST_ORDERS`] and [`MOST_BATCHES`].
+//! All crates above use the definitions in `specs`: `Market` (what is kept, and when it is consistent), `Step` (the first
+//! refusal of a command, or its answer and the market after it), `Journal` (sequences of steps, totals, fills), `Promises`
+//! (what a journal promises of batches and fills), `Allocating` (which commands may run out of memory), `Settling` (which
+//! outcomes can be settled). Each function of [`laws`] is a law about these, and does nothing when it runs. Code uses only
+//! numbers of this crate: [`parts_of`], [`MOST_ORDERS`] and [`MOST_BATCHES`].
 #![tactic(auto)]
 
 pub mod laws;

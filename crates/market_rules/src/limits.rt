@@ -1,7 +1,7 @@
-//! How much a market has at most.
+//! The limits of a market.
 
-/// No more orders are live.
+/// The most live orders of a market.
 pub const MOST_ORDERS: u32 = 16_384;
 
-/// No more batches are held.
+/// The most batches that a market holds.
 pub const MOST_BATCHES: u32 = 1 << 24;

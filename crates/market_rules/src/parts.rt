@@ -1,11 +1,11 @@
-//! The parts of a unit that say where a move of a price ends.
+//! The parts of a unit in which the end of a move is counted.
 ghost use Rattle.std.specs.Prelude.{◌≡◌, ◌≤◌};
 ghost use Rattle.market_rules.specs.Market.{parts_of};
 
 use wire_records::Version;
 
-/// In how many parts of a unit it is said where a move of a price ends: from 1, which is in whole units, to 256. Versions One
-/// and Two have 1, and version Three 256.
+/// Returns the number of parts of a unit in which it is counted where a move of a price ends, 1 to 256: 1 in versions One
+/// and Two, where a part is a whole unit, and 256 in version Three.
 pub fn parts_of(version: Version) -> u16
     ensures value { result ≡ parts_of version }
     ensures few { (1 ≤ result) × (result ≤ 256) }

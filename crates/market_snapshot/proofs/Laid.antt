@@ -1,4 +1,4 @@
--- What is read at the places of a layout is spelled by the bytes, and fits.
+-- What is read at the places of a layout is encoded by the bytes, and fits.
 use Rattle.std.proofs.Common.{◌≡◌, ◌+◌, ◌-◌, ◌*◌, ◌<◌, ◌≤◌, ℕ, suc, List, [], ◌∷◌, ◌++◌, length, map, take, get_or, refl, sym, ap, ◌∙◌, subst, arith}
 use Rattle.std.specs.Prelude.{All}
 use Rattle.std.specs.Int.{w64}
@@ -21,7 +21,7 @@ use Rattle.market_snapshot.specs.Checkpoints.{units_spelling, account_spelling, 
 use Rattle.market_snapshot.specs.Widths.{FitUnits, FitsAccount, FitsOrder, FitWidths}
 use Rattle.market_snapshot.specs.Layout.{account_size, signs_at, tickers_at, account_at, credit_at, entry_at, entries_at, order_size, order_at, account_place, balances_at, parts_at, count_place, first_place, IsLayout, AreOrders}
 
--- two pieces that are parts, one behind the other
+-- two adjacent parts of bytes are one part
 join : (x y : List ℕ) (p a q b c : ℕ) (bytes : List ℕ) → x ≡ part p a bytes → y ≡ part q b bytes → q ≡ p + a → c ≡ a + b → x ++ y ≡ part p c bytes
 join x y p a q b c bytes here next place size =
     ap (λ z. z ++ y) here ∙ ap (λ z. part p a bytes ++ z) (next ∙ ap (λ k. part k b bytes) place) ∙ part_join p a b bytes ∙ ap (λ n. part p n bytes) (sym size)
@@ -36,12 +36,12 @@ all_range P n each i d inside =
 all_made : {A : Type 0} (P : A → Type 0) (f : ℕ → A) (n : ℕ) → ((k : ℕ) → k < n → P (f k)) → All P (map f (range_with_len 0 n))
 all_made P f n each = All-map P f (range_with_len 0 n) (all_range (λ k. P (f k)) n each)
 
--- two lists that are made place by place, pair by pair
+-- zipping two lists that are made from the same places
 zip_made : {A B : Type 0} (f : ℕ → A) (g : ℕ → B) (xs : List ℕ) → zip (map f xs) (map g xs) ≡ map (λ k. (f k, g k)) xs
 zip_made f g [] = refl
 zip_made f g (x ∷ xs) = ap (λ zs. (f x, g x) ∷ zs) (zip_made f g xs)
 
--- so many values of one size, from a place on
+-- the bytes of n values of one size, from a place on
 made_spelled : {A : Type 0} (spell : A → List ℕ) (f : ℕ → A) (size place n : ℕ) (bytes : List ℕ) → ((k : ℕ) → k < n → spell (f k) ≡ part (place + size * k) size bytes) → flat_map spell (map f (range_with_len 0 n)) ≡ part place (size * n) bytes
 made_spelled spell f size place n bytes each =
     let start : place + size * 0 ≡ place = omega arith in
@@ -49,7 +49,7 @@ made_spelled spell f size place n bytes each =
     ∙ parts_join (λ k. spell (f k)) size place 0 n bytes (λ k low high. each k (omega (arith, high)))
     ∙ ap (λ p. part p (size * n) bytes) start
 
--- a value of a size, of which there are so many, ends before them all do
+-- value k of n values of one size ends before they all do
 pub within : (size k n : ℕ) → k < n → size * k + size ≤ size * n
 within size k n below = let one : size * k + size ≡ size * suc k = sym (nat.mul-suc size k) in subst (λ m. m ≤ size * n) (sym one) (nat.mul-le-mul_left size (omega (arith, below)))
 
@@ -100,7 +100,7 @@ module _ (bytes : List ℕ) (small : All (λ b. b < 256) bytes) where
           (λ k below. ((signed_spelled_8 (place + 24 + 16 * k) bytes (omega (arith, there, below)) small).fits, (unsigned_spelled 8 (place + 32 + 16 * k) bytes (omega (arith, there, below)) small).fits)));
     }
 
-  -- an entry
+  -- a leg
   entry_spelled : (place : ℕ) → place + 6 ≤ length bytes → entry_spelling (entry_at place bytes) ≡ part place 6 bytes
   unfolding entry_spelling
   entry_spelled place there =

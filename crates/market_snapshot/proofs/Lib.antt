@@ -2,9 +2,10 @@ mod Laid
 pub mod OneMarket
 mod OneParts
 mod ReadThere
-mod SoundFits
+mod ConsistentFits
 mod Ticks
 mod Viewing
 mod Walking
 mod WorkedRows
 mod Written
+pub mod Sizing

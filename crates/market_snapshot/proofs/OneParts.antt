@@ -1,4 +1,4 @@
--- Bytes begin with those of at most one market's parts that fit.
+-- Bytes begin with the encoding of at most one market's parts that fit.
 use Rattle.std.proofs.Common.{◌≡◌, ◌≤◌, ℕ, ℤ, List, ◌++◌, length, map, take, drop, append_assoc, sym, ap, ◌∙◌, subst, arith}
 use Rattle.std.specs.Prelude.{All}
 use Rattle.std.specs.List.{flat_map, zip}
@@ -17,15 +17,15 @@ use Rattle.market_parts.specs.Parts.{ReadOrder, Parts}
 use Rattle.market_snapshot.specs.Checkpoints.{checkpoint_magic, units_spelling, account_spelling, order_spelling, tickers_spelling, accounts_spelling, totals_spelling, exchange_spelling, batches_spelling, orders_spelling, parts_spelling}
 use Rattle.market_snapshot.specs.Widths.{FitUnits, FitsAccount, FitsOrder, FitBalances, FitsExchange, FitWidths}
 
--- what stands behind the same bytes
+-- what follows equal bytes is equal
 behind_same : (front x y : List ℕ) → front ++ x ≡ front ++ y → x ≡ y
 behind_same front x y e = sym (drop-append_seam front x) ∙ ap (drop (length front)) e ∙ drop-append_seam front y
 
--- numbers with a sign, as many
+-- two lists of as many numbers with a sign
 signs_unique : (p q : List ℤ) (x y : List ℕ) → All (IsSigned 8) p → All (IsSigned 8) q → length p ≡ length q → flat_map (signed 8) p ++ x ≡ flat_map (signed 8) q ++ y → (p ≡ q) × (x ≡ y)
 signs_unique = counted_unique (IsSigned 8) (signed 8) (λ a b x y h k e. signed_unique 8 a b x y (omega arith) h k e)
 
--- eight bytes
+-- two texts of eight bytes
 bytes_unique : (s t x y : List ℕ) → length s ≡ 8 → length t ≡ 8 → s ++ x ≡ t ++ y → (s ≡ t) × (x ≡ y)
 bytes_unique s t x y h k e =
     let same : s ≡ t = sym (take_at s x 8 h) ∙ ap (take 8) e ∙ take_at t y 8 k in
@@ -40,7 +40,7 @@ units_unique u v x y h k e =
     let credits = unsigned_unique 8 u.1 v.1 x y h.1 k.1 units.1 in
     (ap (λ n. (n, u.1)) units.0 ∙ ap (λ n. (v.0, n)) credits.0, credits.1)
 
--- three pieces, and four, and what stands behind them
+-- three or four pieces, and what follows them
 three : (a b c x : List ℕ) → (a ++ (b ++ c)) ++ x ≡ a ++ (b ++ (c ++ x))
 three a b c x = simp append_assoc
 
@@ -55,7 +55,7 @@ firsts_from : {A B : Type 0} (ps qs : List A) (rs ts : List B) → length rs ≡
 firsts_from {A = A} {B = B} ps qs rs ts h k e =
     (sym (firsts-zip ps rs h) ∙ ap (map (λ (p : A × B). p.0)) e ∙ firsts-zip qs ts k, sym (seconds-zip ps rs h) ∙ ap (map (λ (p : A × B). p.1)) e ∙ seconds-zip qs ts k)
 
--- and how many pairs they are
+-- how many pairs they are
 pub length-pairs : {A B : Type 0} (ps : List A) (rs : List B) → length rs ≡ length ps → length (zip ps rs) ≡ length ps
 length-pairs ps rs h = length-zip ps rs ∙ omega (arith, h)
 
@@ -79,7 +79,7 @@ account_unique assets a b x y h k e =
       units.1,
     )
 
--- an entry
+-- a leg
 entry_unique : (e f : Entry) (x y : List ℕ) → IsEntry e → IsEntry f → entry_spelling e ++ x ≡ entry_spelling f ++ y → (e ≡ f) × (x ≡ y)
 unfolding entry_spelling
 entry_unique e f x y h k same =
@@ -174,7 +174,7 @@ orders_unique o p x y h k in_o in_p e =
     let count = unsigned_unique 4 (length o) (length p) _ _ (omega (arith, h)) (omega (arith, k)) apart in
     counted_unique FitsOrder order_spelling order_unique o p x y in_o in_p count.0 count.1
 
--- all parts from each
+-- all parts are equal if each is
 same_parts : (m n : Parts) → m.version ≡ n.version → m.tickers ≡ n.tickers → m.balances.accounts ≡ n.balances.accounts → m.balances.credits ≡ n.balances.credits → m.balances.total_money ≡ n.balances.total_money → m.balances.total_units ≡ n.balances.total_units → m.exchange ≡ n.exchange → m.next_order ≡ n.next_order → m.batches ≡ n.batches → m.last_prices ≡ n.last_prices → m.orders ≡ n.orders → m ≡ n
 same_parts m n version tickers accounts credits money units exchange next batches prices orders =
     let kept : List Account → List Credit → ℤ → List ℤ → Balances = λ a c t u. record { accounts = a; credits = c; total_money = t; total_units = u } in

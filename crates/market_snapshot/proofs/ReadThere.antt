@@ -15,7 +15,7 @@ use Rattle.market_parts.specs.Parts.{ReadOrder, numbers_of, HasOneForEach}
 use Rattle.market_snapshot.specs.declared.layout.Layout.{Layout}
 use Rattle.market_snapshot.specs.Layout.{account_at, credit_at, account_place, balances_at, parts_at}
 
--- an option that tells a value where a claim holds tells it in other words
+-- an option that has a value if a claim holds, under an equivalent claim
 some_iff : {T : Type 0} (o : Option T) (P Q : Type 0) (v w : T) → SomeIff o P v → (P → Q) → (Q → P) → (P → v ≡ w) → SomeIff o Q w
 some_iff None P Q v w not to from same = λ q. not (from q)
 some_iff (Some x) P Q v w is to from same = (to is.0, is.1 ∙ same is.0)
@@ -99,6 +99,6 @@ module _ (l : Layout) (bytes : List ℕ) where
       some_iff o _ _ _ _ is (is_asset asset) (has_asset asset)
       (λ there. sym (at_place (λ k. signed_at w64 (l.totals + 16 + 8 * k) bytes) l.assets asset (pos 0) there))
 
--- the numbers of an order from each
+-- an order's numbers are equal if each is
 pub same_numbers : (o : ReadOrder) (number account : ℕ) (low high : ℤ) (rate cap filled last entries : ℕ) → number ≡ o.number → account ≡ o.account → low ≡ o.low → high ≡ o.high → rate ≡ o.rate → cap ≡ o.cap → filled ≡ o.filled → last ≡ o.last → entries ≡ length o.row → ◌≡◌ {A = OrderParts} (record { number = number; account = account; low = low; high = high; rate = rate; cap = cap; filled = filled; last = last; entries = entries }) (numbers_of o)
 same_numbers o number account low high rate cap filled last entries a b c d e f g h i = rw (a, b, c, d, e, f, g, h, i) refl

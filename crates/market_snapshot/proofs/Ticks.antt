@@ -9,12 +9,12 @@ use Rattle.wire_records.specs.Versions.{number_of}
 use Rattle.market_parts.specs.Parts.{ReadOrder, Parts, order_of, market_of, HasParts}
 use Rattle.market_snapshot.specs.Checkpoints.{ticks_of, read_order, parts_of_market}
 
--- a price of whole ticks is so many ticks
+-- a price of whole ticks, in ticks
 pub ticks_are : (grains ticks : ℤ) → grains ≡ price_of_ticks ticks → ticks_of grains ≡ ticks
 ticks_are (pos grains) ticks is = omega (arith, ints, is)
 ticks_are (negsuc grains) ticks is = omega (arith, ints, is)
 
--- an order from its limits
+-- an order with its own limits is the same order
 with_limits : (o : ReadOrder) (low high : ℤ) → low ≡ o.low → high ≡ o.high → ◌≡◌ {A = ReadOrder} (record o { low = low; high = high }) o
 with_limits o low high a b = ap (λ l. record o { low = l; high = high }) a ∙ ap (λ h. record o { high = h }) b
 
@@ -26,7 +26,7 @@ all_read_back : (orders : List ReadOrder) → map read_order (map order_of order
 all_read_back [] = refl
 all_read_back (o ∷ orders) = ap (λ p. p ∷ map read_order (map order_of orders)) (read_back o) ∙ ap (λ os. o ∷ os) (all_read_back orders)
 
--- an order with limits of whole ticks from these
+-- an order with its own limits in grains is the same order
 in_grains : (o : Order) (low high : ℤ) → low ≡ o.low → high ≡ o.high → ◌≡◌ {A = Order} (record o { low = low; high = high }) o
 in_grains o low high a b = ap (λ l. record o { low = l; high = high }) a ∙ ap (λ h. record o { high = h }) b
 
@@ -45,13 +45,13 @@ all_written_back (o ∷ orders) each =
 pub has_parts : (m : Market) → All IsOrder m.orders → HasParts (parts_of_market m) m
 has_parts m each = record { version = refl; market = ap (λ os. record m { orders = os }) (sym (all_written_back m.orders each)) }
 
--- the parts that a market has are its own
+-- the parts that a market has are `parts_of_market` of it
 pub own_parts : (p : Parts) (m : Market) → HasParts p m → parts_of_market m ≡ p
 own_parts p m has =
     ap parts_of_market has.market
     ∙ ap (λ os. record p { version = number_of m.version; orders = os }) (all_read_back p.orders)
     ∙ ap (λ n. record p { version = n }) (sym has.version)
 
--- parts are one market's
+-- parts are of at most one market
 pub same_market : (p : Parts) (m n : Market) → HasParts p m → HasParts p n → m ≡ n
 same_market p m n a b = a.market ∙ ap (λ v. market_of v p) (same_number m.version n.version (sym a.version ∙ b.version)) ∙ sym b.market

@@ -1,4 +1,4 @@
--- What is seen of the bytes as a whole.
+-- What the view sees of all the bytes.
 use Rattle.std.proofs.Common.{◌≡◌, ◌+◌, ◌*◌, ◌≤◌, ℕ, List, ◌++◌, length, take, drop, sym, ap, ◌∙◌, arith}
 use Rattle.std.specs.List.{flat_map}
 use Rattle.std.proofs.lemmas.List.{take-append-drop, length-take-le}
@@ -13,7 +13,7 @@ use Rattle.market_snapshot.specs.Checkpoints.{order_spelling}
 use Rattle.market_snapshot.specs.Layout.{account_size, count_place, first_place, IsLayout, BeginsWithNoParts, HasNoOrders}
 use Rattle.market_snapshot.proofs.Walking.{HasFront, front}
 
--- where the number of orders and the orders of parts stand that the bytes begin with
+-- the bytes begin with parts: the places of the number of orders and of the orders
 record StandsThere (p : Parts) (l : Layout) (bytes rest : List ℕ) : Type 0 where
   count : unsigned_at 4 (count_place l) bytes ≡ length p.orders
   orders : drop (first_place l) bytes ≡ flat_map order_spelling p.orders ++ rest
@@ -30,13 +30,13 @@ stands_there p l bytes rest laid f =
       orders = ap (λ k. drop k bytes) first ∙ f.orders;
     }
 
--- too many orders are stated
+-- more orders are stated than a consistent market may have
 pub too_many : (l : Layout) (bytes : List ℕ) (count : ℕ) → IsLayout bytes l → count ≡ unsigned_at 4 (count_place l) bytes → 16385 ≤ count → BeginsWithNoParts bytes
 too_many l bytes count laid read many p rest fits is =
     let there = stands_there p l bytes rest laid (front p bytes rest fits is) in
     absurd (omega (arith, many, read, there.count, fits.few))
 
--- the orders that are stated don't stand there
+-- the bytes don't have the orders that they state
 no_parts : (l : Layout) (bytes : List ℕ) (count : ℕ) → IsLayout bytes l → count ≡ unsigned_at 4 (count_place l) bytes → HasNoOrders count (first_place l) bytes → BeginsWithNoParts bytes
 no_parts l bytes count laid read none p rest fits is =
     let there = stands_there p l bytes rest laid (front p bytes rest fits is) in
@@ -46,7 +46,7 @@ pub faulted : (fault : SnapshotFault) (l : Layout) (bytes : List ℕ) (count : �
 faulted NotSound l bytes count laid read none = no_parts l bytes count laid read none
 faulted Memory l bytes count laid read none = none
 
--- bytes begin with a first part of them
+-- bytes begin with their prefix
 pub begins_with_first : (xs bytes : List ℕ) (end : ℕ) → xs ≡ take end bytes → end ≤ length bytes → bytes ≡ xs ++ drop (length xs) bytes
 begins_with_first xs bytes end is inside =
     let size : length xs ≡ end = ap length is ∙ length-take-le end bytes inside in

@@ -1,4 +1,4 @@
--- Going from order to order, and what stands in front of the first one.
+-- Going from order to order, and what precedes the first one.
 use Rattle.std.proofs.Common.{◌≡◌, ◌+◌, ◌-◌, ◌*◌, ◌^◌, ◌<◌, ◌≤◌, ℕ, suc, ℤ, List, [], ◌∷◌, ◌++◌, length, map, take, drop, get_or, append_assoc, length-append, length-drop, refl, sym, ap, ◌∙◌, arith}
 use Rattle.std.specs.Prelude.{All}
 use Rattle.std.specs.List.{flat_map, zip}
@@ -22,7 +22,7 @@ use Rattle.market_snapshot.specs.Layout.{account_size, order_size, order_at, Are
 use Rattle.market_snapshot.proofs.Laid.{order_spelled}
 use Rattle.market_snapshot.proofs.OneParts.{length-pairs}
 
--- what stands behind a piece
+-- what follows a piece
 skip : (bytes front back : List ℕ) (p a q : ℕ) → drop p bytes ≡ front ++ back → length front ≡ a → q ≡ p + a → drop q bytes ≡ back
 skip bytes front back p a q here size place = ap (λ k. drop k bytes) place ∙ sym (drop-drop a p bytes) ∙ ap (drop a) here ∙ drop_at front back a size
 
@@ -30,7 +30,7 @@ skip bytes front back p a q here size place = ap (λ k. drop k bytes) place ∙ 
 inside : (bytes front back : List ℕ) (p a : ℕ) → drop p bytes ≡ front ++ back → length front ≡ a → 0 < a → p + a ≤ length bytes
 inside bytes front back p a here size some = omega (arith, length-drop p bytes, ap length here, length-append front back, size, some)
 
--- values that are each of one size
+-- the length of values of one size
 sized : {A : Type 0} (Fits : A → Type 0) (spell : A → List ℕ) (size : ℕ) → ((a : A) → Fits a → length (spell a) ≡ size) → (values : List A) → All Fits values → length (flat_map spell values) ≡ size * length values
 sized Fits spell size each [] fit = omega arith
 sized Fits spell size each (a ∷ values) fit =
@@ -56,11 +56,11 @@ pub order_length : (o : ReadOrder) → length (order_spelling o) ≡ 53 + 6 * le
 unfolding order_spelling
 order_length o = simp (length-append, length-unsigned, length-signed) (omega (arith, counted_size entry_spelling 6 entry_size o.row))
 
--- the numbers of an order, and how many entries it has behind them
+-- the numbers of an order and the number of its legs, with what follows
 nine : (a b c d e f g h i j x : List ℕ) → (a ++ (b ++ (c ++ (d ++ (e ++ (f ++ (g ++ (h ++ (i ++ j))))))))) ++ x ≡ (a ++ (b ++ (c ++ (d ++ (e ++ (f ++ (g ++ h))))))) ++ (i ++ (j ++ x))
 nine a b c d e f g h i j x = simp append_assoc
 
--- an order that stands at a place has the size that is read there
+-- an order at a place has the size that is read there
 pub record StandsAt (o : ReadOrder) (place : ℕ) (bytes rest : List ℕ) : Type 0 where
   pub short : place + 53 ≤ length bytes
   pub size : order_size place bytes ≡ 53 + 6 * length o.row
@@ -112,8 +112,8 @@ one_more bytes small first end size places so_far size_is there =
       inside = there;
     }
 
--- so many orders that fit, if they stand from the first place on, stand there but for those that were passed
-pub StandAhead : (bytes : List ℕ) (first end passed count : ℕ) → Type 0
+-- if `count` orders that fit follow one another from the first place on, those that weren't passed follow here
+unfoldable pub StandAhead : (bytes : List ℕ) (first end passed count : ℕ) → Type 0
 StandAhead bytes first end passed count =
     (orders : List ReadOrder) (rest : List ℕ) → length orders ≡ count → All FitsOrder orders → drop first bytes ≡ flat_map order_spelling orders ++ rest → drop end bytes ≡ flat_map order_spelling (drop passed orders) ++ rest
 
@@ -121,8 +121,8 @@ pub none_passed : (bytes : List ℕ) (first count : ℕ) → StandAhead bytes fi
 unfolding StandAhead
 none_passed bytes first count orders rest many fit here = here
 
--- the next one of them
-next_stands : (bytes : List ℕ) (first end passed count : ℕ) → StandAhead bytes first end passed count → passed < count → (orders : List ReadOrder) (rest : List ℕ) → length orders ≡ count → All FitsOrder orders → drop first bytes ≡ flat_map order_spelling orders ++ rest → (o : ReadOrder) × FitsOrder o × (drop end bytes ≡ order_spelling o ++ (flat_map order_spelling (drop (passed + 1) orders) ++ rest))
+-- the next order is here
+pub next_stands : (bytes : List ℕ) (first end passed count : ℕ) → StandAhead bytes first end passed count → passed < count → (orders : List ReadOrder) (rest : List ℕ) → length orders ≡ count → All FitsOrder orders → drop first bytes ≡ flat_map order_spelling orders ++ rest → (o : ReadOrder) × FitsOrder o × (drop end bytes ≡ order_spelling o ++ (flat_map order_spelling (drop (passed + 1) orders) ++ rest))
 unfolding StandAhead
 next_stands bytes first end passed count ahead below [] rest many fit here = absurd (omega (arith, many, below))
 next_stands bytes first end passed count ahead below (d ∷ orders) rest many fit here =
@@ -138,7 +138,7 @@ one_passed bytes first end passed count size ahead below size_is orders rest man
     let at = stands next.0 end bytes (flat_map order_spelling (drop (passed + 1) orders) ++ rest) next.1 next.2 in
     ap (λ n. drop (end + n) bytes) size_is ∙ at.behind
 
--- where none stands, so many don't
+-- if no order is here, there aren't `count` orders
 pub stopped : (bytes : List ℕ) (first end passed count : ℕ) → StandAhead bytes first end passed count → passed < count → ((o : ReadOrder) (rest : List ℕ) → FitsOrder o → ¬ (drop end bytes ≡ order_spelling o ++ rest)) → (orders : List ReadOrder) (rest : List ℕ) → length orders ≡ count → All FitsOrder orders → ¬ (drop first bytes ≡ flat_map order_spelling orders ++ rest)
 stopped bytes first end passed count ahead below none orders rest many fit here =
     let next = next_stands bytes first end passed count ahead below orders rest many fit here in
@@ -161,7 +161,7 @@ four a b c d x = simp append_assoc
 six : (a b c d e f x : List ℕ) → (a ++ (b ++ (c ++ (d ++ (e ++ f))))) ++ x ≡ a ++ (b ++ (c ++ (d ++ (e ++ (f ++ x)))))
 six a b c d e f x = simp append_assoc
 
--- how long the parts behind the accounts are
+-- the length of the totals
 totals_length : (p : Parts) → FitWidths p → length (totals_spelling p.balances) ≡ 16 + 8 * length p.tickers
 unfolding totals_spelling
 totals_length p fits = simp (length-append, length-signed) (omega (arith, counted_size (signed 8) 8 (length-signed 8) p.balances.total_units, fits.balances.totals))

@@ -8,7 +8,7 @@ use Rattle.wire_fields.specs.Numbers.{unsigned, signed, IsSigned}
 use Rattle.wire_records.specs.declared.version.Version.TheVariants.{One}
 use Rattle.flow_orders.specs.Orders.{Order}
 use Rattle.market_rules.specs.Market.{empty_market, held_money}
-use Rattle.market_rules.proofs.Soundness.{sound-empty}
+use Rattle.market_rules.proofs.Consistency.{consistent-empty}
 use Rattle.market_parts.specs.Parts.{Parts}
 use Rattle.market_snapshot.specs.Checkpoints.{tickers_spelling, accounts_spelling, totals_spelling, exchange_spelling, batches_spelling, orders_spelling, parts_spelling, parts_of_market, checkpoint_bytes, IsCheckpoint, BeginsWithNoCheckpoint}
 use Rattle.market_snapshot.specs.Widths.{FitsAccount, FitsOrder, FitWidths}
@@ -29,13 +29,13 @@ empty_bytes = refl
 
 empty_checkpoint : IsCheckpoint (empty_market One) (with_total 0)
 empty_checkpoint = record {
-  sound = sound-empty One;
+  consistent = consistent-empty One;
   next = omega arith;
   last = All-nil (λ (o : Order). o.last < 2 ^ 32);
   spelled = sym empty_bytes;
 }
 
--- a grain that nobody holds: these bytes begin with no checkpoint
+-- with a grain that nobody holds, these bytes begin with no checkpoint
 a_grain : Parts
 a_grain = record {
   version = 1;
@@ -83,7 +83,7 @@ a_grain_too_much : BeginsWithNoCheckpoint (with_total 1)
 unfolding a_grain held_of
 a_grain_too_much m front rest is e =
     let same = parts_unique (parts_of_market m) a_grain rest [] (fitting m front is) grain_fits (ap (λ z. z ++ rest) (sym (spelled m front is)) ∙ sym e ∙ sym grain_bytes ∙ sym (append-nil (parts_spelling a_grain))) in
-    let held : held_of (parts_of_market m) ≡ m.balances.total_money = is.sound.totals.money in
+    let held : held_of (parts_of_market m) ≡ m.balances.total_money = is.consistent.totals.money in
     let none : held_of a_grain ≡ pos 0 = refl in
     let total : m.balances.total_money ≡ pos 1 = ap (λ (p : Parts). p.balances.total_money) same.0 in
     absurd (omega (arith, ints, (sym held ∙ ap held_of same.0 ∙ none), total))

@@ -19,7 +19,7 @@ use Rattle.market_snapshot.specs.Fields.{fields_spelling}
 use Rattle.market_snapshot.proofs.OneParts.{length-pairs}
 use Rattle.market_snapshot.proofs.Ticks.{ticks_are}
 
--- the value of an option that is there
+-- the value of an option that has one
 pub value_of : {T : Type 0} (o : Option T) (P : Type 0) (v x : T) → SomeIff o P v → o ≡ Some x → x ≡ v
 value_of o P v x is some = (subst (λ s. SomeIff s P v) some is).1
 
@@ -27,21 +27,21 @@ value_of o P v x is some = (subst (λ s. SomeIff s P v) some is).1
 pub none_written : {A : Type 0} (spell : A → List ℕ) (xs : List A) (old : List ℕ) → old ≡ old ++ flat_map spell (take 0 xs)
 none_written spell xs old = sym (append-nil old)
 
--- one value more
+-- one more value
 pub one_more : {A : Type 0} (spell : A → List ℕ) (xs : List A) (k : ℕ) (d x : A) (old now next : List ℕ) → k < length xs → get_or xs k d ≡ x → now ≡ old ++ flat_map spell (take k xs) → next ≡ now ++ spell x → next ≡ old ++ flat_map spell (take (k + 1) xs)
 one_more spell xs k d x old now next inside at now_is next_is =
     next_is ∙ ap (λ z. z ++ spell x) now_is ∙ flat_map_more spell old (take k xs) x
     ∙ ap (λ ys. old ++ flat_map spell ys) (ap (λ y. take k xs ++ y ∷ []) (sym at) ∙ sym (take_more xs k d inside))
 
--- all of them
+-- all values
 pub all_written : {A : Type 0} (spell : A → List ℕ) (xs : List A) (k : ℕ) (old now : List ℕ) → length xs ≤ k → now ≡ old ++ flat_map spell (take k xs) → now ≡ old ++ flat_map spell xs
 all_written spell xs k old now past now_is = now_is ∙ ap (λ ys. old ++ flat_map spell ys) (take_all k xs past)
 
--- two pieces behind others
+-- two pieces after others
 pub two : (old a b now : List ℕ) → now ≡ (old ++ a) ++ b → now ≡ old ++ (a ++ b)
 two old a b now is = is ∙ append_assoc old a b
 
--- pieces one behind the other
+-- four pieces, one after the other
 pieces : (old a b c d : List ℕ) → (((old ++ a) ++ b) ++ c) ++ d ≡ old ++ (a ++ (b ++ (c ++ d)))
 pieces old a b c d = simp append_assoc
 
@@ -80,7 +80,7 @@ accounts_at b place lawful inside =
 pub accounts_count : (b : Balances) → AreLawful b → length (zip b.accounts b.credits) ≡ account_count b
 accounts_count b lawful = length-pairs b.accounts b.credits lawful.one_credit_each
 
--- pieces as one
+-- units and credit as one piece
 pub units_written : (old : List ℕ) (units : ℤ) (credit : ℕ) → (old ++ signed 8 units) ++ unsigned 8 credit ≡ old ++ units_spelling (units, credit)
 unfolding units_spelling
 units_written old units credit = append_assoc old (signed 8 units) (unsigned 8 credit)
@@ -116,7 +116,7 @@ orders_written old now orders is =
     ∙ ap (λ n. old ++ (unsigned 4 n ++ flat_map (λ o. order_spelling (read_order o)) orders)) (sym (length-map orders read_order))
     ∙ ap (λ z. old ++ (unsigned 4 (length (map read_order orders)) ++ z)) (sym (flat_map-map order_spelling read_order orders))
 
--- ten pieces one behind the other
+-- ten pieces, one after the other
 ten : (old a b c d e f g h i j : List ℕ) → (((((((((old ++ a) ++ b) ++ c) ++ d) ++ e) ++ f) ++ g) ++ h) ++ i) ++ j ≡ old ++ (a ++ (b ++ (c ++ (d ++ (e ++ (f ++ (g ++ (h ++ (i ++ j)))))))))
 ten old a b c d e f g h i j = simp append_assoc
 
@@ -129,13 +129,13 @@ order_written old o number account low high rate cap filled last count row a b l
     rw (a, b, low_is, high_is, q, c, f, t, n, r)
     (ten old (unsigned 8 o.number) (unsigned 4 o.account) (signed 8 (ticks_of o.low)) (signed 8 (ticks_of o.high)) (unsigned 4 o.rate) (unsigned 8 o.cap) (unsigned 8 o.filled) (unsigned 4 o.last) (unsigned 1 (length o.row)) (flat_map entry_spelling o.row))
 
--- how long values together are with one more
+-- how long values and one more are together
 pub longer : {A : Type 0} (spell : A → List ℕ) (xs : List A) (k : ℕ) (x : A) → k < length xs → x ≡ get_or xs k x → length (flat_map spell (take (k + 1) xs)) ≡ length (flat_map spell (take k xs)) + length (spell x)
 longer spell xs k x inside is =
     sym (ap length (one_more spell xs k x x [] (flat_map spell (take k xs)) (flat_map spell (take k xs) ++ spell x) inside (sym is) refl refl))
     ∙ length-append (flat_map spell (take k xs)) (spell x)
 
--- a value more is no longer than all
+-- the next value has room beside those before it
 pub room_left : {A : Type 0} (spell : A → List ℕ) (xs : List A) (k : ℕ) (x : A) → k < length xs → x ≡ get_or xs k x → length (flat_map spell (take k xs)) + length (spell x) ≤ length (flat_map spell xs)
 room_left spell xs k x inside is =
     let parts = ap (flat_map spell) (sym (take-append-drop (k + 1) xs)) ∙ flat_map-append spell (take (k + 1) xs) (drop (k + 1) xs) in

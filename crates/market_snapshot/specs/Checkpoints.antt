@@ -1,15 +1,15 @@
--- Checkpoints: the bytes that a market is kept as.
+-- Checkpoints: the bytes that keep a market.
 use Rattle.std.specs.Prelude.{◌≡◌, ◌≢◌, ◌/◌, ◌^◌, ◌<◌, ℕ, ℤ, pos, negsuc, List, ◌++◌, length, map, codes, All}
 use Rattle.std.specs.List.{flat_map, zip}
 use Rattle.wire_fields.specs.Numbers.{unsigned, signed}
 use Rattle.wire_records.specs.CommandRecords.{entry_spelling}
 use Rattle.flow_accounts.specs.Balances.{Account, Credit, Balances, account_count}
 use Rattle.flow_orders.specs.Orders.{Order}
-use Rattle.market_rules.specs.Market.{Market, IsSound}
+use Rattle.market_rules.specs.Market.{Market, IsConsistent}
 use Rattle.wire_records.specs.Versions.{number_of}
 use Rattle.market_parts.specs.Parts.{ReadOrder, Parts}
 
--- what each checkpoint begins with
+-- the first eight bytes of each checkpoint
 abbrev pub checkpoint_magic : List ℕ
 checkpoint_magic = codes "FLOWSNP1"
 
@@ -21,7 +21,7 @@ units_spelling u = signed 8 u.0 ++ unsigned 8 u.1
 unfoldable pub account_spelling : Account × Credit → List ℕ
 account_spelling a = signed 16 a.0.money ++ (unsigned 8 a.1.ticks ++ flat_map units_spelling (zip a.0.units a.1.units))
 
--- the bytes of a live order, its limits in ticks: its numbers, how many entries its row has, and the entries
+-- the bytes of a live order, its limits in ticks: its numbers, how many legs it has, and the legs
 unfoldable pub order_spelling : ReadOrder → List ℕ
 order_spelling o =
     unsigned 8 o.number ++ (unsigned 4 o.account ++ (signed 8 o.low ++ (signed 8 o.high ++ (unsigned 4 o.rate
@@ -31,23 +31,23 @@ order_spelling o =
 unfoldable pub tickers_spelling : (version : ℕ) → List (List ℕ) → List ℕ
 tickers_spelling version tickers = checkpoint_magic ++ (unsigned 1 version ++ (unsigned 2 (length tickers) ++ flat_map (λ t. t) tickers))
 
--- how many accounts there are, and the accounts
+-- the bytes of how many accounts there are, and of the accounts
 unfoldable pub accounts_spelling : Balances → List ℕ
 accounts_spelling b = unsigned 4 (account_count b) ++ flat_map account_spelling (zip b.accounts b.credits)
 
--- the totals of deposits less withdrawals: of money, and of each asset
+-- the bytes of the totals of deposits less withdrawals: of money, and of each asset
 unfoldable pub totals_spelling : Balances → List ℕ
 totals_spelling b = signed 16 b.total_money ++ flat_map (signed 8) b.total_units
 
--- the exchange's own account: its money, and its units of each asset
+-- the bytes of the exchange's own account: its money, and its units of each asset
 unfoldable pub exchange_spelling : Account → List ℕ
 exchange_spelling a = signed 16 a.money ++ flat_map (signed 8) a.units
 
--- the number that the next order gets, how many batches were held, and the last cleared price of each asset
+-- the bytes of the number that the next order gets, of how many batches were held, and of the last cleared price of each asset
 unfoldable pub batches_spelling : (next batches : ℕ) → List ℤ → List ℕ
 batches_spelling next batches prices = unsigned 8 next ++ (unsigned 4 batches ++ flat_map (signed 8) prices)
 
--- how many live orders there are, and the orders
+-- the bytes of how many live orders there are, and of the orders
 unfoldable pub orders_spelling : List ReadOrder → List ℕ
 orders_spelling orders = unsigned 4 (length orders) ++ flat_map order_spelling orders
 
@@ -57,7 +57,7 @@ parts_spelling p =
     tickers_spelling p.version p.tickers ++ (accounts_spelling p.balances ++ (totals_spelling p.balances ++ (exchange_spelling p.exchange
     ++ (batches_spelling p.next_order p.batches p.last_prices ++ orders_spelling p.orders))))
 
--- a price in grains, in whole ticks, rounded down
+-- a price in grains as whole ticks, rounded down
 abbrev pub ticks_of : ℤ → ℤ
 ticks_of (pos grains) = pos (grains / 2 ^ 32)
 ticks_of (negsuc grains) = negsuc (grains / 2 ^ 32)
@@ -89,18 +89,22 @@ parts_of_market m = record {
   last_prices = m.last_prices;
 }
 
--- the bytes of a market
+-- the bytes of a market, which keep all its parts
 unfoldable pub checkpoint_bytes : Market → List ℕ
 checkpoint_bytes m = parts_spelling (parts_of_market m)
 
--- bytes are a checkpoint of this market: it is sound, its next number is below 2^63, last batches fit their bytes, and they are its
--- bytes
+-- bytes are a checkpoint of this market: the market is consistent, its next order number is below 2^63, its orders' last batches fit their
+-- fields, and the bytes are the market's
 pub record IsCheckpoint (m : Market) (bytes : List ℕ) : Type 0 where
-  pub sound : IsSound m
+  pub consistent : IsConsistent m
   pub next : m.next_order < 2 ^ 63
   pub last : All (λ (o : Order). o.last < 2 ^ 32) m.orders
   pub spelled : bytes ≡ checkpoint_bytes m
 
--- no first part of the bytes is a checkpoint
+-- the bytes begin with the magic of a checkpoint
+abbrev pub HasCheckpointMagic : List ℕ → Type 0
+HasCheckpointMagic bytes = (rest : List ℕ) × (bytes ≡ checkpoint_magic ++ rest)
+
+-- no prefix of the bytes is a checkpoint
 abbrev pub BeginsWithNoCheckpoint : List ℕ → Type 0
 BeginsWithNoCheckpoint bytes = (m : Market) (front rest : List ℕ) → IsCheckpoint m front → bytes ≢ front ++ rest

@@ -1,4 +1,4 @@
--- What holds of checkpoints.
+-- Laws of checkpoints.
 use Rattle.std.specs.Prelude.{◌≡◌, ℕ, List, ◌++◌}
 use Rattle.market_rules.specs.Market.{Market}
 use Rattle.market_snapshot.specs.Checkpoints.{IsCheckpoint}

@@ -1,4 +1,4 @@
--- Where the parts of a checkpoint stand in its bytes, and what is read there.
+-- The places of the parts of a checkpoint in its bytes, and what is read there.
 use Rattle.std.specs.Prelude.{◌≡◌, ◌+◌, ◌-◌, ◌*◌, ◌≤◌, ℕ, ℤ, List, ◌++◌, length, map, take, drop, All}
 use Rattle.std.specs.Int.{w32, w64, w128}
 use Rattle.std.specs.List.{flat_map, range_with_len}
@@ -14,37 +14,37 @@ use Rattle.market_snapshot.specs.Widths.{FitsOrder, FitWidths}
 abbrev pub account_size : (assets : ℕ) → ℕ
 account_size assets = 24 + 16 * assets
 
--- so many numbers with a sign from a place on
+-- `count` numbers with a sign, of eight bytes each, from a place on
 abbrev pub signs_at : (count place : ℕ) → List ℕ → List ℤ
 signs_at count place bytes = map (λ k. signed_at w64 (place + 8 * k) bytes) (range_with_len 0 count)
 
--- the tickers of so many assets
+-- the tickers of this many assets
 abbrev pub tickers_at : (assets : ℕ) → List ℕ → List (List ℕ)
 tickers_at assets bytes = map (λ k. part (11 + 8 * k) 8 bytes) (range_with_len 0 assets)
 
--- an account
+-- the account at a place
 abbrev pub account_at : (assets place : ℕ) → List ℕ → Account
 account_at assets place bytes = record {
   money = signed_at w128 place bytes;
   units = map (λ k. signed_at w64 (place + 24 + 16 * k) bytes) (range_with_len 0 assets);
 }
 
--- its credit line
+-- the credit line of the account at a place
 abbrev pub credit_at : (assets place : ℕ) → List ℕ → Credit
 credit_at assets place bytes = record {
   ticks = unsigned_at 8 (place + 16) bytes;
   units = map (λ k. unsigned_at 8 (place + 32 + 16 * k) bytes) (range_with_len 0 assets);
 }
 
--- an entry
+-- the leg at a place
 abbrev pub entry_at : (place : ℕ) → List ℕ → Entry
 entry_at place bytes = record { asset = unsigned_at 2 place bytes; weight = signed_at w32 (place + 2) bytes }
 
--- the entries of a row
+-- the weight vector of `count` legs from a place on
 abbrev pub row_at : (count place : ℕ) → List ℕ → List Entry
 row_at count place bytes = map (λ j. entry_at (place + 6 * j) bytes) (range_with_len 0 count)
 
--- how many entries the order at a place has
+-- how many legs the order at a place has
 abbrev pub entries_at : (place : ℕ) → List ℕ → ℕ
 entries_at place bytes = unsigned_at 1 (place + 52) bytes
 
@@ -52,7 +52,7 @@ entries_at place bytes = unsigned_at 1 (place + 52) bytes
 abbrev pub order_size : (place : ℕ) → List ℕ → ℕ
 order_size place bytes = 53 + 6 * entries_at place bytes
 
--- an order
+-- the order at a place, its limits in ticks
 abbrev pub order_at : (place : ℕ) → List ℕ → ReadOrder
 order_at place bytes = record {
   number = unsigned_at 8 place bytes;
@@ -66,11 +66,11 @@ order_at place bytes = record {
   row = row_at (entries_at place bytes) (place + 53) bytes;
 }
 
--- the place of an account, counted from 0
+-- the place of account k, counted from 0
 abbrev pub account_place : (assets k : ℕ) → ℕ
 account_place assets k = 15 + 8 * assets + account_size assets * k
 
--- all balances
+-- the balances in bytes of this layout
 abbrev pub balances_at : Layout → List ℕ → Balances
 balances_at l bytes = record {
   accounts = map (λ k. account_at l.assets (account_place l.assets k) bytes) (range_with_len 0 l.accounts);
@@ -79,7 +79,7 @@ balances_at l bytes = record {
   total_units = signs_at l.assets (l.totals + 16) bytes;
 }
 
--- all parts, where orders stand at these places
+-- the parts of a market in bytes of this layout whose orders are at these places
 abbrev pub parts_at : Layout → List ℕ → (orders : List ℕ) → Parts
 parts_at l bytes orders = record {
   version = unsigned_at 1 8 bytes;
@@ -92,14 +92,15 @@ parts_at l bytes orders = record {
   last_prices = signs_at l.assets (l.totals + 44 + 16 * l.assets) bytes;
 }
 
--- where the number of orders stands, and where the first order does
+-- the place of the number of orders
 abbrev pub count_place : Layout → ℕ
 count_place l = l.totals + 44 + 24 * l.assets
 
+-- the place of the first order
 abbrev pub first_place : Layout → ℕ
 first_place l = l.totals + 48 + 24 * l.assets
 
--- the bytes begin with the magic, and have all that stands before the orders, of these many assets and accounts
+-- the bytes begin with the magic, have this many assets and accounts, and have all that precedes the orders
 pub record IsLayout (bytes : List ℕ) (l : Layout) : Type 0 where
   pub magic : take 8 bytes ≡ checkpoint_magic
   pub assets : l.assets ≡ unsigned_at 2 9 bytes
@@ -107,7 +108,7 @@ pub record IsLayout (bytes : List ℕ) (l : Layout) : Type 0 where
   pub totals : l.totals ≡ 15 + 8 * l.assets + account_size l.assets * l.accounts
   pub whole : first_place l ≤ length bytes
 
--- orders stand at these places one behind the other, from the first place up to the end
+-- orders are at these places, one after the other, from the place `first` up to the place `end`
 pub record AreOrders (bytes : List ℕ) (first end : ℕ) (places : List ℕ) : Type 0 where
   pub there : All (λ p. p + order_size p bytes ≤ length bytes) places
   pub spelled : flat_map order_spelling (map (λ p. order_at p bytes) places) ≡ part first (end - first) bytes
@@ -118,11 +119,11 @@ pub record AreOrders (bytes : List ℕ) (first end : ℕ) (places : List ℕ) : 
 abbrev pub BeginsWithNoParts : List ℕ → Type 0
 BeginsWithNoParts bytes = (p : Parts) (rest : List ℕ) → FitWidths p → ¬ (bytes ≡ parts_spelling p ++ rest)
 
--- no so many orders that fit stand one behind the other from this place on
+-- no `count` orders that fit follow one another from this place on
 abbrev pub HasNoOrders : (count place : ℕ) → List ℕ → Type 0
 HasNoOrders count place bytes =
     (orders : List ReadOrder) (rest : List ℕ) → length orders ≡ count → All FitsOrder orders → ¬ (drop place bytes ≡ flat_map order_spelling orders ++ rest)
 
--- no order that fits stands at a place
+-- no order that fits is at a place
 abbrev pub BeginsWithNoOrder : (place : ℕ) → List ℕ → Type 0
 BeginsWithNoOrder place bytes = (o : ReadOrder) (rest : List ℕ) → FitsOrder o → ¬ (drop place bytes ≡ order_spelling o ++ rest)

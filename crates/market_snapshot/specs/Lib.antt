@@ -5,3 +5,4 @@ pub mod Kept
 pub mod Laws
 pub mod Layout
 pub mod Widths
+pub mod Sizes

@@ -1,4 +1,4 @@
--- Which parts of a market fit the fields of a checkpoint, whether they are a sound one's or not.
+-- Which parts of a market fit the fields of a checkpoint, whether they are a consistent market's or not.
 use Rattle.std.specs.Prelude.{◌≡◌, ◌≤◌, ℕ, ℤ, List, length, All}
 use Rattle.std.specs.List.{zip}
 use Rattle.wire_fields.specs.Numbers.{IsUnsigned, IsSigned}
@@ -7,11 +7,11 @@ use Rattle.flow_accounts.specs.Balances.{Account, Credit, Balances, account_coun
 use Rattle.flow_orders.specs.Orders.{most_orders}
 use Rattle.market_parts.specs.Parts.{ReadOrder, Parts}
 
--- the units of an asset, and the credit in it
+-- the units of an asset and the credit in it fit eight bytes each
 abbrev pub FitUnits : ℤ × ℕ → Type 0
 FitUnits u = IsSigned 8 u.0 × IsUnsigned 8 u.1
 
--- an account and its credit line, of so many assets
+-- an account and its credit line fit their fields, and are of this many assets
 pub record FitsAccount (assets : ℕ) (a : Account × Credit) : Type 0 where
   pub money : IsSigned 16 a.0.money
   pub ticks : IsUnsigned 8 a.1.ticks
@@ -19,7 +19,7 @@ pub record FitsAccount (assets : ℕ) (a : Account × Credit) : Type 0 where
   pub credits : length a.1.units ≡ assets
   pub units : All FitUnits (zip a.0.units a.1.units)
 
--- an order
+-- an order fits its fields
 pub record FitsOrder (o : ReadOrder) : Type 0 where
   pub number : IsUnsigned 8 o.number
   pub account : IsUnsigned 4 o.account
@@ -32,7 +32,7 @@ pub record FitsOrder (o : ReadOrder) : Type 0 where
   pub count : IsUnsigned 1 (length o.row)
   pub row : All IsEntry o.row
 
--- balances of so many assets
+-- balances fit their fields, and are of this many assets
 pub record FitBalances (assets : ℕ) (b : Balances) : Type 0 where
   pub count : IsUnsigned 4 (account_count b)
   pub one_each : length b.credits ≡ account_count b
@@ -41,13 +41,13 @@ pub record FitBalances (assets : ℕ) (b : Balances) : Type 0 where
   pub totals : length b.total_units ≡ assets
   pub total_units : All (IsSigned 8) b.total_units
 
--- the exchange's own account
+-- the exchange's own account fits its fields, and is of this many assets
 pub record FitsExchange (assets : ℕ) (a : Account) : Type 0 where
   pub money : IsSigned 16 a.money
   pub balances : length a.units ≡ assets
   pub units : All (IsSigned 8) a.units
 
--- all parts, with no more orders than a sound market has
+-- all parts fit their fields, and have at most as many orders as a consistent market may have
 pub record FitWidths (p : Parts) : Type 0 where
   pub version : IsUnsigned 1 p.version
   pub assets : IsUnsigned 2 (length p.tickers)

@@ -1,4 +1,4 @@
-//! How balances are written.
+//! How balances are written in a checkpoint.
 ghost use Rattle.std.specs.Prelude.{◌≡◌, ◌+◌, ◌*◌, ◌≤◌, ◌++◌, length, vec_len, vec_capacity};
 ghost use Rattle.std.specs.List.{flat_map, zip};
 ghost use Rattle.flow_accounts.specs.Balances.{IsAccount, account_count, asset_count, account_of, credit_of};
@@ -9,7 +9,7 @@ use flow_accounts::Accounts;
 use residual_account::ResidualAccount;
 use wire_fields::{put_i64, put_i128, put_u32, put_u64};
 
-// The units of each asset that an account holds, and its credit in it.
+// Appends the units of each asset that an account holds, each with the account's credit in that asset.
 fn put_units(out: &mut Vec<u8>, accounts: &Accounts, account: u32)
     requires account { IsAccount accounts.now account }
     requires room { vec_len out.old + 16 * asset_count accounts.now ≤ vec_capacity out.old }
@@ -24,7 +24,7 @@ fn put_units(out: &mut Vec<u8>, accounts: &Accounts, account: u32)
     }
 }
 
-// An account, and its credit line.
+// Appends an account and its credit line.
 fn put_account(out: &mut Vec<u8>, accounts: &Accounts, account: u32)
     requires account { IsAccount accounts.now account }
     requires room { vec_len out.old + account_size (asset_count accounts.now) ≤ vec_capacity out.old }
@@ -38,7 +38,7 @@ fn put_account(out: &mut Vec<u8>, accounts: &Accounts, account: u32)
     put_units(out, accounts, account);
 }
 
-// How many accounts there are, and the accounts.
+// Appends how many accounts there are, and the accounts.
 pub(crate) fn put_accounts(out: &mut Vec<u8>, accounts: &Accounts)
     requires { vec_len out.old + (4 + account_size (asset_count accounts.now) * account_count accounts.now) ≤ vec_capacity out.old }
     ensures written { out.new.items ≡ out.old.items ++ accounts_spelling accounts.now }
@@ -51,7 +51,7 @@ pub(crate) fn put_accounts(out: &mut Vec<u8>, accounts: &Accounts)
     }
 }
 
-// The totals of deposits less withdrawals.
+// Appends the totals of deposits less withdrawals.
 pub(crate) fn put_totals(out: &mut Vec<u8>, accounts: &Accounts)
     requires { vec_len out.old + (16 + 8 * asset_count accounts.now) ≤ vec_capacity out.old }
     ensures written { out.new.items ≡ out.old.items ++ totals_spelling accounts.now }
@@ -64,7 +64,7 @@ pub(crate) fn put_totals(out: &mut Vec<u8>, accounts: &Accounts)
     }
 }
 
-// The exchange's own account.
+// Appends the exchange's own account.
 pub(crate) fn put_exchange(out: &mut Vec<u8>, exchange: &ResidualAccount)
     requires { vec_len out.old + (16 + 8 * length exchange.now.units) ≤ vec_capacity out.old }
     ensures written { out.new.items ≡ out.old.items ++ exchange_spelling exchange.now }

@@ -1,4 +1,4 @@
-//! Where the parts of a checkpoint stand.
+//! The places of the parts of a checkpoint.
 ghost use Rattle.std.specs.Prelude.{◌≡◌, ◌+◌, ◌*◌, IfSome, IfNone};
 ghost use Rattle.market_snapshot.specs.Layout.{IsLayout, BeginsWithNoParts};
 
@@ -7,22 +7,22 @@ use byte_places::{u16_at, u32_at};
 /// The first 8 bytes of a checkpoint.
 pub const CHECKPOINT_MAGIC: [u8; 8] = *b"FLOWSNP1";
 
-// An account takes so many bytes beside those for assets.
+// The bytes of an account without those for assets.
 const ACCOUNT: usize = 24;
 
-// The units of an asset in an account, and the credit in it.
+// The bytes of an account's units of an asset, with its credit in it.
 pub(crate) const UNITS: usize = 16;
 
-// A number with a sign, and a ticker.
+// The bytes of a number with a sign, or of a ticker.
 pub(crate) const NUMBER: usize = 8;
 
-// An order takes so many bytes beside those of its entries.
+// The bytes of an order without those of its legs.
 pub(crate) const ORDER: usize = 53;
 
-// An entry.
+// The bytes of a leg.
 pub(crate) const ENTRY: usize = 6;
 
-// How many assets and accounts there are, and the place behind the accounts, at which the total of money stands.
+// How many assets and accounts there are, and the place after the accounts, where the total of money is.
 #[derive(Clone, Copy)]
 pub(crate) struct Layout {
     pub(crate) assets: u16,
@@ -30,14 +30,14 @@ pub(crate) struct Layout {
     pub(crate) totals: usize,
 }
 
-// How many bytes an account takes, with its credit line.
+// Returns how many bytes an account takes, with its credit line.
 pub(crate) fn account_size(assets: u16) -> usize
     ensures { result ≡ 24 + 16 * assets }
 {
     ACCOUNT + UNITS * usize::from(assets)
 }
 
-// The layout of a checkpoint, if all is there that stands before its orders.
+// Returns the layout of a checkpoint, if all is there that precedes its orders.
 pub(crate) fn layout_of(bytes: &[u8]) -> Option<Layout>
     ensures found { IfSome result (IsLayout bytes.now) }
     ensures none { IfNone result (BeginsWithNoParts bytes.now) }

@@ -1,4 +1,4 @@
-//! How live orders are written.
+//! How live orders are written in a checkpoint.
 ghost use Rattle.std.specs.Prelude.{◌≡◌, ◌+◌, ◌*◌, ◌^◌, ◌<◌, ◌≤◌, ◌++◌, length, map, vec_len, vec_capacity, All};
 ghost use Rattle.std.specs.List.{flat_map};
 ghost use Rattle.flow_orders.specs.Orders.{most_orders};
@@ -10,7 +10,7 @@ use flow_orders::Order;
 use weight_rows::Entry;
 use wire_fields::{put_i32, put_i64, put_u8, put_u16, put_u32, put_u64};
 
-// How many bytes orders take together.
+// Returns how many bytes the orders take together.
 pub(crate) fn orders_size(orders: &[Order]) -> usize
     requires { length orders.now ≤ most_orders }
     ensures exact { result ≡ length (flat_map (λ o. order_spelling (read_order o)) orders.now) }
@@ -23,7 +23,7 @@ pub(crate) fn orders_size(orders: &[Order]) -> usize
     size
 }
 
-// The entries of a row.
+// Appends the legs of an order.
 fn put_entries(out: &mut Vec<u8>, entries: &[Entry])
     requires { vec_len out.old + 6 * length entries.now ≤ vec_capacity out.old }
     ensures written { out.new.items ≡ out.old.items ++ flat_map entry_spelling entries.now }
@@ -36,7 +36,7 @@ fn put_entries(out: &mut Vec<u8>, entries: &[Entry])
     }
 }
 
-// An order.
+// Appends an order.
 fn put_order(out: &mut Vec<u8>, order: &Order)
     requires { vec_len out.old + (53 + 6 * length order.now.row) ≤ vec_capacity out.old }
     ensures written { out.new.items ≡ out.old.items ++ order_spelling (read_order order.now) }
@@ -57,7 +57,7 @@ fn put_order(out: &mut Vec<u8>, order: &Order)
     put_entries(out, entries);
 }
 
-// How many orders there are, and the orders.
+// Appends how many orders there are, and the orders.
 pub(crate) fn put_orders(out: &mut Vec<u8>, orders: &[Order])
     requires few { length orders.now ≤ most_orders }
     requires room { vec_len out.old + (4 + length (flat_map (λ o. order_spelling (read_order o)) orders.now)) ≤ vec_capacity out.old }

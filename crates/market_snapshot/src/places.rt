@@ -1,4 +1,4 @@
-//! Where each order of a checkpoint stands.
+//! The place of each order of a checkpoint.
 ghost use Rattle.std.specs.Prelude.{◌≡◌, ◌+◌, ◌≤◌, length, IfOk, IfSome, IfNone};
 ghost use Rattle.market_snapshot.specs.Layout.{order_size, AreOrders, HasNoOrders, BeginsWithNoOrder};
 ghost use Rattle.market_snapshot.specs.Answers.{IfNotSound};
@@ -8,7 +8,7 @@ use crate::layout::{ENTRY, ORDER};
 use byte_places::u8_at;
 use std::alloc::Global;
 
-// How many bytes the order at a place takes, if all of them are there.
+// Returns how many bytes the order at a place takes, if all of them are there.
 fn whole_size(bytes: &[u8], place: usize) -> Option<usize>
     requires { place ≤ length bytes.now }
     ensures size { IfSome result (λ size. size ≡ order_size place bytes.now) }
@@ -26,14 +26,14 @@ fn whole_size(bytes: &[u8], place: usize) -> Option<usize>
     Some(size)
 }
 
-// The places of orders, and the place behind the last one.
+// The places of orders, and the place after the last one.
 #[derive(Drop)]
 pub(crate) struct Places {
     pub(crate) starts: Vec<usize>,
     pub(crate) end: usize,
 }
 
-// The places of so many orders from a place on.
+// Returns the places of `count` orders from a place on. Allocates eight bytes for each.
 pub(crate) fn places_from(
     alloc: Global,
     bytes: &[u8],

@@ -1,4 +1,4 @@
-//! What stands at the places of a checkpoint.
+//! Reads the fields at the places of a checkpoint.
 ghost use Rattle.std.specs.Prelude.{◌≡◌, ◌+◌, ◌-◌, ◌*◌, ◌<◌, ◌≤◌, length, SomeIff, IfSome};
 ghost use Rattle.std.specs.Int.{w64, w128};
 ghost use Rattle.byte_places.specs.Places.{part, unsigned_at, signed_at};
@@ -10,7 +10,7 @@ use byte_places::{i32_at, i64_at, i128_at, u8_at, u16_at, u32_at, u64_at};
 use market_parts::OrderParts;
 use weight_rows::Entry;
 
-// The place of an account, of those numbered from 1.
+// Returns the place of an account; accounts are numbered from 1.
 fn place_of(bytes: &[u8], layout: Layout, account: u32) -> Option<usize>
     requires { IsLayout bytes.now layout }
     ensures value { SomeIff result ((0 < account) × (account ≤ layout.accounts)) (account_place layout.assets (account - 1)) }
@@ -26,7 +26,7 @@ fn place_of(bytes: &[u8], layout: Layout, account: u32) -> Option<usize>
     Some(first + account_size(layout.assets) * (account - 1) as usize)
 }
 
-// The money of an account.
+// Returns the money of an account.
 pub(crate) fn money_in(bytes: &[u8], layout: Layout, account: u32) -> Option<i128>
     requires { IsLayout bytes.now layout }
     ensures { SomeIff result ((0 < account) × (account ≤ layout.accounts))
@@ -36,7 +36,7 @@ pub(crate) fn money_in(bytes: &[u8], layout: Layout, account: u32) -> Option<i12
     Some(i128_at(bytes, place))
 }
 
-// The credit of an account in money.
+// Returns the credit of an account in money.
 pub(crate) fn money_credit_in(bytes: &[u8], layout: Layout, account: u32) -> Option<u64>
     requires { IsLayout bytes.now layout }
     ensures { SomeIff result ((0 < account) × (account ≤ layout.accounts))
@@ -46,7 +46,7 @@ pub(crate) fn money_credit_in(bytes: &[u8], layout: Layout, account: u32) -> Opt
     Some(u64_at(bytes, place + 16))
 }
 
-// The units of an asset that an account holds.
+// Returns the units of an asset that an account holds.
 pub(crate) fn units_in(bytes: &[u8], layout: Layout, account: u32, asset: u16) -> Option<i64>
     requires { IsLayout bytes.now layout }
     ensures { SomeIff result (((0 < account) × (account ≤ layout.accounts)) × (asset < layout.assets))
@@ -59,7 +59,7 @@ pub(crate) fn units_in(bytes: &[u8], layout: Layout, account: u32, asset: u16) -
     Some(i64_at(bytes, place + 24 + UNITS * usize::from(asset)))
 }
 
-// The credit of an account in an asset.
+// Returns the credit of an account in an asset.
 pub(crate) fn unit_credit_in(bytes: &[u8], layout: Layout, account: u32, asset: u16) -> Option<u64>
     requires { IsLayout bytes.now layout }
     ensures { SomeIff result (((0 < account) × (account ≤ layout.accounts)) × (asset < layout.assets))
@@ -72,7 +72,7 @@ pub(crate) fn unit_credit_in(bytes: &[u8], layout: Layout, account: u32, asset: 
     Some(u64_at(bytes, place + 32 + UNITS * usize::from(asset)))
 }
 
-// One of so many numbers with a sign, the first of which stands at a place.
+// Returns number `k` of `count` numbers with a sign, the first of which is at the place `first`.
 pub(crate) fn number_in(bytes: &[u8], first: usize, count: u16, k: u16) -> Option<i64>
     requires { first + 8 * count ≤ length bytes.now }
     ensures { SomeIff result (k < count) (signed_at w64 (first + 8 * k) bytes.now) }
@@ -83,7 +83,7 @@ pub(crate) fn number_in(bytes: &[u8], first: usize, count: u16, k: u16) -> Optio
     Some(i64_at(bytes, first + NUMBER * usize::from(k)))
 }
 
-// One of so many tickers.
+// Returns ticker `k` of `count`.
 pub(crate) fn ticker_in(bytes: &[u8], count: u16, k: u16) -> Option<[u8; 8]>
     requires { 11 + 8 * count ≤ length bytes.now }
     ensures { SomeIff result (k < count) (part (11 + 8 * k) 8 bytes.now) }
@@ -97,7 +97,7 @@ pub(crate) fn ticker_in(bytes: &[u8], count: u16, k: u16) -> Option<[u8; 8]>
     Some(ticker)
 }
 
-// The numbers of the order at a place.
+// Returns the numbers of the order at a place.
 pub(crate) fn order_in(bytes: &[u8], place: usize) -> OrderParts
     requires { place + 53 ≤ length bytes.now }
     ensures { result ≡ numbers_of (order_at place bytes.now) }
@@ -115,7 +115,7 @@ pub(crate) fn order_in(bytes: &[u8], place: usize) -> OrderParts
     }
 }
 
-// An entry of the order at a place.
+// Returns leg `j` of the order at a place.
 pub(crate) fn entry_in(bytes: &[u8], place: usize, j: u8) -> Option<Entry>
     requires { place + (53 + 6 * entries_at place bytes.now) ≤ length bytes.now }
     ensures { SomeIff result (j < entries_at place bytes.now) (entry_at (place + 53 + 6 * j) bytes.now) }

@@ -1,4 +1,4 @@
-//! How a market is read.
+//! How a market is read from its checkpoint.
 ghost use Rattle.market_snapshot.specs.Answers.{IsMarketRead};
 
 use crate::view::view_of;
@@ -9,10 +9,10 @@ use std::alloc::{AllocError, Global};
 /// Why no market was read.
 #[derive(Clone, Copy, PartialEq, Eq)]
 pub enum SnapshotFault {
-    /// The bytes don't begin with a checkpoint: they are too few, or of another form, or spell no sound market, or one whose
+    /// The bytes don't begin with a checkpoint: they are too few, or of another form, or encode no consistent market, or one whose
     /// next order would get a number of 2^63 or more.
     NotSound,
-    /// There is no memory for the market.
+    /// An allocation failed.
     Memory,
 }
 
@@ -27,10 +27,10 @@ impl From<AllocError> for SnapshotFault {
     }
 }
 
-/// The market whose checkpoint the bytes begin with, and how many bytes it takes; what follows it isn't looked at. `alloc` is
-/// for the market's collections. It takes no memory besides these, but eight bytes for each order while it reads.
+/// Returns the market whose checkpoint the bytes begin with, and how many bytes the checkpoint takes; what follows it isn't
+/// looked at. `alloc` is for the market's collections. Besides these it allocates only eight bytes for each order while it reads.
 ///
-/// It costs one pass over the checkpoint's bytes, which are read where they lie, and the test of soundness.
+/// Costs one pass over the checkpoint's bytes, which are read in place, and the test of consistency.
 pub fn read_market(alloc: Global, bytes: &[u8]) -> Result<(Market, usize), SnapshotFault>
     ensures { IsMarketRead bytes.now result }
 {

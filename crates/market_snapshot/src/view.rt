@@ -1,4 +1,4 @@
-//! A checkpoint where it lies.
+//! A view of a checkpoint in borrowed bytes.
 ghost use Rattle.std.specs.Prelude.{◌≡◌, ◌++◌, length, drop, IfOk};
 ghost use Rattle.market_snapshot.specs.Checkpoints.{parts_spelling};
 ghost use Rattle.market_snapshot.specs.Widths.{FitWidths};
@@ -19,14 +19,14 @@ use std::alloc::Global;
 use std::marker::Model;
 use weight_rows::Entry;
 
-// The parts of a market in borrowed bytes that begin with a checkpoint's, sound or not. Contracts see them as these parts.
-// Each is read where it stands, in constant time; of the orders, whose sizes differ, the places are kept.
+// The parts of a market in borrowed bytes that begin with those of a checkpoint, consistent or not. Contracts see a view as these
+// parts. Each is read in place, in constant time; orders differ in size, so their places are kept.
 #[derive(Drop)]
 pub(crate) struct SnapshotView<'a> {
     bytes: &'a [u8],
     layout: Layout,
     orders: Vec<usize>,
-    // Behind the last order.
+    // The place after the last order.
     end: usize,
 }
 
@@ -41,7 +41,7 @@ impl<'a> Model for SnapshotView<'a> {
     ghost invariant = { IsKept };
 }
 
-// The view of the parts that the bytes begin with. One pass over the orders, and eight bytes of memory for each.
+// Returns the view of the parts that the bytes begin with. Costs one pass over the orders, and eight bytes of memory for each.
 pub(crate) fn view_of(alloc: Global, bytes: &[u8]) -> Result<SnapshotView<'_>, SnapshotFault>
     ensures fits { IfOk result (λ view. FitWidths view) }
     ensures begins { IfOk result (λ view. bytes.now ≡ parts_spelling view ++ drop (length (parts_spelling view)) bytes.now) }
@@ -69,7 +69,7 @@ pub(crate) fn view_of(alloc: Global, bytes: &[u8]) -> Result<SnapshotView<'_>, S
 }
 
 impl<'a> SnapshotView<'a> {
-    // How many bytes the parts take.
+    // Returns how many bytes the parts take.
     pub(crate) fn len(&self) -> usize
         ensures { result ≡ length (parts_spelling self.now) }
     {

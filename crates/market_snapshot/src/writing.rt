@@ -1,11 +1,11 @@
-//! How a market is written.
+//! How a market is written as a checkpoint.
 ghost use Rattle.std.specs.Prelude.{◌≡◌, ◌+◌, ◌*◌, ◌^◌, ◌<◌, ◌≤◌, ◌++◌, length, map, vec_len, vec_capacity, OnOk, OnErr};
 ghost use Rattle.std.specs.List.{flat_map};
 ghost use Rattle.market_snapshot.specs.Layout.{account_size};
 ghost use Rattle.market_snapshot.specs.Checkpoints.{IsCheckpoint, checkpoint_bytes, order_spelling, read_order, tickers_spelling, batches_spelling};
 ghost use Rattle.market_snapshot.specs.Fields.{fields_spelling};
 ghost use Rattle.wire_records.specs.Versions.{number_of};
-ghost use Rattle.market_rules.specs.Market.{IsSound};
+ghost use Rattle.market_rules.specs.Market.{IsConsistent};
 ghost use Rattle.flow_accounts.specs.Balances.{account_count};
 
 use crate::balances::{put_accounts, put_exchange, put_totals};
@@ -16,7 +16,7 @@ use ticker_table::TickerTable;
 use wire_fields::{put_bytes, put_i64, put_u8, put_u16, put_u32, put_u64};
 use wire_records::{Memory, Version};
 
-// The magic, the version, and the tickers.
+// Appends the magic, the version, and the tickers.
 fn put_tickers(out: &mut Vec<u8>, version: Version, tickers: &TickerTable)
     requires { vec_len out.old + (11 + 8 * length tickers.now) ≤ vec_capacity out.old }
     ensures written { out.new.items ≡ out.old.items ++ tickers_spelling (number_of version) tickers.now }
@@ -31,7 +31,7 @@ fn put_tickers(out: &mut Vec<u8>, version: Version, tickers: &TickerTable)
     }
 }
 
-// The next number, how many batches were held, and the last prices.
+// Appends the next order number, how many batches were held, and the last prices.
 fn put_batches(out: &mut Vec<u8>, market: &Market)
     requires { vec_len out.old + (12 + 8 * length market.now.last_prices) ≤ vec_capacity out.old }
     ensures written { out.new.items ≡ out.old.items
@@ -46,7 +46,7 @@ fn put_batches(out: &mut Vec<u8>, market: &Market)
     }
 }
 
-// How many bytes all takes that stands before the orders.
+// Returns how many bytes precede the count of the orders.
 fn fields_size(market: &Market) -> usize
     ensures { result ≡ 59 + 32 * length market.now.tickers + account_size (length market.now.tickers) * account_count market.now.balances }
 {
@@ -54,7 +54,7 @@ fn fields_size(market: &Market) -> usize
     59 + 32 * usize::from(assets) + account_size(assets) * market.accounts().count() as usize
 }
 
-// All that stands before the orders.
+// Appends all that precedes the orders.
 fn put_fields(out: &mut Vec<u8>, market: &Market)
     requires { vec_len out.old + (59 + 32 * length market.now.tickers + account_size (length market.now.tickers) * account_count market.now.balances)
         ≤ vec_capacity out.old }
@@ -70,13 +70,12 @@ fn put_fields(out: &mut Vec<u8>, market: &Market)
     put_batches(out, market);
 }
 
-/// Appends the checkpoint of a market whose next order gets a number below 2^63. The market is as before; where orders
-/// were cancelled since its orders were last asked for, the gaps that these left are closed. Memory is taken once, for all
-/// of the bytes, before any is written.
+/// Appends the bytes of a market, which are its checkpoint if its next order gets a number below 2^63. The market is unchanged, but
+/// the gaps are closed that orders left which were cancelled since the orders were last asked for. Allocates once, for all of the
+/// bytes, before any is written; if that fails, nothing is appended.
 pub fn write_market(market: &mut Market, out: &mut Vec<u8>) -> Result<(), Memory>
-    requires next { market.old.next_order < 2 ^ 63 }
     ensures written { OnOk result (out.new.items ≡ out.old.items ++ checkpoint_bytes market.old) }
-    ensures checkpoint { OnOk result (IsCheckpoint market.old (checkpoint_bytes market.old)) }
+    ensures checkpoint { OnOk result (market.old.next_order < 2 ^ 63 → IsCheckpoint market.old (checkpoint_bytes market.old)) }
     ensures unwritten { OnErr result (out.new.items ≡ out.old.items) }
     ensures room { vec_capacity out.old ≤ vec_capacity out.new }
     ensures market { market.new ≡ market.old }

@@ -1,3 +1,3 @@
 mod LogLemmas
 mod MemoryCalls
-mod SoundLemmas
+mod ConsistentLemmas

@@ -21,7 +21,7 @@ seen-append (Write place count done ∷ calls) more bytes =
 seen-append (Cut to done ∷ calls) more bytes = ap (λ (l : List Made). cut to done ∷ l) (seen-append calls more bytes)
 seen-append (Sync ∷ calls) more bytes = ap (λ (l : List Made). synced ∷ l) (seen-append calls more bytes)
 
--- bytes behind those that the calls have aren't theirs
+-- bytes after those of the calls don't change the calls
 pub seen_longer : (calls : List Call) (bytes more : List ℕ) → data_of calls ≤ length bytes → seen calls (bytes ++ more) ≡ seen calls bytes
 seen_longer [] bytes more enough = refl
 seen_longer (Look ∷ calls) bytes more enough = ap (λ (l : List Made). looked ∷ l) (seen_longer calls bytes more enough)
@@ -38,14 +38,14 @@ seen_wrote calls bytes more place done all =
     ∙ ap (λ (l : List Made). l ++ seen (Write place (length more) done ∷ []) (drop (data_of calls) (bytes ++ more))) (seen_longer calls bytes more (omega (arith, all)))
     ∙ ap (λ (l : List ℕ). seen calls bytes ++ wrote place l done ∷ []) (ap (λ (l : List ℕ). take (length more) l) (drop_at bytes more (data_of calls) all) ∙ take_all (length more) more (omega arith))
 
--- the data of one more call, at the front
+-- the data of a first call, and of the others
 pub data_of-more : (call : Call) (calls : List Call) → data_of (call ∷ calls) ≡ data_of (call ∷ []) + data_of calls
 data_of-more Look calls = omega arith
 data_of-more (Write place count done) calls = omega arith
 data_of-more (Cut to done) calls = omega arith
 data_of-more Sync calls = omega arith
 
--- one call is made again, and then the others
+-- the first call is made again, and then the others
 pub replay_step : (part fill n : ℕ) (call : Call) (calls : List Call) (rest held image now left : List ℕ) → n ≡ data_of (call ∷ []) → now ≡ content_after (seen (call ∷ []) (take n rest)) held → left ≡ crash_after part fill (seen (call ∷ []) (take n rest)) held image → crash_after part fill (seen calls (drop n rest)) now left ≡ crash_after part fill (seen (call ∷ calls) rest) held image
 replay_step part fill n Look calls rest held image now left size is leaves = rw (size, is, leaves) refl
 replay_step part fill n (Write place count done) calls rest held image now left size is leaves =
@@ -58,7 +58,7 @@ replay_step part fill n (Cut to true) calls rest held image now left size is lea
 replay_step part fill n (Cut to false) calls rest held image now left size is leaves = rw (size, is, leaves) refl
 replay_step part fill n Sync calls rest held image now left size is leaves = rw (size, is, leaves) refl
 
--- the call at an index, and then those behind it
+-- the call at an index, and those after it
 module _ (i : ℕ) (calls : List Call) (d : Call) (within : i < length calls) where
   pub data_of-at : (n : ℕ) → n ≡ data_of (get_or calls i d ∷ []) → data_of (drop i calls) ≡ n + data_of (drop (i + 1) calls)
   data_of-at n size = ap data_of (drop_more calls i d within) ∙ data_of-more (get_or calls i d) (drop (i + 1) calls) ∙ ap (λ (k : ℕ). k + data_of (drop (i + 1) calls)) (sym size)
@@ -72,7 +72,7 @@ module _ (i : ℕ) (calls : List Call) (d : Call) (within : i < length calls) wh
       ∙ replay_step part fill n call (drop (i + 1) calls) rest held image now left size (is ∙ ap (λ (l : List ℕ). content_after (seen (call ∷ []) l) held) front) (leaves ∙ ap (λ (l : List ℕ). crash_after part fill (seen (call ∷ []) l) held image) front)
       ∙ ap (λ (l : List Call). crash_after part fill (seen l rest) held image) (sym (drop_more calls i d within))
 
--- the first calls
+-- the first calls have no more data than all
 pub data_of-take : (n : ℕ) (calls : List Call) → data_of (take n calls) ≤ data_of calls
 data_of-take zero calls = omega arith
 data_of-take (suc n) [] = omega arith

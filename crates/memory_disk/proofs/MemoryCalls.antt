@@ -24,7 +24,7 @@ bytes_push (wrote place bytes done ∷ calls) call = omega (arith, bytes_push ca
 bytes_push (cut to done ∷ calls) call = bytes_push calls call
 bytes_push (synced ∷ calls) call = bytes_push calls call
 
--- the first bytes alone
+-- the one image of the first bytes
 abbrev only : List ℕ → Images
 only first = λ image. image ≡ first
 
@@ -35,7 +35,7 @@ true_or_false false = inr refl
 within_or_past : (a b : ℕ) → (a ≤ b) ⊎ (b < a)
 within_or_past a b = grind arith
 
--- a call that is taken down or isn't: the moments go on
+-- the moments after a call, recorded or not
 module _ (disk : MemoryState) (calls faults : ℕ) where
   abbrev made_more : List Made → MemoryState
   made_more made = record disk { made = made; calls = calls; faults = faults }
@@ -60,7 +60,7 @@ call_time disk call failed = either (nat_lt disk.calls disk.most)
     either true = push_time disk (one_more disk.calls) (if failed then one_more disk.faults else disk.faults) call
     either false = same_time disk (one_more disk.calls) (if failed then one_more disk.faults else disk.faults)
 
--- what it does to the content and to the images, where it is taken down and where it isn't
+-- what a call does to the content, recorded or not
 pub call_content : (disk : MemoryState) (call : Made) (failed : Bool) → ((held : List ℕ) → content_of call held ≡ held) → (disk_of (after_call disk call failed)).content ≡ (disk_of disk).content
 call_content disk call failed stays = either (nat_lt disk.calls disk.most)
   where
@@ -68,7 +68,7 @@ call_content disk call failed stays = either (nat_lt disk.calls disk.most)
     either true = ap (λ (l : List ℕ). Some l) (content_push disk.made call disk.first ∙ stays (content_after disk.made disk.first))
     either false = refl
 
--- each image after a call that may be taken down has what holds of those before it, and of those that the call adds
+-- each image after a call, recorded or not, has a property that those before it have, and those that the call adds
 pub call_images : (disk : MemoryState) (call : Made) (failed : Bool) (P : Images) → ((image : List ℕ) → (disk_of disk).images image → P image) → ((image : List ℕ) → images_of call (content_after disk.made disk.first) (disk_of disk).images image → P image) → (image : List ℕ) → (disk_of (after_call disk call failed)).images image → P image
 call_images disk call failed P before added = either (nat_lt disk.calls disk.most)
   where
@@ -76,11 +76,11 @@ call_images disk call failed P before added = either (nat_lt disk.calls disk.mos
     either true image left = added image (subst (λ (Q : Images). Q image) (images_push disk.made call disk.first (only disk.first)) left)
     either false image left = before image left
 
--- a call of a number that doesn't fail is taken down
+-- a call that doesn't fail for its number is recorded
 pub taken_down : (disk : MemoryState) → (¬ NextFails disk) → nat_lt disk.calls disk.most ≡ true
 taken_down disk free = ⊎_elim (λ (is : nat_lt disk.calls disk.most ≡ true). is) (λ (past : nat_lt disk.calls disk.most ≡ false). absurd (free (inr (grind (arith, nat_tests))))) (true_or_false (nat_lt disk.calls disk.most))
 
--- so the content is as it leaves it
+-- the content after a call that doesn't fail for its number
 pub done_content : (disk : MemoryState) (call : Made) (failed : Bool) → (¬ NextFails disk) → (disk_of (after_call disk call failed)).content ≡ Some (content_of call (content_after disk.made disk.first))
 done_content disk call failed free = either (nat_lt disk.calls disk.most) (taken_down disk free)
   where
@@ -88,7 +88,7 @@ done_content disk call failed free = either (nat_lt disk.calls disk.most) (taken
     either true is = ap (λ (l : List ℕ). Some l) (content_push disk.made call disk.first)
     either false is = cc
 
--- and so are the images
+-- the images after a call that doesn't fail for its number
 pub done_images : (disk : MemoryState) (call : Made) (failed : Bool) → (¬ NextFails disk) → (image : List ℕ) → (disk_of (after_call disk call failed)).images image → images_of call (content_after disk.made disk.first) (disk_of disk).images image
 done_images disk call failed free = either (nat_lt disk.calls disk.most) (taken_down disk free)
   where

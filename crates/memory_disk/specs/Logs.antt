@@ -1,7 +1,7 @@
 use Rattle.std.specs.Prelude.{ℕ, List}
 use Rattle.memory_disk.specs.Memory.{Made}
 
--- a record of calls: the calls, how many there may be and are, and how many bytes of writes there may be and are
+-- a record of calls: the calls, how many there may be, how many bytes its writes may have, how many they have, and how many calls there are
 pub record LogState : Type 0 where
   pub made : List Made
   pub most : ℕ

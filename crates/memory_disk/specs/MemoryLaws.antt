@@ -27,7 +27,7 @@ written_is_torn place bytes old = record {
     long : length (written place bytes old) ≡ min place (length old) + length bytes + (length old - (place + length bytes))
     long = omega (arith, length-append (take place old ++ bytes) (drop (place + length bytes) old), front_long, length-drop (place + length bytes) old)
 
--- and so is a cut
+-- a cut that is made is one that a crash may leave
 pub cut_is_torn : (to : ℕ) (old : List ℕ) → TornCut to old (take to old)
 cut_is_torn to old = record {
   no_shorter = omega (arith, length-take to old);

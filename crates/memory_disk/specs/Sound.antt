@@ -1,11 +1,11 @@
--- The parts of the disk in memory fit together.
+-- The parts of the disk in memory are consistent.
 use Rattle.std.specs.Prelude.{◌≡◌, ℕ, ◌+◌, ◌≤◌, min, Vec, vec_len, vec_capacity}
 use Rattle.std.specs.declared.alloc.Global.{Global}
 use Rattle.memory_disk.specs.declared.calls.Calls.{Calls}
 use Rattle.memory_disk.specs.Memory.{content_after, bytes_written}
 use Rattle.memory_disk.specs.Logs.{LogState}
 
-pub record IsSound (first content : Vec ℕ Global) (log : LogState) (calls : Calls) : Type 0 where
+pub record IsConsistent (first content : Vec ℕ Global) (log : LogState) (calls : Calls) : Type 0 where
   pub there : content.items ≡ content_after log.made first.items
   pub most : log.most ≡ calls.most
   pub count : log.count ≡ min calls.made calls.most

@@ -1,4 +1,4 @@
-//! Bytes in a vector that has the room for them.
+//! Bytes in a vector that has room for them.
 ghost use Rattle.std.specs.Prelude.{◌≡◌, ◌≤◌, ◌+◌, ◌-◌, ◌++◌, min, length, take, drop, replicate, vec_len, vec_capacity};
 ghost use Rattle.disk_edge.specs.Images.{written};
 ghost use Rattle.memory_disk.specs.Memory.{torn_bytes};
@@ -36,7 +36,7 @@ pub(crate) fn read_out(bytes: &[u8], place: usize, into: &mut [u8])
     into.copy_from_slice(&bytes[place..place + into.len()]);
 }
 
-// What a stop leaves of a write: its first bytes, and `fill` for the rest.
+// Sets `out` to what a stop leaves of a write: its first bytes, and `fill` for the rest.
 fn cut_short(out: &mut Vec<u8>, bytes: &[u8], part: usize, fill: u8)
     requires { length bytes.now ≤ vec_capacity out.old }
     ensures torn { out.new.items ≡ torn_bytes part fill bytes.now }
@@ -50,7 +50,7 @@ fn cut_short(out: &mut Vec<u8>, bytes: &[u8], part: usize, fill: u8)
     }
 }
 
-// Writes over the bytes at a place what a stop leaves of a write. `torn` is where that is made.
+// Writes over the bytes at a place what a stop leaves of a write, which is made in `torn`.
 pub(crate) fn tear(
     out: &mut Vec<u8>,
     torn: &mut Vec<u8>,

@@ -6,8 +6,7 @@ use crate::replay::{Replay, replay_all};
 use std::alloc::{AllocError, Global};
 use std::marker::Model;
 
-/// A call that was made. A write has its place and how many bytes, a cut its length, and both whether they
-/// succeeded.
+/// A call that was made. A write has its place and how many bytes it has, a cut its length, and both whether they succeeded.
 #[derive(Clone, Copy)]
 pub(crate) enum Call {
     Look,
@@ -38,7 +37,7 @@ impl Model for CallLog {
 }
 
 impl CallLog {
-    /// No call so far. All memory is taken here.
+    /// No call so far. Allocates all its memory here.
     pub fn new(alloc: Global, most: u32, room: usize) -> Result<CallLog, AllocError>
         ensures { IfOk result (λ log. log ≡ record { made = []; most = most; room = room; used = 0; count = 0 }) }
     {
@@ -50,14 +49,14 @@ impl CallLog {
         })
     }
 
-    /// How many bytes all writes may have.
+    /// Returns how many bytes all writes together may have.
     pub fn room(&self) -> usize
         ensures { result ≡ self.now.room }
     {
         self.room
     }
 
-    /// How many bytes of writes there is room for.
+    /// Returns how many more bytes of writes there is room for.
     pub fn spare(&self) -> usize
         requires { self.now.used ≤ self.now.room }
         ensures { result ≡ self.now.room - self.now.used }
@@ -65,7 +64,7 @@ impl CallLog {
         self.room - self.bytes.len()
     }
 
-    /// Takes down a call that changes nothing.
+    /// Records a call that changes nothing.
     pub fn look(&mut self)
         requires { self.old.count < self.old.most }
         ensures { self.new ≡ record self.old { made = self.old.made ++ looked ∷ []; count = self.old.count + 1 } }
@@ -73,7 +72,7 @@ impl CallLog {
         self.calls.push_reserved(Call::Look);
     }
 
-    /// Takes down a cut.
+    /// Records a cut.
     pub fn cut(&mut self, to: u64, done: bool)
         requires { self.old.count < self.old.most }
         ensures { self.new ≡ record self.old { made = self.old.made ++ cut to done ∷ []; count = self.old.count + 1 } }
@@ -81,7 +80,7 @@ impl CallLog {
         self.calls.push_reserved(Call::Cut(to, done));
     }
 
-    /// Takes down a sync that succeeded.
+    /// Records a sync that succeeded.
     pub fn sync(&mut self)
         requires { self.old.count < self.old.most }
         ensures { self.new ≡ record self.old { made = self.old.made ++ synced ∷ []; count = self.old.count + 1 } }
@@ -89,7 +88,7 @@ impl CallLog {
         self.calls.push_reserved(Call::Sync);
     }
 
-    /// Takes down a write.
+    /// Records a write.
     pub fn write(&mut self, place: u64, bytes: &[u8], done: bool)
         requires count { self.old.count < self.old.most }
         requires room { self.old.used + length bytes.now ≤ self.old.room }
@@ -104,7 +103,7 @@ impl CallLog {
         put_all(&mut self.bytes, bytes);
     }
 
-    /// Makes so many of the calls again.
+    /// Makes the first `count` calls again, and what one crash leaves after them.
     pub fn replay(&self, replay: &mut Replay, count: usize, part: usize, fill: u8)
         requires count { count ≤ self.now.count }
         requires held { vec_len replay.old.held + self.now.used ≤ vec_capacity replay.old.held }
@@ -117,7 +116,7 @@ impl CallLog {
         replay_all(replay, &self.calls[..count], &self.bytes, part, fill);
     }
 
-    /// How many calls are made where a stop comes in the one of this number, counted from 1: a sync isn't made yet.
+    /// Returns how many calls are made if a stop comes in the one of this number, counted from 1: a sync isn't made yet.
     pub fn made_at(&self, number: usize) -> usize
         requires { (1 ≤ number) × (number ≤ self.now.count) }
         ensures stopped { IsStopped self.now.made number (take result self.now.made) }

@@ -2,18 +2,17 @@ ghost use Rattle.std.specs.Prelude.{◌≡◌, ◌≤◌, ◌<◌, ◌+◌, Cont
 ghost use Rattle.memory_disk.specs.Calls.{IsTurn};
 ghost use Rattle.memory_streams.specs.Fakes.{one_more};
 
-/// What a call's number says of it.
+/// What a call's number says about it.
 pub(crate) enum Turn {
-    /// Above the most: it fails, and isn't taken down.
+    /// The number is above the most: the call fails, and isn't recorded.
     Past,
-    /// Listed: it fails.
+    /// The number is listed: the call fails.
     Listed,
-    /// Neither.
+    /// Neither: the call may succeed.
     Free,
 }
 
-/// The calls of a fake, counted from 1: which fail, how many there may be, how many there were, and how
-/// many failed.
+/// The calls of a fake, counted from 1: which fail, how many there may be, how many there were, and how many failed.
 #[derive(Drop)]
 pub(crate) struct Calls {
     pub failing: Vec<u64>,
@@ -55,7 +54,7 @@ impl Calls {
         Turn::Free
     }
 
-    /// Counts one more that failed.
+    /// Counts one more call that failed.
     pub fn fail(&mut self)
         ensures failing { self.new.failing ≡ self.old.failing }
         ensures most { self.new.most ≡ self.old.most }

@@ -13,8 +13,8 @@ use flow_io::Memory;
 use std::alloc::Global;
 use std::marker::Model;
 
-/// A disk in memory, with stated calls that fail, and a record of its calls that says what a stop in each would leave. It
-/// tells its content. For tests.
+/// A disk in memory, with stated calls that fail, and a record of its calls that says what a stop in each would leave. Its content is
+/// known. For tests.
 #[derive(Drop)]
 pub struct MemoryDisk {
     first: Vec<u8>,
@@ -25,7 +25,7 @@ pub struct MemoryDisk {
 
 impl Model for MemoryDisk {
     ghost use Rattle.memory_disk.specs.Memory.{MemoryState};
-    ghost use Rattle.memory_disk.specs.Sound.{IsSound};
+    ghost use Rattle.memory_disk.specs.Sound.{IsConsistent};
 
     ghost Value = { MemoryState };
 
@@ -39,14 +39,14 @@ impl Model for MemoryDisk {
       faults = disk.calls.failed;
     } };
 
-    ghost invariant = { λ disk. IsSound disk.first disk.content disk.log disk.calls };
+    ghost invariant = { λ disk. IsConsistent disk.first disk.content disk.log disk.calls };
 }
 
 impl MemoryDisk {
-    /// A disk that holds these bytes, and they are the one image. It records `calls` calls, and `room` bytes of all their
-    /// writes together. Calls are counted from 1. A call fails exactly where its number is in `failing` or above `calls`, or
-    /// where it is a write whose bytes would bring those of all writes that were recorded above `room`; for `calls` or `room` it
-    /// leaves content and images as they were. All memory is taken here.
+    /// Returns a disk that holds these bytes, which are its one image. It records `calls` calls, and `room` bytes of all their writes
+    /// together. Calls are counted from 1. A call fails exactly if its number is in `failing` or above `calls`, or if it is a write whose
+    /// bytes would bring those of all recorded writes above `room`. A call that fails for `calls` or `room` leaves content and images as
+    /// they were. All memory is allocated here.
     pub fn new(
         alloc: Global,
         bytes: Vec<u8>,
@@ -79,24 +79,24 @@ impl MemoryDisk {
         })
     }
 
-    /// What a read gives.
+    /// Returns what a read gives.
     pub fn bytes(&self) -> &[u8]
         ensures { result.now ≡ content_after self.now.made self.now.first }
     {
         &self.content
     }
 
-    /// How many calls were recorded: a stop may come in any of these. A write that failed for want of room is one of them, as a
-    /// call that changed nothing.
+    /// Returns how many calls were recorded: a stop may come in any of these. A write that failed since there was no room is one of them,
+    /// as a call that changed nothing.
     pub fn recorded(&self) -> u32
         ensures { result ≡ min self.now.calls self.now.most }
     {
         self.calls.made.min(self.calls.most as u64) as u32
     }
 
-    /// One image of a stop in the call of this number, which was recorded: of each write that no sync had kept the first
-    /// `part` bytes as written, and the rest `fill`. A cut is whole where it succeeded, and a sync in which the stop comes isn't
-    /// made. Takes memory for the bytes at the start twice, and for the room of the writes three times.
+    /// Returns one image of a stop in the call of this number, which was recorded: of each write that no sync had kept it has the first
+    /// `part` bytes as written, and `fill` for the rest. A cut is made in full if it succeeded, and a sync in which the stop comes isn't
+    /// made. Allocates the bytes at the start twice, and the room of the writes three times.
     pub fn crashed(&self, alloc: Global, call: u64, part: u64, fill: u8) -> Result<Vec<u8>, Memory>
         requires { (1 ≤ call) × (call ≤ min self.now.calls self.now.most) }
         ensures stop { IfOk result (λ image. IsStopIn self.now call part fill image.items) }
@@ -115,7 +115,7 @@ impl MemoryDisk {
         Ok(replay.image)
     }
 
-    // A call that changes nothing.
+    // Makes a call that changes nothing.
     fn look(&mut self) -> Result<(), DiskFailed>
         ensures fails { IsErr result ↔ NextFails self.old }
         ensures made { self.new ≡ after_call self.old looked (is_err result) }
@@ -138,7 +138,7 @@ impl MemoryDisk {
         }
     }
 
-    // A write without room for it: it is a call that changes nothing, and fails.
+    // Makes a write without room for it: a call that changes nothing, and fails.
     fn refuse(&mut self)
         ensures made { self.new ≡ after_call self.old looked true }
         ensures cause { Rose self.old.faults self.new.faults }
@@ -156,7 +156,7 @@ impl MemoryDisk {
         }
     }
 
-    // A write.
+    // Makes a write.
     fn write(&mut self, place: u64, bytes: &[u8]) -> Result<(), DiskFailed>
         ensures fails { IsErr result ↔ (NextFails self.old ⊎ FillsRoom self.old bytes.now) }
         ensures made { self.new ≡ after_call self.old (write_call self.old place bytes.now (is_ok result)) (is_err result) }
@@ -184,7 +184,7 @@ impl MemoryDisk {
         }
     }
 
-    // A cut.
+    // Makes a cut.
     fn shorten(&mut self, to: u64) -> Result<(), DiskFailed>
         ensures fails { IsErr result ↔ NextFails self.old }
         ensures made { self.new ≡ after_call self.old (cut to (is_ok result)) (is_err result) }
@@ -208,7 +208,7 @@ impl MemoryDisk {
         }
     }
 
-    // A sync, which is taken down as such where it succeeds.
+    // Makes a sync, which is recorded as one if it succeeds.
     fn keep(&mut self) -> Result<(), DiskFailed>
         ensures fails { IsErr result ↔ NextFails self.old }
         ensures ok { OnOk result (self.new ≡ after_call self.old synced false) }

@@ -1,11 +1,11 @@
-//! Calls made again, and what one crash leaves after them.
+//! Makes calls again, with what one crash leaves after them.
 ghost use Rattle.std.specs.Prelude.{◌≡◌, ◌≤◌, ◌+◌, max, [], ◌∷◌, length, take, drop, vec_len, vec_capacity};
 ghost use Rattle.memory_disk.specs.Memory.{seen, data_of, content_after, crash_after};
 
 use crate::bytes::{overwrite, put_all, tear};
 use crate::call_log::Call;
 
-/// What a read gives, and what one crash leaves.
+/// What a read gives, what one crash leaves, and a buffer for a write that a stop cuts short.
 #[derive(Drop)]
 pub(crate) struct Replay {
     pub held: Vec<u8>,
@@ -13,7 +13,7 @@ pub(crate) struct Replay {
     pub torn: Vec<u8>,
 }
 
-// How many bytes of data a call has.
+// Returns how many bytes of data a call has.
 fn size_of(call: &Call) -> usize
     ensures { result ≡ data_of (call.now ∷ []) }
 {
@@ -25,7 +25,7 @@ fn size_of(call: &Call) -> usize
     }
 }
 
-// The first bytes.
+// Returns the first bytes.
 fn front(bytes: &[u8], size: usize) -> &[u8]
     requires { size ≤ length bytes.now }
     ensures { result.now ≡ take size bytes.now }
@@ -33,7 +33,7 @@ fn front(bytes: &[u8], size: usize) -> &[u8]
     &bytes[..size]
 }
 
-// The bytes behind the first ones.
+// Returns the bytes after the first ones.
 fn behind(bytes: &[u8], size: usize) -> &[u8]
     requires { size ≤ length bytes.now }
     ensures { result.now ≡ drop size bytes.now }
@@ -41,7 +41,7 @@ fn behind(bytes: &[u8], size: usize) -> &[u8]
     &bytes[size..]
 }
 
-// One call, with its data.
+// Makes one call again, with its data.
 fn replay_one(replay: &mut Replay, call: &Call, bytes: &[u8], part: usize, fill: u8)
     requires data { length bytes.now ≡ data_of (call.now ∷ []) }
     requires held { vec_len replay.old.held + length bytes.now ≤ vec_capacity replay.old.held }
@@ -92,7 +92,7 @@ fn replay_one(replay: &mut Replay, call: &Call, bytes: &[u8], part: usize, fill:
     }
 }
 
-// All of these calls, with their data and perhaps more.
+// Makes all of these calls again, with their data, which may be followed by more bytes.
 pub(crate) fn replay_all(replay: &mut Replay, calls: &[Call], bytes: &[u8], part: usize, fill: u8)
     requires data { data_of calls.now ≤ length bytes.now }
     requires held { vec_len replay.old.held + length bytes.now ≤ vec_capacity replay.old.held }

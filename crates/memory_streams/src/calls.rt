@@ -1,8 +1,8 @@
 ghost use Rattle.std.specs.Prelude.{◌≡◌, ◌≤◌, ◌↔◌, IsTrue, if◌then◌else◌};
 ghost use Rattle.memory_streams.specs.Fakes.{NextIsListed, one_more};
 
-/// The calls of a fake: which fail, by their numbers from 1, how many there were, and how many of
-/// them failed. A call whose number is past a u64 doesn't fail.
+/// The calls of a fake: which fail, by their numbers from 1, how many there were, and how many of them failed. A call whose number is
+/// above the greatest u64 doesn't fail.
 #[derive(Drop)]
 pub struct Calls {
     pub failing: Vec<u64>,
@@ -24,7 +24,7 @@ impl Calls {
         }
     }
 
-    /// Counts one more call, and says whether it fails. Looks through the whole list.
+    /// Counts one more call, and returns whether it fails. Looks through the whole list.
     pub fn next_fails(&mut self) -> bool
         ensures fails { IsTrue result ↔ NextIsListed self.old.failing.items self.old.made }
         ensures failing { self.new.failing ≡ self.old.failing }
@@ -41,7 +41,7 @@ impl Calls {
     }
 }
 
-// Whether the number after this one is in the list.
+// Returns whether the number after this one is in the list.
 fn is_next_listed(failing: &[u64], made: u64) -> bool
     ensures { IsTrue result ↔ NextIsListed failing.now made }
 {

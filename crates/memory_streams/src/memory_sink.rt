@@ -3,7 +3,7 @@ ghost use Rattle.memory_streams.specs.Fakes.{NextIsListed, SinkState, after_writ
 ghost use Rattle.flow_io.specs.Faults.{Blames};
 ghost use Rattle.memory_streams.specs.Memory.{told};
 ghost use Rattle.memory_streams.specs.Handed.{handed_by};
-ghost use Rattle.flow_io.specs.Streams.{Grows, GrowsByFront, Called};
+ghost use Rattle.flow_io.specs.Streams.{Grows, GrowsByPrefix, Called};
 
 use crate::SteadySink;
 use crate::calls::Calls;
@@ -11,14 +11,13 @@ use flow_io::{Memory, Sink, WriteFailed};
 use std::alloc::Global;
 use std::marker::Model;
 
-/// A place in memory for a stated number of bytes, with stated calls that fail. A byte past the room
-/// is let go, and a call that fails writes the first half of its bytes. It tells the bytes of each call, as
-/// long as there is memory for them. For tests.
+/// A place in memory for a stated number of bytes, with stated calls that fail. A byte past the room is dropped, and a call that fails
+/// writes the first half of its bytes. The bytes of each call are known, as long as there is memory for them. For tests.
 #[derive(Drop)]
 pub struct MemorySink {
     sink: SteadySink,
     calls: Calls,
-    // The bytes of each call, while there was memory for all.
+    // The bytes of each call, as long as there was memory for all.
     handed: Option<Vec<Vec<u8>>>,
 }
 
@@ -38,9 +37,8 @@ impl Model for MemorySink {
 }
 
 impl MemorySink {
-    /// An empty sink that holds at most `room` bytes. Calls are counted from 1: a call whose number
-    /// is in `failing` fails, and no other. The memory for what it holds is taken here, and that for the bytes
-    /// of each call at the call.
+    /// Returns an empty sink that holds at most `room` bytes. Calls are counted from 1: a call whose number is in `failing` fails, and no
+    /// other. Allocates what it may hold here, and the bytes of each call at that call.
     pub fn new(alloc: Global, room: usize, failing: Vec<u64>) -> Result<MemorySink, Memory>
         ensures { IfOk result (λ sink. sink ≡ record {
           kept = record { bytes = []; room = room; complete = true };
@@ -60,15 +58,14 @@ impl MemorySink {
         })
     }
 
-    /// What it holds: all that was written, up to its room.
+    /// Returns what it holds: all that was written, up to its room.
     pub fn bytes(&self) -> &[u8]
         ensures { result.now ≡ self.now.kept.bytes }
     {
         self.sink.bytes()
     }
 
-    /// The bytes of each call of `write` so far, one after the other, also of those that failed; `None` once there
-    /// was no memory for one of them.
+    /// Returns the bytes of each call of `write` so far, in order, those that failed too; `None` once there was no memory for one of them.
     pub fn handed(&self) -> Option<&[Vec<u8>]>
         ensures { self.now.handed ≡ option_map (λ calls. map (λ call. call.items) calls.now) result }
     {
@@ -79,7 +76,7 @@ impl MemorySink {
     }
 }
 
-// The calls and one more, where they are told and there is memory for it.
+// Returns the calls and one more, if they are known and there is memory for it.
 fn with_call(handed: Option<Vec<Vec<u8>>>, bytes: &[u8]) -> Option<Vec<Vec<u8>>>
     ensures { Called (handed_by handed) (handed_by result) (bytes.now ∷ []) }
 {
@@ -98,10 +95,10 @@ impl Sink for MemorySink {
 
     fn write(&mut self, bytes: &[u8]) -> Result<(), WriteFailed>
         ensures written { OnOk result (Grows (told self.old.kept) (told self.new.kept) bytes.now) }
-        ensures cut { OnErr result (GrowsByFront (told self.old.kept) (told self.new.kept) bytes.now) }
+        ensures cut { OnErr result (GrowsByPrefix (told self.old.kept) (told self.new.kept) bytes.now) }
         ensures called { Called self.old.handed self.new.handed (bytes.now ∷ []) }
         ensures cause { Blames (IsErr result) self.old.faults self.new.faults }
-        // It fails where its number is listed, and then writes the first half.
+        // It fails if its number is listed, and then writes the first half.
         ensures fails { IsErr result ↔ NextIsListed self.old.failing self.old.calls }
         ensures kept { OnOk result (self.new ≡ after_write self.old bytes.now self.new.handed) }
         ensures failed { OnErr result (self.new ≡ after_failed_write self.old bytes.now self.new.handed) }

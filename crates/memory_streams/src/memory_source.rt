@@ -8,7 +8,7 @@ use crate::calls::Calls;
 use flow_io::{ReadFailed, Source};
 use std::marker::Model;
 
-/// Bytes in memory, read from the front in pieces, with stated calls that fail. For tests.
+/// Bytes in memory, read from the first on in pieces, with stated calls that fail. For tests.
 #[derive(Drop)]
 pub struct MemorySource {
     bytes: SteadySource,
@@ -34,8 +34,8 @@ impl Model for MemorySource {
 }
 
 impl MemorySource {
-    /// A source that has these bytes left, and gives at most `piece` of them in a call. Calls are
-    /// counted from 1: a call whose number is in `failing` fails, and no other. Takes no memory.
+    /// Returns a source that has these bytes left, and gives at most `piece` of them in a call. Calls are counted from 1: a call whose
+    /// number is in `failing` fails, and no other. Allocates nothing.
     pub fn new(bytes: Vec<u8>, piece: usize, failing: Vec<u64>) -> MemorySource
         requires { 0 < piece }
         ensures { result ≡ record { left = bytes.items; piece = piece; failing = failing.items; calls = 0; faults = 0 } }
@@ -61,7 +61,7 @@ impl Source for MemorySource {
         ensures end { IfOk result (λ count. 0 < length into.new → (count ≡ 0) ↔ (self.old.left ≡ [])) }
         ensures stays { OnErr result (self.new.left ≡ self.old.left) }
         ensures cause { Blames (IsErr result) self.old.faults self.new.faults }
-        // It fails where its number is listed, and else gives all that fits into a piece.
+        // It fails if its number is listed, and otherwise gives all that fits into a piece.
         ensures fails { IsErr result ↔ NextIsListed self.old.failing self.old.calls }
         ensures count { IfOk result (λ count. count ≡ given self.old (length into.old)) }
         ensures behind { MatchResult result

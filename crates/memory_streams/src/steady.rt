@@ -1,13 +1,13 @@
 ghost use Rattle.std.specs.Prelude.{◌≡◌, ◌≤◌, ◌↔◌, ◌<◌, ℕ, List, [], None, Some, IfOk, OnOk, OnErr, IsErr, IsOk, true, min, length, take, drop};
 ghost use Rattle.flow_io.specs.Faults.{Blames};
 ghost use Rattle.memory_streams.specs.Memory.{Kept, told, keep};
-ghost use Rattle.flow_io.specs.Streams.{Takes, Grows, GrowsByFront};
+ghost use Rattle.flow_io.specs.Streams.{Takes, Grows, GrowsByPrefix};
 
 use flow_io::{Memory, ReadFailed, Sink, Source, WriteFailed};
 use std::alloc::Global;
 use std::marker::Model;
 
-/// Bytes in memory, read from the front. No read fails.
+/// Bytes in memory, read from the first on. No read fails.
 #[derive(Drop)]
 pub struct SteadySource {
     bytes: Vec<u8>,
@@ -25,7 +25,7 @@ impl Model for SteadySource {
 }
 
 impl SteadySource {
-    /// A source that has these bytes left. Takes no memory.
+    /// Returns a source that has these bytes left. Allocates nothing.
     pub fn new(bytes: Vec<u8>) -> SteadySource
         ensures { result ≡ bytes.items }
     {
@@ -46,7 +46,7 @@ impl Source for SteadySource {
         ensures end { IfOk result (λ count. 0 < length into.new → (count ≡ 0) ↔ (self.old ≡ [])) }
         ensures stays { OnErr result (self.new ≡ self.old) }
         ensures cause { Blames (IsErr result) 0 0 }
-        // It never fails, and gives all that fits. Past that `into` stays.
+        // It never fails, and gives all that fits; the rest of `into` stays as it was.
         ensures all { result ≡ Ok (min (length self.old) (length into.old)) }
         ensures behind { IfOk result (λ count. drop count into.new ≡ drop count into.old) }
     {
@@ -58,7 +58,7 @@ impl Source for SteadySource {
     }
 }
 
-/// A place in memory for a stated number of bytes. No write fails: a byte past the room is let go.
+/// A place in memory for a stated number of bytes. No write fails: a byte past the room is dropped.
 #[derive(Drop)]
 pub struct SteadySink {
     bytes: Vec<u8>,
@@ -78,7 +78,7 @@ impl Model for SteadySink {
 }
 
 impl SteadySink {
-    /// An empty sink that holds at most `room` bytes. All its memory is taken here.
+    /// Returns an empty sink that holds at most `room` bytes. Allocates all its memory here.
     pub fn new(alloc: Global, room: usize) -> Result<SteadySink, Memory>
         ensures { IfOk result (λ sink. sink ≡ record { bytes = []; room = room; complete = true }) }
     {
@@ -89,7 +89,7 @@ impl SteadySink {
         })
     }
 
-    /// What it holds: all that was written, up to its room.
+    /// Returns what it holds: all that was written, up to its room.
     pub fn bytes(&self) -> &[u8]
         ensures { result.now ≡ self.now.bytes }
     {
@@ -106,7 +106,7 @@ impl Sink for SteadySink {
 
     fn write(&mut self, bytes: &[u8]) -> Result<(), WriteFailed>
         ensures written { OnOk result (Grows (told self.old) (told self.new) bytes.now) }
-        ensures cut { OnErr result (GrowsByFront (told self.old) (told self.new) bytes.now) }
+        ensures cut { OnErr result (GrowsByPrefix (told self.old) (told self.new) bytes.now) }
         ensures cause { Blames (IsErr result) 0 0 }
         // It never fails, and keeps what fits.
         ensures succeeds { IsOk result }

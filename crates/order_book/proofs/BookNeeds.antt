@@ -8,13 +8,13 @@ use Rattle.std.proofs.lemmas.List.Sums.{sum_by-cons, sum_by-le, sum_by_push, sum
 use Rattle.weight_rows.specs.Rows.{weight_in}
 use Rattle.weight_rows.proofs.RowLawProofs.{weights_are_small}
 use Rattle.demand_curve.specs.Numbers.{or_zero}
-use Rattle.flow_orders.specs.Orders.{Order, IsOrder, most_cap, left_of, sold, money_need, unit_need, own_sum, needed_money, needed_units}
+use Rattle.flow_orders.specs.Orders.{Order, IsOrder, most_cap, remaining_quantity, sold, money_need, unit_need, own_sum, needed_money, needed_units}
 use Rattle.order_book.specs.declared.sums.Need.{Need}
 use Rattle.order_book.specs.declared.sums.Need.TheVariants.{Money, Units}
 use Rattle.order_book.specs.Book.{AreLive}
 use Rattle.order_book.specs.Needs.{need_of, most_for, most_needed, needed}
 
--- ---- the sums are the definitions' ones
+-- ---- the sums in ℕ are those of the definitions, in ℤ
 pub counted : (own : Bool) (n : ℕ) → cond own (pos n) (pos 0) ≡ pos (cond own n 0)
 counted true n = refl
 counted false n = refl
@@ -44,7 +44,7 @@ own_most : (own : Bool) (n most : ℕ) → n ≤ most → cond own n 0 ≤ most
 own_most true n most below = below
 own_most false n most below = omega arith
 
-left_most : (o : Order) → IsOrder o → left_of o ≤ most_cap
+left_most : (o : Order) → IsOrder o → remaining_quantity o ≤ most_cap
 left_most o is = omega (arith, is.cap)
 
 pub need_most : (need : Need) (o : Order) → IsOrder o → need_of need o ≤ most_for need
@@ -59,7 +59,7 @@ needed_most need orders live =
     let all = sum_by-le (need_of need) (most_for need) orders (λ k d inside. need_most need (slice_index_or orders k d) (live.each k d inside)) in
     omega (arith, all, mul-le-mul_right (most_for need) live.few)
 
--- both fit a signed number
+-- the most that an order needs fits a signed number
 pub most_for_fits : (need : Need) → most_for need ≤ 2 ^ 100
 most_for_fits (Money account) = omega arith
 most_for_fits (Units account asset) = omega arith

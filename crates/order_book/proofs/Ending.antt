@@ -1,4 +1,4 @@
--- Going through the orders of a book, of which those leave whose last batch was held.
+-- A pass over the orders of a book, from which those leave whose last batch was held.
 use Rattle.std.proofs.Common.{◌≡◌, ◌≢◌, ℕ, ◌+◌, ◌<◌, ◌≤◌, Bool, not, eqb, List, [], ◌∷◌, ◌++◌, take, drop, length, get_or, refl, sym, ap, ◌∙◌, arith}
 use Rattle.std.proofs.lemmas.Bool.{eq-eqb, ne_eqb}
 use Rattle.std.proofs.lemmas.List.{take_all, take_more, drop_all, drop_more}
@@ -6,7 +6,7 @@ use Rattle.std.proofs.lemmas.List.Elements.{All-filter, filter-append}
 use Rattle.std.proofs.lemmas.List.Kept.{AllPairs-filter}
 use Rattle.std.proofs.lemmas.List.Sums.{sum_by-cons, length-filter, count_by-le-length}
 use Rattle.indexmap.specs.IndexMap.{spare}
-use Rattle.flow_orders.specs.Orders.{Order, IsOrder, left_of}
+use Rattle.flow_orders.specs.Orders.{Order, IsOrder, remaining_quantity}
 use Rattle.flow_orders.specs.Trades.{going_on}
 use Rattle.order_book.specs.declared.sums.Need.{Need}
 use Rattle.order_book.specs.Sums.{Table, sum_in}
@@ -15,11 +15,11 @@ use Rattle.order_book.specs.Book.{AreLive}
 use Rattle.order_book.specs.Kept.{SumsAre}
 use Rattle.order_book.proofs.BookNeeds.{needed-push}
 
--- this batch isn't its last one
+-- this batch isn't the order's last one
 abbrev others : ℕ → Order → Bool
 others batch o = not (eqb o.last batch)
 
--- the first i orders were looked at: the sums are those of the ones that go on, and of the ones that aren't looked at yet
+-- after the first i orders, the sums are those of the ones among them that stay, and of all later ones
 pub record IsEndedTo (batch : ℕ) (orders : List Order) (old new : Table) (i : ℕ) : Type 0 where
   pub sums : (need : Need) → sum_in new need ≡ needed need (going_on batch (take i orders)) + needed need (drop i orders)
   pub room : spare old ≤ spare new
@@ -35,7 +35,7 @@ IsEndedTo-all batch orders old new i all before need =
     omega (arith, before.sums need, none, each)
 
 module _ (batch : ℕ) (orders : List Order) (old mid : Table) (i : ℕ) (o : Order) (inside : i < length orders) (at : o ≡ get_or orders i o) (before : IsEndedTo batch orders old mid i) where
-  -- what isn't looked at yet needs what this order needs, and the later ones
+  -- from i on, orders need what order i needs and what the later ones need
   parts : (need : Need) → needed need (drop i orders) ≡ need_of need o + needed need (drop (i + 1) orders)
   parts need =
       ap (needed need) (drop_more orders i o inside) ∙ sum_by-cons (need_of need) (get_or orders i o) (drop (i + 1) orders)
@@ -46,11 +46,11 @@ module _ (batch : ℕ) (orders : List Order) (old mid : Table) (i : ℕ) (o : Or
       ap (going_on batch) (take_more orders i o inside) ∙ filter-append (others batch) (take i orders) (get_or orders i o ∷ [])
       ∙ ap (λ (x : Order). going_on batch (take i orders) ++ going_on batch (x ∷ [])) (sym at)
 
-  -- what it needs is there
-  pub is_there : (units : ℕ) (need : Need) → units ≡ left_of o → need_for units need o ≤ sum_in mid need
+  -- what the order needs is in the sums
+  pub is_there : (units : ℕ) (need : Need) → units ≡ remaining_quantity o → need_for units need o ≤ sum_in mid need
   is_there units need left = omega (arith, before.sums need, parts need, ap (λ n. need_for n need o) left)
 
-  -- it stays
+  -- the order stays
   pub IsEndedTo-stays : (j : ℕ) → j ≡ i + 1 → o.last ≢ batch → IsEndedTo batch orders old mid j
   IsEndedTo-stays j next other = rw next (record { sums = sums; room = before.room })
     where
@@ -62,8 +62,8 @@ module _ (batch : ℕ) (orders : List Order) (old mid : Table) (i : ℕ) (o : Or
           let more = ap (needed need) (taken ∙ ap (λ l. going_on batch (take i orders) ++ l) kept) ∙ needed-push need (going_on batch (take i orders)) o in
           omega (arith, before.sums need, parts need, more)
 
-  -- it leaves
-  pub IsEndedTo-leaves : (new : Table) (units j : ℕ) → j ≡ i + 1 → o.last ≡ batch → units ≡ left_of o → ((need : Need) → sum_in new need + need_for units need o ≡ sum_in mid need) → spare mid ≤ spare new
+  -- the order leaves
+  pub IsEndedTo-leaves : (new : Table) (units j : ℕ) → j ≡ i + 1 → o.last ≡ batch → units ≡ remaining_quantity o → ((need : Need) → sum_in new need + need_for units need o ≡ sum_in mid need) → spare mid ≤ spare new
       → IsEndedTo batch orders old new j
   IsEndedTo-leaves new units j next same left lowered room = rw next (record { sums = sums; room = omega (arith, before.room, room) })
     where
@@ -79,7 +79,7 @@ module _ (batch : ℕ) (orders : List Order) (old mid : Table) (i : ℕ) (o : Or
           needed-nil need [] = refl
           needed-nil need (x ∷ xs) = omega (arith, needed-nil need xs, sum_by-cons (need_of need) x (xs ++ []), sum_by-cons (need_of need) x xs)
 
--- the orders that go on are live orders
+-- the orders that stay after a batch are live orders
 pub AreLive-going_on : (batch : ℕ) (orders : List Order) → AreLive orders → AreLive (going_on batch orders)
 AreLive-going_on batch orders live = record {
   each = All-filter (others batch) IsOrder orders live.each;

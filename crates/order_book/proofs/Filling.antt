@@ -1,4 +1,4 @@
--- Filling orders in place: those that are filled to their cap make room for those that stay.
+-- Filling orders in place: those that stay move to the places of those that are filled to their cap.
 use Rattle.std.proofs.Common.{◌≡◌, ℕ, zero, suc, ◌+◌, ◌<◌, ◌≤◌, Bool, true, false, cond, List, [], ◌∷◌, take, drop, set, length, get_or, filter, refl, ap, sym, subst, ◌∙◌, arith}
 use Rattle.std.specs.Prelude.{All}
 use Rattle.std.specs.List.{SwappedAt}
@@ -10,7 +10,7 @@ use Rattle.flow_orders.specs.Trades.{Trade, trades, after_fill, is_live, staying
 use Rattle.flow_orders.proofs.TradeFacts.{before_fills, after_fills}
 use Rattle.order_book.proofs.Traded.{length-trades, get_or-trades}
 
--- the orders, of which the first are filled
+-- the orders, of which the first i are filled
 pub filled_to : ℕ → List Trade → List Order
 filled_to zero ts = before_fills ts
 filled_to (suc i) [] = []
@@ -30,7 +30,7 @@ length-filled zero (t ∷ ts) = omega (arith, length-filled zero ts)
 length-filled (suc i) [] = refl
 length-filled (suc i) (t ∷ ts) = omega (arith, length-filled i ts)
 
--- the next one is not filled yet
+-- order i isn't filled yet
 filled-at : (i : ℕ) (ts : List Trade) (t : Trade) (o : Order) → i < length ts → get_or (filled_to i ts) i o ≡ (get_or ts i t).order
 unfolding filled_to
 filled-at zero [] t o inside = absurd (omega (arith, inside))
@@ -38,7 +38,7 @@ filled-at zero (u ∷ ts) t o inside = refl
 filled-at (suc i) [] t o inside = absurd (omega (arith, inside))
 filled-at (suc i) (u ∷ ts) t o inside = filled-at i ts t o (omega (arith, inside))
 
--- one more is filled
+-- one more order is filled
 filled-more : (i : ℕ) (ts : List Trade) (t : Trade) → i < length ts → filled_to (suc i) ts ≡ set (filled_to i ts) i (after_fill (get_or ts i t))
 unfolding filled_to
 filled-more zero [] t inside = absurd (omega (arith, inside))
@@ -60,7 +60,7 @@ module _ {X : Type 0} (p : X → Bool) (xs ys : List X) (k i : ℕ) (y : X) (bef
     long = omega (arith, length-set xs i y, length-set ys i y, before.long);
   }
 
-  -- it changes in the one list, to what doesn't pass
+  -- the element changes in one list, to one that doesn't pass
   next_fails : p y ≡ false → FiltersInPlace p (set xs i y) ys k (i + 1)
   next_fails fails =
       let here : i < length (set ys i y) = omega (arith, inside, before.long, length-set ys i y) in
@@ -73,13 +73,13 @@ module _ {X : Type 0} (p : X → Bool) (xs ys : List X) (k i : ℕ) (y : X) (bef
         long = omega (arith, one.long, length-set ys i y);
       }
 
-  -- it changes in both lists, to what passes, and is swapped to the front
+  -- the element changes in both lists, to one that passes, and is swapped to the place after those that passed before
   next_passes : (zs : List X) → p y ≡ true → SwappedAt (set ys i y) zs k i → FiltersInPlace p (set xs i y) zs (k + 1) (i + 1)
   next_passes zs passes swapped =
       let here : i < length (set ys i y) = omega (arith, inside, before.long, length-set ys i y) in
       FiltersInPlace-more_swap {x = y} next_changes here passes (sym (get_or-set_same ys i y y (omega (arith, inside, before.long)))) swapped
 
--- the first orders of the trades are filled, those that stay are in front, and the others are as they were
+-- after the first trades, those of their orders that stay come first, filled, and later orders are as they were
 pub record IsFilledTo (ts : List Trade) (items : List Order) (kept place : ℕ) : Type 0 where
   pub filled : FiltersInPlace is_live (filled_to place ts) items kept place
 
@@ -96,7 +96,7 @@ module _ (ts : List Trade) (items : List Order) (kept place : ℕ) (t : Trade) (
       let one : place + 1 ≡ suc place = omega arith in
       ap (λ n. filled_to n ts) one ∙ filled-more place ts t inside ∙ ap (λ (u : Trade). set (filled_to place ts) place (after_fill u)) at
 
-  -- the next order is the trade's
+  -- the next order is that of the next trade
   pub order_at : (o : Order) → get_or items place o ≡ t.order
   order_at o =
       let there : place < length items = omega (arith, within, before.filled.long) in
@@ -128,13 +128,13 @@ module _ (orders : List Order) (rates : List ℕ) (items : List Order) (kept pla
       let t : Trade = record { order = get_or orders place o; traded = get_or rates place 0 } in
       read ∙ order_at (trades orders rates) items kept place t before inside_trades (get_or-trades orders rates place t o 0 count inside) o
 
-  -- the order that is read is that of the trade whose turn it is
+  -- the order at this place is that of the trade at this place
   pub trade_at : let t : Trade = record { order = o; traded = get_or rates place 0 } in get_or (trades orders rates) place t ≡ t
   trade_at =
       get_or-trades orders rates place (record { order = o; traded = get_or rates place 0 }) o 0 count inside
       ∙ ap (λ (e : Order). record { order = e; traded = get_or rates place 0 }) (sym not_filled)
 
-  -- and its rate is within the room
+  -- the trade's rate is within its order's batch maximum
   pub within_room : All (λ t. t.traded ≤ (terms_of t.order).room) (trades orders rates) → get_or rates place 0 ≤ (terms_of o).room
   within_room all =
       let t : Trade = record { order = o; traded = get_or rates place 0 } in
@@ -145,7 +145,7 @@ pub fill_stays : (t : Trade) (full : Bool) (after : Order) → full ≡ false �
 fill_stays t true after short filled is = absurd cc
 fill_stays t false after short filled is = (filled, lt-ltb (after_fill t).filled (after_fill t).cap (subst (λ (o : Order). o.filled < o.cap) filled is.left))
 
--- one that reaches its cap leaves, and is as it was
+-- an order that reaches its cap leaves, as it was
 pub fill_leaves : (t : Trade) (full : Bool) (after : Order) → full ≡ true → after ≡ cond full t.order (after_fill t) → (full ≡ true → t.order.filled + t.traded ≡ t.order.cap)
     → (after ≡ t.order) × (is_live (after_fill t) ≡ false)
 fill_leaves t true after reached filled at_cap = (filled, le-ltb (after_fill t).filled (after_fill t).cap (omega (arith, at_cap refl)))

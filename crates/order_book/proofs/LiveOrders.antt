@@ -1,4 +1,4 @@
--- Which of a book's orders are live, when one is cancelled and when gaps are closed.
+-- Which of a book's orders are live when one is cancelled and when gaps are closed.
 use Rattle.std.proofs.Common.{◌≡◌, ◌≢◌, ℕ, zero, suc, ◌+◌, ◌<◌, ◌≤◌, ◌-◌, Bool, true, false, not, cond, filter, eqb, ◌||◌, Some, List, [], ◌∷◌, ◌++◌, length, get_or, IsTrue, true≢false, refl, sym, ap, subst, ⊎_elim, ◌∙◌, arith}
 use Rattle.std.specs.Prelude.{All, AllPairs, Contains, unwrap_or}
 use Rattle.std.specs.List.{remove, list_any, slice_get, HoldsAt}
@@ -28,7 +28,7 @@ pub all_live : (gaps : GapSet) (slots : List Order) → gaps.keys ≡ [] → liv
 all_live gaps [] none = refl
 all_live gaps (o ∷ slots) none = rw (no_gap gaps none o.number) (ap (λ l. o ∷ l) (all_live gaps slots none))
 
--- where the last order has a lower number, all have
+-- if the last order has a lower number, all have
 pub all_below : (slots : List Order) (last : Order) (number : ℕ) → AreSlots slots → Some last ≡ slice_get slots (length slots - 1) → last.number < number → All (λ o. o.number < number) slots
 all_below slots last number are is below k d inside =
     let at : get_or slots (length slots - 1) d ≡ last = sym (unwrap_or-slice_get slots (length slots - 1) d) ∙ ap (λ o. unwrap_or o d) (sym is) in
@@ -38,14 +38,14 @@ all_below slots last number are is below k d inside =
     (λ other. let same : k ≡ length slots - 1 = omega (arith, other, inside) in rw same less)
     (cases_lt k (length slots - 1))
 
--- the live ones are kept in order
+-- live orders are within the limits, by ascending numbers
 pub AreSlots-live : (gaps : GapSet) (slots : List Order) → AreSlots slots → AreSlots (live_in gaps slots)
 AreSlots-live gaps slots are = record {
   each = All-filter (stands gaps) IsOrder slots are.each;
   ascending = AllPairs-filter (λ (o : Order) (later : Order). o.number < later.number) (stands gaps) slots are.ascending;
 }
 
--- orders without gaps
+-- orders without gaps are slots
 pub AreGaps-none : (slots : List Order) (gaps : GapSet) → gaps.keys ≡ [] → AreSlots slots → AreGaps slots gaps
 AreGaps-none slots gaps none are = record {
   ordered = are;
@@ -61,11 +61,11 @@ module _ (gaps new : GapSet) (slots after : List Order) (is : after ≡ live_in 
   pub AreGaps-closed : AreGaps slots gaps → AreGaps after new
   AreGaps-closed are = rw is (AreGaps-none (live_in gaps slots) new none (AreSlots-live gaps slots are.ordered))
 
--- live orders without gaps
+-- live orders are slots without gaps
 pub AreGaps-live : (orders : List Order) (gaps : GapSet) → gaps.keys ≡ [] → AreLive orders → AreGaps orders gaps
 AreGaps-live orders gaps none live = AreGaps-none orders gaps none (record { each = live.each; ascending = live.ascending })
 
--- the same gaps, with other room
+-- the same gaps, with more or less room
 module _ (old new : GapSet) (same : new.keys ≡ old.keys) (slots : List Order) where
   pub live_same : live_in new slots ≡ live_in old slots
   live_same = ap (λ (l : List ℕ). filter (λ (o : Order). not (list_any (λ k. eqb o.number k) l)) slots) same
@@ -77,7 +77,7 @@ module _ (old new : GapSet) (same : new.keys ≡ old.keys) (slots : List Order) 
     count = omega (arith, are.count, ap length same, ap length live_same);
   }
 
--- ---- an order comes last
+-- ---- an order is added at the end
 module _ (slots : List Order) (gaps : GapSet) (o : Order) (are : AreGaps slots gaps) (below : All (λ x. x.number < o.number) slots) where
   new_is_live : is_gap gaps o.number ≡ false
   new_is_live = ⊎_elim
@@ -114,7 +114,7 @@ module _ (slots : List Order) (gaps : GapSet) (o : Order) (are : AreGaps slots g
     count = omega (arith, are.count, ap length live_push, length_push slots o, length_push (live_in gaps slots) o);
   }
 
--- ---- what is live has its place among all
+-- ---- a live order has its place among the slots
 pub contains_live : (gaps : GapSet) (slots : List Order) (place : ℕ) (d : Order) → place < length slots → is_gap gaps (get_or slots place d).number ≡ false
     → Contains (live_in gaps slots) (get_or slots place d)
 contains_live gaps [] place d inside live = absurd (omega (arith, inside))
@@ -126,7 +126,7 @@ contains_live gaps (o ∷ slots) (suc place) d inside live =
     (λ here. rw here (suc k, omega (arith, within), is))
     (cases_Bool (is_gap gaps o.number))
 
--- what holds of all orders holds of a live one
+-- what holds of all live orders holds of the one that has the number
 of_live : (P : Order → Type 0) (gaps : GapSet) (slots : List Order) (account number : ℕ) → All P (live_in gaps slots) → (has : HasOrder (live_in gaps slots) account number) → P has.order
 of_live P gaps slots account number all has = subst P has.live.2 (all has.live.0 has.order has.live.1)
 
@@ -194,7 +194,7 @@ module _ (old new : GapSet) (number : ℕ) (more : new.keys ≡ old.keys ++ numb
       or_false true = refl
       or_false false = refl
 
-  -- one order, by whether it was a gap and whether it becomes one
+  -- one order: whether it is live before and after another gap
   one : (o : Order) (left all : List Order) (now before same : Bool) → now ≡ (before || same) → eqb o.number number ≡ same → left ≡ without all number
       → cond (not now) (o ∷ left) left ≡ without (cond (not before) (o ∷ all) all) number
   one o left all now true same is equal rest = rw is rest

@@ -1,11 +1,11 @@
--- The laws of what orders need together.
+-- The laws of what orders reserve together.
 use Rattle.std.proofs.Common.{◌≡◌, ℕ, ◌+◌, ◌*◌, ◌≤◌, eqb, List, [], ◌∷◌, ◌++◌, length, ap, subst, ◌∙◌, arith}
 use Rattle.std.proofs.lemmas.List.Edits.{length-remove}
 use Rattle.std.specs.Prelude.{Contains}
 use Rattle.std.proofs.lemmas.Int.{ints}
 use Rattle.weight_rows.specs.Rows.{weight_in}
 use Rattle.demand_curve.specs.Numbers.{or_zero}
-use Rattle.flow_orders.specs.Orders.{Order, left_of, sold, money_need, unit_need}
+use Rattle.flow_orders.specs.Orders.{Order, remaining_quantity, sold, money_need, unit_need}
 use Rattle.flow_orders.specs.Trades.{Trade, trader, trades, staying}
 use Rattle.order_book.specs.declared.sums.Need.{Need}
 use Rattle.order_book.specs.declared.sums.Need.TheVariants.{Money, Units}
@@ -38,14 +38,14 @@ needed-without need orders o live (place, inside, at) =
     omega (arith, needed-remove need orders place o inside, ap (needed need) left, ap (need_of need) at)
 
 -- what a live order needs is in the sums
-pub is_needed : (table : Table) (orders : List Order) (o : Order) (units : ℕ) → AreLive orders → SumsAre table orders → Contains orders o → units ≡ left_of o
+pub is_needed : (table : Table) (orders : List Order) (o : Order) (units : ℕ) → AreLive orders → SumsAre table orders → Contains orders o → units ≡ remaining_quantity o
     → (need : Need) → need_for units need o ≤ sum_in table need
 is_needed table orders o units live sums there left need =
     omega (arith, sums need, needed-without need orders o live there, ap (λ n. need_for n need o) left)
 
 -- an order is cancelled
 module _ (orders : List Order) (o : Order) (number : ℕ) (live : AreLive orders) (there : Contains orders o) (is : o.number ≡ number) where
-  pub SumsAre-without : (table new : Table) (units : ℕ) → SumsAre table orders → units ≡ left_of o → ((need : Need) → sum_in new need + need_for units need o ≡ sum_in table need)
+  pub SumsAre-without : (table new : Table) (units : ℕ) → SumsAre table orders → units ≡ remaining_quantity o → ((need : Need) → sum_in new need + need_for units need o ≡ sum_in table need)
       → SumsAre new (without orders number)
   SumsAre-without table new units sums left lowered need =
       omega (arith, sums need, lowered need, needed-without need orders o live there, ap (λ n. needed need (without orders n)) is, ap (λ n. need_for n need o) left)

@@ -1,4 +1,4 @@
--- What an order needs: the money of its account, and the units that its entries give away.
+-- What an order needs: the money of its account, and the units that its legs give away.
 use Rattle.std.proofs.Common.{◌≡◌, ℕ, suc, ◌+◌, ◌*◌, ◌<◌, Bool, true, false, ◌&&◌, cond, eqb, ℤ, pos, List, [], ◌∷◌, get_or, refl, ap, subst, ◌∙◌, ⊎_elim, arith}
 use Rattle.std.specs.Prelude.{All, AllPairs}
 use Rattle.std.proofs.lemmas.Bool.{cases_Bool, eqb-true}
@@ -6,7 +6,7 @@ use Rattle.std.proofs.lemmas.Bool.Decides.{eqb_tells}
 use Rattle.std.proofs.lemmas.List.Sums.{sum_by-cons}
 use Rattle.std.proofs.lemmas.List.Kept.{AllPairs-from_increasing}
 use Rattle.weight_rows.specs.declared.entries.Entry.{Entry}
-use Rattle.weight_rows.specs.Rows.{weight_in, assets_of, IsLawfulRow}
+use Rattle.weight_rows.specs.Rows.{weight_in, assets_of, IsWeightVector}
 use Rattle.weight_rows.proofs.RowLemmas.{asset_at, length-assets_of}
 use Rattle.flow_orders.specs.Orders.{Order, sold}
 use Rattle.demand_curve.specs.Numbers.{or_zero}
@@ -27,7 +27,7 @@ later_above e row ascend k d inside =
     let below : e.asset < get_or (assets_of row) k 0 = ascend 0 (suc k) 0 (omega arith) (omega (arith, inside, length-assets_of row)) in
     omega (arith, below, asset_at row k d inside)
 
--- an asset below all that a row names has no weight in it
+-- an asset below all that the legs name has no weight
 weight_below : (row : List Entry) (asset : ℕ) → All (λ f. asset < f.asset) row → weight_in row asset ≡ pos 0
 unfolding weight_in
 weight_below [] asset above = refl
@@ -37,7 +37,7 @@ weight_below (e ∷ row) asset above =
     (λ other. rw other.0 (weight_below row asset (λ k d inside. above (suc k) d (omega (arith, inside)))))
     (eqb_tells e.asset asset)
 
--- entries need no money
+-- legs need no money
 no_money : (account units a : ℕ) (row : List Entry) → entries_need account units (Money a) row ≡ 0
 no_money account units a [] = refl
 no_money account units a (e ∷ row) =
@@ -47,14 +47,14 @@ nested : (own here : Bool) (n : ℕ) → cond (own && here) n 0 ≡ cond own (co
 nested true here n = refl
 nested false here n = refl
 
--- where this entry has the asset, the later ones sell none of it
+-- if this leg has the asset, the later ones give away none of it
 joined : (own here : Bool) (w later : ℤ) (units : ℕ) → (here ≡ true → later ≡ pos 0)
     → cond own (cond here (sold w * units) 0) 0 + cond own (sold later * units) 0 ≡ cond own (sold (cond here w later) * units) 0
 joined true true w later units none = rw (none refl) (omega arith)
 joined true false w later units none = omega arith
 joined false here w later units none = refl
 
--- they need the units that the row sells
+-- legs need the units that the weight vector gives away
 units_sold : (account units a s : ℕ) (row : List Entry) → Ascend row
     → entries_need account units (Units a s) row ≡ cond (eqb account a) (sold (weight_in row s) * units) 0
 unfolding weight_in
@@ -66,8 +66,8 @@ units_sold account units a s (e ∷ row) ascend =
     ∙ joined (eqb account a) (eqb e.asset s) e.weight (weight_in row s) units
     (λ here. subst (λ asset. weight_in row asset ≡ pos 0) (eqb-true e.asset s here) (weight_below row e.asset (later_above e row ascend)))
 
--- an order needs its money, and what its entries give away
-pub needs_are : (units : ℕ) (need : Need) (o : Order) (account money : ℕ) (entries : List Entry) → IsLawfulRow o.row
+-- an order needs its money, and what its legs give away
+pub needs_are : (units : ℕ) (need : Need) (o : Order) (account money : ℕ) (entries : List Entry) → IsWeightVector o.row
     → account ≡ o.account → money ≡ or_zero o.high * units → entries ≡ o.row
     → cond (same_need (Money account) need) money 0 + entries_need account units need entries ≡ need_for units need o
 needs_are units (Money a) o account money entries lawful whose amount row =

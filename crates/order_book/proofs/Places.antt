@@ -1,4 +1,4 @@
--- Orders by their places: one more at the end, and one less.
+-- Orders by their places: one more at the end, or one less.
 use Rattle.std.proofs.Common.{◌≡◌, ◌≢◌, ℕ, zero, suc, ◌<◌, Bool, not, filter, List, [], ◌∷◌, ◌++◌, length, get_or, refl, ap, arith}
 use Rattle.std.specs.Prelude.{All, AllPairs, ◌==◌}
 use Rattle.std.specs.List.{remove}
@@ -10,7 +10,7 @@ use Rattle.std.proofs.lemmas.List.Quantifiers.{all_pairs_push, all_pairs_remove}
 use Rattle.flow_orders.specs.Orders.{Order, IsOrder, most_orders}
 use Rattle.order_book.specs.Book.{AreLive, without}
 
--- an order with a higher number comes last
+-- live orders and one of a higher number at the end are live orders
 pub AreLive-push : (orders : List Order) (o : Order) → AreLive orders → IsOrder o → length orders < most_orders → All (λ x. x.number < o.number) orders → AreLive (orders ++ o ∷ [])
 AreLive-push orders o live is few above = record {
   each = All-push IsOrder orders o live.each is;
@@ -18,7 +18,7 @@ AreLive-push orders o live is few above = record {
   few = omega (arith, length_push orders o, few);
 }
 
--- an order leaves
+-- live orders without the one at a place are live orders
 pub AreLive-remove : (orders : List Order) (place : ℕ) → place < length orders → AreLive orders → AreLive (remove orders place)
 AreLive-remove orders place inside live = record {
   each = All-append IsOrder _ _ (All-take IsOrder place orders live.each) (All-drop IsOrder (suc place) orders live.each);
@@ -32,14 +32,14 @@ Ascend orders = AllPairs (λ x later. x.number < later.number) orders
 abbrev others : ℕ → Order → Bool
 others number x = not (x.number == number)
 
--- where nothing has the number, all stay
+-- if no order has the number, all stay
 all_stay : (orders : List Order) (number : ℕ) → All (λ x. x.number ≢ number) orders → orders ≡ filter (others number) orders
 all_stay [] number none = refl
 all_stay (x ∷ orders) number none =
     let rest = all_stay orders number (λ k d inside. none (suc k) d (omega (arith, inside))) in
     rw (ne_eqb x.number number (none 0 x (omega arith))) (ap (λ l. x ∷ l) rest)
 
--- of ascending orders one leaves by its place, or by its number
+-- from ascending orders, taking out by place is taking out by number
 pub remove_is : (orders : List Order) (place number : ℕ) (d : Order) → AllPairs (λ x later. x.number < later.number) orders → place < length orders → (get_or orders place d).number ≡ number
     → remove orders place ≡ without orders number
 remove_is [] place number d ascend inside at = absurd (omega (arith, inside))

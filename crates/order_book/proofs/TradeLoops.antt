@@ -1,4 +1,4 @@
--- Going through the orders of a batch.
+-- A pass over the trades of a batch.
 use Rattle.std.proofs.Common.{◌≡◌, ℕ, ◌+◌, ◌<◌, ◌≤◌, List, take, length, get_or, sym, ap, ◌∙◌, subst, arith}
 use Rattle.std.specs.Prelude.{All}
 use Rattle.std.proofs.lemmas.List.{take_all}
@@ -11,12 +11,12 @@ use Rattle.order_book.specs.Sums.{Table, sum_in}
 use Rattle.order_book.specs.Needs.{need_for, needed_for}
 use Rattle.order_book.proofs.Traded.{length-trades, get_or-trades}
 
--- the sums were lowered by what the first i trades need
+-- the sums are lowered by what the first i trades need
 pub record IsLoweredTo (ts : List Trade) (old new : Table) (i : ℕ) : Type 0 where
   pub sums : (need : Need) → sum_in new need + needed_for need (take i ts) ≡ sum_in old need
   pub room : spare old ≤ spare new
 
--- the trade whose turn it is
+-- trade i is that of this order and rate
 pub record IsTurn (orders : List Order) (rates : List ℕ) (i : ℕ) (o : Order) (x : ℕ) : Type 0 where
   pub count : length rates ≡ length orders
   pub inside : i < length orders
@@ -35,7 +35,7 @@ module _ (orders : List Order) (rates : List ℕ) (i : ℕ) (o : Order) (x : ℕ
   inside_trades : i < length (trades orders rates)
   inside_trades = omega (arith, length-trades orders rates turn.count, turn.inside)
 
-  -- what holds of each trade holds of it
+  -- what holds of each trade holds of trade i
   pub at_turn : (P : Trade → Type 0) → All P (trades orders rates) → P (record { order = o; traded = x })
   at_turn P all = subst P trade_at (all i here inside_trades)
 
@@ -44,12 +44,12 @@ module _ (orders : List Order) (rates : List ℕ) (i : ℕ) (o : Order) (x : ℕ
       sum_by_more (λ (t : Trade). need_for t.traded need t.order) (trades orders rates) i here inside_trades
       ∙ ap (λ (t : Trade). needed_for need (take i (trades orders rates)) + need_for t.traded need t.order) trade_at
 
-  -- what it needs is there
+  -- what trade i needs is in the sums
   pub is_there : (old mid : Table) (need : Need) → needed_for need (trades orders rates) ≤ sum_in old need → IsLoweredTo (trades orders rates) old mid i → need_for x need o ≤ sum_in mid need
   is_there old mid need all before =
       omega (arith, all, before.sums need, one_more need, sum_by-take-le (λ (t : Trade). need_for t.traded need t.order) (trades orders rates) (i + 1))
 
-  -- one trade more
+  -- the sums after one trade more
   pub IsLoweredTo-more : (old mid new : Table) (j : ℕ) → j ≡ i + 1 → IsLoweredTo (trades orders rates) old mid i
       → ((need : Need) → sum_in new need + need_for x need o ≡ sum_in mid need) → spare mid ≤ spare new → IsLoweredTo (trades orders rates) old new j
   IsLoweredTo-more old mid new j next before lowered room = rw next (record {
@@ -57,7 +57,7 @@ module _ (orders : List Order) (rates : List ℕ) (i : ℕ) (o : Order) (x : ℕ
     room = omega (arith, before.room, room);
   })
 
--- all trades
+-- the sums after all trades
 pub IsLoweredTo-all : (ts : List Trade) (old new : Table) (i : ℕ) → length ts ≤ i → IsLoweredTo ts old new i → (need : Need) → sum_in new need + needed_for need ts ≡ sum_in old need
 IsLoweredTo-all ts old new i all before need =
     omega (arith, before.sums need, ap (needed_for need) (take_all i ts all))

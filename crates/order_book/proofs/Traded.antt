@@ -7,7 +7,7 @@ use Rattle.std.proofs.lemmas.List.Elements.{All-map, All-filter, filter_passes}
 use Rattle.std.proofs.lemmas.List.Kept.{AllPairs-filter}
 use Rattle.weight_rows.specs.Rows.{weight_in}
 use Rattle.demand_curve.specs.Numbers.{or_zero}
-use Rattle.flow_orders.specs.Orders.{Order, IsOrder, left_of, sold}
+use Rattle.flow_orders.specs.Orders.{Order, IsOrder, remaining_quantity, sold}
 use Rattle.flow_orders.specs.Trades.{Trade, trades, after_fill, is_live, staying}
 use Rattle.flow_orders.proofs.TradeFacts.{before_fills, after_fills}
 use Rattle.order_book.specs.declared.sums.Need.{Need}
@@ -33,14 +33,14 @@ split_need : (own : Bool) (each left now x : ℕ) → left ≡ now + x → cond 
 split_need true each left now x parts = omega (arith, ap (λ n. each * n) parts)
 split_need false each left now x parts = refl
 
--- an order needs after its fill what it needed before, but for what it traded
-pub need-after : (need : Need) (t : Trade) → t.traded ≤ left_of t.order → need_of need t.order ≡ need_of need (after_fill t) + need_for t.traded need t.order
+-- an order needs after its fill what it needed before, less what it needed for the trade
+pub need-after : (need : Need) (t : Trade) → t.traded ≤ remaining_quantity t.order → need_of need t.order ≡ need_of need (after_fill t) + need_for t.traded need t.order
 need-after (Money account) t within =
-    split_need (eqb t.order.account account) (or_zero t.order.high) (left_of t.order) (left_of (after_fill t)) t.traded (omega (arith, within))
+    split_need (eqb t.order.account account) (or_zero t.order.high) (remaining_quantity t.order) (remaining_quantity (after_fill t)) t.traded (omega (arith, within))
 need-after (Units account asset) t within =
-    split_need (eqb t.order.account account) (sold (weight_in t.order.row asset)) (left_of t.order) (left_of (after_fill t)) t.traded (omega (arith, within))
+    split_need (eqb t.order.account account) (sold (weight_in t.order.row asset)) (remaining_quantity t.order) (remaining_quantity (after_fill t)) t.traded (omega (arith, within))
 
-pub needed-after : (need : Need) (ts : List Trade) → All (λ t. t.traded ≤ left_of t.order) ts → needed need (before_fills ts) ≡ needed need (after_fills ts) + needed_for need ts
+pub needed-after : (need : Need) (ts : List Trade) → All (λ t. t.traded ≤ remaining_quantity t.order) ts → needed need (before_fills ts) ≡ needed need (after_fills ts) + needed_for need ts
 needed-after need [] within = refl
 needed-after need (t ∷ ts) within =
     omega (
@@ -58,8 +58,8 @@ none_left false each left none = refl
 
 -- an order at its cap needs nothing
 full_needs_none : (need : Need) (o : Order) → is_live o ≡ false → need_of need o ≡ 0
-full_needs_none (Money account) o full = none_left (eqb o.account account) (or_zero o.high) (left_of o) (omega (arith, ltb-false o.filled o.cap full))
-full_needs_none (Units account asset) o full = none_left (eqb o.account account) (sold (weight_in o.row asset)) (left_of o) (omega (arith, ltb-false o.filled o.cap full))
+full_needs_none (Money account) o full = none_left (eqb o.account account) (or_zero o.high) (remaining_quantity o) (omega (arith, ltb-false o.filled o.cap full))
+full_needs_none (Units account asset) o full = none_left (eqb o.account account) (sold (weight_in o.row asset)) (remaining_quantity o) (omega (arith, ltb-false o.filled o.cap full))
 
 pub needed-live : (need : Need) (orders : List Order) → needed need (filter is_live orders) ≡ needed need orders
 needed-live need [] = refl
@@ -107,11 +107,11 @@ same_count (t ∷ ts) = omega (arith, same_count ts)
 pub length-staying : (ts : List Trade) → length (staying ts) ≤ length (before_fills ts)
 length-staying ts = omega (arith, length-filter is_live (after_fills ts), count_by-le-length is_live (after_fills ts), same_count ts)
 
--- the orders that stay of live orders are live orders
+-- if the orders of trades are live, those that stay are live orders
 pub AreLive-staying : (ts : List Trade) → AreLive (before_fills ts) → AreLive (staying ts)
 AreLive-staying ts live =
-    let sound = each_order IsOrder ts live.each in
-    let filled = All-map (λ o. is_live o ≡ true → IsOrder o) after_fill ts (λ k d inside. IsOrder-after (slice_index_or ts k d) (sound k d inside)) in
+    let consistent = each_order IsOrder ts live.each in
+    let filled = All-map (λ o. is_live o ≡ true → IsOrder o) after_fill ts (λ k d inside. IsOrder-after (slice_index_or ts k d) (consistent k d inside)) in
     record {
       each = λ k d inside. All-filter is_live (λ o. is_live o ≡ true → IsOrder o) (after_fills ts) filled k d inside (filter_passes is_live (after_fills ts) k d inside);
       ascending = AllPairs-filter (λ (o : Order) (later : Order). o.number < later.number) is_live (after_fills ts) (λ i j d before inside.

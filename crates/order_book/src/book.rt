@@ -1,4 +1,4 @@
-//! The live orders, and the sums of what they need.
+//! The live orders, and the sums of what they reserve.
 ghost use Rattle.std.specs.Prelude.{◌≡◌, ◌≢◌, ◌+◌, ◌^◌, ◌<◌, ◌≤◌, ◌≤ℤ◌, ◌↔◌, [], ◌∷◌, ◌++◌, pos, length, All, Contains, OnOk, IsOk, IsTrue, IsFalse, false, IfSome, MatchOption};
 ghost use Rattle.std.specs.Borrow.{sem};
 ghost use Rattle.flow_orders.specs.Orders.{most_orders, needed_money, needed_units};
@@ -16,20 +16,21 @@ use out_of_memory::Memory;
 use std::alloc::Global;
 use std::marker::Model;
 
-// As many sums an order may raise: one of money, and one for each of 16 entries.
+// How many sums an order may raise: one of money, and one for each of 16 legs.
 const PLACES_PER_ORDER: usize = 17;
 
-/// The live orders, by ascending numbers, with the sums of what they need of each account.
+/// The live orders, by ascending numbers, with the sums of what they reserve of each account.
 ///
-/// A live order reserves what it may still pay and give away: what is left of its cap, times its high limit price where
-/// that isn't negative, and for each asset that its row sells, times the units that it sells (this project's own rule).
+/// A live order reserves what it may still pay and give away: its remaining quantity times its high limit if that isn't
+/// negative, and of each asset that it gives away its remaining quantity times the absolute weight (this project's own
+/// rule).
 ///
-/// Contracts see the list of orders, and `room`, for how many more orders there surely is room.
+/// Contracts see the list of orders, and `room`: for how many more orders there surely is room.
 #[derive(Drop)]
 pub struct Book {
-    // The live orders, and between them cancelled ones, which are gaps.
+    // The live orders, and between them the cancelled ones, which are gaps.
     slots: Vec<Order>,
-    // The numbers of the cancelled ones.
+    // The numbers of the cancelled orders.
     gaps: IndexSet<u64>,
     sums: NeedSums,
 }
@@ -53,7 +54,7 @@ impl Book {
     ghost use Rattle.order_book.specs.Book.{without};
     ghost use Rattle.order_book.specs.Listing.{StaysAsListed};
 
-    /// A book without orders. It takes no memory.
+    /// Returns a book without orders. It allocates nothing.
     pub fn new(alloc: Global) -> Book
         ensures { result.orders ≡ [] }
     {
@@ -64,8 +65,8 @@ impl Book {
         }
     }
 
-    /// The live orders, by ascending numbers: at most 16,384. The gaps that cancelled orders have left are closed
-    /// first, in one pass over the book; where there are none, it costs nothing. The book is as before, and no room is
+    /// Returns the live orders, by ascending numbers: at most 16,384. First it closes the gaps of cancelled orders, in
+    /// one pass over the book; if there are none, that costs nothing. The book is left as it was, and no room is
     /// lost.
     pub fn orders(&mut self) -> &[Order]
         ensures value { result.now ≡ self.old.orders }
@@ -76,7 +77,7 @@ impl Book {
         self.slots.as_slice()
     }
 
-    /// How many orders are live: at most 16,384.
+    /// Returns how many orders are live: at most 16,384.
     pub fn len(&self) -> usize
         ensures len { result ≡ length self.now.orders }
         ensures live { AreLive self.now.orders }
@@ -84,7 +85,7 @@ impl Book {
         self.slots.len() - self.gaps.len()
     }
 
-    /// The money that the live orders of an account need together, in grains: 0 to 2^114. One look-up.
+    /// Returns the money that the live orders of an account reserve together, in grains: 0 to 2^114. One look-up.
     #[tactic(auto, using(crate::proofs::BookNeeds::needed_money_is))]
     pub fn money_needed(&self, account: u32) -> i128
         ensures value { result ≡ needed_money self.now.orders account }
@@ -94,7 +95,7 @@ impl Book {
         self.needed(Need::Money { account })
     }
 
-    /// The units of an asset that the live orders of an account need together: 0 to 2^66. One look-up.
+    /// Returns the units of an asset that the live orders of an account reserve together: 0 to 2^66. One look-up.
     #[tactic(auto, using(crate::proofs::BookNeeds::needed_units_is))]
     pub fn units_needed(&self, account: u32, asset: u16) -> i128
         ensures value { result ≡ needed_units self.now.orders account asset }
@@ -104,7 +105,7 @@ impl Book {
         self.needed(Need::Units { account, asset })
     }
 
-    // The sum of a need.
+    // Returns the sum of a need.
     fn needed(&self, need: Need) -> i128
         ensures value { result ≡ pos (needed need self.now.orders) }
         ensures most { needed need self.now.orders ≤ most_needed need }
@@ -112,7 +113,7 @@ impl Book {
         self.sums.get(need) as i128
     }
 
-    /// Makes room for one more order. `Memory` comes only where the room isn't there yet. The orders stay, and no
+    /// Makes room for one more order. It fails with `Memory` only if the room isn't there yet. The orders stay, and no
     /// room is lost.
     pub fn reserve_one(&mut self) -> Result<(), Memory>
         ensures ok { OnOk result (1 ≤ self.new.room) }
@@ -127,8 +128,8 @@ impl Book {
         Ok(())
     }
 
-    /// Adds an order, which needs what it needs from now on. Its number is above those of all others. It takes the
-    /// room of one order, and no memory.
+    /// Adds an order, which reserves what it needs from now on. Its number is above those of all others. It takes the
+    /// room of one order, and allocates nothing.
     pub fn add(&mut self, order: Order)
         requires room { 1 ≤ self.old.room }
         requires few { length self.old.orders < most_orders }
@@ -142,16 +143,17 @@ impl Book {
         self.slots.push_reserved(order);
     }
 
-    /// Whether there is a live order of this account and number. It is found by its number, in as many steps as the
-    /// count of orders has bits.
+    /// Returns whether there is a live order of this account and number. It is found by its number, in as many steps as
+    /// the count of orders has bits.
     pub fn has_order(&self, account: u32, number: u64) -> bool
         ensures { IsTrue result ↔ HasOrder self.now.orders account number }
     {
         place_in(&self.slots, &self.gaps, account, number).is_some()
     }
 
-    /// Cancels the live order of this account and number, which needs nothing from now on, or answers `false` exactly
-    /// where there is none: no live order has the number, or the one that has it is another account's.
+    /// Cancels the live order of this account and number, which reserves nothing from now on. Returns `false`, and
+    /// changes nothing, exactly if there is none: no live order has the number, or the one that has it is another
+    /// account's.
     pub fn cancel(&mut self, account: u32, number: u64) -> bool
         ensures there { IsTrue result ↔ HasOrder self.old.orders account number }
         ensures stays { IsFalse result → self.new ≡ self.old }
@@ -170,8 +172,8 @@ impl Book {
         }
     }
 
-    /// Fills the orders by these rates, in units of their portfolios: one for each order, in the same order, and none
-    /// above its room. An order that reaches its cap leaves. The others stay, and need as much less.
+    /// Fills the orders at these rates, in units of their portfolios: one for each order, in the same order, and none
+    /// above its batch maximum. An order that reaches its cap leaves. The others stay, and reserve that much less.
     pub fn fill(&mut self, rates: &[u32])
         requires count { length rates.now ≡ length self.old.orders }
         requires within { All (λ t. t.traded ≤ (terms_of t.order).room)
@@ -185,7 +187,7 @@ impl Book {
         fill_orders(&mut self.slots, rates);
     }
 
-    /// Takes out the orders whose last batch has this number, which need nothing from now on. The others stay.
+    /// Takes out the orders whose last batch has this number, which reserve nothing from now on. The others stay.
     pub fn end(&mut self, batch: u32)
         ensures orders { self.new.orders ≡ going_on batch self.old.orders }
         ensures room { self.old.room ≤ self.new.room }
@@ -197,7 +199,7 @@ impl Book {
     }
 }
 
-// The place of the live order of this account and number, if there is one.
+// Returns the place of the live order of this account and number, if there is one.
 fn place_in(slots: &[Order], gaps: &IndexSet<u64>, account: u32, number: u64) -> Option<usize>
     requires { AreSlots slots.now }
     ensures there { MatchOption result (¬ HasOrder (live_in gaps.now slots.now) account number)
@@ -217,7 +219,7 @@ fn place_in(slots: &[Order], gaps: &IndexSet<u64>, account: u32, number: u64) ->
     Some(place)
 }
 
-// The place of the order of this number, live or cancelled, if there is one.
+// Returns the place of the order of this number, live or cancelled, if there is one.
 fn place_of(slots: &[Order], number: u64) -> Option<usize>
     requires { AreSlots slots.now }
     ensures { MatchOption result (All (λ o. o.number ≢ number) slots.now)

@@ -9,7 +9,7 @@ ghost use Rattle.order_book.specs.Needs.{needed};
 use crate::sums::NeedSums;
 use flow_orders::Order;
 
-/// Lowers the sums by all that the orders needed whose last batch this one was.
+/// Lowers the sums by all that the orders whose last batch is `batch` reserved.
 pub(crate) fn lower_ended(sums: &mut NeedSums, orders: &[Order], batch: u32)
     requires { (need : Need) → sum_in sums.old.table need ≡ needed need orders.now }
     ensures sums { (need : Need) → sum_in sums.new.table need ≡ needed need (going_on batch orders.now) }
@@ -22,7 +22,7 @@ pub(crate) fn lower_ended(sums: &mut NeedSums, orders: &[Order], batch: u32)
     }
 }
 
-/// Takes out the orders whose last batch this one was.
+/// Takes out the orders whose last batch is `batch`.
 pub(crate) fn end_orders(orders: &mut Vec<Order>, batch: u32)
     ensures orders { orders.new.items ≡ going_on batch orders.old.items }
     ensures len { vec_len orders.new ≤ vec_len orders.old }

@@ -1,4 +1,4 @@
-//! What a batch leaves of the orders and of the sums of their needs.
+//! The orders after a batch, and the sums of their needs.
 ghost use Rattle.std.specs.Prelude.{◌≡◌, ◌+◌, ◌≤◌, vec_len, vec_capacity, length, All};
 ghost use Rattle.indexmap.specs.IndexMap.{spare};
 ghost use Rattle.flow_orders.specs.Orders.{terms_of};
@@ -10,7 +10,7 @@ ghost use Rattle.order_book.specs.Needs.{needed_for};
 use crate::sums::NeedSums;
 use flow_orders::Order;
 
-/// Lowers the sums by what the orders needed for what they trade.
+/// Lowers the sums by what the orders reserved for what they trade.
 pub(crate) fn lower_traded(sums: &mut NeedSums, orders: &[Order], rates: &[u32])
     requires count { length rates.now ≡ length orders.now }
     requires within { All (λ t. t.traded ≤ (terms_of t.order).room) (trades orders.now rates.now) }
@@ -25,7 +25,7 @@ pub(crate) fn lower_traded(sums: &mut NeedSums, orders: &[Order], rates: &[u32])
     }
 }
 
-/// Fills the orders, of which those leave that reach their cap.
+/// Fills the orders at these rates, and takes out those that reach their cap.
 pub(crate) fn fill_orders(orders: &mut Vec<Order>, rates: &[u32])
     requires count { length rates.now ≡ vec_len orders.old }
     requires within { All (λ t. t.traded ≤ (terms_of t.order).room) (trades orders.old.items rates.now) }

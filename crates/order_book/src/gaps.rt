@@ -1,4 +1,4 @@
-//! Cancelled orders, which stay among the others as gaps until these are closed.
+//! Cancelled orders, which stay among the others as gaps until the gaps are closed.
 ghost use Rattle.std.specs.Prelude.{◌≡◌, ℕ, ◌+◌, ◌<◌, ◌≤◌, [], false, vec_len, vec_capacity, length, All, IsTrue};
 ghost use Rattle.indexmap.specs.IndexSet.{spare};
 ghost use Rattle.order_book.specs.Book.{IsPlaceOf, without};
@@ -7,7 +7,7 @@ ghost use Rattle.order_book.specs.Gaps.{AreSlots, AreGaps, live_in, is_gap};
 use flow_orders::Order;
 use indexmap::IndexSet;
 
-/// Closes all gaps, in one pass over the orders, where there are any.
+/// Closes all gaps, if there are any, in one pass over the orders.
 pub(crate) fn close_gaps(slots: &mut Vec<Order>, gaps: &mut IndexSet<u64>)
     requires { AreGaps slots.old.items gaps.old }
     ensures orders { slots.new.items ≡ live_in gaps.old slots.old.items }
@@ -31,7 +31,7 @@ fn drop_gaps(slots: &mut Vec<Order>, gaps: &IndexSet<u64>)
     slots.retain(|order| !gaps.contains(&order.number()));
 }
 
-/// Closes all gaps where a cancelled order has this number or a higher one, which no live order has.
+/// Closes all gaps if a cancelled order has this number or a higher one. No live order has such a number.
 pub(crate) fn close_above(slots: &mut Vec<Order>, gaps: &mut IndexSet<u64>, number: u64)
     requires gaps { AreGaps slots.old.items gaps.old }
     requires above { All (λ o. o.number < number) (live_in gaps.old slots.old.items) }
@@ -47,7 +47,7 @@ pub(crate) fn close_above(slots: &mut Vec<Order>, gaps: &mut IndexSet<u64>, numb
     }
 }
 
-// Whether all orders have lower numbers.
+// Returns whether all orders have lower numbers.
 fn are_below(slots: &[Order], number: u64) -> bool
     requires { AreSlots slots.now }
     ensures { IsTrue result → All (λ o. o.number < number) slots.now }
@@ -58,7 +58,7 @@ fn are_below(slots: &[Order], number: u64) -> bool
     }
 }
 
-/// Makes a gap of the live order of this number. Where there are more gaps than live orders then, all are closed.
+/// Makes a gap of the live order of this number. If there are more gaps than live orders then, all are closed.
 pub(crate) fn leave_gap(slots: &mut Vec<Order>, gaps: &mut IndexSet<u64>, number: u64)
     requires gaps { AreGaps slots.old.items gaps.old }
     requires there { (place : ℕ) × IsPlaceOf slots.old.items number place }

@@ -1,9 +1,9 @@
-//! The sums of what orders need.
+//! The sums of what orders reserve.
 ghost use Rattle.std.specs.Prelude.{◌≡◌, ◌+◌, ◌*◌, ◌^◌, ◌<◌, ◌≤◌, IsOk, OnOk, All, length};
 ghost use Rattle.indexmap.specs.IndexMap.{spare};
 ghost use Rattle.weight_rows.specs.Rows.{IsLawfulWeight};
 ghost use Rattle.demand_curve.specs.Numbers.{or_zero};
-ghost use Rattle.flow_orders.specs.Orders.{left_of, most_cap};
+ghost use Rattle.flow_orders.specs.Orders.{remaining_quantity, most_cap};
 ghost use Rattle.order_book.specs.Sums.{HasNoZeros, sum_in, RaisesAt, LowersAt};
 ghost use Rattle.order_book.specs.Needs.{need_for, entries_need, places_per_order};
 
@@ -12,16 +12,16 @@ use indexmap::IndexMap;
 use std::alloc::{AllocError, Global};
 use weight_rows::Entry;
 
-/// What orders need of an account.
+/// What orders reserve of an account.
 #[derive(Clone, Copy, PartialEq, Eq, Hash)]
 pub(crate) enum Need {
-    /// Its money, in grains.
+    /// The account's money, in grains.
     Money { account: u32 },
-    /// Its units of an asset.
+    /// The account's units of an asset.
     Units { account: u32, asset: u16 },
 }
 
-/// The sum of each need. Those that aren't 0 are kept.
+/// The sum of each need. Only sums that aren't 0 are kept.
 #[derive(Drop)]
 pub(crate) struct NeedSums {
     table: IndexMap<Need, u128>,
@@ -31,7 +31,7 @@ pub(crate) struct NeedSums {
 impl NeedSums {
     ghost use Rattle.order_book.specs.declared.sums.Need.{Need};
 
-    /// All sums are 0. It takes no memory.
+    /// Returns sums that are all 0. It allocates nothing.
     pub(crate) fn new(alloc: Global) -> NeedSums
         ensures { (need : Need) → sum_in result.table need ≡ 0 }
     {
@@ -40,14 +40,14 @@ impl NeedSums {
         }
     }
 
-    /// The sum of a need.
+    /// Returns the sum of a need, or 0 if none is kept.
     pub(crate) fn get(&self, need: Need) -> u128
         ensures { result ≡ sum_in self.now.table need }
     {
         self.table.get(&need).copied().unwrap_or(0)
     }
 
-    /// Makes room for so many more sums.
+    /// Makes room for so many more sums. It fails only if the room isn't there yet; the sums stay, and no room is lost.
     pub(crate) fn reserve(&mut self, places: usize) -> Result<(), AllocError>
         ensures ok { OnOk result (places ≤ spare self.new.table) }
         ensures succeeds { places ≤ spare self.old.table → IsOk result }
@@ -57,10 +57,10 @@ impl NeedSums {
         self.table.reserve(places)
     }
 
-    /// Raises the sums by what an order needs to trade so many units of its portfolio.
+    /// Raises the sums by what an order reserves to trade so many units of its portfolio.
     pub(crate) fn raise_for(&mut self, order: &Order, units: u64)
         requires room { places_per_order ≤ spare self.old.table }
-        requires within { units ≤ left_of order.now }
+        requires within { units ≤ remaining_quantity order.now }
         requires fits { (need : Need) →
             sum_in self.old.table need + need_for units need order.now < 2 ^ 128 }
         ensures raised { (need : Need) → sum_in self.new.table need
@@ -72,9 +72,9 @@ impl NeedSums {
         self.raise_entries(account, order.row().entries(), units);
     }
 
-    /// Lowers the sums by what an order needs to trade so many units of its portfolio.
+    /// Lowers the sums by what an order reserves to trade so many units of its portfolio.
     pub(crate) fn lower_for(&mut self, order: &Order, units: u64)
-        requires within { units ≤ left_of order.now }
+        requires within { units ≤ remaining_quantity order.now }
         requires there { (need : Need) →
             need_for units need order.now ≤ sum_in self.old.table need }
         ensures lowered { (need : Need) → sum_in self.new.table need + need_for units need order.now
@@ -150,9 +150,9 @@ impl NeedSums {
     }
 }
 
-// The money that an order needs to trade so many units of its portfolio, in grains.
+// Returns the money that an order reserves to trade so many units of its portfolio, in grains.
 fn money_for(order: &Order, units: u64) -> u128
-    requires { units ≤ left_of order.now }
+    requires { units ≤ remaining_quantity order.now }
     ensures { result ≡ or_zero order.now.high * units }
 {
     money_need(order.high(), units).unsigned_abs()

@@ -21,7 +21,7 @@ use Rattle.order_text.specs.Private.{text_at, word_of, Has, HasOrder, Fits, IsOr
 pub of_each : (version : Version) (command : Command) → IsOfVersion One command → IsOfVersion version command
 of_each version command of = (of.0, omega (arith, of.1, first_tags version))
 
--- a command of the second version is one of each that has more than the first
+-- a command of version two is one of each version that has more commands than version one
 pub of_later : (version : Version) (command : Command) → 10 ≤ most_tag version → IsOfVersion Two command → IsOfVersion version command
 of_later version command more of = (of.0, omega (arith, of.1, all_tags version more))
 
@@ -71,11 +71,11 @@ word_first : (command : Command) → members_of command ≡ (codes "do", Text (w
 word_first (Place None request) = refl
 word_first command = refl
 
--- the members behind the first
+-- the members after the first
 pub rest_of : (tickers : List (List ℕ)) (d : Data) (m : List ℕ × Value) (members : List (List ℕ × Value)) → Has tickers d (m ∷ members) → Has tickers d members
 rest_of tickers d m members has = has.1
 
--- what an object that asks for a command has, in two parts
+-- an object that asks for a command has the word at `do`, and the other members
 all_asked : (version : Version) (tickers : List (List ℕ)) (d : Data) (command : Command) → Asks version tickers d command → Has tickers d ((codes "do", Text (word_of command)) ∷ drop 1 (members_of command))
 all_asked version tickers d command asks = subst (Has tickers d) (word_first command) (recursion_from_All (λ m. HasAt tickers d m.0 m.1) (members_of command) asks.members)
 
@@ -85,7 +85,7 @@ word_asked version tickers d command asks = text_of tickers d (codes "do") (word
 pub fits_asked : (version : Version) (tickers : List (List ℕ)) (d : Data) (command : Command) → Asks version tickers d command → Fits tickers d command
 fits_asked version tickers d command asks = (rest_of tickers d (codes "do", Text (word_of command)) (drop 1 (members_of command)) (all_asked version tickers d command asks), asks.keys)
 
--- and back
+-- an object with the word at `do` and the other members asks for the command
 pub asks_of : (version : Version) (tickers : List (List ℕ)) (d : Data) (command : Command) → text_at (codes "do") d ≡ Some (word_of command) → Fits tickers d command → IsOfVersion version command → Asks version tickers d command
 asks_of version tickers d command word fits of = record {
   members = All-from_recursion (λ m. HasAt tickers d m.0 m.1) (members_of command) (subst (Has tickers d) (sym (word_first command)) (text_where tickers d (codes "do") (word_of command) word, fits.0));
@@ -94,7 +94,7 @@ asks_of version tickers d command word fits of = record {
 }
 
 module _ (tickers : List (List ℕ)) (d : Data) where
-  -- this word stands at `do`
+  -- this word is at `do`
   abbrev Word : List ℕ → Type 0
   Word word = text_at (codes "do") d ≡ Some word
 
@@ -150,7 +150,7 @@ module _ (tickers : List (List ℕ)) (d : Data) where
       by_last None request of has = none request has.0 has.1
       by_last (Some last) request of has = no_until last request of has.0.0 (rest_of tickers d (codes "last", Small last) (order_members request) has.0) has.1
 
-  -- it doesn't have both seven keys and eight
+  -- an object doesn't have both seven keys and eight
   one_count : HasKeys 7 d → HasKeys 8 d → ⊥
   one_count seven eight = let apart : 7 ≡ 8 = ap (λ o. unwrap_or o 0) (sym seven ∙ eight) in absurd (omega (arith, apart))
 
@@ -160,7 +160,7 @@ module _ (tickers : List (List ℕ)) (d : Data) where
   placed_without_last version no_last (Err NoCommand) none = no_order version none (λ last request of at has keys. no_last of.1)
   placed_without_last version no_last (Err Memory) is = is
 
-  -- the order of one that has them, where there are seven keys, or aren't
+  -- the order of a version with last batches, if there are seven keys, or if there aren't
   pub placed_with_seven : (version : Version) → HasKeys 7 d → (result : Result owned.Command LineFault) → IsOrder tickers d result → IsPlaced version tickers d result
   placed_with_seven version seven (Ok command) is = (is.0, is.1, of_each version (command_in command) is.2, is.3)
   placed_with_seven version seven (Err NoCommand) none = no_order version none (λ last request of at has keys. one_count seven keys)
@@ -171,11 +171,11 @@ module _ (tickers : List (List ℕ)) (d : Data) where
   placed_without_seven version has_last not_seven (Err NoCommand) none = no_order version (λ request has keys. not_seven keys) (λ last request of at has keys. none last request at has keys)
   placed_without_seven version has_last not_seven (Err Memory) is = is
 
-  -- the row of an order that an object has
+  -- the weights of an order that an object has
   pub weights_of : (request : Request) → HasOrder tickers d request → HasAt tickers d (codes "weights") (Weights request.row)
   weights_of request fields = fields.1.1.1.1.1.0
 
-  -- an object that has no row asks for no order
+  -- an object without a weight vector asks for no order
   pub order_failed : (fault : LineFault) → (fault ≡ NoCommand → (row : List Entry) → HasAt tickers d (codes "weights") (Weights row) → ⊥) → IsOrder tickers d (Err fault)
   order_failed NoCommand none = λ request fields keys. none refl request.row (weights_of request fields)
   order_failed Memory none = tt
@@ -184,6 +184,6 @@ module _ (tickers : List (List ℕ)) (d : Data) where
   until_failed NoCommand none = λ last request at fields keys. none refl request.row (weights_of request fields)
   until_failed Memory none = tt
 
-  -- one without the numbers of an order has no order
+  -- an object without the numbers of an order has no order
   pub no_request : ((account : ℕ) (low high : ℤ) (rate cap : ℕ) → HasLimits d account low high rate cap → ⊥) → (request : Request) → HasOrder tickers d request → ⊥
   no_request none r fields = none r.account r.low r.high r.rate r.cap (fields.0, fields.1.0, fields.1.1.0, fields.1.1.1.0, fields.1.1.1.1.0)

@@ -39,7 +39,7 @@ module _ (tickers : List (List ℕ)) (d : Data) where
   no_word version none (Alone command) asks = let own = word_for command in none own.0 (word_asked version tickers d command asks ∙ ap Some own.1)
   no_word version none (OfLadder commands) asks = none words.Ladder (ladder_asked tickers d commands asks)
 
-  -- one with another word than that of a ladder asks for nothing where it asks for no command
+  -- an object with another word than `ladder` asks for nothing if it asks for no command
   no_ladder : (version : Version) (text : List ℕ) → text_at (codes "do") d ≡ Some text → (text ≡ codes "ladder" → ⊥) → ((command : Command) → AsksFor version tickers d (Alone command) → ⊥) → (asked : Asked) → AsksFor version tickers d asked → ⊥
   no_ladder version text is other none (Alone command) asks = none command asks
   no_ladder version text is other none (OfLadder commands) asks = other (ap (λ o. unwrap_or o []) (sym is ∙ ladder_asked tickers d commands asks))
@@ -49,7 +49,7 @@ module _ (tickers : List (List ℕ)) (d : Data) where
   found_asked version text (Some command) is other found = (asks_of version tickers d (command_in command) (is ∙ ap Some (sym found.0)) found.1 (of_each version (command_in command) found.2), found.3)
   found_asked version text None is other found = no_ladder version text is other (λ command asks. found command (one_word tickers d text command is asks) (fits_asked version tickers d command asks))
 
-  -- the same of credit, in a version that has it
+  -- what is found by the word `credit` is what is asked for in a version that has credit
   pub credit_asked : (version : Version) (found : Option owned.Command) → HasCredit version → IsWord words.Credit d → IsFound (codes "credit") Two tickers d found → IsAsked version tickers d (alone found)
   credit_asked version (Some command) has is found = (
     asks_of version tickers d (command_in command) (is ∙ ap Some (sym found.0)) found.1 (of_later version (command_in command) (omega (arith, has)) found.2),
@@ -57,7 +57,7 @@ module _ (tickers : List (List ℕ)) (d : Data) where
   )
   credit_asked version None has is found = no_ladder version (codes "credit") is (no_command_word tickers d (SetMoneyCredit 0 0)) (λ command asks. found command (one_word tickers d (codes "credit") command is asks) (fits_asked version tickers d command asks))
 
-  -- in one that hasn't, it asks for nothing
+  -- an object with the word `credit` asks for nothing in a version without credit
   pub no_credit_asked : (version : Version) → (¬ HasCredit version) → IsWord words.Credit d → (asked : Asked) → AsksFor version tickers d asked → ⊥
   no_credit_asked version has_none is = no_ladder version (codes "credit") is (no_command_word tickers d (SetMoneyCredit 0 0)) (λ command asks. has_none (gives_credit version command (one_word tickers d (codes "credit") command is asks) asks.of_version))
 

@@ -28,7 +28,7 @@ use Rattle.order_text.proofs.Ladders.{has_ladder}
 use Rattle.order_text.proofs.ShortRows.{named_below, row_is_short, ladder_row, ladder_row_is_short}
 use Rattle.order_text.proofs.ReadNumbers.{IsNum, Fits, MembersFit, read_fits}
 
--- what two answers hold
+-- two equal answers hold the same
 nat_is : (a b : ℕ) → Some a ≡ Some b → a ≡ b
 nat_is a b is = ap (λ o. unwrap_or o 0) is
 
@@ -101,7 +101,7 @@ signed_within d z h e = by (as_number d) refl e
 asset_fits : (tickers : List (List ℕ)) (text : List ℕ) (asset : ℕ) → AreTickers tickers → asset_named tickers text ≡ Some asset → IsUnsigned 2 asset
 asset_fits tickers text asset are is = omega (arith, are.few, named_below tickers text asset is)
 
--- an entry that a member says
+-- a leg that a member is
 entry_fits : (tickers : List (List ℕ)) (members : Members) (e : Entry) → AreTickers tickers → IsEntryOf tickers members e → IsEntry e
 entry_fits tickers no_members e are is = absurd is
 entry_fits tickers (member key value others) e are (inl is) = (omega (arith, are.few, named_below tickers key e.asset is.0), is.2)
@@ -158,7 +158,7 @@ module _ (tickers : List (List ℕ)) (d : Data) (are : AreTickers tickers) (all 
         row = row_fits tickers weights.0 r.row are weights.2;
       }
 
-  -- by the command
+  -- the command that an object asks for fits its record
   pub command_fits : (version : Version) (command : Command) → Asks version tickers d command → IsCommand command
   command_fits version (AddAsset ticker) asks = let f = (fits_asked version tickers d (AddAsset ticker) asks).0.0.2 in ticker_fits f.0 ticker f.2
   command_fits version OpenAccount asks = tt
@@ -208,7 +208,7 @@ module _ (tickers : List (List ℕ)) (d : Data) (are : AreTickers tickers) (all 
       let numbers = recursion_from_All HasOrderNumbers (segments_of asks.ladder) (segments_are_orders asks.ladder asks.lawful) in
       rw asks.commands_are (segments_fit version asks.account asks.row (segments_of asks.ladder) account (ladder_row_is_short tickers d commands are asks) (row_fits tickers weights.0 asks.row are weights.2) numbers)
 
--- all that a line asks for
+-- all commands that a line asks for fit their records
 pub commands_fit : (version : Version) (tickers : List (List ℕ)) (line : List ℕ) (asked : Asked) → AreTickers tickers → LineAsks version tickers line asked
     → All IsCommand (commands_of asked) × All (IsOfVersion version) (commands_of asked)
 commands_fit version tickers line (Alone command) are asks =

@@ -37,7 +37,7 @@ nat_is a b is = ap (λ o. unwrap_or o 0) is
 point_is : (a b : Point) → Some a ≡ Some b → a ≡ b
 point_is a b is = ap (λ o. unwrap_or o (record { price = pos 0; rate = 0 })) is
 
--- a rate
+-- the rate that a value is, if it is one
 rate_means : (d : Data) (n : ℕ) → rate_of d ≡ Some n → (whole_of d ≡ Some n) × (n < 2 ^ 32)
 rate_means d n e = by (whole_of d) e
   where
@@ -52,7 +52,7 @@ rate_means d n e = by (whole_of d) e
 means_rate : (d : Data) (n : ℕ) → whole_of d ≡ Some n → n < 2 ^ 32 → rate_of d ≡ Some n
 means_rate d n e small = ap (option_and_then in_32_bits) e ∙ rw (lt-ltb n (2 ^ 32) small) refl
 
--- a point
+-- the point that a value is, if it is one
 point_means : (d : Data) (p : Point) → point_of d ≡ Some p → IsPoint d p
 point_means d p e = by (as_array d) refl e
   where
@@ -102,11 +102,11 @@ kept (item d items) old (p ∷ points) are =
 pub points_made : (items : Items) (points : List Point) → put_points items [] ≡ Some points → ArePoints items points
 points_made items points is = let all = made items [] points is in subst (ArePoints items) (sym all.1) all.2
 
--- and the only ones
+-- the points that the values are, are those that are made
 pub made_where : (items : Items) (points : List Point) → ArePoints items points → put_points items [] ≡ Some points
 made_where items points are = kept items [] points are
 
--- they are as many as the values
+-- there are as many points as values
 pub as_many : (items : Items) (points : List Point) → ArePoints items points → items_len items ≡ length points
 as_many no_items [] are = refl
 as_many no_items (p ∷ points) are = absurd are
@@ -117,22 +117,22 @@ pub len_of_view : (values : List json_value) → items_len (items_view values) �
 len_of_view [] = refl
 len_of_view (v ∷ values) = omega (arith, len_of_view values)
 
--- so too many are no ladder's
+-- too many points are no ladder's
 pub too_many : (values : List json_value) → 33 < length values → (l : Ladder) → IsLadder l → ArePoints (items_view values) l.points → ⊥
 too_many values many l lawful are = absurd (omega (arith, many, len_of_view values, as_many (items_view values) l.points are, lawful.count.1))
 
--- Values before a place were put.
+-- The values before a place were put.
 pub record HasPut (values : List json_value) (place : ℕ) (points : List Point) (room : ℕ) : Type 0 where
   pub put : put_points (items_view values) [] ≡ put_points (items_view (drop place values)) points
   pub count : length points ≡ place
   pub fits : length values ≤ room
 
--- none yet
+-- before the first value none is put
 pub none_put : (values : List json_value) (points : List Point) (room : ℕ) → points ≡ [] → length values ≤ room → HasPut values 0 points room
 none_put values points room none fits = record { put = rw none refl; count = rw none refl; fits = fits }
 
 module _ (values : List json_value) (place : ℕ) (points : List Point) (room : ℕ) (value : json_value) (within : place < length values) (so : HasPut values place points room) where
-  -- one more
+  -- one more value is put
   pub one_put : (p : Point) → Some p ≡ point_of (view (get_or values place value)) → HasPut values (place + 1) (points ++ p ∷ []) room
   one_put p is = record {
     put = so.put ∙ rw (drop_more values place value within, sym is) refl;
@@ -140,11 +140,11 @@ module _ (values : List json_value) (place : ℕ) (points : List Point) (room : 
     fits = so.fits;
   }
 
-  -- one that is no point
+  -- a value that is no point
   pub none_more : None ≡ point_of (view (get_or values place value)) → put_points (items_view values) [] ≡ None
   none_more is = so.put ∙ rw (drop_more values place value within, sym is) refl
 
--- all
+-- all values are put
 pub all_put : (values : List json_value) (place : ℕ) (points : List Point) (room : ℕ) → length values ≤ place → HasPut values place points room → ArePoints (items_view values) points
 all_put values place points room past so = points_made (items_view values) points (so.put ∙ rw (drop_all place values past) refl)
 
@@ -158,7 +158,7 @@ not_two d values is other = rw (sym is) (by values other)
     by (x ∷ y ∷ []) other = absurd (other refl)
     by (x ∷ y ∷ z ∷ values) other = refl
 
--- and where none are made, no ladder has them
+-- if no points are made, no ladder has them
 pub none_made : (items : Items) → put_points items [] ≡ None → (l : Ladder) → IsLadder l → ArePoints items l.points → ⊥
 none_made items none l lawful are = true≢false (ap is_some (sym (made_where items l.points are) ∙ none))
 
@@ -166,7 +166,7 @@ none_made items none l lawful are = true≢false (ap is_some (sym (made_where it
 pub ladders_are : (l k : Ladder) → l.points ≡ k.points → l.turns ≡ k.turns → l ≡ k
 ladders_are l k points turns = ap (λ ps. record { points = ps; turns = l.turns }) points ∙ ap (λ t. record { points = k.points; turns = t }) turns
 
--- what stands at a key, as an equation
+-- the points at a key, as an equation
 pub gives_points : (tickers : List (List ℕ)) (d : Data) (key : List ℕ) (points : List Point) → HasAt tickers d key (Points points) → option_and_then (λ items. put_points items []) (items_at key d) ≡ Some points
 gives_points tickers d key points has = rw (has.1, has.2.1) (made_where has.2.0 points has.2.2)
 
@@ -174,7 +174,7 @@ pub gives_small : (tickers : List (List ℕ)) (d : Data) (key : List ℕ) (n : �
 gives_small tickers d key n has = rw has.1 has.2.0
 
 module _ (tickers : List (List ℕ)) (d : Data) where
-  -- points at a key, by the answer of what makes them
+  -- the answer of what makes points, for the array at a key
   pub points_at : (key : List ℕ) (items : Items) (result : Result (List Point) LineFault) → items_at key d ≡ Some items → IfOk result (ArePoints items) → IfOk result (λ points. HasAt tickers d key (Points points))
   points_at key items (Ok points) there are = by (get key d) refl there
     where
@@ -193,7 +193,7 @@ module _ (tickers : List (List ℕ)) (d : Data) where
       items_are x y is = ap (λ o. unwrap_or o no_items) is
 
   -- ---- the object of a ladder
-  -- what one that asks for a ladder's orders has
+  -- an object that asks for a ladder's orders has its members
   pub has_ladder : (commands : List Command) → (asks : AsksLadder tickers d commands) → HasLadder tickers d asks.ladder asks.account asks.row
   has_ladder commands asks = (recursion_from_All (λ m. HasAt tickers d m.0 m.1) (ladder_members asks.ladder asks.account asks.row) asks.members).1
 
@@ -201,7 +201,7 @@ module _ (tickers : List (List ℕ)) (d : Data) where
   ladder_asked commands asks =
       text_of tickers d (codes "do") (codes "ladder") (recursion_from_All (λ m. HasAt tickers d m.0 m.1) (ladder_members asks.ladder asks.account asks.row) asks.members).0
 
-  -- and back
+  -- an object with a ladder's members asks for its orders
   pub asks_ladder : (commands : List owned.Command) → text_at (codes "do") d ≡ Some (codes "ladder") → IsLaddered tickers d (Ok commands) → AsksLadder tickers d (map command_in commands)
   asks_ladder commands word is = record {
     ladder = is.0.0;
@@ -220,7 +220,7 @@ module _ (tickers : List (List ℕ)) (d : Data) where
   pub not_alone : (version : Version) (command : Command) → text_at (codes "do") d ≡ Some (codes "ladder") → Asks version tickers d command → ⊥
   not_alone version command word asks = no_command_word command (ap (λ o. unwrap_or o []) (sym (word_asked version tickers d command asks) ∙ word))
 
-  -- the row that is missing
+  -- an object without a weight vector asks for no ladder's orders
   pub ladder_failed : (fault : LineFault) → (fault ≡ NoCommand → (row : List Entry) → HasAt tickers d (codes "weights") (Weights row) → ⊥) → IsLaddered tickers d (Err fault)
   ladder_failed NoCommand none = λ l account row has keys lawful. none refl row has.1.1.1.0
   ladder_failed Memory none = tt
@@ -241,17 +241,17 @@ module _ (tickers : List (List ℕ)) (d : Data) where
   no_ladder version word none (Alone command) asks = not_alone version command word asks
   no_ladder version word none (OfLadder commands) asks = none asks.ladder asks.account asks.row (has_ladder commands asks) asks.keys asks.lawful
 
-  -- by the fault
+  -- a fault is the answer for an object with the word `ladder`
   pub ladder_refused : (version : Version) → text_at (codes "do") d ≡ Some (codes "ladder") → (fault : LineFault) → IsLaddered tickers d (Err fault) → IsAsked version tickers d (Err fault)
   ladder_refused version word NoCommand none = no_ladder version word none
   ladder_refused version word Memory none = tt
 
--- what is asked for leaves the tickers that are told
+-- a ladder's commands leave the tickers as they are
 leaves_none : (tickers : List (List ℕ)) (l : Ladder) (account : ℕ) (row : List Entry) (segments : List Segment) → Leave tickers (map (Place None) (map (request_of account row) segments)) tickers
 leaves_none tickers l account row [] = refl
 leaves_none tickers l account row (s ∷ segments) = (tickers, inr ((λ ticker adds. absurd (let same = adds.0 in cc)), refl), leaves_none tickers l account row segments)
 
--- by what was read of the line's value
+-- the answer to a line is that for its value
 pub line_read : (version : Version) (tickers after : List (List ℕ)) (line : List ℕ) (d : Data) (lr : LineRead) → (¬ IsBlank line) → IsUtf8 line → read line ≡ Some d → IsAsked version tickers d (Ok lr) → AreAfter tickers lr after → IsRead version tickers line after (Ok lr)
 line_read version tickers after line d line_is.Blank written utf8 reads asked leaves = absurd asked
 line_read version tickers after line d (line_is.Asks command) written utf8 reads asked leaves = record {
@@ -268,7 +268,7 @@ line_is_short version tickers d line_is.Blank asked = absurd asked
 line_is_short version tickers d (line_is.Asks command) asked = asked.1
 line_is_short version tickers d (line_is.Many commands) asked = asked.1
 
--- what places orders is told by its commands
+-- commands that place orders determine their requests
 requests_are : (a b : List Request) → map (Place None) a ≡ map (Place None) b → a ≡ b
 requests_are [] [] same = refl
 requests_are [] (y ∷ b) same = absurd (cc)

@@ -54,6 +54,6 @@ pub found_is_named : (tickers : List (List ℕ)) (text ticker : List ℕ) (found
     → found ≡ asset_named tickers text
 found_is_named tickers text ticker found is some exact = rw is (found_is_position tickers ticker found some exact)
 
--- an object has so many keys where its members are so many
+-- an object has as many keys as members
 pub keys_told : (d : Data) (ms : List (String Global × Value)) (count : ℕ) → Some (members_view ms) ≡ as_object d → (IsTrue (length ms == count)) ↔ HasKeys count d
 keys_told d ms count is = rw (sym is, members_len-members_view ms) (λ told. ap Some ((Decides-eqb (length ms) count).0 told), λ same. (Decides-eqb (length ms) count).1 (ap (λ o. unwrap_or o 0) same))

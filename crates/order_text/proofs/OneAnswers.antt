@@ -1,4 +1,4 @@
--- A line has an answer, and one alone.
+-- A line has one answer.
 use Rattle.std.proofs.Common.{◌≡◌, ◌≢◌, ℕ, List, [], ◌∷◌, ◌++◌, length, drop, map, Some, Result, Ok, Err, refl, sym, ap, subst, ◌∙◌, inl, inr, rules, Bool, true, false, true≢false, None}
 use Rattle.wire_records.specs.Commands.{Command, AddAsset, OpenAccount, DepositMoney, DepositAsset, WithdrawMoney, WithdrawAsset, Place, CancelOrder, RunBatch, SetMoneyCredit, SetUnitCredit}
 use Rattle.serde_json.specs.Data.{Data}
@@ -20,10 +20,10 @@ use Rattle.curve_ladder.specs.declared.points.Point.{Point}
 use Rattle.weight_rows.specs.declared.entries.Entry.{Entry}
 use Rattle.std.specs.Prelude.{option_and_then, unwrap_or, codes}
 use Rattle.std.specs.List.{AllByRecursion}
-use Rattle.order_text.specs.Answers.{IsRead, wants_memory}
+use Rattle.order_text.specs.Answers.{IsRead, may_run_out}
 use Rattle.order_text.specs.Laws.{OneSaying, OneTable}
 
--- the program's own form of a command
+-- the Rust value of a command
 abbrev own_of : Command → owned.Command
 own_of (AddAsset ticker) = own.AddAsset ticker
 own_of OpenAccount = own.OpenAccount
@@ -49,7 +49,7 @@ plain_is command = refl
 same_own : (a b : owned.Command) → command_in a ≡ command_in b → a ≡ b
 same_own a b same = sym (own_is a) ∙ ap own_of same ∙ own_is b
 
--- and so for lists
+-- lists of Rust values with equal commands are equal
 same_owns : (a b : List owned.Command) → map command_in a ≡ map command_in b → a ≡ b
 same_owns [] [] same = refl
 same_owns [] (y ∷ b) same = absurd (cc)
@@ -63,7 +63,7 @@ plains_are : (cs : List Command) → map command_in (map own_of cs) ≡ cs
 plains_are [] = refl
 plains_are (c ∷ cs) = rw (plain_is c, plains_are cs) refl
 
--- what is asked for is the same
+-- two equal things that are asked for hold the same
 alone_is : (a b : Command) → Alone a ≡ Alone b → a ≡ b
 alone_is a b same = cc
 
@@ -79,7 +79,7 @@ asks_own c = Ok (line_is.Asks c)
 abbrev asks_owns : List owned.Command → Answer
 asks_owns cs = Ok (line_is.Many cs)
 
--- the same ticker
+-- equal commands that add an asset have one ticker
 ticker_is : (a b : List ℕ) → AddAsset a ≡ AddAsset b → a ≡ b
 ticker_is a b same = cc
 
@@ -134,7 +134,7 @@ tells version tickers d command asks =
     let fits = fits_asked version tickers d command asks in
     record { word = word_asked version tickers d command asks; fields = all_give tickers d (drop 1 (members_of command)) fits.0; keys = fits.1 }
 
--- that is given by one command alone
+-- an object gives one command alone
 one_told : (tickers : List (List ℕ)) (d : Data) (a b : Command) → Tells tickers d a → Tells tickers d b → a ≡ b
 one_told = search (rules, refl)
 
@@ -142,7 +142,7 @@ one_told = search (rules, refl)
 one_asked : (version : Version) (tickers : List (List ℕ)) (d : Data) (a b : Command) → Asks version tickers d a → Asks version tickers d b → a ≡ b
 one_asked version tickers d a b x y = one_told tickers d a b (tells version tickers d a x) (tells version tickers d b y)
 
--- and for the orders of one ladder
+-- an object asks for the orders of one ladder: its values are determined
 nat_is : (a b : ℕ) → Some a ≡ Some b → a ≡ b
 nat_is a b is = ap (λ o. unwrap_or o 0) is
 
@@ -179,7 +179,7 @@ one_saying version tickers line a b after other x y =
     let same = one_value version tickers x.asks.value y.asks.value a b (sym x.asks.reads ∙ y.asks.reads) x.asks.asks y.asks.asks in
     (same, one_table tickers (commands_of b) after other (subst (λ asked. Leave tickers (commands_of asked) after) same x.leaves) y.leaves)
 
-pub one_answer : OneSaying → (version : Version) (tickers : List (List ℕ)) (line : List ℕ) (a b : Answer) (after other : List (List ℕ)) → a ≢ wants_memory → b ≢ wants_memory
+pub one_answer : OneSaying → (version : Version) (tickers : List (List ℕ)) (line : List ℕ) (a b : Answer) (after other : List (List ℕ)) → a ≢ may_run_out → b ≢ may_run_out
     → IsRead version tickers line after a → IsRead version tickers line other b → (a ≡ b) × (after ≡ other)
 one_answer one version tickers line (Ok Blank) (Ok Blank) after other x y p q = (refl, p.1 ∙ sym q.1)
 one_answer one version tickers line (Ok Blank) (Ok (line_is.Asks d)) after other x y p q = absurd (q.asks.written p.0)
@@ -213,7 +213,7 @@ one_answer one version tickers line (Err Memory) b after other x y p q = absurd 
 some_after : (tickers : List (List ℕ)) (command : Command) → ((after : List (List ℕ)) → Leaves tickers command after → ⊥) → ⊥
 some_after tickers command none = none tickers (inr (λ ticker adds. none (tickers ++ ticker ∷ []) (inl (ticker, adds, refl)), refl))
 
--- nor are several
+-- several commands aren't without tickers that they leave
 some_after_all : (tickers : List (List ℕ)) (commands : List Command) → ((after : List (List ℕ)) → Leave tickers commands after → ⊥) → ⊥
 some_after_all tickers [] none = none tickers refl
 some_after_all tickers (command ∷ commands) none =
@@ -224,10 +224,10 @@ is_wanting (Ok read) = false
 is_wanting (Err NoCommand) = false
 is_wanting (Err Memory) = true
 
-told : (result : Answer) → is_wanting result ≡ false → result ≢ wants_memory
+told : (result : Answer) → is_wanting result ≡ false → result ≢ may_run_out
 told result is same = true≢false (sym (ap is_wanting same) ∙ is)
 
-pub none_is_unanswered : (version : Version) (tickers : List (List ℕ)) (line : List ℕ) → ((after : List (List ℕ)) (result : Answer) → result ≢ wants_memory → IsRead version tickers line after result → ⊥) → ⊥
+pub none_is_unanswered : (version : Version) (tickers : List (List ℕ)) (line : List ℕ) → ((after : List (List ℕ)) (result : Answer) → result ≢ may_run_out → IsRead version tickers line after result → ⊥) → ⊥
 none_is_unanswered version tickers line none =
     none tickers (Err NoCommand) (told (Err NoCommand) refl) (
       record {

@@ -18,7 +18,7 @@ IsNum (unsigned n) = n < 2 ^ 64
 IsNum (negative z) = (neg_ℤ (pos (2 ^ 63)) ≤ℤ z) × (z <ℤ pos (2 ^ 63))
 IsNum (float x) = ⊤
 
--- what two answers hold
+-- two equal answers hold the same number
 num_is : (a b : Num) → Some a ≡ Some b → a ≡ b
 num_is a b is = ap (λ o. unwrap_or o (unsigned 0)) is
 
@@ -30,7 +30,7 @@ floats sign p n is = by (float_is_finite (nearest binary64 sign p)) is
     by true e = subst IsNum (num_is (float (nearest binary64 sign p)) n e) tt
     by false e = absurd (cc)
 
--- and a number without a sign
+-- a number without a sign fits
 plain : (p : Parts) (n : Num) → number_from false p ≡ Some n → IsNum n
 plain p n is = by (is_integer p) (nat_lt (digits_of p) (2 ^ 64)) refl is
   where
@@ -39,7 +39,7 @@ plain p n is = by (is_integer p) (nat_lt (digits_of p) (2 ^ 64)) refl is
     by true false e eq = floats false p n eq
     by false small e eq = floats false p n eq
 
--- and one with a sign
+-- a number with a sign fits
 signed : (p : Parts) (n : Num) → number_from true p ≡ Some n → IsNum n
 signed p n is = by (is_integer p) (nat_lt 0 (digits_of p)) (nat_le (digits_of p) (2 ^ 63)) refl is
   where
@@ -60,7 +60,7 @@ number_fits s n is = by (slice_index s 0 == minus) is
     by true e = signed (scan (drop 1 s)) n e
     by false e = plain (scan s) n e
 
--- each number that stands at a key fits
+-- every number in a value fits
 abbrev mutual
   pub Fits : Data → Type 0
   Fits null = ⊤
@@ -95,7 +95,7 @@ mapped f (Some a) d h e = subst Fits (data_is (f a) d e) (h a refl)
 members_is : (a b : Members) → Some a ≡ Some b → a ≡ b
 members_is a b is = ap (λ o. unwrap_or o no_members) is
 
--- one member, and those behind it
+-- one member, and those after it
 one_fits : (k : List ℕ) (o : Option Data) (ms : json.Members) (old found : Members) → ((d : Data) → o ≡ Some d → Fits d) → ((d : Data) → Fits d → of_members ms (put k d old) ≡ Some found → MembersFit found)
     → option_and_then (λ d. of_members ms (put k d old)) o ≡ Some found → MembersFit found
 one_fits k None ms old found h again e = absurd (cc)

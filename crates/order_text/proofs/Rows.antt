@@ -1,4 +1,4 @@
--- Entries that are put into a row.
+-- Legs that are put into a weight vector.
 use Rattle.std.proofs.Common.{◌≡◌, ℕ, ◌+◌, ◌<◌, ◌≤◌, List, [], ◌∷◌, ◌++◌, length, get_or, take, drop, Option, Some, None, option_map, refl, sym, ap, ◌∙◌, arith}
 use Rattle.std.specs.List.{insert}
 use Rattle.std.proofs.lemmas.Bool.{eq-eqb, lt-ltb, le-ltb, ne_eqb}
@@ -10,7 +10,7 @@ use Rattle.serde_json.specs.View.{view, members_view}
 use Rattle.serde_json.specs.declared.value.Value.{Value}
 use Rattle.order_text.specs.Private.{entry_of, put_entry, put_members}
 
--- the entries before a place have lower assets
+-- the legs before a place have lower assets
 pub record PutsBehind (row : List Entry) (asset place : ℕ) : Type 0 where
   pub within : place ≤ length row
   pub behind : (e : Entry) → e.asset ≡ asset → put_entry e row ≡ option_map (λ more. take place row ++ more) (put_entry e (drop place row))
@@ -32,18 +32,18 @@ pub first_place : (row : List Entry) (asset : ℕ) → PutsBehind row asset 0
 first_place row asset = record { within = omega arith; behind = λ e is. option_map-id (put_entry e row) }
 
 module _ (row : List Entry) (asset place : ℕ) (d : Entry) (within : place < length row) (h : PutsBehind row asset place) where
-  -- the entry at the place has the asset
+  -- the leg at the place has the asset
   pub put_taken : (get_or row place d).asset ≡ asset → (e : Entry) → e.asset ≡ asset → put_entry e row ≡ None
   put_taken there e is =
       h.behind e is ∙ rw (drop_more row place d within, eq-eqb e.asset (get_or row place d).asset (is ∙ sym there)) refl
 
-  -- it has a higher one
+  -- the leg at the place has a higher asset
   pub put_here : asset < (get_or row place d).asset → (e : Entry) → e.asset ≡ asset → put_entry e row ≡ Some (insert row place e)
   put_here above e is =
       h.behind e is
       ∙ rw (drop_more row place d within, ne_eqb e.asset (get_or row place d).asset (λ same. omega (arith, same, is, above)), lt-ltb e.asset (get_or row place d).asset (omega (arith, is, above))) refl
 
-  -- it has a lower one
+  -- the leg at the place has a lower asset
   pub one_place_more : (get_or row place d).asset < asset → PutsBehind row asset (place + 1)
   one_place_more below = record {
     within = omega (arith, within);
@@ -54,16 +54,16 @@ module _ (row : List Entry) (asset place : ℕ) (d : Entry) (within : place < le
         ∙ option_map-same _ _ (put_entry e (drop (place + 1) row)) (λ more. sym (append_assoc (take place row) (get_or row place d ∷ []) more)));
   }
 
--- all are lower
+-- all legs have lower assets
 pub put_last : (row : List Entry) (asset place : ℕ) → length row ≤ place → PutsBehind row asset place → (e : Entry) → e.asset ≡ asset → put_entry e row ≡ Some (insert row place e)
 put_last row asset place past h e is = h.behind e is ∙ rw (drop_all place row past) refl
 
 module _ (tickers : List (List ℕ)) (es left : List (String Global × Value)) (key : String Global) (value : Value) (row : List Entry) (is : es ≡ (key, value) ∷ left) where
-  -- a member's entry is put
+  -- the leg of a member is put
   pub one_member_more : (more : List Entry) → option_and_then (λ e. put_entry e row) (entry_of tickers (string_bytes key) (view value)) ≡ Some more
       → put_members tickers (members_view es) row ≡ put_members tickers (members_view left) more
   one_member_more more put = rw (is, put) refl
 
-  -- or it can't be
+  -- the leg of a member can't be put
   pub no_member_more : option_and_then (λ e. put_entry e row) (entry_of tickers (string_bytes key) (view value)) ≡ None → put_members tickers (members_view es) row ≡ None
   no_member_more none = rw (is, none) refl

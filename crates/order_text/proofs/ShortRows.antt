@@ -1,4 +1,4 @@
--- A row has at most one entry for each ticker.
+-- A weight vector has at most one leg for each ticker.
 use Rattle.std.proofs.Common.{◌≡◌, ℕ, suc, ◌+◌, ◌<◌, ◌≤◌, List, [], ◌∷◌, length, map, Option, Some, None, position, bytes_eq, is_some, inl, inr, true≢false, refl, sym, ap, arith}
 use Rattle.std.specs.Prelude.{option_and_then, codes, All}
 use Rattle.std.proofs.lemmas.List.Elements.{All-nil, All-cons, recursion_from_All}
@@ -16,7 +16,7 @@ use Rattle.order_text.proofs.AskedFor.{fits_asked, rest_of, weights_of}
 use Rattle.order_text.proofs.Ladders.{has_ladder}
 use Rattle.order_text.proofs.Weights.{Among, among_all, Rises, rises_of}
 
--- an asset that is named has a number below that of the tickers
+-- an asset that is named has a number below the number of tickers
 pub named_below : (tickers : List (List ℕ)) (text : List ℕ) (asset : ℕ) → asset_named tickers text ≡ Some asset → asset < length tickers
 named_below tickers text asset is = by (padded text) is
   where
@@ -24,7 +24,7 @@ named_below tickers text asset is = by (padded text) is
     by None e = absurd (true≢false (sym (ap is_some e)))
     by (Some ticker) e = (position-Some (bytes_eq ticker) tickers asset ticker e).0
 
--- so is that of an entry that a member says
+-- the asset of a leg that a member is has a number below the number of tickers
 pub entry_below : (tickers : List (List ℕ)) (members : Members) (e : Entry) → IsEntryOf tickers members e → e.asset < length tickers
 entry_below tickers no_members e is = absurd is
 entry_below tickers (member key value others) e (inl is) = named_below tickers key e.asset is.0
@@ -35,13 +35,13 @@ few : (low limit : ℕ) (row : List Entry) → low ≤ limit → Rises low row �
 few low limit [] below h each = omega (arith, below)
 few low limit (e ∷ row) below h each = omega (arith, few (suc e.asset) limit row (each e (inl refl)) h.1 (λ x in_. each x (inr in_)), h.0)
 
--- as many as the tickers at most
+-- there are at most as many legs as tickers
 pub few_entries : (tickers : List (List ℕ)) (members : Members) (row : List Entry) → AreWeights tickers members row → length row ≤ length tickers
 few_entries tickers members row are =
     let each = recursion_from_All (IsEntryOf tickers members) row are.each in
     omega (arith, few 0 (length tickers) row (omega arith) (rises_of row are.ascending) (λ e in_. entry_below tickers members e (among_all (IsEntryOf tickers members) row e each in_)))
 
--- by the command
+-- the weight vector of a command that an object asks for fits its record
 pub row_is_short : (version : Version) (tickers : List (List ℕ)) (d : Data) (command : Command) → AreTickers tickers → Asks version tickers d command → HasShortRow command
 row_is_short version tickers d (Place None request) are asks =
     let weights = (weights_of tickers d request (fits_asked version tickers d (Place None request) asks).0).2 in
@@ -51,12 +51,12 @@ row_is_short version tickers d (Place (Some last) request) are asks =
     omega (arith, are.few, few_entries tickers weights.0 request.row weights.2)
 row_is_short version tickers d command are asks = tt
 
--- all that a ladder's line asks for
+-- the weight vectors of a ladder's commands fit their records
 requests_short : (account : ℕ) (row : List Entry) (segments : List Segment) → length row ≤ 165 → All HasShortRow (map (Place None) (map (request_of account row) segments))
 requests_short account row [] short = All-nil HasShortRow
 requests_short account row (s ∷ segments) short = All-cons HasShortRow (Place None (request_of account row s)) (map (Place None) (map (request_of account row) segments)) short (requests_short account row segments short)
 
--- its row
+-- the weight vector of a ladder
 pub ladder_row : (tickers : List (List ℕ)) (d : Data) (commands : List Command) → (asks : AsksLadder tickers d commands) → HasAt tickers d (codes "weights") (Weights asks.row)
 ladder_row tickers d commands asks = (has_ladder tickers d commands asks).1.1.1.0
 
@@ -65,7 +65,7 @@ ladder_row_is_short tickers d commands are asks =
     let weights = (ladder_row tickers d commands asks).2 in
     omega (arith, are.few, few_entries tickers weights.0 asks.row weights.2)
 
--- all that a line asks for
+-- the weight vectors of all commands that a line asks for fit their records
 pub rows_are_short : (version : Version) (tickers : List (List ℕ)) (line : List ℕ) (asked : Asked) → AreTickers tickers → LineAsks version tickers line asked → All HasShortRow (commands_of asked)
 rows_are_short version tickers line (Alone command) are asks =
     All-cons HasShortRow command [] (row_is_short version tickers asks.value command are asks.asks) (All-nil HasShortRow)

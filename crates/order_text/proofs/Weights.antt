@@ -1,4 +1,4 @@
--- What the members of an object of weights say, and the row that is made of them one after the other.
+-- What the members of an object of weights say, and the weight vector that is made of them one after the other.
 use Rattle.std.proofs.Common.{◌≡◌, ◌≢◌, ℕ, ℤ, zero, suc, ◌+◌, ◌<◌, ◌≤◌, eqb, ltb, cond, Bool, true, false, List, [], ◌∷◌, ◌++◌, length, length-append, ◌⊎◌, inl, inr, Option, Some, None, Result, Ok, Err, IfOk, option_map, is_some, true≢false, refl, sym, ap, subst, ◌∙◌, arith}
 use Rattle.std.specs.Prelude.{option_and_then, unwrap_or, ⊤, slice_index, pos, neg_ℤ, int_le, int_lt, ◌&&◌, if◌then◌else◌, ◌^◌}
 use Rattle.std.specs.List.{AllByRecursion}
@@ -34,7 +34,7 @@ pub all_among : {A : Type 0} (P : A → Type 0) (xs : List A) → ((x : A) → A
 all_among P [] each = tt
 all_among P (y ∷ ys) each = (each y (inl refl), all_among P ys (λ x in_. each x (inr in_)))
 
--- each asset is above the one before it, and the first is one number at least
+-- each asset is above the one before it, and the first is at least `low`
 abbrev pub Rises : ℕ → List Entry → Type 0
 Rises low [] = ⊤
 Rises low (e ∷ row) = (low ≤ e.asset) × Rises (suc e.asset) row
@@ -43,13 +43,13 @@ pub rises_from : (low high : ℕ) (row : List Entry) → low ≤ high → Rises 
 rises_from low high [] lower h = tt
 rises_from low high (e ∷ row) lower h = (omega (arith, lower, h.0), h.1)
 
--- each entry's asset is that number at least
+-- each leg's asset is at least `low`
 pub not_below : (low : ℕ) (row : List Entry) (e : Entry) → Rises low row → Among e row → low ≤ e.asset
 not_below low [] e h in_ = absurd in_
 not_below low (first ∷ row) e h (inl is) = omega (arith, h.0, ap (λ (x : Entry). x.asset) is)
 not_below low (first ∷ row) e h (inr in_) = omega (arith, h.0, not_below (suc first.asset) row e h.1 in_)
 
--- the first asset is that number at least
+-- the first asset is at least `low`
 abbrev Starts : ℕ → List Entry → Type 0
 Starts low [] = ⊤
 Starts low (e ∷ row) = low ≤ e.asset
@@ -80,14 +80,14 @@ ascending_of low (e ∷ f ∷ row) h zero within = h.1.0
 ascending_of low (e ∷ f ∷ row) h (suc k) within =
     subst (λ (n : ℕ). slice_index (assets_of (f ∷ row)) k < n) (sym (further e.asset (assets_of (f ∷ row)) k)) (ascending_of (suc e.asset) (f ∷ row) h.1 k (omega (arith, within)))
 
--- ---- no more entries than places
+-- ---- no more legs than places
 
--- a row without its first entry of an asset
+-- a list of legs without its first one of an asset
 abbrev without : ℕ → List Entry → List Entry
 without asset [] = []
 without asset (e ∷ row) = cond (eqb e.asset asset) row (e ∷ without asset row)
 
--- What it has.
+-- What the list has without this leg.
 record Lacks (asset low : ℕ) (row less : List Entry) : Type 0 where
   long : length row ≤ suc (length less)
   rises : Rises low less
@@ -113,7 +113,7 @@ lacks asset low (e ∷ row) h = by (eqb e.asset asset) refl (lacks asset (suc e.
         still_by x (inl is) = (inl is, subst (λ (y : Entry). y.asset ≢ asset) (sym is) (eqb-false e.asset asset other))
         still_by x (inr in_) = let old = more.still x in_ in (inr old.0, old.1)
 
--- entries of different assets, each one of these, are at most as many
+-- legs of different assets, each one of `assets`, are at most as many as these
 pub at_most : (assets : List ℕ) (row : List Entry) → Rises 0 row → ((x : Entry) → Among x row → Among x.asset assets) → length row ≤ length assets
 at_most [] [] h each = omega arith
 at_most [] (e ∷ row) h each = absurd (each e (inl refl))
@@ -126,20 +126,20 @@ at_most (asset ∷ assets) row h each =
     other x not (inl is) = absurd (not is)
     other x not (inr in_) = in_
 
--- an entry of a row has its asset among those of the row
+-- a leg has its asset among those of its list
 pub asset_among : (row : List Entry) (x : Entry) → Among x row → Among x.asset (assets_of row)
 asset_among [] x in_ = absurd in_
 asset_among (e ∷ row) x (inl is) = inl (ap (λ (y : Entry). y.asset) is)
 asset_among (e ∷ row) x (inr in_) = inr (asset_among row x in_)
 
--- as many entries, each of them one of others, are those
+-- as many legs as in another list, each of them one of that list, are that list
 pub same_row : (low : ℕ) (row others : List Entry) → Rises low row → Rises low others → length row ≡ length others → ((x : Entry) → Among x row → Among x others) → row ≡ others
 same_row low [] [] h g long each = refl
 same_row low [] (f ∷ others) h g long each = absurd (omega (arith, long))
 same_row low (e ∷ row) [] h g long each = absurd (omega (arith, long))
 same_row low (e ∷ row) (f ∷ others) h g long each = by (λ next h g long each. same_row next row others h g long each) (each e (inl refl))
   where
-    -- an entry above the first of the others is one of the rest
+    -- a leg above the first of the others is one of the rest
     past : (x : Entry) → Among x (f ∷ others) → f.asset < x.asset → Among x others
     past x (inl is) above = absurd (omega (arith, above, ap (λ (y : Entry). y.asset) is))
     past x (inr in_) above = in_
@@ -154,9 +154,9 @@ same_row low (e ∷ row) (f ∷ others) h g long each = by (λ next h g long eac
         let few = at_most (assets_of others) (e ∷ row) (omega arith, h.1) (λ x here. asset_among others x (past x (each x here) (omega (arith, above, not_below e.asset (e ∷ row) x (omega arith, h.1) here)))) in
         absurd (omega (arith, few, long, length-map others (λ (y : Entry). y.asset)))
 
--- ---- one entry more
+-- ---- one leg more
 
--- What a row with one more has.
+-- What a list with one more leg has.
 pub record HasPut (e : Entry) (row more : List Entry) : Type 0 where
   pub there : Among e more
   pub kept : (x : Entry) → Among x row → Among x more
@@ -164,7 +164,7 @@ pub record HasPut (e : Entry) (row more : List Entry) : Type 0 where
   pub long : length more ≡ suc (length row)
   pub rises : (low : ℕ) → low ≤ e.asset → Rises low row → Rises low more
 
--- by the answer
+-- what the answer of `put_entry` says
 abbrev pub Puts : Entry → List Entry → Option (List Entry) → Type 0
 Puts e row None = Among e.asset (assets_of row)
 Puts e row (Some more) = HasPut e row more
@@ -214,7 +214,7 @@ int_is a b is = ap (λ o. unwrap_or o (pos 0)) is
 entry_is : (a b : Entry) → Some a ≡ Some b → a ≡ b
 entry_is a b is = ap (λ o. unwrap_or o (record { asset = 0; weight = pos 0 })) is
 
--- the weight
+-- the weight that a value is, if it is one
 weight_means : (d : Data) (z : ℤ) → weight_of d ≡ Some z → (signed_of d ≡ Some z) × IsSigned 4 z
 weight_means d z e = by (signed_of d) e
   where
@@ -235,7 +235,7 @@ means_weight d z e fits = ap (option_and_then in_signed_32_bits) e ∙ by (int_l
     by true false p q = absurd (omega (arith, ints, q, fits.1))
     by false b p q = absurd (omega (arith, ints, p, fits.0))
 
--- the entry
+-- the leg that a member is, if it is one
 pub entry_means : (tickers : List (List ℕ)) (key : List ℕ) (d : Data) (x : Entry) → entry_of tickers key d ≡ Some x → Means tickers key d x
 entry_means tickers key d x e = by (asset_named tickers key) refl e
   where
@@ -261,7 +261,7 @@ abbrev named : List (List ℕ) → Members → List ℕ
 named tickers no_members = []
 named tickers (member key value members) = with_named (asset_named tickers key) (named tickers members)
 
--- as many as members at most
+-- members name at most as many assets as there are members
 named_few : (tickers : List (List ℕ)) (members : Members) → length (named tickers members) ≤ members_len members
 named_few tickers no_members = omega arith
 named_few tickers (member key value members) = by (asset_named tickers key) (named_few tickers members)
@@ -270,7 +270,7 @@ named_few tickers (member key value members) = by (asset_named tickers key) (nam
     by None few = omega (arith, few)
     by (Some asset) few = omega (arith, few)
 
--- that of an entry that one of them says is among them
+-- the asset of a leg that a member is, is among the named ones
 entry_named : (tickers : List (List ℕ)) (members : Members) (x : Entry) → IsEntryOf tickers members x → Among x.asset (named tickers members)
 entry_named tickers no_members x is = absurd is
 entry_named tickers (member key value others) x (inl is) = rw is.0 (inl refl)
@@ -289,7 +289,7 @@ among_right : (a : ℕ) (xs ys : List ℕ) → Among a ys → Among a (xs ++ ys)
 among_right a [] ys in_ = in_
 among_right a (x ∷ xs) ys in_ = inr (among_right a xs ys in_)
 
--- a row of entries with the assets of a row, or that members say, isn't longer than both
+-- a list of legs, each with an asset of an old list or of a member, is no longer than both
 bound : (tickers : List (List ℕ)) (members : Members) (old row : List Entry) → Rises 0 row → ((x : Entry) → Among x row → Among x.asset (assets_of old) ⊎ IsEntryOf tickers members x) → length row ≤ length old + members_len members
 bound tickers members old row h each =
     let few = at_most (assets_of old ++ named tickers members) row h (λ x in_. elim (each x in_) [
@@ -299,18 +299,18 @@ bound tickers members old row h each =
     omega (arith, few, length-append (assets_of old) (named tickers members), length-map old (λ (y : Entry). y.asset), named_few tickers members)
 
 module _ (tickers : List (List ℕ)) where
-  -- What a row has, once members were put into an old one.
+  -- What a list has, once members were put into an old one.
   pub record HasGone (members : Members) (old row : List Entry) : Type 0 where
     pub covers : (x : Entry) → Among x old ⊎ IsEntryOf tickers members x → Among x row
     pub each : (x : Entry) → Among x row → Among x old ⊎ IsEntryOf tickers members x
     pub long : length row ≡ length old + members_len members
     pub rises : Rises 0 old → Rises 0 row
 
-  -- there is no such row
+  -- there is no such list
   abbrev IsNoRow : Members → List Entry → Type 0
   IsNoRow members old = (row : List Entry) → Rises 0 row → length row ≡ length old + members_len members → ((x : Entry) → Among x row → Among x old ⊎ IsEntryOf tickers members x) → ⊥
 
-  -- by the answer
+  -- what the answer of `put_members` says
   abbrev Goes : Members → List Entry → Option (List Entry) → Type 0
   Goes members old None = IsNoRow members old
   Goes members old (Some row) = HasGone members old row
@@ -319,7 +319,7 @@ module _ (tickers : List (List ℕ)) where
   goes no_members old = record { covers = λ x in_. elim in_ [ inl in_ ↦ in_ | inr is ↦ absurd is ]; each = λ x in_. inl in_; long = omega arith; rises = λ h. h }
   goes (member key value members) old = by (entry_of tickers key value) refl (λ more. goes members more)
     where
-      -- what the member says is this entry
+      -- the leg that the member is
       says : (e x : Entry) → entry_of tickers key value ≡ Some e → Means tickers key value x → x ≡ e
       says e x is means = entry_is x e (sym (means_entry tickers key value x means) ∙ is)
 
@@ -363,7 +363,7 @@ module _ (tickers : List (List ℕ)) where
           omega (arith, few, long)
       by (Some e) is again = next again e is (put_entry e old) (puts e old)
 
-  -- the row that is made is the one that the members are
+  -- the weight vector that is made is the one that the members are
   pub row_made : (members : Members) (row : List Entry) → put_members tickers members [] ≡ Some row → AreWeights tickers members row
   row_made members row is =
       let so : HasGone members [] row = subst (Goes members []) is (goes members []) in
@@ -373,7 +373,7 @@ module _ (tickers : List (List ℕ)) where
         each = All-from_recursion (IsEntryOf tickers members) row (all_among (IsEntryOf tickers members) row (λ x in_. elim (so.each x in_) [ inl none ↦ absurd none | inr says ↦ says ]));
       }
 
-  -- and the only one
+  -- the weight vector that the members are is the one that is made
   pub made_where : (members : Members) (row : List Entry) → AreWeights tickers members row → put_members tickers members [] ≡ Some row
   made_where members row are = by (put_members tickers members []) refl (goes members [])
     where
@@ -385,7 +385,7 @@ module _ (tickers : List (List ℕ)) where
       by (Some made) is so =
           ap Some (sym (same_row 0 row made (rises_of row are.ascending) (so.rises tt) (omega (arith, are.count, so.long)) (λ x in_. so.covers x (inr (each x in_)))))
 
-  -- by the answer of what makes it, for the object at a key
+  -- the answer of what makes a weight vector, for the object at a key
   pub made_at : (d : Data) (key : List ℕ) (members : Members) (result : Result (List Entry) LineFault) → members_at key d ≡ Some members → IfOk result (λ row. put_members tickers members [] ≡ Some row) → IfOk result (λ row. HasAt tickers d key (Weights row))
   made_at d key members (Ok row) there is = by (get key d) refl there
     where

@@ -1,4 +1,4 @@
--- What is answered to a line.
+-- The answer to a line.
 use Rattle.std.specs.Prelude.{◌≡◌, ℕ, List, map, All, Result, Ok, Err}
 use Rattle.wire_records.specs.CommandRecords.{HasShortRow}
 use Rattle.wire_records.specs.Views.{command_in}
@@ -9,8 +9,8 @@ use Rattle.order_text.specs.declared.line.LineFault.{LineFault}
 use Rattle.order_text.specs.declared.line.LineFault.TheVariants.{NoCommand, Memory}
 use Rattle.order_text.specs.Lines.{IsBlank, Alone, OfLadder, Says, SaysNothing}
 
--- This is a line's answer in a version, after the tickers of the lines before, and these are the tickers after it. A line has one
--- answer but for want of memory, by the laws; a blank line wants none.
+-- The answer to a line in a version, given the tickers of the lines before, with the tickers after it. By the laws a line has one
+-- answer unless memory runs out, which it can't on a blank line.
 abbrev pub IsRead : Version → List (List ℕ) → List ℕ → List (List ℕ) → Result LineRead LineFault → Type 0
 IsRead version tickers line after (Ok Blank) = IsBlank line × (after ≡ tickers)
 IsRead version tickers line after (Ok (Asks command)) = Says version tickers line (Alone (command_in command)) after
@@ -18,12 +18,12 @@ IsRead version tickers line after (Ok (Many commands)) = Says version tickers li
 IsRead version tickers line after (Err NoCommand) = SaysNothing version tickers line × (after ≡ tickers)
 IsRead version tickers line after (Err Memory) = (¬ IsBlank line) × (after ≡ tickers)
 
--- the rows of what was read, if it has any, fit their records
+-- the weight vectors of what was read, if there are any, fit their records
 abbrev pub IsShort : LineRead → Type 0
 IsShort Blank = Unit {0}
 IsShort (Asks command) = HasShortRow (command_in command)
 IsShort (Many commands) = All (λ command. HasShortRow (command_in command)) commands
 
--- the answer for want of memory
-abbrev pub wants_memory : Result LineRead LineFault
-wants_memory = Err Memory
+-- the answer if memory runs out
+abbrev pub may_run_out : Result LineRead LineFault
+may_run_out = Err Memory

@@ -11,15 +11,15 @@ use Rattle.order_text.specs.declared.line.LineFault.{LineFault}
 use Rattle.curve_ladder.specs.Segments.{curve_asked}
 use Rattle.curve_ladder.specs.Demands.{AskTogether}
 use Rattle.order_text.specs.Lines.{AsksLadder, Asked, commands_of, LineAsks, Leave, Says}
-use Rattle.order_text.specs.Answers.{IsRead, wants_memory}
+use Rattle.order_text.specs.Answers.{IsRead, may_run_out}
 
--- a line asks for one thing at most, and there is one table after it
+-- a line asks for one thing at most, and there is one table of tickers after it
 abbrev pub OneSaying : Type 0
 OneSaying =
     (version : Version) (tickers : List (List ℕ)) (line : List ℕ) (a b : Asked) (after other : List (List ℕ)) → Says version tickers line a after → Says version tickers line b other
     → (a ≡ b) × (after ≡ other)
 
--- the commands that a line asks for have rows, where they have one, that fit their records
+-- the weight vectors of the commands that a line asks for fit their records
 abbrev pub RowsAreShort : Type 0
 RowsAreShort =
     (version : Version) (tickers : List (List ℕ)) (line : List ℕ) (asked : Asked) → AreTickers tickers → LineAsks version tickers line asked → All HasShortRow (commands_of asked)
@@ -30,24 +30,24 @@ CommandsFit =
     (version : Version) (tickers : List (List ℕ)) (line : List ℕ) (asked : Asked) → AreTickers tickers → LineAsks version tickers line asked
     → All IsCommand (commands_of asked) × All (IsOfVersion version) (commands_of asked)
 
--- commands leave one table of tickers
+-- there is at most one table of tickers after given commands
 abbrev pub OneTable : Type 0
 OneTable = (tickers : List (List ℕ)) (commands : List Command) (after other : List (List ℕ)) → Leave tickers commands after → Leave tickers commands other → after ≡ other
 
--- but for want of memory a line has at most one answer, with one table after it
+-- unless memory runs out, a line has at most one answer, and there is one table of tickers after it
 abbrev pub OneAnswer : Type 0
 OneAnswer =
-    (version : Version) (tickers : List (List ℕ)) (line : List ℕ) (a b : Result LineRead LineFault) (after other : List (List ℕ)) → a ≢ wants_memory → b ≢ wants_memory
+    (version : Version) (tickers : List (List ℕ)) (line : List ℕ) (a b : Result LineRead LineFault) (after other : List (List ℕ)) → a ≢ may_run_out → b ≢ may_run_out
     → IsRead version tickers line after a → IsRead version tickers line other b → (a ≡ b) × (after ≡ other)
 
--- no line is without an answer other than want of memory
+-- no line is without an answer other than out of memory
 abbrev pub NoneIsUnanswered : Type 0
 NoneIsUnanswered =
     (version : Version) (tickers : List (List ℕ)) (line : List ℕ)
-    → ¬ ((after : List (List ℕ)) (result : Result LineRead LineFault) → result ≢ wants_memory → ¬ IsRead version tickers line after result)
+    → ¬ ((after : List (List ℕ)) (result : Result LineRead LineFault) → result ≢ may_run_out → ¬ IsRead version tickers line after result)
 
--- the requests that place a ladder's orders, by which an object asks for them, ask together for what the ladder does: at every price
--- their demands add up to its value, and at most one of them isn't whole
+-- the orders of a ladder that an object asks for ask together for what the ladder does: at every price their demands, before any
+-- fill, add up to its value, and at most one of them isn't a whole number
 abbrev pub LadderAsksTogether : Type 0
 LadderAsksTogether =
     (tickers : List (List ℕ)) (d : Data) (requests : List Request) → (asks : AsksLadder tickers d (map (Place None) requests)) → AskTogether asks.ladder (map curve_asked requests)

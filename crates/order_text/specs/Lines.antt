@@ -20,7 +20,7 @@ use Rattle.curve_ladder.specs.Segments.{requests_of}
 abbrev pub IsBlankByte : ℕ → Type 0
 IsBlankByte byte = (byte ≡ 32) ⊎ (byte ≡ 9) ⊎ (byte ≡ 13)
 
--- a line of such bytes alone
+-- a blank line: spaces, tabs and carriage returns alone, or nothing
 abbrev pub IsBlank : List ℕ → Type 0
 IsBlank line = All IsBlankByte line
 
@@ -44,20 +44,20 @@ IsTickerText text ticker = All (λ byte. byte < 128) text × (padded text ≡ So
 abbrev pub asset_named : List (List ℕ) → List ℕ → Option ℕ
 asset_named tickers text = option_and_then (λ ticker. position (bytes_eq ticker) tickers) (padded text)
 
--- an entry is what one of these members says: its key names the asset, and its value is the weight, a whole number of 32 bits
+-- a leg is one of these members: its key names the asset, and its value is the weight, a whole number of 32 bits with a sign
 abbrev pub IsEntryOf : List (List ℕ) → Members → Entry → Type 0
 IsEntryOf tickers no_members e = ⊥
 IsEntryOf tickers (member key value members) e =
     ((asset_named tickers key ≡ Some e.asset) × (signed_of value ≡ Some e.weight) × IsSigned 4 e.weight) ⊎ IsEntryOf tickers members e
 
--- Members are a row: it has as many entries as there are members, with ascending assets, each of them what a member says. So
--- each member says one, and no two name the same asset.
+-- Members are a weight vector: it has as many legs as there are members, with ascending assets, and each leg is a member. So each
+-- member is a leg, and no two name the same asset.
 pub record AreWeights (tickers : List (List ℕ)) (members : Members) (row : List Entry) : Type 0 where
   pub ascending : IsStrictlyIncreasing (assets_of row)
   pub count : length row ≡ members_len members
   pub each : All (IsEntryOf tickers members) row
 
--- a value is a point of a ladder: an array of its price, a whole number of 64 bits with a sign, and its rate, one of 32
+-- a value is a point of a ladder: an array of its price, a whole number of 64 bits with a sign, and its rate, one of 32 bits without
 pub record IsPoint (d : Data) (p : Point) : Type 0 where
   pub price : Data
   pub rate : Data
@@ -73,8 +73,8 @@ ArePoints no_items (p ∷ points) = ⊥
 ArePoints (item d items) [] = ⊥
 ArePoints (item d items) (p ∷ points) = IsPoint d p × ArePoints items points
 
--- What may stand at a key: a text as it is, the text of a ticker, one that names an asset, a whole number of 32 bits or of 64,
--- one of 64 with a sign, the weights of a row, and points.
+-- What may be at a key: a text as it is, the text of a ticker, one that names an asset, a whole number of 32 bits or of 64, one of
+-- 64 with a sign, a weight vector, and points.
 pub data Value : Type 0 where
   Text : (text : List ℕ) → Value
   Ticker : (ticker : List ℕ) → Value
@@ -85,7 +85,7 @@ pub data Value : Type 0 where
   Weights : (row : List Entry) → Value
   Points : (points : List Point) → Value
 
--- a value is one of these, given the tickers of the lines before
+-- a JSON value has this meaning, given the tickers of the lines before
 abbrev pub IsValue : List (List ℕ) → Data → Value → Type 0
 IsValue tickers d (Text text) = as_str d ≡ Some text
 IsValue tickers d (Ticker ticker) = (text : List ℕ) × (as_str d ≡ Some text) × IsTickerText text ticker
@@ -96,15 +96,15 @@ IsValue tickers d (Signed number) = signed_of d ≡ Some number
 IsValue tickers d (Weights row) = (members : Members) × (as_object d ≡ Some members) × AreWeights tickers members row
 IsValue tickers d (Points points) = (items : Items) × (as_array d ≡ Some items) × ArePoints items points
 
--- it stands at a key of an object
+-- an object has a value of this meaning at a key
 abbrev pub HasAt : List (List ℕ) → Data → List ℕ → Value → Type 0
 HasAt tickers d key is = (value : Data) × (get key d ≡ Some value) × IsValue tickers value is
 
--- an object with so many keys
+-- an object has `count` keys
 abbrev pub HasKeys : ℕ → Data → Type 0
 HasKeys count d = option_map members_len (as_object d) ≡ Some count
 
--- the members that an order has besides the word at `do`
+-- the members of the object that asks for an order, besides `do` and `last`
 abbrev pub order_members : Request → List (List ℕ × Value)
 order_members r =
     (codes "account", Small r.account) ∷ (codes "low", Signed r.low) ∷ (codes "high", Signed r.high) ∷ (codes "rate", Small r.rate) ∷ (codes "cap", Number r.cap) ∷ (codes "weights", Weights r.row) ∷ []
@@ -149,22 +149,22 @@ pub record AsksLadder (tickers : List (List ℕ)) (d : Data) (commands : List Co
   pub lawful : IsLadder ladder
   pub commands_are : commands ≡ map (Place None) (requests_of ladder account row)
 
--- what may be asked for: one command, or those of a ladder, which may be one too
+-- what a line may ask for: one command, or those of a ladder, which may be one too
 pub data Asked : Type 0 where
   Alone : (command : Command) → Asked
   OfLadder : (commands : List Command) → Asked
 
--- the commands, in their order
+-- the commands that are asked for, in order
 abbrev pub commands_of : Asked → List Command
 commands_of (Alone command) = command ∷ []
 commands_of (OfLadder commands) = commands
 
--- an object of a version asks for it
+-- an object asks for this in a version
 abbrev pub AsksFor : Version → List (List ℕ) → Data → Asked → Type 0
 AsksFor version tickers d (Alone command) = Asks version tickers d command
 AsksFor version tickers d (OfLadder commands) = AsksLadder tickers d commands
 
--- a line asks for it: it isn't blank, and it is the UTF-8 of an object that does
+-- a line asks for this in a version: it isn't blank, and it is the UTF-8 of an object that does
 pub record LineAsks (version : Version) (tickers : List (List ℕ)) (line : List ℕ) (asked : Asked) : Type 0 where
   pub written : ¬ IsBlank line
   pub utf8 : IsUtf8 line
@@ -172,21 +172,21 @@ pub record LineAsks (version : Version) (tickers : List (List ℕ)) (line : List
   pub reads : read line ≡ Some value
   pub asks : AsksFor version tickers value asked
 
--- a command adds this ticker: it is that of an asset, and can be added
+-- a command adds this ticker: it is AddAsset with this ticker, and the ticker can be added
 abbrev pub Adds : List (List ℕ) → Command → List ℕ → Type 0
 Adds tickers command ticker = (command ≡ AddAsset ticker) × IsAddable tickers ticker
 
--- a command leaves these tickers: those before with the one that it adds, or those before where it adds none
+-- the tickers after a command: those before it, followed by the one that it adds, if it adds one
 abbrev pub Leaves : List (List ℕ) → Command → List (List ℕ) → Type 0
 Leaves tickers command after =
     ((ticker : List ℕ) × Adds tickers command ticker × (after ≡ tickers ++ ticker ∷ [])) ⊎ (((ticker : List ℕ) → ¬ Adds tickers command ticker) × (after ≡ tickers))
 
--- commands leave these tickers, one after the other
+-- the tickers after several commands, one after the other
 abbrev pub Leave : List (List ℕ) → List Command → List (List ℕ) → Type 0
 Leave tickers [] after = after ≡ tickers
 Leave tickers (command ∷ commands) after = (next : List (List ℕ)) × Leaves tickers command next × Leave next commands after
 
--- what a line says in a version, after the tickers of the lines before, and the tickers after it
+-- a line asks for this in a version, given the tickers of the lines before, and `after` are the tickers after it
 pub record Says (version : Version) (tickers : List (List ℕ)) (line : List ℕ) (asked : Asked) (after : List (List ℕ)) : Type 0 where
   pub asks : LineAsks version tickers line asked
   pub leaves : Leave tickers (commands_of asked) after

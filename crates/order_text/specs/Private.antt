@@ -1,4 +1,4 @@
--- Words that only private code uses.
+-- Definitions that only private code uses.
 use Rattle.std.specs.Prelude.{◌≡◌, ◌≢◌, ℕ, ◌^◌, ◌==◌, ◌&&◌, ℤ, pos, neg_ℤ, int_lt, int_le, nat_lt, if◌then◌else◌, ◌⊎◌, List, [], ◌∷◌, ◌++◌, length, drop, map, All, codes, Option, Some, None, option_map, option_and_then, Result, Ok, Err}
 use Rattle.std.specs.List.{AllByRecursion}
 use Rattle.weight_rows.specs.declared.entries.Entry.{Entry}
@@ -43,12 +43,12 @@ members_at key d = option_and_then as_object (get key d)
 abbrev pub items_at : List ℕ → Data → Option Items
 items_at key d = option_and_then as_array (get key d)
 
--- the tickers after a ticker: with it, where it can be added
+-- the tickers after a ticker: those before it, followed by it if it can be added
 abbrev pub AreWith : List (List ℕ) → List ℕ → List (List ℕ) → Type 0
 AreWith tickers ticker after =
     (IsAddable tickers ticker × (after ≡ tickers ++ ticker ∷ [])) ⊎ ((¬ IsAddable tickers ticker) × (after ≡ tickers))
 
--- the word that stands at `do`
+-- the text at `do` of the object that asks for a command
 abbrev pub word_of : Command → List ℕ
 word_of (AddAsset ticker) = codes "asset"
 word_of OpenAccount = codes "account"
@@ -62,7 +62,7 @@ word_of (RunBatch budget) = codes "batch"
 word_of (SetMoneyCredit account ticks) = codes "credit"
 word_of (SetUnitCredit account asset units) = codes "credit"
 
--- how a word is spelled
+-- the text of a word
 abbrev pub spelled : Word → List ℕ
 spelled words.Asset = codes "asset"
 spelled words.Account = codes "account"
@@ -78,7 +78,7 @@ spelled words.Ladder = codes "ladder"
 abbrev pub IsWord : Word → Data → Type 0
 IsWord word d = text_at (codes "do") d ≡ Some (spelled word)
 
--- what is answered where a command was found, or none was
+-- the answer for a command that was found, or for none
 abbrev pub alone : Option owned.Command → Result LineRead LineFault
 alone (Some command) = Ok (line_is.Asks command)
 alone None = Err NoCommand
@@ -95,27 +95,27 @@ HasOrder tickers d request = Has tickers d (order_members request)
 abbrev pub Fits : List (List ℕ) → Data → Command → Type 0
 Fits tickers d command = Has tickers d (drop 1 (members_of command)) × HasKeys (length (members_of command)) d
 
--- the command of this word, of a version, that an object asks for, if it asks for one
+-- the command of a version that an object with this word at `do` asks for, or `None` if it asks for none
 abbrev pub IsFound : List ℕ → Version → List (List ℕ) → Data → Option owned.Command → Type 0
 IsFound word version tickers d (Some command) =
     (word_of (command_in command) ≡ word) × Fits tickers d (command_in command) × IsOfVersion version (command_in command) × HasShortRow (command_in command)
 IsFound word version tickers d None = (command : Command) → word_of command ≡ word → ¬ Fits tickers d command
 
--- the order with no last batch that an object asks for
+-- the answer for an object that may ask for an order without a last batch
 abbrev pub IsOrder : List (List ℕ) → Data → Result owned.Command LineFault → Type 0
 IsOrder tickers d (Ok command) =
     (word_of (command_in command) ≡ codes "place") × Fits tickers d (command_in command) × IsOfVersion One (command_in command) × HasShortRow (command_in command)
 IsOrder tickers d (Err NoCommand) = (request : Request) → HasOrder tickers d request → ¬ HasKeys 7 d
 IsOrder tickers d (Err Memory) = Unit {0}
 
--- the order with a last batch that an object asks for
+-- the answer for an object that may ask for an order with a last batch
 abbrev pub IsUntil : List (List ℕ) → Data → Result owned.Command LineFault → Type 0
 IsUntil tickers d (Ok command) =
     (word_of (command_in command) ≡ codes "place") × Fits tickers d (command_in command) × IsOfVersion Two (command_in command) × HasShortRow (command_in command)
 IsUntil tickers d (Err NoCommand) = (last : ℕ) (request : Request) → HasAt tickers d (codes "last") (Small last) → HasOrder tickers d request → ¬ HasKeys 8 d
 IsUntil tickers d (Err Memory) = Unit {0}
 
--- the order that an object asks for
+-- the answer for an object that may ask for an order of a version
 abbrev pub IsPlaced : Version → List (List ℕ) → Data → Result owned.Command LineFault → Type 0
 IsPlaced version tickers d (Ok command) =
     (word_of (command_in command) ≡ codes "place") × Fits tickers d (command_in command) × IsOfVersion version (command_in command) × HasShortRow (command_in command)
@@ -126,7 +126,7 @@ IsPlaced version tickers d (Err Memory) = Unit {0}
 abbrev pub HasLadder : List (List ℕ) → Data → Ladder → ℕ → List Entry → Type 0
 HasLadder tickers d l account row = Has tickers d (drop 1 (ladder_members l account row))
 
--- the commands of the ladder that an object with the word of one asks for
+-- the answer for an object that may ask for the orders of a ladder
 abbrev pub IsLaddered : List (List ℕ) → Data → Result (List owned.Command) LineFault → Type 0
 IsLaddered tickers d (Ok commands) =
     ((l : Ladder) × (account : ℕ) × (row : List Entry) × HasLadder tickers d l account row × HasKeys 5 d × IsLadder l × (map command_in commands ≡ map (Place None) (requests_of l account row)))
@@ -134,7 +134,7 @@ IsLaddered tickers d (Ok commands) =
 IsLaddered tickers d (Err NoCommand) = (l : Ladder) (account : ℕ) (row : List Entry) → HasLadder tickers d l account row → HasKeys 5 d → ¬ IsLadder l
 IsLaddered tickers d (Err Memory) = Unit {0}
 
--- what an object asks for
+-- the answer for an object in a version
 abbrev pub IsAsked : Version → List (List ℕ) → Data → Result LineRead LineFault → Type 0
 IsAsked version tickers d (Ok line_is.Blank) = ⊥
 IsAsked version tickers d (Ok (line_is.Asks command)) = Asks version tickers d (command_in command) × HasShortRow (command_in command)
@@ -142,7 +142,7 @@ IsAsked version tickers d (Ok (line_is.Many commands)) = AsksLadder tickers d (m
 IsAsked version tickers d (Err NoCommand) = (asked : Asked) → ¬ AsksFor version tickers d asked
 IsAsked version tickers d (Err Memory) = Unit {0}
 
--- the tickers after what was read
+-- the tickers after a line that was read
 abbrev pub AreAfter : List (List ℕ) → LineRead → List (List ℕ) → Type 0
 AreAfter tickers line_is.Blank after = after ≡ tickers
 AreAfter tickers (line_is.Asks command) after = Leaves tickers (command_in command) after
@@ -152,12 +152,12 @@ AreAfter tickers (line_is.Many commands) after = after ≡ tickers
 abbrev pub HasMoney : Data → ℕ → ℕ → Type 0
 HasMoney d account ticks = HasAt [] d (codes "account") (Small account) × HasAt [] d (codes "ticks") (Number ticks) × HasKeys 3 d
 
--- the same with an asset and units
+-- an object with an account, an asset and units besides `do`, and no further keys
 abbrev pub HasUnits : List (List ℕ) → Data → ℕ → ℕ → ℕ → Type 0
 HasUnits tickers d account asset units =
     HasAt tickers d (codes "account") (Small account) × HasAt tickers d (codes "asset") (Asset asset) × HasAt tickers d (codes "units") (Number units) × HasKeys 4 d
 
--- an object with what an order has besides its row
+-- an object with the members of an order except its weights
 abbrev pub HasLimits : Data → ℕ → ℤ → ℤ → ℕ → ℕ → Type 0
 HasLimits d account low high rate cap =
     HasAt [] d (codes "account") (Small account) × HasAt [] d (codes "low") (Signed low) × HasAt [] d (codes "high") (Signed high) × HasAt [] d (codes "rate") (Small rate) × HasAt [] d (codes "cap") (Number cap)
@@ -183,12 +183,12 @@ point_in (item price (item rate (item more items))) = None
 abbrev pub point_of : Data → Option Point
 point_of d = option_and_then point_in (as_array d)
 
--- points with one more for each value
+-- points with one more for each value, or `None` if a value is no point
 abbrev pub put_points : Items → List Point → Option (List Point)
 put_points no_items points = Some points
 put_points (item d items) points = option_and_then (λ p. put_points items (points ++ p ∷ [])) (point_of d)
 
--- ---- the row of an object of weights, one member after the other
+-- ---- the weight vector of an object of weights, one member after the other
 
 -- a signed number of 32 bits, if it is one
 abbrev pub in_signed_32_bits : ℤ → Option ℤ
@@ -198,18 +198,18 @@ in_signed_32_bits z = if int_le (neg_ℤ (pos (2 ^ 31))) z && int_lt z (pos (2 ^
 abbrev pub weight_of : Data → Option ℤ
 weight_of d = option_and_then in_signed_32_bits (signed_of d)
 
--- the entry that a member is
+-- the leg that a member is
 abbrev pub entry_of : List (List ℕ) → List ℕ → Data → Option Entry
 entry_of tickers key d =
     option_and_then (λ asset. option_map (λ weight. record { asset = asset; weight = weight }) (weight_of d)) (asset_named tickers key)
 
--- entries in ascending asset number with one more at its place, where its asset isn't there yet
+-- legs by ascending asset number with one more at its place, or `None` if its asset is there already
 abbrev pub put_entry : Entry → List Entry → Option (List Entry)
 put_entry e [] = Some (e ∷ [])
 put_entry e (first ∷ row) =
     if e.asset == first.asset then None else (if nat_lt e.asset first.asset then Some (e ∷ first ∷ row) else option_map (λ more. first ∷ more) (put_entry e row))
 
--- entries in ascending asset number with one more for each member, where no two of them name one asset
+-- legs by ascending asset number with one more for each member, or `None` if a member is no leg or names an asset again
 abbrev pub put_members : List (List ℕ) → Members → List Entry → Option (List Entry)
 put_members tickers no_members row = Some row
 put_members tickers (member key value members) row =

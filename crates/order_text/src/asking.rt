@@ -38,7 +38,7 @@ fn open_account(value: &Value) -> Option<Command>
     Some(Command::OpenAccount)
 }
 
-// An account and ticks, all that the object has beside `do`.
+// Returns account and ticks if the object has them besides `do`, and no further keys.
 fn money(value: &Value) -> Option<(u32, u64)>
     ensures some { IfSome result (λ fields. HasMoney (view value.now) fields.0 fields.1) }
     ensures none { IfNone result ((account ticks : ℕ) → ¬ HasMoney (view value.now) account ticks) }
@@ -51,7 +51,7 @@ fn money(value: &Value) -> Option<(u32, u64)>
     Some((account, ticks))
 }
 
-// An account, an asset and units, all that the object has beside `do`.
+// Returns account, asset and units if the object has them besides `do`, and no further keys.
 fn units(tickers: &TickerTable, value: &Value) -> Option<(u32, u16, u64)>
     ensures some { IfSome result (λ fields. HasUnits tickers.now (view value.now) fields.0 fields.1 fields.2) }
     ensures none { IfNone result ((account asset units : ℕ) → ¬ HasUnits tickers.now (view value.now) account asset units) }
@@ -114,7 +114,7 @@ fn run_batch(value: &Value) -> Option<Command>
     Some(Command::RunBatch { budget })
 }
 
-// What stands at the keys of an order but its row.
+// The values of an order's object except its weights.
 #[derive(Drop)]
 struct Limits {
     account: u32,
@@ -159,7 +159,7 @@ pub(crate) fn row_at(
     }
 }
 
-// An order that says no last batch.
+// Reads an order without a last batch.
 fn place_order(alloc: Global, tickers: &TickerTable, value: &Value) -> Result<Command, LineFault>
     ensures { IsOrder tickers.now (view value.now) result }
 {
@@ -180,7 +180,7 @@ fn place_order(alloc: Global, tickers: &TickerTable, value: &Value) -> Result<Co
     })
 }
 
-// An order that says its last batch.
+// Reads an order with a last batch.
 fn place_until(alloc: Global, tickers: &TickerTable, value: &Value) -> Result<Command, LineFault>
     ensures { IsUntil tickers.now (view value.now) result }
 {
@@ -236,7 +236,7 @@ fn credit(tickers: &TickerTable, value: &Value) -> Option<Command>
     })
 }
 
-// What was found, if it was.
+// Returns the answer for a command, or for none.
 fn found(command: Option<Command>) -> Result<LineRead, LineFault>
     ensures { result ≡ alone command }
 {
@@ -268,7 +268,7 @@ fn order_in(
     Ok(LineRead::Asks(place(alloc, version, tickers, value)?))
 }
 
-// The orders of a ladder, which each version has.
+// Reads the orders of a ladder, which every version has.
 fn ladder_in(alloc: Global, tickers: &TickerTable, value: &Value) -> Result<LineRead, LineFault>
     requires { IsWord words.Ladder (view value.now) }
     ensures { (version : AnyVersion) → IsAsked version tickers.now (view value.now) result }
@@ -276,7 +276,7 @@ fn ladder_in(alloc: Global, tickers: &TickerTable, value: &Value) -> Result<Line
     Ok(LineRead::Many(ladder(alloc, tickers, value)?))
 }
 
-// What an object with this word asks for.
+// Returns what an object with this word at `do` asks for.
 fn asked_with(
     alloc: Global,
     version: Version,
@@ -300,7 +300,7 @@ fn asked_with(
     }
 }
 
-/// What a value asks for in a version.
+/// Returns what a value asks for in a version.
 pub(crate) fn asked_by(
     alloc: Global,
     version: Version,

@@ -1,4 +1,4 @@
-//! What stands at the keys of an object.
+//! The values at the keys of an object.
 ghost use Rattle.std.specs.Prelude.{◌≡◌, ◌↔◌, codes, Some, IsTrue, IfSome, IfNone, option_map, ℕ, ℤ, List, []};
 ghost use Rattle.serde_json.specs.View.{view};
 ghost use Rattle.order_text.specs.Lines.{HasKeys, padded, asset_named, Ticker, Asset, Small, Number, Signed, HasAt};
@@ -7,7 +7,7 @@ ghost use Rattle.order_text.specs.Private.{text_at};
 use serde_json::Value;
 use ticker_table::TickerTable;
 
-// How long a ticker is.
+// The length of a ticker, in bytes.
 const TICKER: usize = 8;
 
 pub(crate) fn text_at<'a>(value: &'a Value, key: &str) -> Option<&'a str>
@@ -50,7 +50,7 @@ pub(crate) fn signed_at(value: &Value, key: &str) -> Option<i64>
     value.get(key)?.as_i64()
 }
 
-// The bytes of a text, padded with spaces.
+// Returns the bytes of a text, padded with spaces to 8, or `None` if there are more.
 fn padded(text: &str) -> Option<[u8; 8]>
     ensures { result ≡ padded text.now }
 {

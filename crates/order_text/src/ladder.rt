@@ -1,4 +1,4 @@
-//! The orders of a ladder that an object asks for.
+//! The orders of the ladder that an object asks for.
 ghost use Rattle.std.specs.Prelude.{◌≡◌, ◌≤◌, length, map, codes, option_map, ℕ, List, [], Some, None, IfOk, IsErrOf};
 ghost use Rattle.serde_json.specs.View.{view, items_view};
 ghost use Rattle.curve_ladder.specs.Ladders.{Ladder, IsLadder};
@@ -35,7 +35,7 @@ fn point_of(value: &Value) -> Option<Point>
     Some(Point { price, rate })
 }
 
-// The points that values are, if they may be those of a ladder; memory is taken for no more.
+// Returns the points that values are. If they are more than a ladder's, it fails without allocating.
 fn points_of(alloc: Global, values: &[Value]) -> Result<PointList, LineFault>
     ensures points { IfOk result (ArePoints (items_view values.now)) }
     ensures none { IsErrOf result LineFault.NoCommand
@@ -67,7 +67,7 @@ fn points_at(alloc: Global, value: &Value) -> Result<PointList, LineFault>
     }
 }
 
-/// The commands of the ladder that an object asks for.
+/// Returns the commands of the ladder that an object asks for.
 pub(crate) fn ladder(
     alloc: Global,
     tickers: &TickerTable,

@@ -1,17 +1,17 @@
 //! What holds of lines. Each law is the contract of a function that does nothing.
 ghost use Rattle.order_text.specs.Laws.{OneSaying, OneTable, RowsAreShort, CommandsFit, OneAnswer, NoneIsUnanswered, LadderAsksTogether};
 
-/// A line says at most one list of commands, and there is one table after it.
+/// A line asks for at most one thing, a command or a ladder's orders, and there is one table of tickers after it.
 pub fn one_saying()
     ensures { OneSaying }
 {}
 
-/// Commands leave one table of tickers.
+/// There is at most one table of tickers after given commands.
 pub fn one_table()
     ensures { OneTable }
 {}
 
-/// The row of each command that a line asks for is within what a record holds.
+/// The weight vector of each command that a line asks for fits in a record.
 pub fn rows_are_short()
     ensures { RowsAreShort }
 {}
@@ -21,18 +21,18 @@ pub fn commands_fit()
     ensures { CommandsFit }
 {}
 
-/// But for want of memory a line has at most one answer, with one table after it.
+/// Unless memory runs out, a line has at most one answer, and there is one table of tickers after it.
 pub fn one_answer()
     ensures { OneAnswer }
 {}
 
-/// No line is without an answer other than want of memory.
+/// No line is without an answer other than out of memory.
 pub fn none_is_unanswered()
     ensures { NoneIsUnanswered }
 {}
 
-/// The orders that a ladder's line asks for are its curve: at every price their demands, of which nothing is filled, add up to the
-/// ladder's value, and at most one of them isn't whole.
+/// The orders that a ladder's line asks for make up its curve: at every price their demands, before any fill, add up to
+/// the ladder's value, and at most one of them isn't a whole number.
 pub fn ladder_asks_together()
     ensures { LadderAsksTogether }
 {}

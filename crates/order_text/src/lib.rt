@@ -1,7 +1,7 @@
 //! The commands that a line of JSON asks for.
 //!
-//! [`read_line`] reads one line with the tickers of the lines before it. An object says by the text at `do` what it
-//! asks for, a command or the orders of a ladder, and has exactly the keys of that.
+//! [`read_line`] reads one line, given the tickers of the lines before it. The text at `do` says what an object asks
+//! for, a command or the orders of a ladder, and the object has exactly the keys of that.
 #![tactic(auto)]
 
 mod asking;

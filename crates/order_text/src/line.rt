@@ -20,20 +20,20 @@ use wire_records::{Command, Version};
 pub enum LineRead {
     /// It has no byte but spaces, tabs and carriage returns.
     Blank,
-    /// It asks for this command. A row has at most one entry for each ticker of the lines before.
+    /// It asks for this command. A weight vector has at most one leg for each ticker of the lines before.
     Asks(Command),
     /// It asks for the orders of a ladder: one [`PlaceOrder`](Command::PlaceOrder) for each drop of its rate, in ascending
-    /// prices, all of one row.
+    /// prices, all with one weight vector.
     Many(CommandList),
 }
 
-/// Why nothing was read of a line.
+/// Why a line wasn't read.
 #[derive(Clone, Copy, Debug, PartialEq, Eq, Error)]
 pub enum LineFault {
     /// It is neither blank nor asks for a command.
     #[error("no command")]
     NoCommand,
-    /// There is no memory for it.
+    /// Memory ran out.
     #[error("no memory")]
     Memory,
 }
@@ -45,7 +45,7 @@ fn is_blank(line: &[u8]) -> bool
         .all(|byte| matches!(*byte, b' ' | b'\t' | b'\r'))
 }
 
-// The value that a line is.
+// Parses a line as a JSON value.
 fn value_of(alloc: Global, line: &[u8]) -> Result<Value, LineFault>
     ensures value { IfOk result (λ v. IsUtf8 line.now × (read line.now ≡ Some (view v))) }
     ensures none { IsErrOf result LineFault.NoCommand → IsUtf8 line.now → read line.now ≡ None }
@@ -61,7 +61,7 @@ fn value_of(alloc: Global, line: &[u8]) -> Result<Value, LineFault>
     }
 }
 
-// Adds a ticker where it can be added.
+// Adds a ticker if it can be added.
 fn add(tickers: &mut TickerTable, ticker: [u8; 8]) -> Result<(), LineFault>
     ensures after { OnOk result (AreWith tickers.old ticker tickers.new) }
     ensures stays { OnErr result (tickers.new ≡ tickers.old) }
@@ -76,7 +76,7 @@ fn add(tickers: &mut TickerTable, ticker: [u8; 8]) -> Result<(), LineFault>
     }
 }
 
-// The tickers after a line that was read so.
+// Adds the ticker that a line adds, if it adds one.
 fn add_ticker(tickers: &mut TickerTable, read: &LineRead) -> Result<(), LineFault>
     ensures after { OnOk result (AreAfter tickers.old read.now tickers.new) }
     ensures stays { OnErr result (tickers.new ≡ tickers.old) }
@@ -88,10 +88,10 @@ fn add_ticker(tickers: &mut TickerTable, read: &LineRead) -> Result<(), LineFaul
     }
 }
 
-/// What a line of JSON is, given the tickers of the lines before it. The line has no line feed at its end.
+/// Reads a line of JSON, given the tickers of the lines before it. The line has no line feed at its end.
 ///
-/// A command is one of the version: an object with exactly the keys of one row, of which `credit`, and `place` with `last`, are
-/// there from version Two on:
+/// A command is an object with exactly the keys of one row of this table. `credit`, and `place` with `last`, are commands
+/// from version Two on:
 ///
 /// | `do` | further keys | command |
 /// |---|---|---|
@@ -104,23 +104,24 @@ fn add_ticker(tickers: &mut TickerTable, read: &LineRead) -> Result<(), LineFaul
 /// | `place` | `account`, `low`, `high`, `rate`, `cap`, `weights` | [`PlaceOrder`](Command::PlaceOrder) |
 /// | `cancel` | `account`, `order` | [`CancelOrder`](Command::CancelOrder) |
 /// | `batch` | `budget` | [`RunBatch`](Command::RunBatch) |
-/// | `place` | the same, and `last` | [`PlaceUntil`](Command::PlaceUntil) |
+/// | `place` | `account`, `low`, `high`, `rate`, `cap`, `weights`, `last` | [`PlaceUntil`](Command::PlaceUntil) |
 /// | `credit` | `account`, `ticks` | [`SetMoneyCredit`](Command::SetMoneyCredit) |
 /// | `credit` | `account`, `asset`, `units` | [`SetUnitCredit`](Command::SetUnitCredit) |
 /// | `ladder` | `account`, `points`, `turns`, `weights` | a [`PlaceOrder`](Command::PlaceOrder) for each segment of the [`Ladder`](curve_ladder::Ladder) |
 ///
-/// A ticker is an ASCII text of at most 8 bytes, valid or not. An asset is such a text too, and has to be in the
-/// table. Numbers are whole and fit the command's fields, without fraction or exponent. `weights` is an object of a
-/// weight for each asset by its ticker; its entries come out in ascending asset number, at most one for each ticker of
-/// the table. `points` is an array of arrays of two numbers, a price in ticks and a rate; where
-/// [`ladder_fault`](curve_ladder::ladder_fault) finds a fault in the points and `turns`, the line is no command. Of a
-/// doubled key the last value stays, as the reader of JSON has it.
+/// A ticker is an ASCII text of at most 8 bytes, valid or not. An asset is a text of at most 8 bytes that names a ticker
+/// of the table. Numbers are whole and fit the command's fields, without fraction or exponent. `weights` is an object of
+/// a weight for each asset by its ticker; its legs come out by ascending asset number, at most one for each ticker of
+/// the table. `points` is an array of arrays of two numbers, a price in ticks and a rate; if
+/// [`ladder_fault`](curve_ladder::ladder_fault) finds a fault in the points and `turns`, the line is no command. If a
+/// key is doubled, its last value counts, as the JSON reader has it.
 ///
-/// The ticker of an `asset` line is added to the table where it can be added, and the line is a command either way.
-/// `NoCommand` is exactly for what is neither blank nor a command; `Memory` may be for any line that isn't blank. After either
-/// the table is as before.
-/// The cost is that of the line's bytes, and for each weight that of the entries before it. A ladder takes memory for its commands,
-/// 32 at most, each with its row; for points that are too many none is taken.
+/// The ticker of an `asset` line is added to the table if it can be added, and the line is a command either way.
+/// Fails with `NoCommand` only for lines that are neither blank nor a command, and with `Memory` possibly for any line
+/// that isn't blank. After an error the table is as before.
+///
+/// The cost is that of the line's bytes, and for each weight that of the legs before it. A ladder's commands, at most
+/// 32, are allocated, each with its weight vector; if there are too many points, neither points nor commands are.
 pub fn read_line(
     alloc: Global,
     line: &[u8],

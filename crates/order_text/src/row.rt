@@ -1,4 +1,4 @@
-//! The row that an object of weights is.
+//! The weight vector that an object of weights is.
 ghost use Rattle.std.specs.Prelude.{◌≡◌, ◌≤◌, length, option_map, option_and_then, Some, None, [], IfOk, IfSome, IsErrOf};
 ghost use Rattle.std.specs.List.{insert};
 ghost use Rattle.weight_rows.specs.declared.entries.Entry.{Entry};
@@ -31,7 +31,7 @@ fn entry_of(tickers: &TickerTable, key: &str, value: &Value) -> Option<Entry>
     Some(Entry { asset, weight })
 }
 
-// Where an entry of this asset belongs, if there is none yet.
+// Returns the place for a leg of this asset, or `None` if there is one already.
 fn place_for(row: &[Entry], asset: u16) -> Option<usize>
     ensures within { IfSome result (λ place. place ≤ length row.now) }
     ensures put { (e : Entry) → e.asset ≡ asset
@@ -51,7 +51,7 @@ fn place_for(row: &[Entry], asset: u16) -> Option<usize>
     Some(place)
 }
 
-// One entry more, or why not; the row then doesn't count.
+// Inserts a leg at its place. After an error `row` is of no use.
 fn put_entry(row: &mut Vec<Entry>, entry: Entry) -> Result<(), LineFault>
     ensures put { IfOk result (λ _. put_entry entry row.old.items ≡ Some row.new.items) }
     ensures taken { IsErrOf result LineFault.NoCommand → put_entry entry row.old.items ≡ None }
@@ -65,7 +65,7 @@ fn put_entry(row: &mut Vec<Entry>, entry: Entry) -> Result<(), LineFault>
     }
 }
 
-// The entry of a member more, or why not; the row then doesn't count.
+// Inserts the leg that a member is. After an error `row` is of no use.
 fn put_member(
     tickers: &TickerTable,
     key: &str,
@@ -83,7 +83,7 @@ fn put_member(
     }
 }
 
-/// The row that the members are, in ascending asset number.
+/// Returns the weight vector that the members are, by ascending asset number.
 pub(crate) fn row_of(
     alloc: Global,
     tickers: &TickerTable,

@@ -1,4 +1,4 @@
-//! The word at `do`, which says what an object asks for.
+//! The text at `do`, which says what an object asks for.
 ghost use Rattle.std.specs.Prelude.{◌≡◌, codes, Some, IfSome, IfNone};
 ghost use Rattle.serde_json.specs.View.{view};
 ghost use Rattle.order_text.specs.declared.word.Word.{Word};
@@ -7,7 +7,7 @@ ghost use Rattle.order_text.specs.Private.{text_at, spelled};
 use crate::fields::text_at;
 use serde_json::Value;
 
-/// A word that may stand at `do`.
+/// A text that may be at `do`.
 #[derive(Clone, Copy)]
 pub(crate) enum Word {
     Asset,
@@ -21,7 +21,7 @@ pub(crate) enum Word {
     Ladder,
 }
 
-// The word that a text is.
+// Returns the word that a text is, if it is one.
 fn word_of(text: &str) -> Option<Word>
     ensures some { IfSome result (λ word. text.now ≡ spelled word) }
     ensures none { IfNone result ((word : Word) → ¬ (text.now ≡ spelled word)) }
@@ -40,7 +40,7 @@ fn word_of(text: &str) -> Option<Word>
     }
 }
 
-/// The word at `do`, if it is one.
+/// Returns the word at `do`, if there is one.
 pub(crate) fn word_at(value: &Value) -> Option<Word>
     ensures some { IfSome result (λ word. text_at (codes "do") (view value.now) ≡ Some (spelled word)) }
     ensures none { IfNone result ((word : Word) → ¬ (text_at (codes "do") (view value.now) ≡ Some (spelled word))) }

@@ -1,9 +1,9 @@
-//! That there is no memory: one fault, which all crates that take memory share.
+//! Out of memory: one fault, which all crates that allocate share.
 #![tactic(auto)]
 
 use std::alloc::AllocError;
 
-/// There is no memory for what was asked. Nothing was changed.
+/// Out of memory: an allocation failed. The call changed nothing.
 #[derive(Clone, Copy, Debug, PartialEq, Eq)]
 pub struct Memory;
 

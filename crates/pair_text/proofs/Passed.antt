@@ -7,7 +7,7 @@ use Rattle.std.proofs.lemmas.Bool.{ne_eqb}
 use Rattle.std.proofs.Math.Seq.{drop-length}
 use Rattle.pair_text.specs.Texts.{name_of, asset_name}
 
--- bytes whose name is that of so many of them and of the rest
+-- bytes whose name is that of so many first bytes followed by the name of the rest
 abbrev pub HasPassed : List ℕ → ℕ → Type 0
 HasPassed ticker k = name_of ticker ≡ take k ticker ++ name_of (drop k ticker)
 
@@ -15,7 +15,7 @@ HasPassed ticker k = name_of ticker ≡ take k ticker ++ name_of (drop k ticker)
 unequal : (byte : ℕ) → (byte ≡ 32 → ⊥) → (byte == 32) ≡ false
 unequal byte other = ne_eqb byte 32 other
 
--- behind a byte that is no space
+-- after one more byte that is no space
 pub one_more : (ticker : List ℕ) (k : ℕ) → k < length ticker → (get_or ticker k 0 ≡ 32 → ⊥) → HasPassed ticker k → HasPassed ticker (k + 1)
 unfolding name_of
 one_more ticker k inside other passed =
@@ -31,7 +31,7 @@ ended ticker k inside space passed =
     ap name_of (drop_more ticker k 0 inside) ∙ ap (λ b. if b then [] else get_or ticker k 0 ∷ name_of (drop (k + 1) ticker)) (eq-eqb (get_or ticker k 0) 32 space) in
     sym (passed ∙ ap (λ x. take k ticker ++ x) none ∙ append-nil (take k ticker))
 
--- where there is none
+-- a ticker without a space is its own name
 pub whole : (ticker : List ℕ) → HasPassed ticker (length ticker) → take (length ticker) ticker ≡ name_of ticker
 unfolding name_of
 whole ticker passed =

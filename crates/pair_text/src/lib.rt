@@ -1,12 +1,13 @@
-//! What the texts of pairs have in common: a text that is appended to a list or taken back, the names of assets, and the entries of
-//! orders.
+//! What the texts of entries have in common: a text that is appended to a list or taken back, the names of assets, and
+//! the legs of orders.
 //!
-//! [`Text`] grows piece by piece, and each of its calls says exactly by what. Numbers are plain decimal, with `-` before a negative
-//! one. An asset's name is its ticker without spaces.
+//! [`Text`] grows piece by piece, and the contract of each call says exactly by what. Numbers are plain decimal, with
+//! `-` before a negative one. An asset's name is its ticker without spaces.
 //!
 //! # Costs
 //!
-//! Each number is printed once, right behind what stands in the list. Memory is taken only where the list has no room for the text.
+//! Each number is printed once, right after what is in the list. Memory is taken only if the list has no room for the
+//! text.
 #![tactic(auto)]
 
 mod names;

@@ -1,4 +1,4 @@
-//! The last batches and the entries of orders.
+//! The last batches and the legs of orders.
 ghost use Rattle.std.specs.Prelude.{◌≡◌, ◌<◌, ◌++◌, length, slice_index_or, OnOk};
 ghost use Rattle.std.specs.List.{flat_map};
 ghost use Rattle.pair_text.specs.Texts.{entry_text, last_text};
@@ -9,7 +9,7 @@ use ticker_table::TickerTable;
 use weight_rows::Entry;
 use wire_records::{Memory, RowView};
 
-// The entry at a place that has one.
+// Returns the leg at a place that has one.
 fn entry_at(row: &RowView<'_>, place: usize) -> Entry
     requires { place < length row.now }
     ensures { result ≡ slice_index_or row.now place no_entry }
@@ -18,7 +18,7 @@ fn entry_at(row: &RowView<'_>, place: usize) -> Entry
 }
 
 impl Text {
-    /// Appends the last batch of an order, where it has one: ` last ` and its number.
+    /// Appends the last batch of an order, if it has one: ` last ` and its number.
     pub fn put_last(&mut self, last: Option<u32>) -> Result<(), Memory>
         ensures before { self.new.before ≡ self.old.before }
         ensures put { OnOk result (self.new.text ≡ self.old.text ++ last_text last) }
@@ -29,7 +29,7 @@ impl Text {
         }
     }
 
-    /// Appends the entries of an order, each with a space before it: the name of its asset, `:`, and its weight.
+    /// Appends the legs of an order, each with a space before it: the name of its asset, `:`, and its weight.
     pub fn put_entries(&mut self, tickers: &TickerTable, row: &RowView<'_>) -> Result<(), Memory>
         ensures before { self.new.before ≡ self.old.before }
         ensures put { OnOk result (self.new.text ≡ self.old.text ++ flat_map (entry_text tickers.now) row.now) }
@@ -40,7 +40,7 @@ impl Text {
         Ok(())
     }
 
-    // Appends an entry of an order.
+    // Appends a leg of an order.
     fn put_entry(&mut self, tickers: &TickerTable, entry: Entry) -> Result<(), Memory>
         ensures before { self.new.before ≡ self.old.before }
         ensures put { OnOk result (self.new.text ≡ self.old.text ++ entry_text tickers.now entry) }

@@ -9,11 +9,11 @@ use std::mem;
 use ticker_table::TickerTable;
 use wire_records::Memory;
 
-/// A text behind what stood in a list before. It holds the list meanwhile, with how long it was and how much room it had, and is
-/// given back whole or without the text.
+/// A text appended to a list. It holds the list meanwhile, with the length and the capacity that the list had before,
+/// and gives it back with or without the text.
 ///
-/// After `Memory` of a call some front of what was to be appended stands behind the text; [`Text::taken_back`] takes it away with
-/// the rest.
+/// After a call returned `Memory`, a prefix of what it was to append follows the text; [`Text::taken_back`] removes it
+/// with the rest.
 #[derive(Drop)]
 pub struct Text {
     bytes: Vec<u8>,
@@ -36,7 +36,7 @@ impl Model for Text {
 }
 
 impl Text {
-    /// Takes a list, to append to it; an empty one stands in its place meanwhile. Takes no memory.
+    /// Takes a list, to append to it, and leaves an empty one in its place. Takes no memory.
     pub fn behind(out: &mut Vec<u8>) -> Text
         ensures items { result.before.items ≡ out.old.items }
         ensures room { result.before.room ≡ vec_capacity out.old }
@@ -68,7 +68,7 @@ impl Text {
         self.put(buffer.format(number).as_bytes())
     }
 
-    /// Appends a word and the name of an asset's ticker: nothing behind the word where there is no such asset.
+    /// Appends a word and the name of an asset's ticker: nothing after the word if there is no such asset.
     pub fn put_name(&mut self, word: &[u8], tickers: &TickerTable, asset: u16) -> Result<(), Memory>
         ensures before { self.new.before ≡ self.old.before }
         ensures put { OnOk result (self.new.text ≡ self.old.text ++ (word.now then asset_name tickers.now asset)) }
@@ -80,7 +80,7 @@ impl Text {
         }
     }
 
-    /// The list with the text behind what stood there. Takes no memory.
+    /// Returns the list with the text after what was in it before. Takes no memory.
     pub fn whole(self) -> Vec<u8>
         ensures items { result.items ≡ self.before.items ++ self.text }
         ensures room { self.before.room ≤ vec_capacity result }
@@ -88,7 +88,7 @@ impl Text {
         self.bytes
     }
 
-    /// The list as it was, without the text. Takes no memory.
+    /// Returns the list as it was, without the text. Takes no memory.
     pub fn taken_back(self) -> Vec<u8>
         ensures items { result.items ≡ self.before.items }
         ensures room { self.before.room ≤ vec_capacity result }

@@ -14,7 +14,7 @@ use Rattle.excess_bounds.specs.Brackets.{IsBracket}
 use Rattle.price_moves.specs.Ends.{has_risen, has_fallen}
 use Rattle.price_moves.proofs.Ends.{either, first_of, second_of, le_is, risen_closed, fallen_closed}
 
--- places that a rise, or a fall, may end at are in range
+-- a price that a rise may end at is in range
 pub risen_in_range : (price reach place : ℤ) (size low high : ℕ) → IsPrice price → pos 1 ≤ℤ reach → (price +ℤ reach) ≤ℤ pos (2 ^ 62) → size ≡ unsigned_abs reach → high ≤ size
     → (price +ℤ pos low) <ℤ place → place ≤ℤ (price +ℤ pos high) → IsPrice place
 risen_in_range price reach place size low high range some room is most above within = omega (arith, ints, range, some, room, is, most, above, within)
@@ -26,7 +26,7 @@ fallen_in_range price reach place size low high range some room is most below wi
 module _ (parts : ℕ) (orders : List Order) (prices : List ℤ) (asset : ℕ) (each : All IsOrder orders) (there : asset < length prices) where
   module _ (reach low high : ℕ) (first last : ℤ) (is : first ≡ price_of prices asset) (far : last ≡ first +ℤ pos reach)
       (b : IsBracket (λ d. low_excess_in parts orders (risen prices asset d) asset) (pos (parts * steepness orders asset)) reach low high) where
-    -- at an amount of the bracket the test asks for the excess after it
+    -- at an amount of the bracket, the test looks at the excess after that amount
     excess_there : (d : ℕ) → low_excess_in parts orders (set prices asset (int_max (first +ℤ pos d) first)) asset ≡ low_excess_in parts orders (risen prices asset d) asset
     excess_there d =
         let same : int_max (first +ℤ pos d) first ≡ price_of prices asset +ℤ pos d = omega (arith, ints, clamps, is) in
@@ -66,7 +66,7 @@ module _ (parts : ℕ) (orders : List Order) (prices : List ℤ) (asset : ℕ) (
         (λ denied. denied)
         (cases_Bool (has_risen parts orders prices asset first last p))
 
-    -- so the least place above the low amount is the least of all
+    -- the least price above the bracket's low end is the least of all
     pub least_from_first : (place : ℤ) → IsLeastTrue (has_risen parts orders prices asset first last) (first +ℤ pos low) place → IsLeastTrue (has_risen parts orders prices asset first last) first place
     least_from_first place least = record {
       above = let a = least.above in omega (arith, ints, a);

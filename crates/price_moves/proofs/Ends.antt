@@ -1,4 +1,4 @@
--- The places that the searches find are where the moves of the definitions end.
+-- The prices that the bisections find are where the moves of the definitions end.
 use Rattle.std.proofs.Common.{◌≡◌, ℕ, ◌*◌, ◌≤◌, ◌<◌, ◌⊎◌, inl, inr, ⊎_elim, Bool, true, false, ◌||◌, ℤ, pos, ◌+ℤ◌, ◌-ℤ◌, ◌≤ℤ◌, ◌<ℤ◌, List, length, set, refl, ap, sym, ◌∙◌, arith}
 use Rattle.std.specs.Prelude.{All, neg_ℤ, int_le, int_lt}
 use Rattle.std.specs.Int.{int_max, int_min}
@@ -10,15 +10,15 @@ use Rattle.single_bisect.specs.Places.{IsClosedUpwards, IsClosedDownwards, IsLea
 use Rattle.flow_orders.specs.Orders.{Order, IsOrder}
 use Rattle.flow_orders.specs.Excess.{low_excess, low_excess_in, high_excess_in, steepness, is_above, is_below, is_unsettled}
 use Rattle.flow_orders.specs.Moves.{moved}
-use Rattle.flow_orders.proofs.Book.{IsSound}
+use Rattle.flow_orders.proofs.Book.{IsConsistent}
 use Rattle.flow_orders.proofs.BookLaws.{low_excess-falls, high_excess-falls}
 use Rattle.flow_orders.proofs.MoveFacts.{rise_to_place, fall_to_place, move_unique}
 use Rattle.flow_orders.proofs.Moving.{above_is, below_is, moved_is}
 use Rattle.flow_orders.proofs.DualWalks.{IsMove}
 use Rattle.price_moves.specs.Ends.{has_risen, has_fallen}
 
-pub all_sound : (orders : List Order) → All IsOrder orders → All IsSound orders
-all_sound orders each k d inside = let o = each k d inside in record { limits = o.terms; lawful = o.row }
+pub all_consistent : (orders : List Order) → All IsOrder orders → All IsConsistent orders
+all_consistent orders each k d inside = let o = each k d inside in record { limits = o.terms; lawful = o.row }
 
 -- one of two is true
 pub either : (a b : Bool) → (a || b) ≡ true → (a ≡ true) ⊎ (b ≡ true)
@@ -35,7 +35,7 @@ second_of false b e = e
 pub le_is : (x y : ℤ) → x ≤ℤ y → int_le x y ≡ true
 le_is x y h = sym (true_is_le x y (omega (arith, ints, h)))
 
--- an asset that is above, or below, is unsettled
+-- an asset that is above is unsettled
 unsettled_above : (orders : List Order) (prices : List ℤ) (asset : ℕ) → is_above orders prices asset ≡ true → is_unsettled orders prices asset ≡ true
 unfolding is_unsettled
 unsettled_above orders prices asset above = first_of (is_above orders prices asset) (is_below orders prices asset) above
@@ -55,7 +55,7 @@ below_unless_above orders prices asset steep low steep_is low_is unsettled near 
     (either (is_above orders prices asset) (is_below orders prices asset) unsettled)
 
 module _ (parts : ℕ) (orders : List Order) (prices : List ℤ) (asset : ℕ) (each : All IsOrder orders) (there : asset < length prices) where
-  -- once a rise has ended, it has at every later place
+  -- a rise that has ended at a price has ended at every later one
   pub risen_closed : (first last : ℤ) → IsClosedUpwards (has_risen parts orders prices asset first last) first last
   risen_closed first last p q above later below told =
       let low = λ (x : ℤ). low_excess_in parts orders (set prices asset (int_max x first)) asset in
@@ -63,16 +63,16 @@ module _ (parts : ℕ) (orders : List Order) (prices : List ℤ) (asset : ℕ) (
       ⊎_elim
       (λ past. first_of (int_le last q) (int_le (low q) steep) (le_is last q (omega (arith, ints, le-true last p past, later))))
       (λ near.
-      let falls = low_excess-falls parts orders prices asset (int_max p first) (int_max q first) (all_sound orders each) there (omega (arith, ints, clamps, later)) in
+      let falls = low_excess-falls parts orders prices asset (int_max p first) (int_max q first) (all_consistent orders each) there (omega (arith, ints, clamps, later)) in
       let here = le-true (low p) steep near in
       second_of (int_le last q) (int_le (low q) steep) (le_is (low q) steep (omega (arith, ints, falls, here))))
       (either (int_le last p) (int_le (low p) steep) told)
 
-  -- it has at its reach
+  -- a rise has ended at its reach
   pub risen_at_last : (first last : ℤ) → has_risen parts orders prices asset first last last ≡ true
   risen_at_last first last = first_of (int_le last last) (int_le (low_excess_in parts orders (set prices asset (int_max last first)) asset) (pos (parts * steepness orders asset))) (le_is last last (omega (arith, ints)))
 
-  -- once a fall has ended, it has at every lower place
+  -- a fall that has ended at a price has ended at every lower one
   pub fallen_closed : (first last : ℤ) → IsClosedDownwards (has_fallen parts orders prices asset first last) first last
   fallen_closed first last p q above later below told =
       let high = λ (x : ℤ). high_excess_in parts orders (set prices asset (int_min x last)) asset in
@@ -80,7 +80,7 @@ module _ (parts : ℕ) (orders : List Order) (prices : List ℤ) (asset : ℕ) (
       ⊎_elim
       (λ past. first_of (int_le p first) (int_le steep (high p)) (le_is p first (omega (arith, ints, le-true q first past, later))))
       (λ near.
-      let falls = high_excess-falls parts orders prices asset (int_min p last) (int_min q last) (all_sound orders each) there (omega (arith, ints, clamps, later)) in
+      let falls = high_excess-falls parts orders prices asset (int_min p last) (int_min q last) (all_consistent orders each) there (omega (arith, ints, clamps, later)) in
       let here = le-true steep (high q) near in
       second_of (int_le p first) (int_le steep (high p)) (le_is steep (high p) (omega (arith, ints, falls, here))))
       (either (int_le q first) (int_le steep (high q)) told)
@@ -92,9 +92,9 @@ module _ (parts : ℕ) (orders : List Order) (prices : List ℤ) (asset : ℕ) (
   is_moved : (reach d : ℕ) (next : List ℤ) → 1 ≤ reach → is_unsettled orders prices asset ≡ true → IsMove parts orders prices asset reach d next → next ≡ moved parts orders reach prices asset
   is_moved reach d next some unsettled move =
       let own = moved_is parts orders reach prices asset some unsettled in
-      (move_unique parts orders prices asset reach (all_sound orders each) d own.0 next (moved parts orders reach prices asset) move own.1).1
+      (move_unique parts orders prices asset reach (all_consistent orders each) d own.0 next (moved parts orders reach prices asset) move own.1).1
 
-  -- the least place at which a rise has ended is where it ends
+  -- the least price at which a rise has ended is where it ends
   pub rise_ends : (reach : ℕ) (first last place : ℤ) → is_above orders prices asset ≡ true → first ≡ price_of prices asset → last ≡ first +ℤ pos reach → 1 ≤ reach
       → IsLeastTrue (has_risen parts orders prices asset first last) first place → place ≤ℤ last
       → set prices asset place ≡ moved parts orders reach prices asset
@@ -115,7 +115,7 @@ module _ (parts : ℕ) (orders : List Order) (prices : List ℤ) (asset : ℕ) (
       (λ near. inl (omega (arith, ints, le-true (low place) steep near, own place start)))
       (either (int_le last place) (int_le (low place) steep) least.holds)))
 
-  -- the greatest place at which a fall has ended is where it ends
+  -- the greatest price at which a fall has ended is where it ends
   pub fall_ends : (reach : ℕ) (first last place : ℤ) → is_below orders prices asset ≡ true → last ≡ price_of prices asset → first ≡ last -ℤ pos reach → 1 ≤ reach
       → IsGreatestTrue (has_fallen parts orders prices asset first last) last place → first ≤ℤ place
       → set prices asset place ≡ moved parts orders reach prices asset

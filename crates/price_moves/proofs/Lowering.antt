@@ -1,4 +1,4 @@
--- Moves lower the exact dual.
+-- Moves lower the exact dual value.
 use Rattle.std.proofs.Common.{◌≡◌, ⊎_elim, ℕ, ◌+◌, ◌*◌, ◌≤◌, ◌<◌, true, ℤ, ◌-ℤ◌, List, length, take, ap, sym, subst, ◌∙◌, arith}
 use Rattle.std.specs.Prelude.{All, unsigned_abs}
 use Rattle.std.proofs.lemmas.Int.{ints}
@@ -16,7 +16,7 @@ use Rattle.price_moves.specs.declared.retracing.Retraced.{Retraced}
 use Rattle.price_moves.specs.declared.retracing.Retraced.TheVariants.{Legal, Illegal}
 use Rattle.price_moves.specs.Retracing.{IsRetraced, IsLowered, made_of}
 
--- a move lowers it by the amount moved
+-- a move lowers the exact dual value by the amount moved
 pub move_lowers : (parts : ℕ) → 1 ≤ parts → (orders : List Order) (prices : List ℤ) (asset reach : ℕ) (next : List ℤ) → All IsOrder orders → asset < length prices → 1 ≤ reach → is_unsettled orders prices asset ≡ true
     → next ≡ moved parts orders reach prices asset → IsLowered orders prices (unsigned_abs (price_of next asset -ℤ price_of prices asset)) next
 move_lowers parts whole orders prices asset reach next each within some unsettled made N common =
@@ -30,13 +30,13 @@ move_lowers parts whole orders prices asset reach next each within some unsettle
     subst (λ n. exact_dual N orders next + N * n ≤ exact_dual N orders prices) (sym amount)
     (subst (λ p. exact_dual N orders p + N * move.0 ≤ exact_dual N orders prices) (sym made) lowered)
 
--- a legal walk lowers it by its movement
+-- a valid walk lowers the exact dual value by its movement
 pub walk_lowers : (parts : ℕ) → 1 ≤ parts → (orders : List Order) (start : List ℤ) (walk : List ℕ) (end : List ℤ) → All IsOrder orders → IsLegalFrom parts orders start walk → end ≡ end_of parts orders start walk
     → IsLowered orders start (movement_of parts orders start walk) end
 walk_lowers parts whole orders start walk end each legal ends N common =
     subst (λ p. exact_dual N orders p + N * movement_of parts orders start walk ≤ exact_dual N orders start) (sym ends) (walks_lower_the_dual.exact parts whole N orders start walk each common legal)
 
--- so do the moves that were made again
+-- the moves of a walk that were made again lower the exact dual value by their movement
 pub retrace_lowers : (parts : ℕ) → 1 ≤ parts → (result : Retraced) (orders : List Order) (start : List ℤ) (walk : List ℕ) (end : List ℤ) → All IsOrder orders → IsRetraced parts result orders start walk end
     → IsLowered orders start (movement_of parts orders start (made_of result walk)) end
 retrace_lowers parts whole Legal orders start walk end each made = walk_lowers parts whole orders start walk end each made.0 made.1

@@ -1,4 +1,4 @@
--- The loop that makes a walk again.
+-- The loop that makes the moves of a walk again.
 use Rattle.std.proofs.Common.{◌≡◌, ℕ, suc, ◌+◌, ◌^◌, ◌≤◌, ◌<◌, true, ℤ, List, [], ◌∷◌, ◌++◌, length, take, drop, get_or, refl, ap, sym, subst, ◌∙◌, arith}
 use Rattle.std.specs.Prelude.{All}
 use Rattle.std.proofs.Math.Seq.{take-suc}
@@ -12,13 +12,13 @@ use Rattle.flow_orders.proofs.Moving.{AreWithin, has_walked}
 use Rattle.price_moves.specs.Retracing.{IsFirstIllegal, IsMovable}
 use Rattle.price_moves.proofs.Near.{legal_near}
 
--- one place more is one asset more
+-- a prefix of one place more has one asset more
 take_more : (walk : List ℕ) (k : ℕ) → k < length walk → take (k + 1) walk ≡ take k walk ++ get_or walk k 0 ∷ []
 take_more walk k inside =
     let one : k + 1 ≡ suc k = omega arith in
     ap (λ n. take n walk) one ∙ take-suc walk k 0 inside
 
--- the moves before a place are legal and were made
+-- the moves before a place are valid and were made
 pub record IsRetracing (parts : ℕ) (orders : List Order) (start : List ℤ) (walk : List ℕ) (now : List Order) (prices : List ℤ) (place : ℕ) : Type 0 where
   pub same : now ≡ orders
   pub legal : IsLegalFrom parts orders start (take place walk)
@@ -50,7 +50,7 @@ module _ (parts : ℕ) (orders : List Order) (start : List ℤ) (walk : List ℕ
         end = move ∙ ap (λ o. step_of parts o prices a) so_far.same ∙ ap (λ p. step_of parts orders p a) so_far.end ∙ sym (walk_end-push n (is_unsettled orders) (step_of parts orders) start (take place walk) a) ∙ ap (end_of parts orders start) more;
       }
 
-  -- a move that isn't legal
+  -- the move at this place isn't valid
   pub stops : place < length walk → ¬ IsMovable now prices (get_or walk place 0) → IsFirstIllegal parts orders start walk place
   stops inside none = record {
     inside = inside;
@@ -68,7 +68,7 @@ module _ (parts : ℕ) (orders : List Order) (start : List ℤ) (walk : List ℕ
       let all = take_all place walk past in
       (subst (IsLegalFrom parts orders start) all so_far.legal, so_far.end ∙ ap (end_of parts orders start) all)
 
--- where a place is the first that isn't legal, the walk isn't
+-- if a walk has a first move that isn't valid, the walk isn't valid
 pub illegal_whole : (parts : ℕ) (orders : List Order) (start : List ℤ) (walk : List ℕ) (place : ℕ) → IsFirstIllegal parts orders start walk place → ¬ IsLegalFrom parts orders start walk
 illegal_whole parts orders start walk place first legal =
     let whole = subst (IsLegalFrom parts orders start) (sym (take-append-drop (place + 1) walk)) legal in

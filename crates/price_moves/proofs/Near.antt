@@ -7,7 +7,7 @@ use Rattle.flow_orders.specs.Orders.{Order}
 use Rattle.flow_orders.specs.Outcomes.{end_of, IsLegalFrom}
 use Rattle.flow_orders.proofs.Moving.{AreWithin, has_walked}
 
--- prices within 2^60 at the start are this near after as many moves as a batch has at most
+-- prices within 2^60 at the start are this near after the most moves that a batch may have
 near_of : (start : List ℤ) → All (IsWithin (2 ^ 60)) start → AreWithin (2 ^ 60) start
 near_of start range k d inside = let one = range k d inside in omega (arith, ints, one)
 

@@ -17,11 +17,12 @@ const REACH: i64 = 1 << 45;
 
 /// Moves the price of an asset that isn't settled, by at most `reach` grains.
 ///
-/// Where its low excess is above the steepness, the price rises by the least amount from 1 to `reach` at which it no
-/// longer is in parts of a unit, else by `reach`. Where the high excess is below minus the steepness, the price falls in
-/// the same way. The other prices stay. There are 1 to 256 parts.
+/// If its low excess is above the slope bound, the price rises by the least amount from 1 to `reach` after which the low
+/// excess in parts of a unit isn't, or else by `reach`. If its high excess is below minus the slope bound, the price falls
+/// by the least amount after which the high excess in parts isn't, or else by `reach`. The other prices stay. There are
+/// 1 to 256 parts.
 ///
-/// It goes over the orders that name the asset, and then over ever fewer of them, and takes no memory.
+/// It goes over the orders that name the asset, and then over ever fewer of them, and allocates nothing.
 pub fn step(work: &mut Workspace<'_>, parts: u16, asset: u16, reach: i64)
     requires some_parts { 1 ≤ parts }
     requires few_parts { parts ≤ 256 }
@@ -34,7 +35,7 @@ pub fn step(work: &mut Workspace<'_>, parts: u16, asset: u16, reach: i64)
     ensures orders { work.new.orders ≡ work.old.orders }
     ensures moved { work.new.prices ≡ moved parts work.old.orders (unsigned_abs reach) work.old.prices asset }
 
-    // Each grain of the move lowers the exact dual by a grain at least.
+    // Each grain of the move lowers the exact dual value by at least a grain.
     ensures lowers { IsLowered work.old.orders work.old.prices
         (unsigned_abs (price_of work.new.prices asset -ℤ price_of work.old.prices asset)) work.new.prices }
 {
@@ -57,7 +58,7 @@ pub fn make_move(work: &mut Workspace<'_>, parts: u16, asset: u16)
     step(work, parts, asset, REACH);
 }
 
-// The price at which a move ends.
+// Returns the price at which a move ends.
 fn end_of_move(work: &mut Workspace<'_>, parts: u16, asset: u16, reach: i64) -> i64
     requires some_parts { 1 ≤ parts }
     requires few_parts { parts ≤ 256 }
@@ -81,7 +82,7 @@ fn end_of_move(work: &mut Workspace<'_>, parts: u16, asset: u16, reach: i64) -> 
     end_of_fall(work, parts, asset, -bound, price, reach)
 }
 
-// The price of an asset.
+// Returns the price of an asset.
 fn price_in(work: &Workspace<'_>, asset: u16) -> i64
     requires { asset < length work.now.prices }
     ensures value { result ≡ price_of work.now.prices asset }
@@ -91,7 +92,7 @@ fn price_in(work: &Workspace<'_>, asset: u16) -> i64
     work.prices()[usize::from(asset)]
 }
 
-// The price at which a rise from a price by `reach` at most ends.
+// Returns the price at which a rise by at most `reach` ends.
 fn end_of_rise(
     work: &mut Workspace<'_>,
     parts: u16,
@@ -133,7 +134,7 @@ fn end_of_rise(
     )
 }
 
-// The price at which a fall from a price by `reach` at most ends.
+// Returns the price at which a fall by at most `reach` ends.
 fn end_of_fall(
     work: &mut Workspace<'_>,
     parts: u16,
@@ -175,7 +176,7 @@ fn end_of_fall(
     )
 }
 
-// A price that rose by an amount.
+// Returns a price after a rise by an amount.
 fn risen(price: i64, amount: u64) -> i64
     requires range { IsPrice price }
     requires amount { amount ≤ 2 ^ 61 }
@@ -184,7 +185,7 @@ fn risen(price: i64, amount: u64) -> i64
     price + amount as i64
 }
 
-// A price that fell by an amount.
+// Returns a price after a fall by an amount.
 fn fallen(price: i64, amount: u64) -> i64
     requires range { IsPrice price }
     requires amount { amount ≤ 2 ^ 61 }

@@ -1,4 +1,4 @@
-//! The questions whether a move of an asset's price has ended at a place.
+//! Tests whether a move of an asset's price has ended at a price.
 ghost use Rattle.std.specs.Prelude.{◌≡◌, ◌*◌, ◌^◌, ◌<◌, ◌≤◌, ◌≤ℤ◌, pos, neg_ℤ, length};
 ghost use Rattle.flow_orders.specs.Excess.{steepness};
 ghost use Rattle.price_moves.specs.Ends.{has_risen, has_fallen};
@@ -6,13 +6,13 @@ ghost use Rattle.price_moves.specs.Ends.{has_risen, has_fallen};
 use excess_bounds::Workspace;
 use single_bisect::Probe;
 
-/// Asks whether a rise from `first` to `last` at most has ended at a place.
+/// Tests whether a rise from `first` to at most `last` has ended at a price.
 #[derive(Drop)]
 pub(crate) struct Rise<'a> {
     pub(crate) work: &'a Workspace<'a>,
     pub(crate) parts: u16,
     pub(crate) asset: u16,
-    // The steepness of the asset, in parts.
+    // The slope bound of the asset, in parts.
     pub(crate) bound: i64,
     pub(crate) first: i64,
     pub(crate) last: i64,
@@ -43,13 +43,13 @@ impl<'a> Probe for Rise<'a> {
     }
 }
 
-/// Asks whether a fall from `last` to `first` at most has ended at a place.
+/// Tests whether a fall from `last` to at least `first` has ended at a price.
 #[derive(Drop)]
 pub(crate) struct Fall<'a> {
     pub(crate) work: &'a Workspace<'a>,
     pub(crate) parts: u16,
     pub(crate) asset: u16,
-    // Minus the steepness of the asset, in parts.
+    // Minus the slope bound of the asset, in parts.
     pub(crate) bound: i64,
     pub(crate) first: i64,
     pub(crate) last: i64,

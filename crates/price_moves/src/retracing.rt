@@ -1,4 +1,4 @@
-//! A walk that is made again.
+//! Making the moves of a walk again.
 ghost use Rattle.std.specs.Prelude.{◌≡◌, ℕ, ◌+◌, ◌^◌, ◌≤◌, true, false, length, unsigned_abs, All};
 ghost use Rattle.demand_curve.specs.Demand.{IsWithin};
 ghost use Rattle.flow_orders.specs.Outcomes.{most_budget, step_of};
@@ -8,24 +8,24 @@ ghost use Rattle.price_moves.specs.Retracing.{IsRetraced, IsMovable, IsLowered, 
 use crate::moves::make_move;
 use excess_bounds::Workspace;
 
-/// What became of a walk that is made again.
+/// How far the moves of a walk could be made again.
 #[derive(Clone, Copy, PartialEq, Eq)]
 pub enum Retraced {
-    /// All its moves are legal, and were made.
+    /// All moves of the walk are valid, and were made.
     Legal,
-    /// The first place, from 0, whose byte names no asset, or one that is settled when its turn comes. The moves before it
+    /// The first place, from 0, whose byte names no asset, or one that is settled when its move comes. The moves before it
     /// were made.
     Illegal(u32),
 }
 
-/// Makes the moves of a walk again, each of at most 2^45 grains, up to the first that isn't legal. They end by excess in parts
+/// Makes the moves of a walk again, each of at most 2^45 grains, up to the first that isn't valid. They end by excess in parts
 /// of a unit, 1 to 256 of them.
 ///
-/// Each byte is the number of an asset. Its move is legal where the asset is there and isn't settled when its turn
+/// Each byte is the number of an asset. Its move is valid if there is such an asset and it isn't settled when its move
 /// comes; the order of the assets is free.
 ///
-/// The prices are within 2^60 grains of 0 at the start, and there are at most 65,536 bytes. A byte costs a look and its
-/// move. No memory is taken.
+/// The prices are within 2^60 grains of 0 at the start, and there are at most 65,536 bytes. Each byte costs a test whether
+/// its asset is settled, and its move. It allocates nothing.
 pub fn retrace(work: &mut Workspace<'_>, parts: u16, trace: &[u8]) -> Retraced
     requires some_parts { 1 ≤ parts }
     requires few_parts { parts ≤ 256 }
@@ -34,7 +34,7 @@ pub fn retrace(work: &mut Workspace<'_>, parts: u16, trace: &[u8]) -> Retraced
     ensures orders { work.new.orders ≡ work.old.orders }
     ensures retraced { IsRetraced parts result work.old.orders work.old.prices trace.now work.new.prices }
 
-    // Each grain of the moves that were made lowers the exact dual by a grain at least.
+    // Each grain of the moves that were made lowers the exact dual value by at least a grain.
     ensures lowers { IsLowered work.old.orders work.old.prices
         (movement_of parts work.old.orders work.old.prices (made_of result trace.now)) work.new.prices }
 {
@@ -48,7 +48,7 @@ pub fn retrace(work: &mut Workspace<'_>, parts: u16, trace: &[u8]) -> Retraced
     Retraced::Legal
 }
 
-// Whether the move of an asset is legal. Where it is, it is made.
+// Returns whether the move of an asset is valid, and makes it if it is.
 fn move_again(work: &mut Workspace<'_>, parts: u16, asset: u8) -> bool
     requires some_parts { 1 ≤ parts }
     requires few_parts { parts ≤ 256 }

@@ -1,4 +1,4 @@
--- Rates that are chosen order by order, from residuals that are kept in a list.
+-- Rates that are chosen order by order, from imbalances that are kept in a list.
 use Rattle.std.proofs.Common.{◌≡◌, ℕ, zero, suc, ◌+◌, ◌*◌, ◌^◌, ◌<◌, ◌≤◌, Bool, true, false, ltb, ℤ, pos, ◌+ℤ◌, ◌*ℤ◌, List, [], ◌∷◌, ◌++◌, map, length, Result, Ok, Err, take, drop, get_or, set, refl, sym, ap, ◌∙◌, subst, ⊎_elim, append_assoc, append-nil, arith}
 use Rattle.std.specs.Prelude.{unsigned_abs, All, ◌↔◌, IfOk}
 use Rattle.std.specs.List.{range_with_len, sum_by}
@@ -9,31 +9,31 @@ use Rattle.std.proofs.lemmas.List.FromFn.{length-map-range_with_len, get_or-map-
 use Rattle.std.proofs.lemmas.List.Sums.{sum_by-cons}
 use Rattle.list_sums.proofs.Products.{unsigned_abs-add}
 use Rattle.weight_rows.specs.declared.entries.Entry.{Entry}
-use Rattle.weight_rows.specs.Rows.{IsLawfulRow, IsPricedBy, weight_in, price_of}
+use Rattle.weight_rows.specs.Rows.{IsWeightVector, IsPricedBy, weight_in, price_of}
 use Rattle.weight_rows.proofs.RowLawProofs.{weights_are_small}
 use Rattle.demand_curve.specs.Demand.{IsRounding}
 use Rattle.flow_orders.specs.Orders.{Order, IsOrder, terms_of}
 use Rattle.flow_orders.specs.Excess.{price_for}
 use Rattle.flow_orders.specs.Trades.{trades, residual}
 use Rattle.flow_orders.specs.Outcomes.{residuals_of}
-use Rattle.own_rule.proofs.Raised.{residuals_after}
-use Rattle.own_rule.proofs.Choice.{residuals_follow}
-use Rattle.own_rule.specs.Choice.{absolute_sum, left_by, raised, is_raised, chosen_from}
+use Rattle.canonical_rule.proofs.Raised.{residuals_after}
+use Rattle.canonical_rule.proofs.Choice.{residuals_follow}
+use Rattle.canonical_rule.specs.Choice.{absolute_sum, left_by, raised, is_raised, chosen_from}
 use Rattle.flow_orders.specs.Residuals.{residual_in, AreNear, HasEach, IsTradeAdded}
-use Rattle.own_rule.specs.Own.{floor_at, is_fraction_at, floor_rates, rates_by_choice}
-use Rattle.own_rule.proofs.ChoiceByEntries.{absolute_sum_by_entries}
-use Rattle.own_rule.proofs.OwnIsRight.{choices_are_roundings}
-use Rattle.own_rule.proofs.OwnLaws.{chosen_rates_are_no_worse}
+use Rattle.canonical_rule.specs.Canonical.{floor_at, is_fraction_at, floor_rates, rates_by_choice}
+use Rattle.canonical_rule.proofs.ChoiceByEntries.{absolute_sum_by_entries}
+use Rattle.canonical_rule.proofs.CanonicalIsAdmissible.{choices_are_roundings}
+use Rattle.canonical_rule.proofs.CanonicalLaws.{chosen_rates_are_no_worse}
 use Rattle.rate_rounding.specs.Private.{ceil_at, left_by_floors, is_raised_at, IsChosenBy, IsChosen}
 
--- ---- residuals that agree on n assets lead to the same choices
+-- ---- imbalances that agree on n assets lead to the same choices
 
 sums_agree : (f g : ℕ → ℕ) (a n : ℕ) → ((k : ℕ) → k < a + n → f k ≡ g k) → sum_by f (range_with_len a n) ≡ sum_by g (range_with_len a n)
 sums_agree f g a zero same = refl
 sums_agree f g a (suc n) same =
     omega (arith, sum_by-cons f a (range_with_len (a + 1) n), sum_by-cons g a (range_with_len (a + 1) n), same a (omega arith), sums_agree f g (a + 1) n (λ k below. same k (omega (arith, below))))
 
--- the residuals of n assets are the same
+-- the imbalances of n assets agree
 abbrev Agree : ℕ → (ℕ → ℤ) → (ℕ → ℤ) → Type 0
 Agree n r s = (asset : ℕ) → asset < n → r asset ≡ s asset
 
@@ -67,8 +67,8 @@ module _ {X : Type 0} (n : ℕ) (weight : X → ℕ → ℤ) (floor : X → ℕ)
 
 -- ---- one order
 
--- one unit more of a row leaves less over where its entries do
-pub lessens_where : (n : ℕ) (residuals : List ℤ) (row : List Entry) → IsLawfulRow row → All (λ (e : Entry). e.asset < n) row
+-- one unit more of a portfolio makes the sum of absolute imbalances smaller if it does so for its legs
+pub lessens_where : (n : ℕ) (residuals : List ℤ) (row : List Entry) → IsWeightVector row → All (λ (e : Entry). e.asset < n) row
     → (sum_by (λ (e : Entry). unsigned_abs (residual_in residuals e.asset +ℤ e.weight)) row < sum_by (λ (e : Entry). unsigned_abs (residual_in residuals e.asset)) row)
     ↔ (ltb (absolute_sum n (λ asset. residual_in residuals asset +ℤ weight_in row asset)) (absolute_sum n (residual_in residuals)) ≡ true)
 lessens_where n residuals row lawful there =
@@ -77,11 +77,11 @@ lessens_where n residuals row lawful there =
       λ test. let less = ltb-true (absolute_sum n (λ asset. residual_in residuals asset +ℤ weight_in row asset)) (absolute_sum n (residual_in residuals)) test in omega (arith, by, less),
     )
 
--- each asset of a row has a place among as many
+-- a weight vector that one list prices is priced by any of the same length
 pub priced_alike : (row : List Entry) (a b : List ℤ) → length a ≡ length b → IsPricedBy row a → IsPricedBy row b
 priced_alike row a b same priced k d inside = omega (arith, same, priced k d inside)
 
--- the rule by its two tests, where the demand isn't whole and where it is
+-- the rule by its two tests: whether the demand isn't whole, and whether one unit more lessens imbalances
 module _ (prices residuals : List ℤ) (o : Order) (floor ceil : ℕ) (floor_is : floor ≡ floor_at prices o) (ceil_is : ceil ≡ ceil_at prices o) where
   pub raised_where : (less : Bool) → IsOrder o → IsPricedBy o.row prices → floor < ceil
       → (less ≡ true) ↔ (sum_by (λ (e : Entry). unsigned_abs (residual_in residuals e.asset +ℤ e.weight)) o.row < sum_by (λ (e : Entry). unsigned_abs (residual_in residuals e.asset)) o.row)
@@ -103,15 +103,15 @@ module _ (prices residuals : List ℤ) (o : Order) (floor ceil : ℕ) (floor_is 
 
 -- ---- the loop over the orders
 
--- the choices that are left, from these residuals
+-- the choices for the remaining orders, given these imbalances
 abbrev chosen_on : List ℤ → List ℤ → List Order → List ℕ
 chosen_on prices residuals orders = chosen_from (length prices) (λ o asset. weight_in o.row asset) (floor_at prices) (is_fraction_at prices) (residual_in residuals) orders
 
--- what is left over after these choices
+-- the imbalances after these choices
 abbrev left_after : List ℤ → (ℕ → ℤ) → List Order → ℕ → ℤ
 left_after prices residuals orders = residuals_after (length prices) (λ (o : Order) asset. weight_in o.row asset) (floor_at prices) (is_fraction_at prices) residuals orders
 
--- the rates of the first i orders are chosen, and the residuals are those after these choices
+-- the rates of the first i orders are chosen, and the imbalances are those after these choices
 pub record AreChosen (prices : List ℤ) (orders : List Order) (i : ℕ) (rates : List ℕ) (residuals : List ℤ) : Type 0 where
   pub chosen : rates_by_choice (length prices) orders prices ≡ rates ++ chosen_on prices residuals (drop i orders)
   pub after : Agree (length prices) (left_after prices (left_by_floors orders prices) orders) (left_after prices (residual_in residuals) (drop i orders))
@@ -175,7 +175,7 @@ module _ (prices : List ℤ) (orders : List Order) (i : ℕ) (o : Order) (rates 
   pub one_more_chosen : IsChosen prices o rate now new → AreChosen prices orders i rates now → AreChosen prices orders (i + 1) (rates ++ rate ∷ []) new
   one_more_chosen turn before = one_more (is_raised_at prices now o) refl turn before
 
--- what orders and rates leave over is what their trades do
+-- the imbalances at rates are those of the trades
 residuals_are : (orders : List Order) (rates : List ℕ) (asset : ℕ) → left_by (λ o asset. weight_in o.row asset) orders rates asset ≡ residual (trades orders rates) asset
 residuals_are [] rates asset = refl
 residuals_are (o ∷ orders) [] asset = refl
@@ -214,7 +214,7 @@ module _ (orders : List Order) (prices : List ℤ) (rates : List ℕ) (chosen : 
   pub no_more_is_left : absolute_sum (length prices) (residual (trades orders rates)) ≤ absolute_sum (length prices) (residual (trades orders (floor_rates orders prices)))
   no_more_is_left = subst (λ xs. absolute_sum (length prices) (residual (trades orders xs)) ≤ absolute_sum (length prices) (residual (trades orders (floor_rates orders prices)))) (sym chosen) (chosen_rates_are_no_worse (length prices) orders prices)
 
--- what follows of each value by two facts holds of an answer
+-- if a third fact follows from two of every value, it holds of a result of which the two hold
 pub on_both : {T E : Type 0} {P Q R : T → Type 0} → ((x : T) → P x → Q x → R x) → (result : Result T E) → IfOk result P → IfOk result Q → IfOk result R
 on_both follows (Ok x) one other = follows x one other
 on_both follows (Err e) one other = tt

@@ -1,4 +1,4 @@
--- All demands rounded down, and what they leave over, order by order.
+-- The imbalances with all demands rounded down, order by order.
 use Rattle.std.proofs.Common.{◌≡◌, ℕ, ◌+◌, ◌*◌, ◌^◌, ◌<◌, ◌≤◌, true, ℤ, pos, ◌+ℤ◌, ◌*ℤ◌, List, [], ◌∷◌, length, take, get_or, refl, sym, ap, ◌∙◌, inr, ⊎_elim, arith}
 use Rattle.std.specs.Prelude.{unsigned_abs, ◌↔◌}
 use Rattle.std.proofs.lemmas.Bool.{cases_lt, lt-ltb}
@@ -13,11 +13,11 @@ use Rattle.demand_curve.proofs.RoundingLaws.{roundings_enclose_demand, roundings
 use Rattle.flow_orders.specs.Orders.{Order, IsOrder, most_orders, terms_of}
 use Rattle.flow_orders.specs.Excess.{price_for}
 use Rattle.flow_orders.specs.Residuals.{AreNear, HasEach, AreZeros, IsTradeAdded}
-use Rattle.own_rule.specs.Own.{floor_at, is_fraction_at}
+use Rattle.canonical_rule.specs.Canonical.{floor_at, is_fraction_at}
 use Rattle.excess_bounds.specs.Quotes.{Quote, quote_at, quotes_at}
 use Rattle.rate_rounding.specs.Private.{left_by_floors}
 
--- a demand rounded down is within the highest rate
+-- a demand rounded down is at most the highest rate
 pub floor_is_small : (prices : List ℤ) (o : Order) → IsOrder o → floor_at prices o ≤ most_rate
 floor_is_small prices o order =
     let enclosed = roundings_enclose_demand (terms_of o) order.terms (price_for prices o) in
@@ -37,7 +37,7 @@ unfolding brought
 brought_small prices asset o order =
     omega (arith, unsigned_abs-mul_le (weight_in o.row asset) (pos (floor_at prices o)) 4096 (2 ^ 24) (weights_are_small o.row asset order.row) (floor_is_small prices o order))
 
--- what the first i orders leave over
+-- the imbalances of the first i orders
 pub record AreLeft (n : ℕ) (prices : List ℤ) (orders : List Order) (i : ℕ) (residuals : List ℤ) : Type 0 where
   pub left : HasEach n (λ asset. int_sum_by (brought prices asset) (take i orders)) residuals
   pub near : AreNear (i * 2 ^ 36) residuals

@@ -4,9 +4,9 @@ use Rattle.demand_curve.proofs.RoundingLaws.{rounding_is_within_room}
 use Rattle.flow_orders.specs.Orders.{IsOrder, terms_of}
 use Rattle.flow_orders.specs.Excess.{price_for}
 use Rattle.flow_orders.specs.Trades.{trades}
-use Rattle.own_rule.specs.Own.{floor_rates}
+use Rattle.canonical_rule.specs.Canonical.{floor_rates}
 use Rattle.flow_orders.proofs.TradeFacts.{All-trades}
-use Rattle.own_rule.proofs.OwnIsRight.{floors_are_roundings as floors_rounded}
+use Rattle.canonical_rule.proofs.CanonicalIsAdmissible.{floors_are_roundings as floors_rounded}
 use Rattle.rate_rounding.specs.Laws.{FloorsAreRoundings}
 
 pub floors_are_roundings : FloorsAreRoundings

@@ -1,15 +1,15 @@
-//! Rates that are chosen order by order, so that little is left over.
+//! Rates that are chosen order by order, for small imbalances.
 ghost use Rattle.std.specs.Prelude.{◌≡◌, ◌+◌, ◌^◌, ◌<◌, ◌≤◌, ◌↔◌, ◌+ℤ◌, ℤ, List, [], unsigned_abs, IsTrue, IfOk, length, vec_capacity, All};
 ghost use Rattle.std.specs.List.{sum_by};
 ghost use Rattle.weight_rows.specs.Rows.{most_weight, IsPrice, IsPricedBy};
 ghost use Rattle.demand_curve.specs.Demand.{IsRounding};
 ghost use Rattle.flow_orders.specs.Orders.{most_orders, terms_of};
 ghost use Rattle.flow_orders.specs.Excess.{price_for};
-ghost use Rattle.own_rule.specs.Choice.{absolute_sum};
+ghost use Rattle.canonical_rule.specs.Choice.{absolute_sum};
 ghost use Rattle.flow_orders.specs.Trades.{trades, residual};
 ghost use Rattle.flow_orders.specs.Outcomes.{residuals_of};
 ghost use Rattle.flow_orders.specs.Residuals.{most_prices, residual_in, AreNear, AreZeros, HasEach};
-ghost use Rattle.own_rule.specs.Own.{floor_at, floor_rates, rates_by_choice};
+ghost use Rattle.canonical_rule.specs.Canonical.{floor_at, floor_rates, rates_by_choice};
 ghost use Rattle.excess_bounds.specs.Quotes.{quote_at};
 ghost use Rattle.excess_bounds.specs.Workspace.{AreQuoted};
 ghost use Rattle.rate_rounding.specs.Private.{ceil_at, left_by_floors, is_raised_at, IsChosen};
@@ -21,20 +21,20 @@ use flow_orders::{Order, add_residuals};
 use std::alloc::Global;
 use weight_rows::{Entry, WeightRow};
 
-/// Chosen rates, and what they leave over.
+/// Chosen rates, and their imbalances.
 #[derive(Drop)]
 pub struct Chosen {
     /// One rate for each order, in whole units per batch, in their order.
     pub rates: Vec<u32>,
-    /// What the rates leave over of each asset, bought less sold, in units, by the assets' numbers.
+    /// The imbalance of each asset at these rates, bought less sold, in units, by the assets' numbers.
     pub residuals: Vec<i64>,
 }
 
-/// Each order's demand at these prices, rounded down or up so that little is left over: one rate for each order, in
-/// their order, as [`choose_rates`] says.
+/// Returns each order's demand at these prices, rounded down or up for small imbalances: one rate for each order, in
+/// order, chosen as [`choose_rates`] chooses.
 ///
 /// There are at most 16,384 orders, in the order of their numbers, and at most 64 prices, in grains and within 2^62 of
-/// 0, one for each asset that an order names. It costs a pass more than `choose_rates`, which prices the orders, and
+/// 0, one for each asset that an order names. It costs one pass more than `choose_rates`, which prices the orders, and
 /// memory for their quotes.
 pub fn chosen_rates(alloc: Global, orders: &[Order], prices: &[i64]) -> Result<Vec<u32>, Memory>
     requires few { length orders.now ≤ most_orders }
@@ -57,16 +57,16 @@ pub fn chosen_rates(alloc: Global, orders: &[Order], prices: &[i64]) -> Result<V
     Ok(choose_rates(alloc, orders, &quoted)?.rates)
 }
 
-/// Each order's demand at the prices that it is quoted at, rounded down or up so that little is left over, and what is.
+/// Returns each order's demand at the prices that it is quoted at, rounded down or up for small imbalances, and these.
 ///
 /// At first all demands are rounded down. Then the orders have their turn, one after the other: an order whose demand
-/// isn't whole gets 1 more exactly where that makes the sum of the absolute residuals of all assets strictly smaller,
-/// a residual being what the rates leave over of an asset, bought less sold, in units. So no more is left over in all
-/// than by [`floor_rates`](crate::floor_rates). The rule is this project's own.
+/// isn't whole gets 1 more exactly if that makes the sum of the absolute imbalances of all assets strictly smaller. So
+/// that sum is at most the one with all demands rounded down, as [`floor_rates`](crate::floor_rates) rounds them. The
+/// imbalance of an asset is what the rates buy of it less what they sell, in units. The rule is this project's own.
 ///
-/// It costs two passes over the entries of all orders: one adds what the demands rounded down leave over, and one
-/// chooses, and goes once more over the row of an order that gets 1 more. It computes neither price nor demand, and takes
-/// memory twice, 4 bytes for each order and 8 for each price, before it rounds anything.
+/// It costs two passes over the legs of all orders: one adds up the imbalances with all demands rounded down, and one
+/// chooses, and goes once more over the legs of an order that gets 1 more. It computes no price and no demand, and
+/// allocates twice, 4 bytes for each order and 8 for each price, before it rounds anything.
 pub fn choose_rates(alloc: Global, orders: &[Order], quoted: &Quoted) -> Result<Chosen, Memory>
     requires { AreQuoted orders.now quoted.now.prices.items quoted.now.quotes.items }
     ensures chosen { IfOk result (λ c. c.rates.items
@@ -89,7 +89,7 @@ pub fn choose_rates(alloc: Global, orders: &[Order], quoted: &Quoted) -> Result<
     Ok(Chosen { rates, residuals })
 }
 
-// Makes zeros what all demands rounded down leave over.
+// Turns `residuals`, all zero on entry, into the imbalances with all demands rounded down.
 fn add_floors(orders: &[Order], quoted: &Quoted, residuals: &mut [i64])
     requires quoted { AreQuoted orders.now quoted.now.prices.items quoted.now.quotes.items }
     requires zeros { AreZeros (length quoted.now.prices.items) residuals.old }
@@ -103,7 +103,7 @@ fn add_floors(orders: &[Order], quoted: &Quoted, residuals: &mut [i64])
     }
 }
 
-// Chooses the rates, from what all demands rounded down leave over. Makes of it what the chosen rates leave over.
+// Chooses the rates. `residuals` has the imbalances with all demands rounded down, and becomes those at the chosen rates.
 fn choose(orders: &[Order], quoted: &Quoted, rates: &mut Vec<u32>, residuals: &mut [i64])
     requires quoted { AreQuoted orders.now quoted.now.prices.items quoted.now.quotes.items }
     requires none { rates.old.items ≡ [] }
@@ -121,7 +121,7 @@ fn choose(orders: &[Order], quoted: &Quoted, rates: &mut Vec<u32>, residuals: &m
     }
 }
 
-// The chosen rate of an order.
+// Returns the chosen rate of an order, given the imbalances before its turn, and adds to these if it is rounded up.
 fn choose_one(order: &Order, quote: &Quote, residuals: &mut [i64]) -> u32
     requires priced { IsPricedBy order.now.row residuals.old }
     requires near { AreNear (2 ^ 52) residuals.old }
@@ -137,7 +137,7 @@ fn choose_one(order: &Order, quote: &Quote, residuals: &mut [i64]) -> u32
     }
 }
 
-// Whether an order of this demand is rounded up: its demand isn't whole, and so less is left over.
+// Returns whether an order with this demand is rounded up: its demand isn't whole, and one unit more lessens imbalances.
 fn is_raised(order: &Order, demand: Roundings, residuals: &[i64]) -> bool
     requires priced { IsPricedBy order.now.row residuals.now }
     requires near { AreNear (2 ^ 52) residuals.now }
@@ -147,7 +147,7 @@ fn is_raised(order: &Order, demand: Roundings, residuals: &[i64]) -> bool
     demand.floor < demand.ceil && lessens(order.row(), residuals)
 }
 
-// Whether one unit more of a row's portfolio leaves less over.
+// Returns whether one unit more of a portfolio makes the sum of absolute imbalances smaller.
 fn lessens(row: &WeightRow, residuals: &[i64]) -> bool
     requires places { IsPricedBy row.now residuals.now }
     requires near { AreNear (2 ^ 52) residuals.now }
@@ -163,7 +163,7 @@ fn lessens(row: &WeightRow, residuals: &[i64]) -> bool
     after < before
 }
 
-// What is left over of an entry's asset, without its sign.
+// Returns the absolute imbalance of a leg's asset.
 fn left_over(entry: &Entry, residuals: &[i64]) -> u64
     requires place { entry.now.asset < length residuals.now }
     requires near { AreNear (2 ^ 52) residuals.now }
@@ -173,7 +173,7 @@ fn left_over(entry: &Entry, residuals: &[i64]) -> u64
     residuals[usize::from(entry.asset)].unsigned_abs()
 }
 
-// The same with one unit more of the entry's row.
+// Returns the absolute imbalance of a leg's asset after one unit more of the leg's portfolio.
 fn left_with_one_more(entry: &Entry, residuals: &[i64]) -> u64
     requires place { entry.now.asset < length residuals.now }
     requires weight { unsigned_abs entry.now.weight ≤ most_weight }

@@ -1,8 +1,8 @@
-//! What holds of demands that are rounded down, whatever code there is. The function does nothing: its contract is the
-//! law.
+//! What holds of demands rounded down, whatever the code. The law is the contract of a function that does
+//! nothing.
 ghost use Rattle.rate_rounding.specs.Laws.{FloorsAreRoundings};
 
-/// There is one rate for each order, less than 1 apart from the order's demand, and at most what it may still trade.
+/// Rounding down gives one rate for each order, less than 1 apart from its demand and at most its batch maximum.
 pub fn floors_are_roundings()
     ensures { FloorsAreRoundings }
 {}

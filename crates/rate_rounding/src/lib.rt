@@ -1,25 +1,25 @@
 //! The rates at which the orders of a batch trade: what each asks for at the prices, in whole units.
 //!
-//! An order's demand is a fraction, and trades are whole, so a demand is rounded, and what rounding leaves over of an
-//! asset the exchange takes. [`choose_rates`] are those that the program publishes, with what they leave over: some demands
-//! are rounded up, order by order, so that less is left over. It takes orders that are quoted, so it computes no price and no
-//! demand; [`chosen_rates`] are the same of orders and prices alone. [`floor_rates`] rounds all demands down, so an order
-//! never trades more than it asks for.
+//! An order's demand is a fraction, and trades are whole, so a demand is rounded; the exchange takes the imbalance that
+//! results. [`choose_rates`] chooses the rates that the program publishes, with their imbalances: some demands are rounded
+//! up, order by order, so that imbalances are smaller. It takes orders that are quoted, so it computes no price and no
+//! demand; [`chosen_rates`] chooses the same rates from orders and prices alone. [`floor_rates`] rounds all demands down, so
+//! an order never trades more than it asks for.
 //!
-//! Prices are in grains, and 2^32 grains are a tick; there is one for each asset, by its number. Rates are in whole
+//! Prices are in grains, and a tick is 2^32 grains; there is one for each asset, by its number. Rates are in whole
 //! units of an order's portfolio per batch.
 //!
 //! # Costs
 //!
-//! [`choose_rates`] goes twice over the entries of all orders, and divides nowhere. [`floor_rates`] goes once over them, and
-//! divides at most once an order. Memory is taken before anything is rounded.
+//! [`choose_rates`] goes twice over the legs of all orders, without a division. [`floor_rates`] goes once over them, and
+//! divides at most once for each order. All memory is allocated before anything is rounded.
 #![tactic(auto)]
 
 ghost use Rattle.std.specs.Prelude.{◌≡◌, ◌≤◌, IfOk, length, All};
 ghost use Rattle.weight_rows.specs.Rows.{IsPrice, IsPricedBy};
 ghost use Rattle.demand_curve.specs.Demand.{most_rate};
 ghost use Rattle.flow_orders.specs.Orders.{most_orders};
-ghost use Rattle.own_rule.specs.Own.{floor_at, floor_rates};
+ghost use Rattle.canonical_rule.specs.Canonical.{floor_at, floor_rates};
 
 mod choice;
 pub mod laws;
@@ -29,7 +29,7 @@ use flow_orders::Order;
 pub use out_of_memory::Memory;
 use std::alloc::Global;
 
-/// Each order's demand at these prices, rounded down: one rate for each order, in their order.
+/// Returns each order's demand at these prices, rounded down: one rate for each order, in order.
 ///
 /// There are at most 16,384 orders, and `prices` has one price for each asset that they name, within 2^62 grains of 0.
 pub fn floor_rates(alloc: Global, orders: &[Order], prices: &[i64]) -> Result<Vec<u32>, Memory>
@@ -45,7 +45,7 @@ pub fn floor_rates(alloc: Global, orders: &[Order], prices: &[i64]) -> Result<Ve
     Ok(rates)
 }
 
-// One order's demand, rounded down.
+// Returns one order's demand, rounded down.
 fn floor_rate(order: &Order, prices: &[i64]) -> u32
     requires range { All IsPrice prices.now }
     requires priced { IsPricedBy order.now.row prices.now }

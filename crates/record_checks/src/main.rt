@@ -1,10 +1,10 @@
-//! Calls over records, pairs of records and lines of JSON: one on each line of standard input, and what it comes to on
-//! standard output. A case more costs no proof.
+//! Calls over records, entries of a journal and lines of JSON: one call on each line of standard input, and its result on standard
+//! output. One more case costs no proof.
 //!
-//! A line is a remark, a name for bytes, or a case, as `check_lines` says; remarks are passed on as they are. A case is a
-//! call, what it is called with, and bytes. What is told begins with what stands before the colon.
+//! A line is a remark, a name for bytes, or a case, as `check_lines` says; remarks are passed on as they are. A case is a call, what it is
+//! called with, and bytes. What is printed begins with the words before the colon.
 //!
-//! | case | calls | told |
+//! | case | calls | printed |
 //! |---|---|---|
 //! | `front LIMIT: BYTES` | `next_record` | `whole TAG TAKEN BODY RECORD`, `end`, `too_large LENGTH` or `short` |
 //! | `command: RECORD` | `RecordView::command` | the command, `unknown_tag` or `bad_body` |
@@ -15,23 +15,23 @@
 //! | `reply: RECORD` | `reply`, `to_cleared` | the reply, or `none` |
 //! | `line TICKERS: TEXT` | `read_line`, with the tickers of the lines before | the command, `many` and how many commands with these, `blank` or `no_command`; then `of` how many tickers |
 //! | `lines: TEXT` | `encode_lines` | `done`, or `no_command` and the line's number. Then the records. With `lines more:` there is more of the text |
-//! | `line_2`, `lines_2` | the same of version Two | |
-//! | `line_3`, `lines_3` | and of version Three | |
+//! | `line_2`, `lines_2` | `read_line`, `encode_lines` in version Two | as for `line` and `lines` |
+//! | `line_3`, `lines_3` | `read_line`, `encode_lines` in version Three | as for `line` and `lines` |
 //! | `sample NUMBER ORDERS:` | `sample_commands` | how many bytes, their sum (FNV-1a of 64 bits), and the last seven records |
-//! | `write: RECORD` | `write_command` of the command that this spells, copied | |
+//! | `write: RECORD` | `write_command` of the command that this encodes, copied | |
 //! | `plain REPLY: RECORD` | `reserve_plain`, `write_plain` | |
 //! | `cleared BATCH GAP ASSETS FILLS: RECORD` | `write_cleared` | |
 //! | `skipped BATCH START END: RECORD MOVES` | `write_skipped` | |
 //!
-//! The last four are called twice for one list of bytes, and its records are told, each in a row.
+//! The last four are called twice for one list of bytes, and its records are printed, each in a row.
 //!
-//! - A command is told by its name and its fields, in the order of the format. Behind those of an order stand its entries, as
-//!   `0/1 1/-2 -`; and where it is read from a record, whether they are a `lawful` row, or why not.
-//! - A reply is `done`, `asset NUMBER`, `account NUMBER`, `order NUMBER` or `refused CODE`. Only told are `skipped BATCH START
-//!   END MOVES`, and `cleared BATCH GAP` with prices and residuals, as `99/-1 101/0 -`, and orders with their rates. A `copy`
-//!   follows: gap, prices, residuals, rates.
-//! - ASSETS and FILLS are such lists too, written as `99/-1,101/0`. In what is told `-` stands for what is answered behind the
-//!   last item. For an empty list, or no bytes, `-` stands everywhere.
+//! - A command is printed by its name and its fields, in the order of the format. After those of an order come its legs, as
+//!   `0/1 1/-2 -`; if it is read from a record, then whether they are a `lawful` weight vector, or why not.
+//! - A reply is `done`, `asset NUMBER`, `account NUMBER`, `order NUMBER` or `refused CODE`. Only printed are `skipped BATCH START
+//!   END MOVES`, and `cleared BATCH GAP` with prices and imbalances, as `99/-1 101/0 -`, and orders with their rates. A `copy`
+//!   follows: gap, prices, imbalances, rates.
+//! - ASSETS and FILLS are such lists too, written as `99/-1,101/0`. In what is printed `-` is the answer after the last item. An
+//!   empty list, or no bytes, is `-` everywhere.
 #![tactic(auto)]
 
 mod pairs;
@@ -63,7 +63,7 @@ fn append(
     }
 }
 
-// The same twice, of the record at the front of the bytes.
+// Appends twice what a call makes of the first record of the bytes.
 fn append_twice(alloc: Global, words: (&str, &str), bytes: &[u8], out: &mut Vec<u8>) -> Option<()> {
     match next_record(bytes, MOST_BODY) {
         Framed::Whole(record, taken) => {
@@ -75,7 +75,7 @@ fn append_twice(alloc: Global, words: (&str, &str), bytes: &[u8], out: &mut Vec<
     }
 }
 
-// Tells what a call that appends makes of the record at the front of the bytes.
+// Prints what a call that appends makes of the first record of the bytes.
 fn put_appended(alloc: Global, words: (&str, &str), bytes: &[u8], told: &mut Told) {
     let mut out = Vec::new(alloc);
     told.keep(append_twice(alloc, words, bytes, &mut out));
@@ -83,7 +83,7 @@ fn put_appended(alloc: Global, words: (&str, &str), bytes: &[u8], told: &mut Tol
     told.put_records(&out, out.len());
 }
 
-// Tells what a call comes to that has one row, or what one comes to that appends.
+// Prints the one row of a call, or what a call appends.
 fn put_row(alloc: Global, words: (&str, &str), bytes: &[u8], told: &mut Told) {
     match words.0 {
         "front" => records::put_front(words.1, bytes, told),
@@ -101,19 +101,18 @@ fn put_row(alloc: Global, words: (&str, &str), bytes: &[u8], told: &mut Told) {
     told.put("\n");
 }
 
-// Tells what a call comes to.
+// Prints the result of a call.
 fn put_case(alloc: Global, words: (&str, &str), bytes: &[u8], told: &mut Told) {
-    let more = words.1 == "more";
     match words.0 {
         "sample" => samples::put_sample(alloc, words.1, told),
-        "lines" => texts::put_lines(alloc, Version::One, bytes, more, told),
-        "lines_2" => texts::put_lines(alloc, Version::Two, bytes, more, told),
-        "lines_3" => texts::put_lines(alloc, Version::Three, bytes, more, told),
+        "lines" => texts::put_lines(alloc, Version::One, words.1, bytes, told),
+        "lines_2" => texts::put_lines(alloc, Version::Two, words.1, bytes, told),
+        "lines_3" => texts::put_lines(alloc, Version::Three, words.1, bytes, told),
         _ => put_row(alloc, words, bytes, told),
     }
 }
 
-// Tells what a line comes to.
+// Prints the result of a line.
 fn put_line(alloc: Global, names: &mut Names, line: &str, told: &mut Told) {
     match names.read(line) {
         Some(Line::Remark) => {

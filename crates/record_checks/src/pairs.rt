@@ -1,4 +1,4 @@
-//! Pairs that are written.
+//! Entries that are written.
 use batch_outcome::{Cleared, PriceList, RateList, ResidualList, Skipped, Trace};
 use flow_orders::{Order, order_fault};
 use journal_records::{reserve_plain, write_cleared, write_plain, write_skipped};
@@ -6,7 +6,7 @@ use std::alloc::Global;
 use weight_rows::{Entry, EntryList, WeightRow, row_fault};
 use wire_records::{RecordView, Refusal, Reply};
 
-// The reply that words say.
+// Returns the reply that words say.
 fn reply_of(words: &str) -> Option<Reply> {
     let (word, number) = words.split_once(' ').unwrap_or((words, ""));
     match word {
@@ -29,7 +29,7 @@ pub(crate) fn append_plain(asked: &RecordView<'_>, with: &str, out: &mut Vec<u8>
     Some(())
 }
 
-// An order of this number that buys asset 0.
+// Returns an order of this number that buys asset 0.
 fn order_of(alloc: Global, number: u64) -> Option<Order> {
     let entry = Entry {
         asset: 0,
@@ -58,7 +58,7 @@ fn add_fills(
     Some(())
 }
 
-// The same, of prices and residuals.
+// Appends the prices and the imbalances of a list.
 fn add_assets(list: &str, prices: &mut Vec<i64>, residuals: &mut Vec<i64>) -> Option<()> {
     for item in list.split(',') {
         let (price, residual) = item.split_once('/')?;
@@ -100,7 +100,7 @@ fn write_batch(
     write_cleared(asked, batch, orders, cleared, out).ok()
 }
 
-// Writes a clearing of these orders, which are none so far, and are added by their list.
+// Writes a clearing of the orders of a list, which are added to `orders`, empty before.
 fn append_fills(
     alloc: Global,
     asked: &RecordView<'_>,

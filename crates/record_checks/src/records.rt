@@ -13,7 +13,7 @@ use wire_records::{
     RowView, Version, command_version, next_record, put_head, write_command,
 };
 
-// The one record that these bytes are.
+// Returns the one record that these bytes are.
 pub(crate) fn record_in(bytes: &[u8]) -> Option<RecordView<'_>> {
     match next_record(bytes, MOST_REPLY_BODY) {
         Framed::Whole(record, taken) if taken == bytes.len() => Some(record),
@@ -41,7 +41,7 @@ pub(crate) fn put_front(limit: &str, bytes: &[u8], told: &mut Told) {
     }
 }
 
-// Each entry by its place, up to the first that isn't there, and why they are no row.
+// Prints each leg by its place, up to the first that isn't there, and why they are no weight vector.
 fn put_row(row: &RowView<'_>, told: &mut Told) {
     for place in 0..=row.len() {
         match row.entry(place) {
@@ -58,7 +58,7 @@ fn put_row(row: &RowView<'_>, told: &mut Told) {
     }
 }
 
-// The command in memory of its own.
+// Returns the command in memory of its own.
 fn owned(alloc: Global, command: CommandView<'_>) -> Option<Command> {
     Some(match command {
         CommandView::AddAsset(ticker) => Command::AddAsset {
@@ -170,7 +170,7 @@ pub(crate) fn put_read(alloc: Global, bytes: &[u8], told: &mut Told) {
     }
 }
 
-// Where the row of a command, if it has one, isn't too long to be written.
+// Returns whether the weight vector of a command, if it has one, isn't too long to be written.
 fn has_short_row(command: &Command) -> bool
     ensures { IsTrue result → HasShortRow (command_in command.now) }
 {
@@ -181,7 +181,7 @@ fn has_short_row(command: &Command) -> bool
     }
 }
 
-// Appends the record of the command that a record spells.
+// Appends the record of the command that a record encodes.
 pub(crate) fn append_again(
     alloc: Global,
     record: &RecordView<'_>,

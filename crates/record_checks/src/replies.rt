@@ -1,4 +1,4 @@
-//! Replies that are read, and pairs.
+//! Replies that are read, and entries.
 use crate::records::record_in;
 use crate::telling::{put, put_bytes, put_item};
 use batch_outcome::{Cleared, ClearedParts};
@@ -17,7 +17,7 @@ fn put_plain(reply: Reply, told: &mut Told) {
     }
 }
 
-// Each price with its residual, by their place, up to the first that isn't there.
+// Prints each price with its imbalance, by place, up to the first that isn't there.
 fn put_assets(view: &ClearedView<'_>, told: &mut Told) {
     for place in 0..=view.price_count() {
         match (view.price(place), view.residual(place)) {
@@ -28,7 +28,7 @@ fn put_assets(view: &ClearedView<'_>, told: &mut Told) {
     }
 }
 
-// Each order with its rate, in the same way.
+// Prints each order with its rate, by place, up to the first that isn't there.
 fn put_fills(view: &ClearedView<'_>, told: &mut Told) {
     for place in 0..=view.rate_count() {
         match (view.order(place), view.rate(place)) {
@@ -46,7 +46,7 @@ fn put_numbers(numbers: &[i64], told: &mut Told) {
     told.put(" -")
 }
 
-// An outcome in memory of its own.
+// Prints an outcome in memory of its own.
 fn put_copy(copy: &Cleared, told: &mut Told) {
     put("copy", &[copy.gap], told);
     put_numbers(copy.prices.as_slice(), told);

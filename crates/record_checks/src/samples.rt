@@ -3,7 +3,7 @@ use check_lines::Told;
 use sample_market::{MOST_ORDERS, sample_commands};
 use std::alloc::Global;
 
-// The bytes as one number, in which each byte counts by its place: FNV-1a of 64 bits.
+// Returns the bytes as one number, in which each byte counts by its place: FNV-1a of 64 bits.
 fn sum_of(bytes: &[u8]) -> u64 {
     let mut sum = 0xcbf2_9ce4_8422_2325u64;
     for byte in bytes {
@@ -30,7 +30,7 @@ fn put_sample_of(alloc: Global, number: u64, orders: u32, told: &mut Told) {
     }
 }
 
-// Tells how many bytes the file of a sample has and their sum, and its last records.
+// Prints how many bytes the file of a sample has and their sum, and its last records.
 pub(crate) fn put_sample(alloc: Global, words: &str, told: &mut Told) {
     let (number, orders) = words.split_once(' ').unwrap_or((words, ""));
     match (number.parse(), orders.parse()) {

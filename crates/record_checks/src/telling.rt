@@ -1,4 +1,4 @@
-//! How values are told.
+//! How values are printed.
 use check_lines::Told;
 use weight_rows::Entry;
 use wire_records::Command;
@@ -7,7 +7,7 @@ const DIGITS: [&str; 16] = [
     "0", "1", "2", "3", "4", "5", "6", "7", "8", "9", "a", "b", "c", "d", "e", "f",
 ];
 
-// A word, and numbers behind it.
+// Prints a word, and numbers after it.
 pub(crate) fn put(word: &str, numbers: &[i128], told: &mut Told) {
     told.put(" ");
     told.put(word);
@@ -16,7 +16,7 @@ pub(crate) fn put(word: &str, numbers: &[i128], told: &mut Told) {
     }
 }
 
-// Bytes in hexadecimal digits.
+// Prints bytes in hexadecimal digits.
 pub(crate) fn put_bytes(bytes: &[u8], told: &mut Told) {
     told.put(" ");
     if bytes.is_empty() {
@@ -28,7 +28,7 @@ pub(crate) fn put_bytes(bytes: &[u8], told: &mut Told) {
     }
 }
 
-// An item of a list.
+// Prints an item of a list.
 pub(crate) fn put_item(first: i128, second: i128, told: &mut Told) {
     told.put_number(" ", first);
     told.put_number("/", second);
@@ -41,7 +41,7 @@ fn put_entries(entries: &[Entry], told: &mut Told) {
     told.put(" -");
 }
 
-// A command with its fields.
+// Prints a command with its fields.
 pub(crate) fn put_command(command: Command, told: &mut Told) {
     match command {
         Command::AddAsset { ticker } => {

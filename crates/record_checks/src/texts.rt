@@ -9,10 +9,10 @@ use std::alloc::Global;
 use ticker_table::TickerTable;
 use wire_records::Version;
 
-// More bytes than lines of a case ask for.
+// More bytes than the lines of a case ask for.
 const MOST_OUT: usize = 4096;
 
-// A name, padded with spaces.
+// Returns a name, padded with spaces.
 fn padded(name: &str) -> Option<[u8; 8]> {
     let bytes = name.as_bytes();
     if bytes.len() > 8 {
@@ -23,7 +23,7 @@ fn padded(name: &str) -> Option<[u8; 8]> {
     Some(ticker)
 }
 
-// How many commands there are, and each of them.
+// Prints how many commands there are, and each of them.
 fn put_many(commands: CommandList, told: &mut Told) {
     put("many", &[commands.as_slice().len() as i128], told);
     for command in commands.into_vec() {
@@ -46,11 +46,17 @@ fn put_said(said: Result<LineRead, LineFault>, told: &mut Told) {
     }
 }
 
-pub(crate) fn put_line(alloc: Global, version: Version, names: &str, line: &[u8], told: &mut Told) {
+// The table of these names.
+fn table_of(alloc: Global, names: &str, told: &mut Told) -> TickerTable {
     let mut tickers = TickerTable::new(alloc);
     for name in names.split_whitespace() {
         told.keep(add_name(&mut tickers, name));
     }
+    tickers
+}
+
+pub(crate) fn put_line(alloc: Global, version: Version, names: &str, line: &[u8], told: &mut Told) {
+    let mut tickers = table_of(alloc, names, told);
     put_said(read_line(alloc, line, version, &mut tickers), told);
     put("of", &[tickers.len().into()], told);
 }
@@ -68,24 +74,32 @@ fn put_encoded(encoded: Result<(), EncodeFault>, told: &mut Told) {
 fn put_lines_in(
     alloc: Global,
     version: Version,
+    tickers: TickerTable,
     lines: &[u8],
     more: bool,
     out: &mut SteadySink,
     told: &mut Told,
 ) {
-    put_encoded(encode_lines(alloc, version, lines, more, out), told);
+    put_encoded(
+        encode_lines(alloc, version, tickers, lines, more, out),
+        told,
+    );
     told.put_records(out.bytes(), MOST_OUT);
 }
 
+// The arguments are `more`, or the names of the tickers that are known before the first line.
 pub(crate) fn put_lines(
     alloc: Global,
     version: Version,
+    words: &str,
     lines: &[u8],
-    more: bool,
     told: &mut Told,
 ) {
+    let more = words == "more";
+    let names = if more { "" } else { words };
+    let tickers = table_of(alloc, names, told);
     match SteadySink::new(alloc, MOST_OUT) {
-        Ok(mut out) => put_lines_in(alloc, version, lines, more, &mut out, told),
+        Ok(mut out) => put_lines_in(alloc, version, tickers, lines, more, &mut out, told),
         Err(_) => told.give_up(),
     }
 }

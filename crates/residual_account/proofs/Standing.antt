@@ -1,4 +1,4 @@
--- What the fields of a `ResidualAccount` stand for after each call.
+-- The account that the fields of a `ResidualAccount` represent after each call.
 use Rattle.std.proofs.Common.{◌≡◌, ◌≢◌, ℕ, ◌+◌, ◌<◌, ℤ, pos, ◌+ℤ◌, [], ◌∷◌, ◌++◌, length, take, replicate, get_or, set, refl, ap, sym, subst, ◌∙◌, ⊎_elim, FitsSigned, to_z, of_z, to_z-of_z, arith}
 use Rattle.std.specs.Int.{Width, w64, w128}
 use Rattle.std.proofs.Math.Seq.{take-set-lt}
@@ -9,16 +9,16 @@ use Rattle.flow_accounts.specs.Places.{HasSpare}
 use Rattle.residual_account.specs.declared.ResidualAccount.TheInside.{Inside}
 use Rattle.residual_account.specs.Places.{account_in, IsKept}
 
--- the fields keep what they have to, and stand for this account
+-- the invariant holds for the fields, and they represent this account
 pub record StandsFor (a : Inside) (b : Account) : Type 0 where
   pub kept : IsKept a
   pub shown : account_in a ≡ b
 
--- as many assets are shown as there are
+-- the account has as many assets as the fields
 pub assets_in : (a : Inside) → IsKept a → length (account_in a).units ≡ a.assets
 assets_in a kept = length-take-le a.assets a.units (let made = kept.places.places_made in let few = kept.few_assets in omega arith)
 
--- an asset that is shown is in use
+-- an asset of the account is in use
 pub in_use : (a : Inside) (b : Account) (asset : ℕ) → IsKept a → account_in a ≡ b → asset < length b.units → asset < a.assets
 in_use a b asset kept view_is there = subst (λ n. asset < n) (ap (λ (x : Account). length x.units) (sym view_is) ∙ assets_in a kept) there
 
@@ -27,7 +27,7 @@ pub units_read : (a : Inside) (b : Account) (asset : ℕ) → IsKept a → accou
 units_read a b asset kept view_is there =
     sym (get_or-take a.assets a.units asset (pos 0) (in_use a b asset kept view_is there)) ∙ ap (λ (x : Account). units_in x asset) view_is
 
--- zeros, of which none is in use
+-- zeros are 0 at each place, and past their end
 zero_at : (n k : ℕ) → get_or (replicate n (pos 0)) k (pos 0) ≡ pos 0
 zero_at n k = ⊎_elim (λ below. get_or-replicate n k (pos 0) (pos 0) below) (λ past. get_or_past (replicate n (pos 0)) k (pos 0) (rw length-replicate past)) (cases_lt k n)
 
@@ -75,7 +75,7 @@ units_written a b asset money total kept view_is there =
     let P : Account → Type 0 = λ b. asset < length b.units → StandsFor (record a { money = money; units = set a.units asset total }) (with_units b asset money total) in
     subst P view_is (λ there. units_shown a asset money total kept there) there
 
--- a sum that fits is what the code computes
+-- a sum that fits is computed without overflow
 sum_computed : (w : Width) (held x y : ℤ) → FitsSigned w held → FitsSigned w y → held ≡ x → FitsSigned w (x +ℤ y) → to_z w (of_z w (to_z w (of_z w held) +ℤ to_z w (of_z w y))) ≡ x +ℤ y
 sum_computed w held x y held_fits y_fits is fits = rw (to_z-of_z held_fits, to_z-of_z y_fits, is) (to_z-of_z fits)
 
@@ -83,7 +83,7 @@ sum_computed w held x y held_fits y_fits is fits = rw (to_z-of_z held_fits, to_z
 abbrev pub computed : Width → ℤ → ℤ → ℤ
 computed w x y = to_z w (of_z w (to_z w (of_z w x) +ℤ to_z w (of_z w y)))
 
--- units of an asset and money are added, where the code read the units
+-- units of an asset and money are added to the units that the code read
 pub added : (a : Inside) (b : Account) (asset place : ℕ) (held units money : ℤ) → IsKept a → account_in a ≡ b → asset < length b.units → place ≡ asset → held ≡ units_in b asset
     → FitsSigned w64 held → FitsSigned w64 units → FitsSigned w64 (units_in b asset +ℤ units) → FitsSigned w128 a.money → FitsSigned w128 money → FitsSigned w128 (b.money +ℤ money)
     → StandsFor (record a { money = computed w128 a.money money; units = set a.units place (computed w64 held units) }) (with_units b asset (b.money +ℤ money) (units_in b asset +ℤ units))

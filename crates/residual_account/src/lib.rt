@@ -1,20 +1,20 @@
-//! The exchange's own account, which takes what rounding leaves over in a batch.
+//! The exchange's account, which takes the imbalances of batches.
 //!
-//! Orders trade whole units at rates that are rounded, so a batch leaves units of an asset over, or lacks some, and
-//! with them the money that they cost. The exchange takes the other side of both. Its account therefore may hold less
-//! than nothing, of money and of every asset.
+//! Orders trade whole units at rates that are rounded, so a batch may have an imbalance: units of an asset that are
+//! bought and not sold, or the other way round, and the money that they cost. The exchange takes the other side of both.
+//! So its account may hold less than nothing, of money and of every asset.
 //!
 //! Money is kept in grains, and 2^32 grains are a tick. Assets are kept in whole units, and numbered from 0.
 //!
 //! # Limits
 //!
-//! There are at most 64 assets. Money has the range of an `i128`, the units of an asset that of an `i64`: whoever adds
-//! sees to it that the sums fit.
+//! There are at most 64 assets. Money has the range of an `i128`, the units of an asset that of an `i64`: the caller of
+//! [`ResidualAccount::add`] has to ensure that the sums fit.
 //!
 //! # Costs
 //!
-//! Every call takes the same time however many assets there are, and no memory. The account takes 544 bytes, with the
-//! places for all 64 assets in it.
+//! Every call takes the same time however many assets there are, and allocates nothing. The account takes 544 bytes,
+//! which include the places for all 64 assets.
 #![tactic(auto)]
 
 ghost use Rattle.std.specs.Prelude.{◌≡◌, ◌<◌, ◌≤◌, ◌+ℤ◌, length, slice_set, FitsSigned};
@@ -31,7 +31,7 @@ use std::mem::size_of;
 #[derive(Drop)]
 pub struct ResidualAccount {
     money: i128,
-    // Of the places as many are in use as there are assets; the others are 0.
+    // As many places are in use as there are assets; the others are 0.
     units: [i64; PLACES],
     assets: u16,
 }
@@ -54,7 +54,7 @@ impl ResidualAccount {
     ghost use Rattle.flow_accounts.specs.Balances.{empty_account, units_in, with_asset};
     ghost use Rattle.flow_accounts.specs.Lawful.{most_assets};
 
-    /// The account of an exchange without assets: no money and no units.
+    /// Makes the account of an exchange without assets: no money and no units.
     pub fn new() -> ResidualAccount
         ensures { result ≡ empty_account 0 }
     {
@@ -65,7 +65,7 @@ impl ResidualAccount {
         }
     }
 
-    /// The account of an exchange without assets that holds this money, in grains. It may be negative.
+    /// Makes the account of an exchange without assets that holds this money, in grains. It may be negative.
     pub fn with_money(money: i128) -> ResidualAccount
         ensures { result ≡ record (empty_account 0) { money = money } }
     {
@@ -84,7 +84,7 @@ impl ResidualAccount {
         self.assets += 1;
     }
 
-    /// How many assets there are, at most 64.
+    /// Returns how many assets there are, at most 64.
     pub fn assets(&self) -> u16
         ensures count { result ≡ length self.now.units }
         ensures few { length self.now.units ≤ most_assets }
@@ -92,14 +92,14 @@ impl ResidualAccount {
         self.assets
     }
 
-    /// The money that the exchange holds, in grains. It may be negative.
+    /// Returns the money that the exchange holds, in grains. It may be negative.
     pub fn money(&self) -> i128
         ensures { result ≡ self.now.money }
     {
         self.money
     }
 
-    /// The units of an asset that the exchange holds. They may be negative.
+    /// Returns the units of an asset that the exchange holds. They may be negative.
     pub fn units(&self, asset: u16) -> i64
         requires { asset < length self.now.units }
         ensures { result ≡ units_in self.now asset }

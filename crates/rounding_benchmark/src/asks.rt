@@ -6,7 +6,7 @@ ghost use Rattle.demand_curve.specs.Demand.{IsWithin};
 use crate::draws::Draws;
 use demand_curve::Curve;
 
-/// Where the prices lie.
+/// The range of the prices.
 #[derive(Clone, Copy, Debug, PartialEq, Eq)]
 pub enum Kind {
     /// From -2^42 to 2^42 grains, of which the limits of a curve enclose few.
@@ -16,7 +16,7 @@ pub enum Kind {
 }
 
 impl Kind {
-    // The price by a number of 64 bits, in grains.
+    // Returns the price that a number of 64 bits gives, in grains.
     fn price(self, draw: u64) -> i128
         ensures { IsWithin (2 ^ 78) result }
     {
@@ -27,7 +27,7 @@ impl Kind {
     }
 }
 
-/// Asks each curve for both roundings in each pass, and makes one number of all that they answer.
+/// Asks each curve for both roundings in each pass, and returns a checksum of all answers.
 pub fn checksum(curves: &[Curve], kind: Kind, passes: u32) -> u64 {
     let mut draws = Draws::new();
     let mut checksum = 0u64;

@@ -6,14 +6,15 @@ use std::alloc::{AllocError, Global};
 
 const CURVES: u32 = 1 << 14;
 
-// How far from 0 a limit is at least and, by the second, how much farther at most, in grains.
+// How far from 0 a limit is at least, in grains.
 const NEAREST: i64 = 1 << 31;
 
+// How much farther from 0 a limit is at most, in grains.
 const SPREAD: u64 = 1 << 38;
 
 const MOST_RATE: u64 = 1 << 24;
 
-// A curve whose limits lie on both sides of 0, and whose room is a little less than its rate.
+// Returns a curve whose limits lie on both sides of 0, and whose batch maximum is a little less than its rate.
 fn curve(draws: &mut Draws) -> Curve {
     let below = draws.below(SPREAD) as i64;
     let above = draws.below(SPREAD) as i64;
@@ -26,7 +27,7 @@ fn curve(draws: &mut Draws) -> Curve {
     }
 }
 
-/// 16,384 curves, the same each time.
+/// Returns 16,384 curves, the same each time.
 pub fn fixed(alloc: Global) -> Result<Vec<Curve>, AllocError> {
     let mut draws = Draws::new();
     let mut curves = Vec::with_capacity(alloc, CURVES as usize)?;

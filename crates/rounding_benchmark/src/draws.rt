@@ -7,12 +7,12 @@ pub struct Draws {
 }
 
 impl Draws {
-    /// The sequence from its first number on.
+    /// Returns the sequence, at its first number.
     pub fn new() -> Draws {
         Draws { state: 1 }
     }
 
-    /// The next number. Its high bits vary most.
+    /// Returns the next number. Its high bits vary most.
     pub fn any(&mut self) -> u64 {
         self.state = self
             .state
@@ -21,7 +21,7 @@ impl Draws {
         self.state
     }
 
-    /// The next number, brought below a limit of at most 2^40.
+    /// Returns the next number, brought below a limit of at most 2^40.
     pub fn below(&mut self, limit: u64) -> u64
         requires some { 0 < limit }
         ensures below { result < limit }

@@ -1,8 +1,8 @@
 //! A benchmark of the roundings of demand curves: `rounding_benchmark KIND PASSES`.
 //!
 //! It asks each curve of a fixed book for both roundings, at a price that moves from ask to ask, as often as
-//! PASSES says, and prints a checksum of all that was answered. KIND is `cut` or `uncut`: whether most
-//! prices lie where the demand is cut, to nothing or to the whole room, or where it isn't.
+//! PASSES says, and prints a checksum of all answers. KIND is `cut` or `uncut`: whether most prices lie where
+//! the demand is cut, to nothing or to the batch maximum, or where it isn't.
 //! `tools/dev/benchmark` times it.
 #![tactic(auto)]
 
@@ -14,7 +14,7 @@ use asks::{Kind, checksum};
 use std::process::ExitCode;
 use std::{env, io};
 
-// None where the words aren't a kind and a number.
+// Returns the kind and the number, or `None` if the words aren't these.
 fn task(words: &[String]) -> Option<(Kind, u32)> {
     let [kind, passes] = words else { return None };
     let kind = match kind.as_str() {

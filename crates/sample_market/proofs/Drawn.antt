@@ -16,7 +16,7 @@ weight_is state next size sold first behind second =
     ap (λ n. if eqb sold 1 then neg_ℤ (pos (1 + n)) else pos (1 + n)) first
     ∙ ap (λ n. if eqb n 1 then neg_ℤ (pos (1 + drawn 4 state)) else pos (1 + drawn 4 state)) (second ∙ ap (drawn 2) behind)
 
--- a row that begins
+-- the first legs of a weight vector
 pub row_begins : (start one two count first left : ℕ) (entries : List Entry) → count ≡ drawn 3 start → one ≡ next_state start → first ≡ drawn (9 - (1 + count)) one → two ≡ next_state one → left ≡ 1 + count → entries ≡ []
     → drawn_row start ≡ entries ++ drawn_entries left first two
 unfolding drawn_row drawn_count drawn_first
@@ -32,11 +32,11 @@ behind_begins start one two count left counted behind later all =
     let n : 2 + 2 * (1 + drawn 3 start) ≡ suc (suc (2 * left)) = omega (arith, counted, all) in
     ap (λ k. state_after k start) n ∙ ap (λ s. state_after (2 * left) (next_state s)) (sym behind) ∙ ap (state_after (2 * left)) (sym later)
 
--- the entry of an asset
+-- the leg of an asset
 abbrev pub entry_of : ℕ → ℤ → Entry
 entry_of asset weight = record { asset = asset; weight = weight }
 
--- the next entry of those that are still drawn
+-- the next leg of those that are still to be drawn
 pub entry_more : (whole now after : List Entry) (entry : Entry) (left rest asset state : ℕ) → whole ≡ now ++ drawn_entries left asset state → left ≡ suc rest → after ≡ now ++ entry ∷ [] → entry ≡ record { asset = asset; weight = drawn_weight state }
     → whole ≡ after ++ drawn_entries rest (asset + 1) (state_after 2 state)
 entry_more whole now after entry left rest asset state before more one is =
@@ -44,7 +44,7 @@ entry_more whole now after entry left rest asset state before more one is =
     before ∙ ap (λ n. now ++ drawn_entries n asset state) more ∙ sym (append_assoc now ((record { asset = asset; weight = drawn_weight state }) ∷ []) tail)
     ∙ ap (λ (e : Entry). (now ++ e ∷ []) ++ tail) (sym is) ∙ ap (λ (xs : List Entry). xs ++ tail) (sym one)
 
--- and the state behind them
+-- the state after the legs that are still to be drawn
 pub state_more : (behind left rest state : ℕ) → behind ≡ state_after (2 * left) state → left ≡ suc rest → behind ≡ state_after (2 * rest) (state_after 2 state)
 state_more behind left rest state before more =
     let twice : 2 * left ≡ suc (suc (2 * rest)) = omega (arith, more) in
@@ -54,7 +54,7 @@ state_more behind left rest state before more =
 abbrev price_of : Entry → ℤ
 price_of e = e.weight *ℤ pos (1000 * (e.asset + 1))
 
--- the sum of the first i entries' prices
+-- the sum of the first i legs' prices
 pub record IsPriceTo (row : List Entry) (i : ℕ) (sum : ℤ) : Type 0 where
   pub value : sum ≡ usual_price (take i row)
   pub bound : unsigned_abs sum ≤ i * 2 ^ 57
@@ -72,7 +72,7 @@ pub middle_is : (state : ℕ) (row : List Entry) (middle : ℤ) (behind : ℕ) �
 unfolding drawn_middle
 middle_is state row middle behind is at value = value ∙ ap (λ (r : List Entry). (usual_price r +ℤ pos (drawn 41 behind)) -ℤ pos 20) is ∙ ap (λ s. (usual_price (drawn_row state) +ℤ pos (drawn 41 s)) -ℤ pos 20) at
 
--- a request of the account whose turn it is
+-- a request of the account at this place
 abbrev request : ℕ → ℤ → ℤ → ℕ → ℕ → List Entry → Request
 request place low high rate cap row = record { account = 1 + place % 64; low = low; high = high; rate = rate; cap = cap; row = row }
 

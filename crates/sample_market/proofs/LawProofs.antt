@@ -20,7 +20,7 @@ use Rattle.sample_market.proofs.Lawful.{sample_lawful}
 pub samples_are_lawful : SamplesAreLawful
 samples_are_lawful = sample_lawful
 
--- their records are within the limit
+-- the records of a sample are within the limit
 records_short : (number orders : ℕ) → All (IsRecord most_body) (map record_of (sample number orders))
 records_short number orders =
     let each = sample_lawful number orders in

@@ -32,7 +32,7 @@ weight_small x = by_sign (eqb (drawn 2 (next_state x)) 1) (1 + drawn 4 x) (omega
     by_sign true size few = omega (arith, ints, few)
     by_sign false size few = omega (arith, ints, few)
 
--- an entry of one of the eight assets, with a small weight
+-- a leg of one of the eight assets, with a small weight
 pub record IsSmall (e : Entry) : Type 0 where
   pub asset : e.asset < 8
   pub weight : unsigned_abs e.weight ≤ 4

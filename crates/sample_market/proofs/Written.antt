@@ -14,27 +14,27 @@ use Rattle.sample_market.specs.Files.{new_asset, new_assets, new_accounts, unit_
 abbrev bytes_of : Command → List ℕ
 bytes_of command = spelling (record_of command)
 
--- behind those of others
+-- a command's record is written after those of others
 one_more : (file now after : List ℕ) (commands : List Command) (command : Command) → now ≡ file ++ spell_commands commands → after ≡ now ++ bytes_of command → after ≡ file ++ spell_commands (commands ++ command ∷ [])
 one_more file now after commands command before one = one ∙ ap (λ xs. xs ++ bytes_of command) before ∙ flat_map_more bytes_of file commands command
 
--- one of each number
+-- the command of one more number is written
 pub one_numbered : (file now after : List ℕ) (of : ℕ → Command) (command : Command) (a n : ℕ) → now ≡ file ++ spell_commands (map of (range_with_len a n)) → after ≡ now ++ bytes_of command → command ≡ of (a + n)
     → after ≡ file ++ spell_commands (map of (range_with_len a (n + 1)))
 one_numbered file now after of command a n before one is =
     one_more file now after (map of (range_with_len a n)) (of (a + n)) before (one ∙ ap (λ (c : Command). now ++ bytes_of c) is)
     ∙ ap (λ (cs : List Command). file ++ spell_commands cs) (sym (map-range_with_len_more of a n (a + n) refl))
 
--- the same one again
+-- the command is written once more
 pub one_again : (file now after : List ℕ) (command : Command) (n : ℕ) → now ≡ file ++ spell_commands (replicate n command) → after ≡ now ++ bytes_of command → after ≡ file ++ spell_commands (replicate (n + 1) command)
 one_again file now after command n before one =
     one_more file now after (replicate n command) command before one ∙ ap (λ (cs : List Command). file ++ spell_commands cs) (replicate_more n command)
 
--- what is spelled in two parts
+-- the encodings of two lists of commands, one after the other
 pub spell_both : (first second : List Command) → spell_commands (first ++ second) ≡ spell_commands first ++ spell_commands second
 spell_both first second = flat_map-append bytes_of first second
 
--- the next order of those that are still drawn
+-- the next order of those that are still to be drawn
 pub order_more : (whole now after : List ℕ) (command : Command) (left rest place state : ℕ) → whole ≡ now ++ spell_commands (drawn_orders left place state) → left ≡ suc rest → after ≡ now ++ bytes_of command → command ≡ Place None (drawn_order place state)
     → whole ≡ after ++ spell_commands (drawn_orders rest (place + 1) (behind_order state))
 order_more whole now after command left rest place state before more one is =
@@ -85,7 +85,7 @@ batches_written file now n before all = before ∙ ap (λ k. file ++ spell_comma
 pub orders_written : (file now : List ℕ) (orders number left place state : ℕ) → file ++ spell_commands (drawn_orders orders 0 number) ≡ now ++ spell_commands (drawn_orders left place state) → left ≡ 0 → now ≡ file ++ spell_commands (drawn_orders orders 0 number)
 orders_written file now orders number left place state before none = sym (before ∙ ap (λ k. now ++ spell_commands (drawn_orders k place state)) none ∙ append-nil now)
 
--- the whole file
+-- the complete file
 pub file_written : (magic made opened paid placed held : List ℕ) (number orders : ℕ) → magic ≡ command_magic → made ≡ magic ++ spell_commands new_assets → opened ≡ made ++ spell_commands new_accounts → paid ≡ opened ++ spell_commands all_deposits
     → placed ≡ paid ++ spell_commands (drawn_orders orders 0 number) → held ≡ placed ++ spell_commands batches → held ≡ sample_file number orders
 unfolding sample_file sample

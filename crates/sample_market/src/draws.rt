@@ -1,7 +1,7 @@
-//! Numbers that look as if they were drawn by lot.
+//! Pseudo-random numbers.
 use std::marker::Model;
 
-/// The generator, from draw to draw. Contracts see it as its state.
+/// The generator of the numbers. Contracts see it as its state.
 #[derive(Drop)]
 pub(crate) struct Draws {
     state: u64,
@@ -19,7 +19,7 @@ impl Draws {
     ghost use Rattle.std.specs.Prelude.{◌≡◌, ◌<◌};
     ghost use Rattle.sample_market.specs.Draws.{next_state, drawn};
 
-    /// It begins with this number.
+    /// Makes a generator whose state is this number.
     pub(crate) fn new(number: u64) -> Draws
         ensures { result ≡ number }
     {
@@ -27,7 +27,7 @@ impl Draws {
     }
 
     #[tactic(auto, unfolding(crate::specs::Draws::next_state, crate::specs::Draws::drawn))]
-    /// A number below `end`.
+    /// Draws a number below `end`.
     pub(crate) fn below(&mut self, end: u32) -> u32
         requires { 0 < end }
         ensures value { result ≡ drawn end self.old }

@@ -11,21 +11,25 @@ use wire_records::{COMMAND_MAGIC, Command, Memory, write_command};
 /// The most orders of a sample, and of a market.
 pub const MOST_ORDERS: u32 = 16_384;
 
-// How many assets, accounts and batches there are.
+// How many assets a sample has.
 const ASSETS: u8 = 8;
 
+// How many accounts a sample has.
 const ACCOUNTS: u32 = 64;
 
+// How many batches a sample has.
 const BATCHES: u32 = 4;
 
-// As many bytes has a file without orders, and as many has the record of an order with three entries.
+// The bytes of a file without orders.
 const BARE_FILE: usize = 11_284;
 
+// The most bytes of the record of an order, which has at most three legs.
 const LONGEST_ORDER: usize = 56;
 
-// What an account gets of money in ticks, and of each asset in units.
+// What is deposited into an account: ticks, and units of each asset.
 const AMPLE: u64 = 1 << 50;
 
+// The most moves of a batch.
 const BUDGET: u32 = 1000;
 
 // Appends the records of the assets A0 to A7.
@@ -39,7 +43,7 @@ fn put_assets(file: &mut Vec<u8>) -> Result<(), Memory>
     Ok(())
 }
 
-// Appends the records of the accounts.
+// Appends the records that open the accounts.
 fn put_accounts(file: &mut Vec<u8>) -> Result<(), Memory>
     ensures { OnOk result (file.new.items ≡ file.old.items ++ spell_commands new_accounts) }
 {
@@ -100,16 +104,16 @@ fn put_batches(file: &mut Vec<u8>) -> Result<(), Memory>
     Ok(())
 }
 
-/// The command file of a sample, of version One: the assets `A0` to `A7`, 64 accounts, for each of these 2^50 ticks and
-/// 2^50 units of each asset, so many orders, 1 to 16,384, that are drawn from the number on, and four batches of at most
-/// 1,000 moves.
+/// Returns the command file of a sample, of version One: the assets `A0` to `A7`, 64 accounts, for each of these 2^50 ticks
+/// and 2^50 units of each asset, so many orders, 1 to 16,384, that are drawn from the number on, and four batches of at
+/// most 1,000 moves.
 ///
-/// An order is of the accounts in turn, names one to three assets side by side with absolute weights of 1 to 4, and has
-/// limits at most 70 ticks off what its row costs where asset k costs 1,000 times k + 1 ticks, a rate of 1 to 1,000 and
-/// a cap of 1 to 20 such rates.
+/// The orders go to the accounts one after the other. Each names one to three consecutive assets with absolute weights of 1 to
+/// 4, and has limits at most 70 ticks off the price of its weight vector, if asset k costs 1,000 times k + 1 ticks, a rate of
+/// 1 to 1,000 and a cap of 1 to 20 such rates.
 ///
-/// The cost is that of the bytes, at most 11,284 and 56 for each order. The memory for all of them is taken first, and
-/// that of one order's row is given back behind it; `Memory` where there is none.
+/// The cost is that of the bytes, at most 11,284 and 56 for each order. The memory for all of them is allocated first, and
+/// that of one order's legs is freed after it; `Memory` if memory runs out.
 pub fn sample_commands(alloc: Global, number: u64, orders: u32) -> Result<Vec<u8>, Memory>
     requires some { 1 ≤ orders }
     requires few { orders ≤ MOST_ORDERS }

@@ -1,7 +1,7 @@
-//! What holds of samples, whatever code makes them. Each law is the contract of a function that does nothing.
+//! Laws of samples, whatever code makes them. Each law is the contract of a function that does nothing.
 ghost use Rattle.sample_market.specs.Laws.{SamplesAreLawful, SamplesAreRead, SamplesAreShort};
 
-/// Each command of a sample is one of version One, and its fields fit their widths.
+/// Each command of a sample is one of version One, its fields are in their ranges, and it fits a command record.
 pub fn samples_are_lawful()
     ensures { SamplesAreLawful }
 {}

@@ -11,7 +11,7 @@ use std::alloc::Global;
 use weight_rows::{Entry, EntryList};
 use wire_records::{Command, Memory};
 
-// So many units that are bought, or sold.
+// The weight of so many units that are bought or, if `sold`, sold.
 fn signed(size: u32, sold: bool) -> i32
     requires { size ≤ 4 }
     ensures { result ≡ (if sold then neg_ℤ (pos size) else pos size) }
@@ -19,7 +19,7 @@ fn signed(size: u32, sold: bool) -> i32
     if sold { -(size as i32) } else { size as i32 }
 }
 
-// A weight of 1 to 4, bought or sold.
+// Draws a weight of 1 to 4, bought or sold.
 fn weight(draws: &mut Draws) -> i32
     ensures value { result ≡ drawn_weight draws.old }
     ensures behind { draws.new ≡ state_after 2 draws.old }
@@ -29,7 +29,7 @@ fn weight(draws: &mut Draws) -> i32
     signed(size, sold)
 }
 
-// A row of one to three of the eight assets, side by side.
+// Draws the legs of an order: one to three consecutive assets of the eight.
 fn row(alloc: Global, draws: &mut Draws) -> Result<Vec<Entry>, Memory>
     ensures row { IfOk result (λ entries. entries.items ≡ drawn_row draws.old) }
     ensures few { IfOk result (λ entries. length entries.items ≤ 3) }
@@ -45,7 +45,7 @@ fn row(alloc: Global, draws: &mut Draws) -> Result<Vec<Entry>, Memory>
     Ok(entries)
 }
 
-// What the units of one entry cost there.
+// What the units of one leg cost, in ticks, if asset k costs 1,000 * (k + 1) ticks.
 fn entry_price(entry: Entry) -> i64
     ensures value { result ≡ entry.weight *ℤ pos (1000 * (entry.asset + 1)) }
     ensures bound { unsigned_abs result ≤ 2 ^ 57 }
@@ -53,7 +53,7 @@ fn entry_price(entry: Entry) -> i64
     i64::from(entry.weight) * (1000 * (i64::from(entry.asset) + 1))
 }
 
-// What a short row costs, in ticks, where each asset costs 1,000 ticks more than the one before it.
+// What the legs of an order cost, in ticks, if asset k costs 1,000 * (k + 1) ticks.
 fn usual_price(entries: &[Entry]) -> i64
     requires { length entries.now ≤ 3 }
     ensures value { result ≡ usual_price entries.now }
@@ -66,7 +66,7 @@ fn usual_price(entries: &[Entry]) -> i64
     sum
 }
 
-// The middle between the limits of an order with these entries.
+// Draws the middle between the limits of an order with these legs, in ticks.
 fn middle(draws: &mut Draws, entries: &[Entry]) -> i64
     requires { length entries.now ≤ 3 }
     ensures value { result ≡ (usual_price entries.now +ℤ pos (drawn 41 draws.old)) -ℤ pos 20 }
@@ -76,7 +76,7 @@ fn middle(draws: &mut Draws, entries: &[Entry]) -> i64
     usual_price(entries) + i64::from(draws.below(41)) - 20
 }
 
-// The two limits, so far off the middle.
+// The two limits, which are `half` ticks off the middle.
 fn limits(middle: i64, half: u32) -> (i64, i64)
     requires { unsigned_abs middle ≤ 2 ^ 61 }
     ensures low { result.0 ≡ middle -ℤ pos half }
@@ -86,7 +86,7 @@ fn limits(middle: i64, half: u32) -> (i64, i64)
     (middle - i64::from(half), middle + i64::from(half))
 }
 
-/// The order at this place, counted from 0. One list of at most three entries is taken for its row.
+/// Draws the order at this place, counted from 0. It allocates one list of at most three legs.
 pub(crate) fn order(alloc: Global, draws: &mut Draws, place: u32) -> Result<Command, Memory>
     ensures order { IfOk result (λ command. command_in command ≡ Place None (drawn_order place draws.old)) }
     ensures short { IfOk result (λ command. HasShortRow (command_in command)) }

@@ -1,4 +1,4 @@
--- What is counted of an answer, and how many units it counts at most.
+-- The counts of an answer, and how many units it counts at most.
 use Rattle.std.proofs.Common.{◌≡◌, ℕ, ◌+◌, ◌-◌, ◌*◌, ◌^◌, ◌<◌, ◌≤◌, List, [], map, length, take, get_or, refl, sym, ap, subst, ◌∙◌, length-append, arith}
 use Rattle.std.specs.Prelude.{All}
 use Rattle.std.specs.List.{sum_by}
@@ -17,14 +17,14 @@ use Rattle.sample_summary.specs.declared.sampling.Sampling.{Sampling}
 use Rattle.sample_summary.specs.Summary.{units_by}
 use Rattle.sample_summary.specs.Private.{units_traded, IsCounted, CountsOne, HasRoom, IsReady, most_units}
 
--- one rate more
+-- one more rate
 pub rate_more : (c : Clearing) (place units rate : ℕ) → place < length c.fills → rate ≡ get_or (map (λ (f : Fill). f.rate) c.fills) place 0 → units ≡ sum_by (λ (f : Fill). f.rate) (take place c.fills)
     → units + rate ≡ sum_by (λ (f : Fill). f.rate) (take (place + 1) c.fills)
 rate_more c place units rate within is before =
     let none : Fill = record { order = 0; rate = 0 } in
     omega (arith, is, before, get_or-map (λ (f : Fill). f.rate) c.fills place none 0 within, sum_by_more (λ (f : Fill). f.rate) c.fills place none within)
 
--- a record spells one answer, and so counts one
+-- a record encodes one answer, and so has one count
 pub counted_as : (r : Record) (a b : Answer Outcome) (counts : Counts) → SpellsAnswer r a → SpellsAnswer r b → IsCounted a counts → IsCounted b counts
 counted_as r a b counts first other counted = subst (λ (x : Answer Outcome). IsCounted x counts) (answer_unique a b first.fits other.fits (sym first.spelled ∙ other.spelled)) counted
 
@@ -34,7 +34,7 @@ one_at_most (Plain reply) = (omega arith, omega arith)
 one_at_most (Batch number (Cleared c)) = (omega arith, omega arith)
 one_at_most (Batch number (Skipped s)) = (omega arith, omega arith)
 
--- and as many units as its record has room for rates
+-- an answer counts at most as many units as its record has space for rates
 by_answer : (asked : Record) (a : Answer Outcome) → IsPair (record { asked = asked; answer = a }) → units_by a ≤ 5 * most_units
 unfolding pair_spelling
 by_answer asked (Plain reply) fits = omega arith
@@ -51,14 +51,14 @@ by_answer asked (Batch number (Cleared c)) fits =
 pub units_few : (pair : Pair Record Outcome) → IsPair pair → units_by pair.answer ≤ 5 * most_units
 units_few pair fits = by_answer pair.asked pair.answer fits
 
--- the counts have room for a pair's
+-- the counts stay within their width for an entry
 pub has_room : (counts more : Counts) (pair : Pair Record Outcome) → HasRoom counts 5 → IsPair pair → IsCounted pair.answer more
     → (counts.cleared + more.cleared < 2 ^ 64) × (counts.skipped + more.skipped < 2 ^ 64) × (counts.units + more.units < 2 ^ 64)
 has_room counts more pair room fits counted =
     let one = one_at_most pair.answer in
     (omega (arith, room.cleared, counted.cleared, one.0), omega (arith, room.skipped, counted.skipped, one.1), omega (arith, room.units, counted.units, units_few pair fits))
 
--- and for more of them
+-- after an entry the counts stay within their width for fewer bytes
 pub room_more : (old new : Counts) (pair : Pair Record Outcome) (left taken : ℕ) → HasRoom old left → CountsOne pair.answer old new → IsPair pair → taken ≤ left → 5 ≤ taken → HasRoom new (left - taken)
 room_more old new pair left taken room counts fits within some =
     let one = one_at_most pair.answer in
@@ -68,7 +68,7 @@ room_more old new pair left taken room counts fits within some =
       units = omega (arith, room.units, counts.units, units_few pair fits, within, some);
     }
 
--- with fewer bytes left there is room too
+-- counts that stay within their width for some bytes do for fewer bytes
 pub room_fewer : (counts : Counts) (left fewer : ℕ) → HasRoom counts left → fewer ≤ left → HasRoom counts fewer
 room_fewer counts left fewer room less = record {
   cleared = omega (arith, room.cleared, less);
@@ -76,6 +76,6 @@ room_fewer counts left fewer room less = record {
   units = omega (arith, room.units, less);
 }
 
--- and records can be taken
+-- a state that is ready for some bytes is ready for fewer bytes
 pub ready_fewer : (s : Sampling) (left fewer : ℕ) → IsReady s left → fewer ≤ left → IsReady s fewer
 ready_fewer s left fewer ready less = record { same = ready.same; next = omega (arith, ready.next, less); counts = room_fewer s.counts left fewer ready.counts less }

@@ -1,4 +1,4 @@
--- What serving, auditing and counting the records of a sample comes to.
+-- What serving, auditing and counting the records of a sample results in.
 use Rattle.std.proofs.Common.{◌≡◌, ◌+◌, ◌≤◌, ℕ, List, [], ◌∷◌, ◌++◌, map, length, length-append, drop, false, IsTrue, refl, sym, ap, subst, ◌∙◌, arith}
 use Rattle.std.specs.Prelude.{All}
 use Rattle.std.proofs.lemmas.List.{take_all}
@@ -17,13 +17,13 @@ use Rattle.wire_records.proofs.ReadingLaws.{reads_on_one}
 use Rattle.wire_records.proofs.RecordCode.{commands_readable}
 use Rattle.file_units.specs.Units.{Leads, GoesToEnd}
 use Rattle.flow_orders.specs.Outcomes.{Outcome}
-use Rattle.own_rule.specs.Own.{IsOwnOutcome}
+use Rattle.canonical_rule.specs.Canonical.{IsCanonicalOutcome}
 use Rattle.journal_records.specs.Pairs.{IsPair}
 use Rattle.journal_records.specs.Formats.{journal_magic_of}
 use Rattle.market_rules.specs.Market.{Market, empty_market}
 use Rattle.market_rules.specs.Journal.{Follows, IsAnswered}
-use Rattle.own_journals.proofs.LawProofs.{own_journals_are_legal}
-use Rattle.own_journals.proofs.OneOwnJournal.{one_own_journal}
+use Rattle.canonical_journals.proofs.LawProofs.{canonical_journals_are_legal}
+use Rattle.canonical_journals.proofs.OneCanonicalJournal.{one_canonical_journal}
 use Rattle.batch_audit.specs.Legal.{IsLegalJournal}
 use Rattle.journal_replay.specs.Audits.{cleared_by, skipped_by, cleared_in, skipped_in}
 use Rattle.word_driver.specs.Word.{Goes}
@@ -40,10 +40,10 @@ use Rattle.sample_summary.specs.Private.{State, TakesOne}
 abbrev pub Takes : {O : Type 0} → State → Record → State → O → O → Type 0
 Takes old asked new before after = TakesOne old asked new
 
--- Records were answered, and their pairs are legal and counted.
+-- Records were answered, and their entries are valid and counted.
 pub record HasSampled (old new : State) (records : List Record) : Type 0 where
   pub pairs : List (Pair Record Outcome)
-  pub answered : IsAnswered IsReadAs IsOwnOutcome old.market records pairs new.market
+  pub answered : IsAnswered IsReadAs IsCanonicalOutcome old.market records pairs new.market
   pub each : All IsPair pairs
   pub text : List ℕ
   pub goes : Goes run old.market records new.market text
@@ -97,7 +97,7 @@ module _ (number orders : ℕ) where
   records : List Record
   records = map record_of (sample number orders)
 
-  -- what a sample was counted as is what its journal counts
+  -- the counts of a sample are those of its journal
   summarizes_run : (old new : State) (line : List ℕ) → All (IsRecord most_body) records → HasSampled old new records → old ≡ record { market = empty_market One; counts = record { cleared = 0; skipped = 0; units = 0 } }
       → line ≡ summary_line orders new.counts.cleared new.counts.skipped new.counts.units → Summarizes number orders line
   unfolding records
@@ -108,8 +108,8 @@ module _ (number orders : ℕ) where
       let version = run_version (empty_market One) market records sampled.text goes in
       let kept = run_is_kept One records market sampled.text short goes in
       let writes : Journals One records market (journal_magic_of One ++ sampled.text) = subst (λ (v : Version). Journals v records market (journal_magic_of v ++ sampled.text)) version kept in
-      let answered = subst (λ (m : Market). IsAnswered IsReadAs IsOwnOutcome m records sampled.pairs market) start sampled.answered in
-      let one : sampled.pairs ≡ writes.pairs = (one_own_journal IsReadAs reading_unique One records sampled.pairs writes.pairs market market answered writes.journal_of).0 in
+      let answered = subst (λ (m : Market). IsAnswered IsReadAs IsCanonicalOutcome m records sampled.pairs market) start sampled.answered in
+      let one : sampled.pairs ≡ writes.pairs = (one_canonical_journal IsReadAs reading_unique One records sampled.pairs writes.pairs market market answered writes.journal_of).0 in
       let none : old.counts ≡ record { cleared = 0; skipped = 0; units = 0 } = ap (λ (s : State). s.counts) begins in
       let cleared : new.counts.cleared ≡ cleared_in writes.pairs = omega (arith, sampled.cleared, ap (λ (c : Counts). c.cleared) none, ap cleared_in one) in
       let skipped : new.counts.skipped ≡ skipped_in writes.pairs = omega (arith, sampled.skipped, ap (λ (c : Counts). c.skipped) none, ap skipped_in one) in
@@ -118,7 +118,7 @@ module _ (number orders : ℕ) where
         market = market;
         journal = journal_magic_of One ++ sampled.text;
         writes = writes;
-        legal = record { each = subst (λ (ps : List (Pair Record Outcome)). All IsPair ps) one sampled.each; steps = (own_journals_are_legal One records writes.pairs market writes.journal_of).steps };
+        legal = record { each = subst (λ (ps : List (Pair Record Outcome)). All IsPair ps) one sampled.each; steps = (canonical_journals_are_legal One records writes.pairs market writes.journal_of).steps };
         told = told ∙ ap (λ n. summary_line orders n new.counts.skipped new.counts.units) cleared ∙ ap (λ n. summary_line orders (cleared_in writes.pairs) n new.counts.units) skipped
             ∙ ap (λ n. summary_line orders (cleared_in writes.pairs) (skipped_in writes.pairs) n) units;
       }
@@ -132,7 +132,7 @@ module _ (number orders : ℕ) where
       let sampled = has_sampled old new before after goes.units goes.leads in
       summarizes_run old new line (subst (λ (rs : List Record). All (IsRecord most_body) rs) all goes.reads.each) (subst (λ (rs : List Record). HasSampled old new rs) all sampled) begins told
 
--- the magic stands in the file
+-- the file has at least the eight bytes of its magic
 pub sample_long : (number orders : ℕ) → 8 ≤ length (sample_file number orders)
 unfolding sample_file
 sample_long number orders = omega (arith, length-append command_magic (spell_commands (sample number orders)))

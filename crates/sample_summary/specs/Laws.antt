@@ -1,4 +1,4 @@
--- What holds of summaries, whatever code makes them.
+-- Laws of summaries, whatever code makes them.
 use Rattle.std.specs.Prelude.{◌≡◌, ℕ, List}
 use Rattle.sample_summary.specs.Summary.{Summarizes}
 

@@ -1,10 +1,10 @@
--- Words that only private code uses: what serving and auditing one record of a sample makes.
+-- Definitions that only private code uses: what serving and auditing one record of a sample makes.
 use Rattle.std.specs.Prelude.{◌≡◌, ◌+◌, ◌*◌, ◌^◌, ◌<◌, ℕ, List}
 use Rattle.std.specs.List.{sum_by}
 use Rattle.wire_records.specs.Records.{Record}
 use Rattle.wire_records.specs.Commands.{Answer, Pair}
 use Rattle.wire_records.specs.Versions.{IsReadAs}
-use Rattle.flow_orders.specs.Outcomes.{Clearing, Outcome, IsRightOutcome}
+use Rattle.flow_orders.specs.Outcomes.{Clearing, Outcome, IsAdmissibleOutcome}
 use Rattle.journal_records.specs.Pairs.{IsPair, pair_spelling}
 use Rattle.market_rules.specs.Market.{Market}
 use Rattle.market_rules.specs.Journal.{Step}
@@ -18,44 +18,47 @@ use Rattle.sample_summary.specs.Summary.{units_by}
 abbrev pub units_traded : Clearing → ℕ
 units_traded c = sum_by (λ f. f.rate) c.fills
 
--- what an answer counts
+-- what an answer counts: batches that cleared and that were skipped, and units
 pub record IsCounted (answer : Answer Outcome) (counts : Counts) : Type 0 where
   pub cleared : counts.cleared ≡ cleared_by answer
   pub skipped : counts.skipped ≡ skipped_by answer
   pub units : counts.units ≡ units_by answer
 
--- an answer is counted too
+-- the new counts are the old ones and those of this answer
 pub record CountsOne (answer : Answer Outcome) (old new : Counts) : Type 0 where
   pub cleared : new.cleared ≡ old.cleared + cleared_by answer
   pub skipped : new.skipped ≡ old.skipped + skipped_by answer
   pub units : new.units ≡ old.units + units_by answer
 
--- the counts stay within their width while so many bytes of records are left; no byte brings more units
+-- the most units that each byte of a command record can bring: a record has five bytes at least, and its entry at most
+-- 5 * 4,369 rates, each below 2^32
 abbrev pub most_units : ℕ
 most_units = 4369 * 2 ^ 32
 
+-- the counts stay below 2^64 while so many bytes of records are left
 pub record HasRoom (counts : Counts) (left : ℕ) : Type 0 where
   pub cleared : counts.cleared + left < 2 ^ 64
   pub skipped : counts.skipped + left < 2 ^ 64
   pub units : counts.units + left * most_units < 2 ^ 64
 
--- The bytes are a pair that is a step of a market.
+-- The bytes are an entry that is a step of a market.
 pub record IsWritten (old : Market) (bytes : List ℕ) : Type 0 where
   pub pair : Pair Record Outcome
   pub new : Market
   pub fits : IsPair pair
-  pub step : Step IsReadAs IsRightOutcome old pair.asked pair.answer new
+  pub step : Step IsReadAs IsAdmissibleOutcome old pair.asked pair.answer new
   pub spelled : bytes ≡ pair_spelling pair
 
--- the market, and what was counted
+-- the market, and the counts
 pub record State : Type 0 where
   pub market : Market
   pub counts : Counts
 
+-- the state of a sampling
 abbrev pub state_of : Sampling → State
 state_of s = record { market = s.session; counts = s.counts }
 
--- A record is answered by the program's own rule, and its pair is legal and counted.
+-- A record is answered by the canonical rule, and its entry is valid and counted.
 pub record TakesOne (old : State) (asked : Record) (new : State) : Type 0 where
   pub text : List ℕ
   pub answers : AnswersOne old.market asked new.market text

@@ -1,4 +1,4 @@
--- What a sample comes to.
+-- The summary of a sample.
 use Rattle.std.specs.Prelude.{◌≡◌, ℕ, List, ◌++◌, map, codes, decimal}
 use Rattle.std.specs.List.{sum_by}
 use Rattle.wire_records.specs.Records.{Record}
@@ -28,8 +28,8 @@ summary_line orders cleared skipped units =
     (codes "orders " ++ decimal orders ++ codes " batches 4 ") ++ (codes "cleared " ++ decimal cleared ++ codes " ")
     ++ (codes "skipped " ++ decimal skipped ++ codes " ") ++ (codes "units " ++ decimal units ++ codes "\n")
 
--- The line is that of the journal that a run of the sample's command file writes, which is legal. There is one such journal, and
--- so one line.
+-- The line is that of the journal that a run of the sample's command file writes, which is valid. There is one such
+-- journal, and so one line.
 pub record Summarizes (number orders : ℕ) (line : List ℕ) : Type 0 where
   pub market : Market
   pub journal : List ℕ

@@ -1,4 +1,4 @@
-//! What is counted of a journal.
+//! The counts of a journal.
 ghost use Rattle.std.specs.Prelude.{◌≡◌, ◌≤◌, ◌<◌, ◌*◌, ◌^◌, length, slice_index_or};
 ghost use Rattle.wire_records.specs.Commands.{Answer};
 ghost use Rattle.flow_orders.specs.Outcomes.{Outcome};
@@ -17,7 +17,7 @@ pub(crate) struct Counts {
     pub(crate) units: u64,
 }
 
-// The rate at a place that has one.
+// Returns the rate at a place that has one.
 fn rate_at(cleared: &ClearedView<'_>, place: u32) -> u32
     requires { place < length cleared.now.clearing.fills }
     ensures { result ≡ slice_index_or (rates_in cleared.now.clearing) place 0 }
@@ -25,7 +25,7 @@ fn rate_at(cleared: &ClearedView<'_>, place: u32) -> u32
     cleared.rate(place).unwrap()
 }
 
-// The sum of the rates.
+// Returns the sum of the rates.
 fn units_of(cleared: &ClearedView<'_>) -> u64
     ensures { result ≡ units_traded cleared.now.clearing }
 {
@@ -36,7 +36,7 @@ fn units_of(cleared: &ClearedView<'_>) -> u64
     units
 }
 
-/// What the answer of a pair counts.
+/// Returns what the answer of an entry counts.
 pub(crate) fn counts_of(pair: &PairView<'_>) -> Counts
     ensures { (answer : Answer Outcome) → SpellsAnswer pair.now.1 answer → IsCounted answer result }
 {

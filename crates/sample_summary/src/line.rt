@@ -7,10 +7,10 @@ use std::alloc::Global;
 use wire_records::Memory;
 use word_driver::put_number;
 
-// As many bytes has the longest line: four numbers of 20 digits, and 43 bytes of words.
+// The length of the longest line: four numbers of 20 digits, and 43 bytes of words.
 const MOST_LINE: usize = 123;
 
-/// The line on a sample of so many orders, with its line feed. `Memory` where there is none for it.
+/// Returns the line on a sample of so many orders, with its line feed, or `Memory` if there is none for it.
 pub(crate) fn line_of(alloc: Global, orders: u32, counts: Counts) -> Result<Vec<u8>, Memory>
     ensures { IfOk result (λ line. line.items ≡ summary_line orders counts.cleared counts.skipped counts.units) }
 {

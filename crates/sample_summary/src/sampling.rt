@@ -18,7 +18,7 @@ use sample_market::sample_commands;
 use std::alloc::Global;
 use wire_records::{COMMAND_MAGIC, Memory};
 
-// The session that serves the records, the audit of the pairs that it writes, the last of these, and what was counted.
+// The session that serves the records, the audit of the entries that it writes, the last of these, and the counts.
 #[derive(Drop)]
 struct Sampling {
     session: Session,
@@ -27,7 +27,7 @@ struct Sampling {
     counts: Counts,
 }
 
-// Audits a pair that is legal.
+// Audits an entry that is valid.
 fn audit_legal(audit: &mut Audit, pair: &PairView<'_>) -> Result<(), Memory>
     requires legal { (new : Market) × IsLegalPair audit.old pair.now new }
     requires next { audit.old.next_order + 1 < 2 ^ 64 }
@@ -39,7 +39,7 @@ fn audit_legal(audit: &mut Audit, pair: &PairView<'_>) -> Result<(), Memory>
     }
 }
 
-// Counts what was counted of one pair to the rest.
+// Adds the counts of one entry to those of the others.
 fn add(counts: &mut Counts, more: Counts)
     requires cleared { counts.old.cleared + more.cleared < 2 ^ 64 }
     requires skipped { counts.old.skipped + more.skipped < 2 ^ 64 }
@@ -53,7 +53,7 @@ fn add(counts: &mut Counts, more: Counts)
     counts.units += more.units;
 }
 
-// Audits the pair that these bytes are, and counts it.
+// Audits the entry in these bytes, and counts it.
 fn take_pair(audit: &mut Audit, bytes: &[u8], counts: &mut Counts) -> Result<(), Memory>
     requires written { IsWritten audit.old bytes.now }
     requires next { audit.old.next_order + 1 < 2 ^ 64 }
@@ -77,7 +77,7 @@ impl Sampling {
     ghost use Rattle.market_rules.specs.Market.{empty_market};
     ghost use Rattle.sample_summary.specs.Private.{state_of};
 
-    // Nothing is served yet. So many bytes has the longest file.
+    // Makes the state before the first record. The longest file has 928,788 bytes.
     fn new(alloc: Global) -> Sampling
         ensures ready { IsReady result 928788 }
         ensures none { state_of result
@@ -116,8 +116,8 @@ impl TakesUnits<()> for Sampling {
     ghost is_ready = { λ s left. IsReady s left };
 
     fn take(&mut self, bytes: &[u8], _out: &mut ()) -> Result<Front, Memory> {
-        // Called for its contract: the audit's market is sound.
-        let _sound = self.audit.market();
+        // Called for its contract: the audit's market is consistent.
+        let _consistent = self.audit.market();
         self.pair.clear();
         match self.session.serve_next(bytes, &mut self.pair)? {
             Front::Taken(taken) => {
@@ -131,12 +131,12 @@ impl TakesUnits<()> for Sampling {
     }
 }
 
-/// The line on a sample of so many orders, 1 to 16,384, that are drawn from a number on: how many of its four batches
-/// cleared, how many were skipped, and the sum of all rates that were published.
+/// Returns the line on a sample of so many orders, 1 to 16,384, drawn from the start value `number`: how many of its
+/// four batches cleared, how many were skipped, and the sum of all rates that were published.
 ///
-/// The command file is made, and its records are served one after the other; each pair is audited and counted, and let go.
-/// `Memory` where there is none for the file, the two markets, a batch or its audit. It costs what a run of the file and an audit of
-/// its journal cost, and holds the file, the market of either, and one pair.
+/// The command file is made, and its records are served one after the other; each entry is audited, counted and
+/// dropped. Returns `Memory` if there is none for the file, the two markets, a batch or its audit. It costs what a run
+/// of the file and an audit of its journal cost, and holds the file, the market of either, and one entry.
 pub fn sample_line(alloc: Global, number: u64, orders: u32) -> Result<Vec<u8>, Memory>
     requires some { 1 ≤ orders }
     requires few { orders ≤ most_orders }

@@ -5,14 +5,14 @@ use flow_orders::{Order, order_fault};
 use std::alloc::{AllocError, Global};
 use weight_rows::{Entry, EntryList, WeightRow, row_fault};
 
-// Numbers that look as if they were drawn by lot.
+// Pseudorandom numbers.
 #[derive(Drop)]
 struct Draws {
     state: u64,
 }
 
 impl Draws {
-    // A number below `end`, which isn't 0.
+    // Returns a number below `end`, which isn't 0.
     fn below(&mut self, end: u32) -> u32
         requires { 0 < end }
         ensures { result < end }
@@ -25,7 +25,7 @@ impl Draws {
     }
 }
 
-// The entry of an asset: a weight of 1 to 4, bought or sold.
+// Returns the leg of an asset: a weight of 1 to 4, bought or sold.
 fn entry(draws: &mut Draws, asset: u16) -> Entry {
     let size = draws.below(4) as i32 + 1;
     let sells = draws.below(2) == 1;
@@ -35,8 +35,8 @@ fn entry(draws: &mut Draws, asset: u16) -> Entry {
     }
 }
 
-// The next order, or None where its numbers or its row had a fault: one to three assets side by side, around prices of
-// 1,000 ticks for each asset's number.
+// Returns the next order, or `None` if its numbers or its weight vector had a fault: one to three assets side by side, around prices
+// of 1,000 ticks for each asset's number.
 fn order(alloc: Global, draws: &mut Draws, assets: u16) -> Result<Option<Order>, AllocError> {
     let count = (draws.below(3) as u16 + 1).min(assets);
     let first = draws.below(u32::from(assets.saturating_sub(count)) + 1) as u16;
@@ -59,7 +59,7 @@ fn order(alloc: Global, draws: &mut Draws, assets: u16) -> Result<Option<Order>,
     Ok(made((low, high), rate, cap, EntryList::new(entries)))
 }
 
-// The order, or None where its numbers or its row have a fault.
+// Returns the order, or `None` if its numbers or its weight vector have a fault.
 fn made(limits: (i64, i64), rate: u32, cap: u64, entries: EntryList) -> Option<Order> {
     let (low, high) = limits;
     if row_fault(entries.as_slice()).is_some() || order_fault(low, high, rate, cap).is_some() {
@@ -68,7 +68,7 @@ fn made(limits: (i64, i64), rate: u32, cap: u64, entries: EntryList) -> Option<O
     Some(Order::new(1, 1, low, high, rate, cap, WeightRow::new(entries)))
 }
 
-/// So many orders of so many assets, at most 64.
+/// Returns this many orders of this many assets, at most 64.
 pub fn drawn(alloc: Global, assets: u16, count: u32) -> Result<Vec<Order>, AllocError> {
     let mut draws = Draws { state: 7 };
     let mut orders = Vec::new(alloc);

@@ -1,8 +1,8 @@
 //! A benchmark of the search for prices: `search_benchmark ASSETS ORDERS MOVES PARTS`.
 //!
-//! It draws a book of so many orders of 1 to 3 assets each, and searches from prices of 0 by so many moves at most, which end
-//! by so many parts of a unit, 1 to 256. It prints how many moves were made, whether all assets were settled then, and a sum of the
-//! prices. `tools/dev/benchmark` times it.
+//! It draws a book of so many orders of 1 to 3 assets each, and searches from prices of 0 by so many moves at most, which end by so many
+//! parts of a unit, 1 to 256. It prints how many moves were made, whether all assets were settled then, and a sum of the prices.
+//! `tools/dev/benchmark` times it.
 #![tactic(auto)]
 
 ghost use Rattle.std.specs.Prelude.{IsTrue};
@@ -17,7 +17,7 @@ use std::alloc::{AllocError, Global};
 use std::process::ExitCode;
 use std::{env, io};
 
-// How many assets and orders, and moves at most, and in how many parts of a unit moves count.
+// How many assets and orders, how many moves at most, and by how many parts of a unit moves end.
 #[derive(Clone, Copy)]
 struct Task {
     assets: u16,
@@ -26,7 +26,7 @@ struct Task {
     parts: u16,
 }
 
-// Whether each asset that the order names has a price.
+// Returns whether each asset that the order names has a price.
 fn is_priced(order: &Order, prices: &[i64]) -> bool
     ensures { IsTrue result → IsPricedBy order.now.row prices.now }
 {
@@ -37,7 +37,7 @@ fn is_priced(order: &Order, prices: &[i64]) -> bool
         .all(|entry| usize::from(entry.asset) < prices.len())
 }
 
-// None where the words aren't four numbers.
+// Returns the four numbers, or `None` if the words aren't these.
 fn task_of(words: &[String]) -> Option<Task> {
     let [assets, orders, moves, parts] = words else {
         return None;
@@ -50,7 +50,7 @@ fn task_of(words: &[String]) -> Option<Task> {
     })
 }
 
-// What a search found: the moves made, whether all is settled, and the sum of the prices.
+// What a search found: the moves made, whether all assets are settled, and the sum of the prices.
 fn found(
     alloc: Global,
     orders: &[Order],

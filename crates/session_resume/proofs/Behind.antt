@@ -1,8 +1,8 @@
--- What stands behind the part that is gone on from, and what was written for it.
+-- What follows the first part, and what was written for it.
 use Rattle.std.proofs.Common.{◌≡◌, ◌≢◌, ◌+◌, ◌<◌, ◌≤◌, ◌⊎◌, ◌↔◌, ℕ, List, [], ◌++◌, length, drop, length-append, Bool, IsTrue, Option, Ok, Err, refl, sym, ap, subst, ◌∙◌, arith, inl, inr}
 use Rattle.std.proofs.lemmas.List.{drop-drop, drop_at, length-drop}
 use Rattle.flow_io.specs.Faults.{Blames}
-use Rattle.flow_io.specs.Streams.{Grows, GrowsByFront}
+use Rattle.flow_io.specs.Streams.{Grows, GrowsByPrefix}
 use Rattle.flow_io.proofs.Growth.{Grows-nothing}
 use Rattle.wire_records.specs.Records.{Record}
 use Rattle.wire_records.specs.Reading.{Ending}
@@ -21,7 +21,7 @@ use Rattle.session_resume.specs.Resuming.{FirstComesTo, Resumes, ResumesFirst, R
 use Rattle.wire_records.proofs.RecordCode.{eight}
 use Rattle.session_resume.specs.Private.{Ends, WritesFirst, WritesInto, WritesShort, IntoBehind, ShortBehind}
 
--- what follows of bytes, of their first records, and of where memory is wanted, follows of what was written
+-- what follows from results, from first records and from running out of memory follows from what was written
 module _ (Comes ComesTo : Ended Unfit → List ℕ → Type 0) (Into IntoThat Short ShortThat : List ℕ → Type 0) (to : (ended : Ended Unfit) (text : List ℕ) → Comes ended text → ComesTo ended text) (into : (text : List ℕ) → Into text → IntoThat text) (short : (text : List ℕ) → Short text → ShortThat text) where
   pub ends_map : (ended : Ended Unfit) (before after : Option (List ℕ)) → Ends Comes Into Short ended before after → Ends ComesTo IntoThat ShortThat ended before after
   ends_map (Ok done) before after ends = (ends.0, to (Ok tt) ends.0 ends.1, ends.2)
@@ -34,7 +34,7 @@ module _ (Comes ComesTo : Ended Unfit → List ℕ → Type 0) (Into IntoThat Sh
   ends_map (Err Memory) before after (text, inr lacks, written) = (text, inr (short text lacks), written)
   ends_map (Err Read) before after ends = ends
 
--- nothing was written, since memory was wanted
+-- nothing was written, since memory ran out
 pub ends_out : (Comes : Ended Unfit → List ℕ → Type 0) (Into Short : List ℕ → Type 0) (held : Option (List ℕ)) → Ends Comes Into Short (Err Memory) held held
 ends_out Comes Into Short held = ([], inl refl, Grows-nothing held)
 
@@ -63,26 +63,26 @@ module _ (origin : Origin) (market : Market) (More : Type 0) (place : ℕ) (rest
   is_no_file ended other file (inl long) held = rw long ([], rw long at (is_other ended other file), Grows-nothing held)
   is_no_file ended other file (inr torn) held = rw torn ([], rw torn at (is_other ended other file), Grows-nothing held)
 
--- which is no fault of the output
+-- a rest that is no command file is no fault of the output
 pub no_file_quiet : (ended : Ended Unfit) (place faults : ℕ) → (ended ≡ Err TooLong) ⊎ (ended ≡ Err (Torn place)) → Blames (ended ≡ Err Write) faults faults
 no_file_quiet ended place faults (inl long) = record { later = omega arith; rose = λ e. absurd (let no = sym long ∙ e in cc); quiet = λ _. refl }
 no_file_quiet ended place faults (inr torn) = record { later = omega arith; rose = λ e. absurd (let no = sym torn ∙ e in cc); quiet = λ _. refl }
 
--- a pair that isn't legal
+-- an entry that isn't valid
 pub illegal_ends : (More : Type 0) (bytes : List ℕ) (number : ℕ) → IsFirst bytes (Illegal number) → (held : Option (List ℕ)) → (text : List ℕ) × Resumes More bytes (Err (Stopped (unfit.Illegal number))) text × Grows held held text
 illegal_ends More bytes number stands held = ([], record { first = Illegal number; stands = stands; comes = (refl, refl) }, Grows-nothing held)
 
--- the bytes behind a magic
+-- the bytes after a magic
 pub behind_magic : (version : Version) (bytes body : List ℕ) (place : ℕ) → drop place bytes ≡ command_magic_of version ++ body → drop place bytes ≡ command_magic_of version ++ drop (place + 8) bytes
 behind_magic version bytes body place begins =
     let rest : drop (place + 8) bytes ≡ body = sym (drop-drop 8 place bytes) ∙ ap (drop 8) begins ∙ drop_at (command_magic_of version) body 8 (eight version) in
     begins ∙ ap (λ xs. command_magic_of version ++ xs) (sym rest)
 
--- there are eight more
+-- a magic takes eight bytes more
 pub magic_inside : (version : Version) (bytes body : List ℕ) (place : ℕ) → drop place bytes ≡ command_magic_of version ++ body → place ≤ length bytes → place + 8 ≤ length bytes
 magic_inside version bytes body place begins inside = omega (arith, ap length begins, length-append (command_magic_of version) body, eight version, length-drop place bytes, inside)
 
--- from the part that stands first to the considered bytes
+-- from the first part to the considered bytes
 module _ (bytes : List ℕ) (origin : Origin) (market : Market) (place : ℕ) (rest : List ℕ) (stands : IsFirst bytes (Whole origin market place rest)) where
   first_whole : (body : List ℕ) → rest ≡ command_magic_of market.version ++ body → (records : List Record) (left : List ℕ) (new : Market) (text : List ℕ) → WritesFirst market body records left new text → ResumesFirst bytes records left new text
   first_whole body magic records left new text first = record {
@@ -110,5 +110,5 @@ module _ (bytes : List ℕ) (origin : Origin) (market : Market) (place : ℕ) (r
     behind = short.behind;
     first = first_whole body magic short.records short.left short.new text short.first;
     stands = short.stands;
-    wants = short.wants;
+    allocates = short.allocates;
   }

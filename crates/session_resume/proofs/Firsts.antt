@@ -1,4 +1,4 @@
--- A journal up to behind its last whole pair, and one of which a pair isn't legal, as parts that stand first.
+-- A journal up to the end of its last complete entry, and one of which an entry isn't valid, as first parts.
 use Rattle.std.proofs.Common.{◌≡◌, ◌+◌, ◌*◌, ◌<◌, ◌≤◌, ◌^◌, ℕ, List, [], ◌∷◌, ◌++◌, map, length, drop, append-nil, append_assoc, length-append, refl, sym, ap, subst, ◌∙◌, arith}
 use Rattle.std.specs.Prelude.{All}
 use Rattle.std.specs.List.{flat_map}
@@ -12,7 +12,7 @@ use Rattle.wire_records.specs.Grammars.{BeginsWith, BeginsWithNone, spell_all}
 use Rattle.wire_records.specs.Reading.{Ending}
 use Rattle.wire_records.specs.declared.version.Version.{Version}
 use Rattle.wire_records.proofs.Spelled.{length-spelling}
-use Rattle.flow_orders.specs.Outcomes.{Outcome, IsRightOutcome}
+use Rattle.flow_orders.specs.Outcomes.{Outcome, IsAdmissibleOutcome}
 use Rattle.journal_records.specs.Replies.{answer_record}
 use Rattle.journal_records.specs.Pairs.{pair_spelling}
 use Rattle.journal_records.specs.Formats.{journal_magic_of, journals, journal_in, records_of}
@@ -26,7 +26,7 @@ use Rattle.journal_records.proofs.Files.{eight}
 use Rattle.journal_replay.proofs.Replayed.{behind_magic}
 use Rattle.session_resume.specs.Firsts.{BeginsLegal, BeginsIllegal}
 
--- the pairs of a journal are spelled as their records are
+-- the entries of a journal are encoded as their records are
 file_in : (version : Version) (pairs : List (Pair Record Outcome)) → journal_in version pairs ≡ journal_magic_of version ++ spell_all journals.units (map records_of pairs)
 file_in version pairs = journal_is_file.file version pairs
 
@@ -38,14 +38,14 @@ module _ (version : Version) (bytes : List ℕ) (begins : (body : List ℕ) × B
     units_are : on.units ≡ map records_of legal
     units_are = on.judged.parts ∙ append-nil (map records_of legal)
 
-    -- the journal stands first, and then the rest
+    -- the bytes are the journal, and then the rest
     whole : bytes ≡ journal_in version legal ++ rest
     whole =
         let magic = journal_magic_of version in
         begins.1.1 ∙ ap (λ xs. magic ++ xs) (behind_magic version bytes begins.0 begins.1 ∙ on.reads.whole ∙ ap (λ us. spell_all journals.units us ++ rest) units_are)
         ∙ sym (append_assoc magic (spell_all journals.units (map records_of legal)) rest) ∙ ap (λ xs. xs ++ rest) (sym (file_in version legal))
 
-    -- and this is where
+    -- the journal ends at this place
     pub place_is : length (journal_in version legal) ≡ 8 + length (spell_all journals.units on.units)
     place_is = omega (arith, ap length (file_in version legal), length-append (journal_magic_of version) (spell_all journals.units (map records_of legal)), eight version, ap (λ us. length (spell_all journals.units us)) units_are)
 
@@ -61,7 +61,7 @@ module _ (version : Version) (bytes : List ℕ) (begins : (body : List ℕ) × B
           ends = at;
         }
 
-    -- where no rest is left, the journal is all
+    -- if no rest is left, the journal is all
     pub all_is : rest ≡ [] → length bytes ≡ length (journal_in version legal)
     all_is none = omega (arith, ap length whole, length-append (journal_in version legal) rest, ap length none)
 
@@ -106,18 +106,18 @@ pair_long : (pair : Pair Record Outcome) → 10 ≤ length (pair_spelling pair)
 unfolding pair_spelling
 pair_long pair = omega (arith, length-append (spelling pair.asked) (spelling (answer_record pair.answer)), length-spelling pair.asked, length-spelling (answer_record pair.answer))
 
--- pairs have ten bytes each at least
+-- entries have ten bytes each at least
 pairs_long : (pairs : List (Pair Record Outcome)) → 10 * length pairs ≤ length (flat_map pair_spelling pairs)
 pairs_long [] = omega arith
 pairs_long (pair ∷ pairs) = omega (arith, pair_long pair, pairs_long pairs, length-append (pair_spelling pair) (flat_map pair_spelling pairs))
 
--- and give no more numbers to orders than they are
-orders_few : (old new : Market) (pairs : List (Pair Record Outcome)) → Follows IsReadAs IsRightOutcome old pairs new → new.next_order ≤ old.next_order + length pairs
+-- entries give at most one number each to orders
+orders_few : (old new : Market) (pairs : List (Pair Record Outcome)) → Follows IsReadAs IsAdmissibleOutcome old pairs new → new.next_order ≤ old.next_order + length pairs
 orders_few old new [] follows = omega (arith, ap (λ (m : Market). m.next_order) follows)
 orders_few old new (pair ∷ pairs) (between, step, follows) =
     omega (arith, legal_steps_number_one old pair.asked pair.answer between step, orders_few between new pairs follows)
 
--- so in a journal that has a length of 64 bits the number of the next order is far below 2 ^ 63
+-- in a journal that has a length of 64 bits the number of the next order is far below 2 ^ 63
 pub numbers_fit : (version : Version) (pairs : List (Pair Record Outcome)) (market : Market) → IsLegalJournal version pairs market → length (journal_in version pairs) < 2 ^ 64 → market.next_order < 2 ^ 63
 numbers_fit version pairs market legal few =
     omega (arith, orders_few (empty_market version) market pairs legal.steps, pairs_long pairs, length-append (journal_magic_of version) (flat_map pair_spelling pairs), few)

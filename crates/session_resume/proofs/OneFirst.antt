@@ -1,4 +1,4 @@
--- One thing stands first in bytes, and one behind it.
+-- Bytes have one first part, and one rest after it.
 use Rattle.std.proofs.Common.{◌≡◌, ◌≢◌, ◌+◌, ◌<◌, ◌≤◌, ℕ, List, [], ◌∷◌, ◌++◌, map, length, drop, get_or, append-nil, append_assoc, length-append, refl, sym, ap, subst, ◌∙◌, arith, inl, inr}
 use Rattle.std.specs.Prelude.{All}
 use Rattle.std.proofs.lemmas.Grind.{flat_map-append}
@@ -18,19 +18,19 @@ use Rattle.journal_records.specs.Pairs.{IsPair}
 use Rattle.journal_records.proofs.Files.{journals_readable, journal_is_file}
 use Rattle.market_rules.specs.Market.{Market}
 use Rattle.wire_records.specs.Versions.{number_of}
-use Rattle.market_snapshot.specs.Checkpoints.{checkpoint_magic, checkpoint_bytes, parts_spelling, read_order, tickers_spelling, accounts_spelling, totals_spelling, exchange_spelling, batches_spelling, orders_spelling, IsCheckpoint}
+use Rattle.market_snapshot.specs.Checkpoints.{checkpoint_magic, checkpoint_bytes, parts_spelling, read_order, tickers_spelling, accounts_spelling, totals_spelling, exchange_spelling, batches_spelling, orders_spelling, IsCheckpoint, HasCheckpointMagic}
 use Rattle.wire_fields.specs.Numbers.{unsigned}
 use Rattle.std.specs.List.{flat_map}
 use Rattle.market_snapshot.proofs.OneMarket.{one_market}
 use Rattle.batch_audit.specs.Legal.{IsLegalJournal, AreJudged}
 use Rattle.batch_audit.proofs.LawProofs.{one_judgement}
 use Rattle.session_resume.specs.declared.first.Origin.TheVariants.{Journal, Checkpoint}
-use Rattle.session_resume.specs.Firsts.{First, Neither, NoCheckpoint, Illegal, Whole, BeginsLegal, BeginsIllegal, BeginsKept, HasCheckpointMagic, IsFirst}
+use Rattle.session_resume.specs.Firsts.{First, Neither, NoCheckpoint, Illegal, Whole, BeginsLegal, BeginsIllegal, BeginsKept, IsFirst}
 use Rattle.session_resume.specs.Rests.{Rest, Cut, Nothing, Commands, Other, IsRest}
 
 -- ---- a journal
 
--- The pairs of a journal and the rest behind them, judged.
+-- The entries of a journal and the rest after them, judged.
 record Judged (bytes : List ℕ) (version : Version) (legal : List (Pair Record Outcome)) (behind : List (Record × Record)) (market : Market) (rest : List ℕ) : Type 0 where
   units : List (Record × Record)
   begins : bytes ≡ journal_magic_of version ++ (spell_all journals.units units ++ rest)
@@ -38,7 +38,7 @@ record Judged (bytes : List ℕ) (version : Version) (legal : List (Pair Record 
   none : BeginsWithNone journals.units rest
   judged : AreJudged version units legal behind market
 
--- are so in one way
+-- bytes are judged in one way
 one_judged : (bytes : List ℕ) (v w : Version) (p q : List (Pair Record Outcome)) (x y : List (Record × Record)) (m n : Market) (r s : List ℕ) → Judged bytes v p x m r → Judged bytes w q y n s → (v ≡ w) × (p ≡ q) × (x ≡ y) × (m ≡ n) × (r ≡ s)
 one_judged bytes v w p q x y m n r s a b =
     let magic = journals_readable.magics.one v w (spell_all journals.units a.units ++ r) (spell_all journals.units b.units ++ s) tt tt (sym a.begins ∙ b.begins) in
@@ -47,11 +47,11 @@ one_judged bytes v w p q x y m n r s a b =
     let same = one_judgement w b.units p q x y m n (subst (λ (us : List (Record × Record)). AreJudged w us p x m) parts.0 here) b.judged in
     (magic.0, same.0, same.1, same.2, parts.1)
 
--- the pairs of a legal journal are lawful as records
+-- the entries of a valid journal are lawful as records
 each_lawful : (version : Version) (pairs : List (Pair Record Outcome)) (market : Market) → IsLegalJournal version pairs market → All journals.units.IsLawful (map records_of pairs)
 each_lawful version pairs market legal = All-map journals.units.IsLawful records_of pairs (λ k d inside. ((legal.each k d inside).asked, (legal.each k d inside).answered))
 
--- what stands behind a legal journal stands behind its records
+-- what follows a valid journal follows its records
 behind_records : (version : Version) (pairs : List (Pair Record Outcome)) (bytes left : List ℕ) → bytes ≡ journal_in version pairs ++ left → bytes ≡ journal_magic_of version ++ (spell_all journals.units (map records_of pairs) ++ left)
 behind_records version pairs bytes left whole =
     whole ∙ ap (λ xs. xs ++ left) (journal_is_file.file version pairs) ∙ append_assoc (journal_magic_of version) (spell_all journals.units (map records_of pairs)) left
@@ -65,7 +65,7 @@ of_legal bytes market place rest first = record {
   judged = record { parts = sym (append-nil (map records_of first.pairs)); journal = first.legal; stops = tt };
 }
 
--- the pairs behind one that isn't legal, and the rest
+-- the entries after one that isn't valid, and the rest
 record HasIllegal (bytes : List ℕ) (number : ℕ) (first : BeginsIllegal bytes number) : Type 0 where
   more : List (Record × Record)
   rest : List ℕ
@@ -130,7 +130,7 @@ other_magics bytes (version, body, journal) (rest, checkpoint) =
     let here : 74 ≡ 83 = sym (fifth version body) ∙ ap (λ (xs : List ℕ). get_or xs 4 0) (sym journal ∙ checkpoint) in
     omega (arith, here)
 
--- ---- what stands first
+-- ---- what bytes begin with
 
 module _ (bytes : List ℕ) where
   one_legal : (m n : Market) (p q : ℕ) (r s : List ℕ) → BeginsLegal bytes m p r → BeginsLegal bytes n q s → Whole Journal m p r ≡ Whole Journal n q s
@@ -185,7 +185,7 @@ module _ (bytes : List ℕ) where
   one_first (Whole Checkpoint m p r) (Whole Journal n q s) is also = absurd (other_magics bytes (legal_magic bytes n q s also) (kept_magic bytes m p r is))
   one_first (Whole Checkpoint m p r) (Whole Checkpoint n q s) is also = one_kept m n p q r s is also
 
--- ---- what stands behind it
+-- ---- what follows it
 
 module _ (version : Version) (More : Type 0) (rest : List ℕ) where
   -- a magic has eight bytes

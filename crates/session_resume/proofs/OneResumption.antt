@@ -1,4 +1,4 @@
--- An input comes to one end and one text, and what its first records come to is a front of that text.
+-- An input has one result and one text, and what is written for its first records is a prefix of that text.
 use Rattle.std.proofs.Common.{◌≡◌, ◌+◌, ◌<◌, ◌≤◌, ◌⊎◌, ℕ, List, [], ◌∷◌, ◌++◌, map, length, Ok, Err, append-nil, append_assoc, refl, sym, ap, subst, ◌∙◌, arith, inl, inr}
 use Rattle.std.specs.Prelude.{All}
 use Rattle.std.specs.List.{flat_map}
@@ -15,12 +15,12 @@ use Rattle.wire_records.proofs.Readings.{reading_unique}
 use Rattle.wire_records.proofs.ReadingLaws.{reads_on_one}
 use Rattle.wire_records.proofs.RecordCode.{commands_readable}
 use Rattle.flow_orders.specs.Outcomes.{Outcome}
-use Rattle.own_rule.specs.Own.{IsOwnOutcome}
+use Rattle.canonical_rule.specs.Canonical.{IsCanonicalOutcome}
 use Rattle.journal_records.specs.Pairs.{pair_spelling}
 use Rattle.journal_records.specs.Formats.{journals}
 use Rattle.market_rules.specs.Market.{Market}
 use Rattle.market_rules.specs.Journal.{Follows}
-use Rattle.own_journals.proofs.OneOwnJournal.{own_step}
+use Rattle.canonical_journals.proofs.OneCanonicalJournal.{own_step}
 use Rattle.word_driver.specs.Ended.{Ended}
 use Rattle.session_resume.specs.declared.first.Origin.{Origin}
 use Rattle.session_resume.specs.declared.first.Origin.TheVariants.{Journal, Checkpoint}
@@ -31,7 +31,7 @@ use Rattle.session_resume.specs.Rests.{Rest, Cut, Nothing, Commands, Other, IsRe
 use Rattle.session_resume.specs.Resuming.{EndsUnsound, FirstComesTo, Resumes, ResumesFirst, ResumesInto, ResumesShort}
 use Rattle.session_resume.proofs.OneFirst.{one_first, one_rest}
 
--- ---- pairs
+-- ---- entries
 
 abbrev asked_of : List (Pair Record Outcome) → List Record
 asked_of pairs = map (λ (pair : Pair Record Outcome). pair.asked) pairs
@@ -44,8 +44,8 @@ same_pair p q a b =
 heads : (a b : Record) (x y : List Record) → a ∷ x ≡ b ∷ y → (a ≡ b) × (x ≡ y)
 heads a b x y e = (cc, cc)
 
--- the pairs that answer the first of some records are the first of those that answer all
-front_of : (old m n : Market) (p q : List (Pair Record Outcome)) (more : List Record) → asked_of q ≡ asked_of p ++ more → Follows IsReadAs IsOwnOutcome old p m → Follows IsReadAs IsOwnOutcome old q n → (rest : List (Pair Record Outcome)) × (q ≡ p ++ rest)
+-- the entries that answer the first of some records are the first of those that answer all
+front_of : (old m n : Market) (p q : List (Pair Record Outcome)) (more : List Record) → asked_of q ≡ asked_of p ++ more → Follows IsReadAs IsCanonicalOutcome old p m → Follows IsReadAs IsCanonicalOutcome old q n → (rest : List (Pair Record Outcome)) × (q ≡ p ++ rest)
 front_of old m n [] q more e first all = (q, refl)
 front_of old m n (x ∷ xs) [] more e first all = absurd cc
 front_of old m n (x ∷ xs) (y ∷ ys) more e first all =
@@ -54,7 +54,7 @@ front_of old m n (x ∷ xs) (y ∷ ys) more e first all =
     let rest = front_of first.0 m n xs ys more asked.1 first.2 (rw (← step.1) at all.2) in
     (rest.0, ap (λ (p : Pair Record Outcome). p ∷ ys) (same_pair y x asked.0 (sym step.0)) ∙ ap (λ (ps : List (Pair Record Outcome)). x ∷ ps) rest.1)
 
--- so is their text
+-- the text for the first of some records is a prefix of the text for all
 pub continues_front : (old m n : Market) (records all more : List Record) (x y : List ℕ) → all ≡ records ++ more → Continues old records m x → Continues old all n y → (rest : List ℕ) × (y ≡ x ++ rest)
 continues_front old m n records all more x y e first whole =
     let asked : asked_of whole.pairs ≡ asked_of first.pairs ++ more = whole.answered.asked ∙ e ∙ ap (λ (rs : List Record). rs ++ more) (sym first.answered.asked) in
@@ -62,7 +62,7 @@ continues_front old m n records all more x y e first whole =
     (flat_map pair_spelling front.0, whole.spelled ∙ ap (flat_map pair_spelling) front.1 ∙ flat_map-append pair_spelling first.pairs front.0 ∙ ap (λ xs. xs ++ flat_map pair_spelling front.0) (sym first.spelled))
 
 -- the answers to the same records are the same
-one_from : (old m n : Market) (p q : List (Pair Record Outcome)) → asked_of p ≡ asked_of q → Follows IsReadAs IsOwnOutcome old p m → Follows IsReadAs IsOwnOutcome old q n → (p ≡ q) × (m ≡ n)
+one_from : (old m n : Market) (p q : List (Pair Record Outcome)) → asked_of p ≡ asked_of q → Follows IsReadAs IsCanonicalOutcome old p m → Follows IsReadAs IsCanonicalOutcome old q n → (p ≡ q) × (m ≡ n)
 one_from old m n [] [] e first other = (refl, first ∙ sym other)
 one_from old m n [] (y ∷ ys) e first other = absurd cc
 one_from old m n (x ∷ xs) [] e first other = absurd cc
@@ -127,9 +127,9 @@ one_end_of More bytes e f x y a b =
     let same = one_first bytes a.first b.first a.stands b.stands in
     comes_one More b.first e f x y (subst (λ (first : First). FirstComesTo More first e x) same a.comes) b.comes
 
--- ---- fronts
+-- ---- prefixes
 
--- the first records of bytes are the first of all that stand there
+-- the first records of bytes are the first of all that are there
 first_records : (body : List ℕ) (records all : List Record) (left rest : List ℕ) → body ≡ spell_all commands.units records ++ left → All commands.units.IsLawful records → (place : ℕ) (More : Type 0) (ending : Ending) → ReadsOn commands place More body all ending → (more : List Record) × (all ≡ records ++ more)
 first_records body records all left rest whole each place More ending reads =
     let parts = parted commands.units commands_readable.units left in

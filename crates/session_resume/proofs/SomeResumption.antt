@@ -1,4 +1,4 @@
--- No input is without an end and a text.
+-- Each input has a result and a text.
 use Rattle.std.proofs.Common.{◌≡◌, ◌≢◌, ◌+◌, ◌<◌, ◌≤◌, ◌⊎◌, ◌↔◌, ℕ, List, [], ◌∷◌, ◌++◌, map, length, drop, Ok, Err, append-nil, append_assoc, refl, sym, ap, subst, ◌∙◌, arith, inl, inr}
 use Rattle.std.specs.Prelude.{All}
 use Rattle.std.proofs.lemmas.List.Elements.{All-nil, All-cons, All-head, All-tail}
@@ -9,16 +9,18 @@ use Rattle.wire_records.specs.Grammars.{BeginsWithNone, spell_all}
 use Rattle.wire_records.specs.Reading.{Ending, End, Torn, TooLong, ReadsOn, EndsAs}
 use Rattle.wire_records.specs.Formats.{commands, command_magic_of}
 use Rattle.wire_records.specs.declared.version.Version.{Version}
+use Rattle.wire_records.proofs.Readings.{read_own}
 use Rattle.wire_records.proofs.ReadingLaws.{reads_on_some}
 use Rattle.wire_records.proofs.RecordCode.{commands_readable}
-use Rattle.flow_orders.specs.Outcomes.{Outcome, IsRightOutcome}
+use Rattle.flow_orders.specs.Outcomes.{Outcome, IsAdmissibleOutcome}
 use Rattle.journal_records.specs.Pairs.{IsPair}
 use Rattle.journal_records.specs.Formats.{journal_magic_of, journals, journal_in, records_of}
 use Rattle.journal_records.proofs.Files.{journals_readable}
-use Rattle.market_rules.specs.Market.{Market, IsSound, empty_market}
+use Rattle.market_rules.specs.Market.{Market, IsConsistent, empty_market}
 use Rattle.market_rules.specs.Journal.{Follows}
-use Rattle.market_rules.proofs.LawProofs.{steps_keep_soundness, journals_hold_deposits}
-use Rattle.market_snapshot.specs.Checkpoints.{IsCheckpoint}
+use Rattle.market_rules.proofs.LawProofs.{steps_keep_consistency, journals_hold_deposits}
+use Rattle.canonical_journals.proofs.CanonicalIsLegal.{canonical_follows_are_admissible}
+use Rattle.market_snapshot.specs.Checkpoints.{IsCheckpoint, HasCheckpointMagic}
 use Rattle.batch_audit.specs.Legal.{IsLegalPair, IsLegalJournal, StopsAt}
 use Rattle.journal_replay.specs.Audits.{AuditsOn}
 use Rattle.journal_replay.proofs.Replayed.{behind_magic}
@@ -31,23 +33,23 @@ use Rattle.session_resume.specs.declared.first.Origin.{Origin}
 use Rattle.session_resume.specs.declared.first.Origin.TheVariants.{Journal, Checkpoint}
 use Rattle.session_resume.specs.declared.first.Unfit.{Unfit}
 use Rattle.session_resume.specs.declared.first.Unfit.TheVariants as unfit
-use Rattle.session_resume.specs.Firsts.{First, Neither, NoCheckpoint, Illegal, Whole, BeginsKept, HasCheckpointMagic, IsFirst}
+use Rattle.session_resume.specs.Firsts.{First, Neither, NoCheckpoint, Illegal, Whole, BeginsKept, IsFirst}
 use Rattle.session_resume.specs.Continuing.{Continues}
 use Rattle.session_resume.specs.Rests.{Rest, Cut, Nothing, Commands, Other, IsRest, ServesAll, IsNoFile, RestComesTo, ended_by}
 use Rattle.session_resume.specs.Resuming.{EndsUnsound, FirstComesTo, Resumes}
 use Rattle.session_resume.proofs.Firsts.{place_is, legal_first, illegal_first}
-use Rattle.session_resume.proofs.Written.{Answers, none_answered, answers_more, continues}
+use Rattle.session_resume.proofs.Written.{none_continues, continues_more}
 
--- ---- what stands first
+-- ---- what bytes begin with
 
--- pairs of records are some legal ones from a market on, and those behind them, of which the first is illegal
+-- entries are some valid ones from a market on, and those after them, of which the first is invalid
 record Judges (old : Market) (all : List (Record × Record)) : Type 0 where
   legal : List (Pair Record Outcome)
   behind : List (Record × Record)
   new : Market
   parts : all ≡ map records_of legal ++ behind
   each : All IsPair legal
-  steps : Follows IsReadAs IsRightOutcome old legal new
+  steps : Follows IsReadAs IsAdmissibleOutcome old legal new
   stops : StopsAt new behind
 
 judges_more : (old next : Market) (unit : Record × Record) (units : List (Record × Record)) → journals.units.IsLawful unit → IsLegalPair old unit next → Judges next units → Judges old (unit ∷ units)
@@ -113,7 +115,7 @@ module _ (bytes : List ℕ) where
             follows (λ has. elim has [ inl magic ↦ some_checkpoint magic | inr neither ↦ not_denied (Neither, (none, neither)) ]) (one_of (HasCheckpointMagic bytes))
       ]
 
--- ---- what stands behind it
+-- ---- what follows it
 
 some_rest : (version : Version) (More : Type 0) (rest : List ℕ) → IsNotDenied ((behind : Rest) × IsRest version More rest behind)
 some_rest version More rest =
@@ -142,28 +144,29 @@ some_rest version More rest =
 -- ---- records are answered
 
 abbrev Answered : Market → List Record → Type 0
-Answered old records = (new : Market) × (text : List ℕ) × Answers old records new text
+Answered old records = (new : Market) × (text : List ℕ) × Continues old records new text
 
-answered : (old : Market) (records : List Record) → IsSound old → All commands.units.IsLawful records → IsNotDenied (Answered old records)
-answered old [] sound each = not_denied (old, [], none_answered old)
-answered old (r ∷ records) sound each =
+answered : (old : Market) (records : List Record) → IsConsistent old → All commands.units.IsLawful records → IsNotDenied (Answered old records)
+answered old [] consistent each = not_denied (old, [], none_continues old)
+answered old (r ∷ records) consistent each =
     follows
     (λ readable.
-    let step = has_step old r sound (All-head commands.units.IsLawful r records each) readable in
+    let step = has_step old r consistent (All-head commands.units.IsLawful r records each) readable in
     let next = step.0 in
-    let still = (continues old next (r ∷ []) (step.1 ++ []) sound (answers_more old next next r [] step.1 [] step.2 (none_answered next))).deposits.sound in
-    follows (λ (rest : Answered next records). not_denied (rest.0, step.1 ++ rest.1, answers_more old next rest.0 r records step.1 rest.1 step.2 rest.2)) (answered next records still (All-tail commands.units.IsLawful r records each)))
+    let one : List (Pair Record Outcome) = record { asked = r; answer = step.2.answer } ∷ [] in
+    let still = (journals_hold_deposits old one next consistent (canonical_follows_are_admissible IsReadAs read_own old one next consistent (next, step.2.step, refl))).consistent in
+    follows (λ (rest : Answered next records). not_denied (rest.0, step.1 ++ rest.1, continues_more old next rest.0 r records step.1 rest.1 step.2 rest.2)) (answered next records still (All-tail commands.units.IsLawful r records each)))
     (can_be_read r)
 
-some_service : (market : Market) (More : Type 0) (place : ℕ) (body : List ℕ) → IsSound market → IsNotDenied ((ended : Ended Unfit) × (text : List ℕ) × ServesAll market More place body ended text)
-some_service market More place body sound =
+some_service : (market : Market) (More : Type 0) (place : ℕ) (body : List ℕ) → IsConsistent market → IsNotDenied ((ended : Ended Unfit) × (text : List ℕ) × ServesAll market More place body ended text)
+some_service market More place body consistent =
     follows
     (λ more.
     let on = reads_on_some commands commands_readable place More more body in
     follows
     (λ (so : Answered market on.0).
-    not_denied (ended_by on.1, so.1, record { records = on.0; ending = on.1; new = so.0; reads = on.2; ends = refl; writes = continues market so.0 on.0 so.1 sound so.2 }))
-    (answered market on.0 sound on.2.each))
+    not_denied (ended_by on.1, so.1, record { records = on.0; ending = on.1; new = so.0; reads = on.2; ends = refl; writes = so.2 }))
+    (answered market on.0 consistent on.2.each))
     (one_of More)
 
 -- ---- inputs
@@ -182,16 +185,16 @@ some_file Checkpoint More place rest some more = (Err (fault.Torn place), refl)
 abbrev SomeEnd : (Ended Unfit → List ℕ → Type 0) → Type 0
 SomeEnd Comes = (ended : Ended Unfit) × (text : List ℕ) × Comes ended text
 
-some_behind : (origin : Origin) (market : Market) (More : Type 0) (place : ℕ) (rest : List ℕ) (behind : Rest) → IsSound market → IsRest market.version More rest behind → IsNotDenied (SomeEnd (RestComesTo origin market More place rest behind))
-some_behind origin market More place rest Cut sound is = not_denied (Err fault.TooLong, [], (refl, refl))
-some_behind origin market More place rest Nothing sound is = not_denied (Ok tt, [], (refl, refl))
-some_behind origin market More place rest (Commands body) sound is = some_service market More (place + 8) body sound
-some_behind origin market More place rest Other sound is = follows (λ more. let file = some_file origin More place rest is.1 more in not_denied (file.0, [], (file.1, refl))) (one_of More)
+some_behind : (origin : Origin) (market : Market) (More : Type 0) (place : ℕ) (rest : List ℕ) (behind : Rest) → IsConsistent market → IsRest market.version More rest behind → IsNotDenied (SomeEnd (RestComesTo origin market More place rest behind))
+some_behind origin market More place rest Cut consistent is = not_denied (Err fault.TooLong, [], (refl, refl))
+some_behind origin market More place rest Nothing consistent is = not_denied (Ok tt, [], (refl, refl))
+some_behind origin market More place rest (Commands body) consistent is = some_service market More (place + 8) body consistent
+some_behind origin market More place rest Other consistent is = follows (λ more. let file = some_file origin More place rest is.1 more in not_denied (file.0, [], (file.1, refl))) (one_of More)
 
--- the market of a part that stands first is sound
-sound_first : (bytes : List ℕ) (origin : Origin) (market : Market) (place : ℕ) (rest : List ℕ) → IsFirst bytes (Whole origin market place rest) → IsSound market
-sound_first bytes Journal market place rest first = (journals_hold_deposits (empty_market first.version) first.pairs market (steps_keep_soundness.0 first.version) first.legal.steps).sound
-sound_first bytes Checkpoint market place rest first = first.is_one.sound
+-- the market of a first part is consistent
+consistent_first : (bytes : List ℕ) (origin : Origin) (market : Market) (place : ℕ) (rest : List ℕ) → IsFirst bytes (Whole origin market place rest) → IsConsistent market
+consistent_first bytes Journal market place rest first = (journals_hold_deposits (empty_market first.version) first.pairs market (steps_keep_consistency.0 first.version) first.legal.steps).consistent
+consistent_first bytes Checkpoint market place rest first = first.is_one.consistent
 
 some_unsound : (More : Type 0) → More ⊎ (¬ More) → (ended : Ended Unfit) × EndsUnsound More ended
 some_unsound More (inl more) = (Err fault.TooLong, inl (more, refl))
@@ -205,7 +208,7 @@ some_comes More bytes (Whole origin market place rest) stands =
     follows
     (λ behind.
     follows (λ (some : SomeEnd (RestComesTo origin market More place rest behind.0)). not_denied (some.0, some.1, (behind.0, behind.1, some.2)))
-    (some_behind origin market More place rest behind.0 (sound_first bytes origin market place rest stands) behind.1))
+    (some_behind origin market More place rest behind.0 (consistent_first bytes origin market place rest stands) behind.1))
     (some_rest market.version More rest)
 
 pub some_end_of : (More : Type 0) (bytes : List ℕ) → ((ended : Ended Unfit) (text : List ℕ) → ¬ Resumes More bytes ended text) → ⊥

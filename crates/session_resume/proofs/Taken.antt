@@ -27,7 +27,7 @@ use Rattle.session_resume.specs.Tasks.{resuming}
 use Rattle.session_resume.specs.Private.{Ends}
 use Rattle.session_resume.proofs.OneResumption.{one_end_of}
 
--- ---- what bytes come to depends only on whether the input has more
+-- ---- the result for bytes depends only on whether the input has more
 
 module _ (P Q : Type 0) (same : P ↔ Q) where
   rest_alike : (version : Version) (rest : List ℕ) (behind : Rest) → IsRest version P rest behind → IsRest version Q rest behind
@@ -75,7 +75,7 @@ module _ (P Q : Type 0) (same : P ↔ Q) where
   resumes_alike : (bytes : List ℕ) (ended : Ended Unfit) (text : List ℕ) → Resumes P bytes ended text → Resumes Q bytes ended text
   resumes_alike bytes ended text resumes = record { first = resumes.first; stands = resumes.stands; comes = first_alike resumes.first ended text resumes.comes }
 
--- ---- where all was done, the input has no more
+-- ---- if all was done, the input has no more
 
 module _ (More : Type 0) where
   ending_done : (format_ends : reading.Ending → Type 0) → (format_ends reading.End → ¬ More) → (ending : Ending) → format_ends ending → Ok tt ≡ ended_by ending → ¬ More
@@ -103,7 +103,7 @@ module _ (More : Type 0) where
   first_done (Illegal number) text comes = absurd (let done = comes.0 in cc)
   first_done (Whole origin market place rest) text comes = behind_done origin market place rest comes.0 text comes.1 comes.2
 
--- ---- over what the source told
+-- ---- over the known content of a source
 
 abbrev EndsAll : WholeInput → Ended Unfit → Option (List ℕ) → Option (List ℕ) → Type 0
 EndsAll input = Ends (Resumes (IsTrue input.more) input.bytes.items) (ResumesInto input.bytes.items) (ResumesShort input.bytes.items)
@@ -114,7 +114,7 @@ module _ (limit : ℕ) (left : List ℕ) (after : Option (List ℕ)) (input : Wh
       let here : Resumes (limit < length left) (take limit left) ended text = subst (λ (xs : List ℕ). Resumes (limit < length left) xs ended text) whole.bytes (resumes_alike (IsTrue input.more) (limit < length left) whole.more input.bytes.items ended text resumes) in
       (text, here, written, λ other words comes. one_end_of (limit < length left) (take limit left) other ended words text comes here)
 
-  -- by the end
+  -- by the result
   meets : (ended : Ended Unfit) (before now : Option (List ℕ)) → EndsAll input ended before now → Meets resuming limit left after ended before now
   meets (Ok done) before now ends = determines (Ok tt) ends.0 before now ends.1 ends.2
   meets (Err fault.NotFlow) before now ends = determines (Err fault.NotFlow) ends.0 before now ends.1 ends.2
@@ -130,7 +130,7 @@ pub meets_told : (told after : Option (List ℕ)) (limit : ℕ) (input : WholeIn
 meets_told None after limit input ended before now whole ends = tt
 meets_told (Some left) after limit input ended before now whole ends = meets limit left after input whole ended before now ends
 
--- where all was done, nothing is left
+-- if all was done, nothing is left
 pub left_told : (told after : Option (List ℕ)) (limit : ℕ) (input : WholeInput) (ended : Ended Unfit) (before now : Option (List ℕ)) → IfSome told (λ left. IsWholeInput limit left input) → IfSome told (λ left. after ≡ Some (drop (limit + 1) left))
     → EndsAll input ended before now → OnOk ended (IfSome told (λ left. after ≡ Some []))
 left_told None after limit input (Ok done) before now whole taken ends = tt
@@ -140,7 +140,7 @@ left_told (Some left) after limit input (Ok done) before now whole taken ends =
     taken ∙ ap (λ (xs : List ℕ). Some xs) (drop_all (limit + 1) left (omega arith))
 left_told told after limit input (Err why) before now whole taken ends = tt
 
--- going on is no read of the source
+-- a resumption doesn't read the source
 pub no_read : (Comes : Ended Unfit → List ℕ → Type 0) (Into Short : List ℕ → Type 0) (ended : Ended Unfit) (before now : Option (List ℕ)) → Ends Comes Into Short ended before now → ended ≡ Err fault.Read → ⊥
 no_read Comes Into Short ended before now ends e = subst (λ (z : Ended Unfit). Ends Comes Into Short z before now) e ends
 
@@ -151,7 +151,7 @@ read_quietly Comes Into Short ended before now ends faults later same = record {
   quiet = λ _. same;
 }
 
--- want of memory is no fault of the source
+-- running out of memory is no fault of the source
 same_why : (T F : Type 0) (a b : F) → ◌≡◌ {A = Result T F} (Err a) (Err b) → a ≡ b
 same_why T F a b e = cc
 

@@ -1,26 +1,17 @@
--- What records that were served have written, from a sound market on.
+-- What records that were served have written, from a market on.
 use Rattle.std.proofs.Common.{◌≡◌, ◌+◌, ◌<◌, ◌≤◌, ◌^◌, ℕ, List, [], ◌∷◌, ◌++◌, length, take, drop, Ok, Err, append-nil, append_assoc, refl, sym, ap, ◌∙◌, arith, inl, inr}
 use Rattle.std.specs.Prelude.{All}
-use Rattle.std.specs.List.{flat_map}
 use Rattle.std.proofs.lemmas.List.{take-append-drop}
 use Rattle.std.proofs.lemmas.List.Elements.{All-nil, All-cons}
 use Rattle.wire_records.specs.Records.{Record}
 use Rattle.wire_records.specs.Commands.{Pair}
-use Rattle.wire_records.specs.Versions.{IsReadAs}
 use Rattle.wire_records.specs.Reading as reading
 use Rattle.wire_records.specs.Grammars.{spell_all}
 use Rattle.wire_records.specs.Formats.{commands}
-use Rattle.wire_records.proofs.Readings.{read_own}
 use Rattle.flow_orders.specs.Outcomes.{Outcome}
-use Rattle.own_rule.specs.Own.{IsOwnOutcome}
 use Rattle.journal_records.specs.Pairs.{IsPair, pair_spelling}
-use Rattle.market_rules.specs.Market.{Market, IsSound}
-use Rattle.market_rules.specs.Journal.{IsAnswered}
-use Rattle.own_journals.proofs.OwnIsLegal.{own_follows_are_right}
-use Rattle.market_rules.proofs.LawProofs.{journals_hold_deposits}
-use Rattle.own_journals.proofs.LawProofs.{steps_number_one}
-use Rattle.market_rules.proofs.Promised.{legal_journal_keeps_promises}
-use Rattle.own_journals.proofs.OwnPromises.{own_journal_clears_near}
+use Rattle.market_rules.specs.Market.{Market}
+use Rattle.canonical_journals.proofs.LawProofs.{steps_number_one}
 use Rattle.word_driver.specs.declared.fault.Fault.TheVariants.{Read, Write, Memory, NotFlow, Torn, TooLong, Stopped}
 use Rattle.word_driver.specs.declared.fault.Never.{Never}
 use Rattle.word_driver.specs.Ended.{Ended}
@@ -32,18 +23,12 @@ use Rattle.session_resume.specs.Continuing.{Continues}
 use Rattle.session_resume.specs.Rests.{ServesAll, ended_by}
 use Rattle.session_resume.specs.Private.{WritesInto, WritesShort}
 
--- Pairs that answer records from a market on, and their text.
-pub record Answers (old : Market) (records : List Record) (new : Market) (text : List ℕ) : Type 0 where
-  pub pairs : List (Pair Record Outcome)
-  pub answered : IsAnswered IsReadAs IsOwnOutcome old records pairs new
-  pub fits : old.next_order + length pairs < 2 ^ 64 → All IsPair pairs
-  pub spelled : text ≡ flat_map pair_spelling pairs
+-- entries that answer records from a market on: none, and one more before others
+pub none_continues : (old : Market) → Continues old [] old []
+none_continues old = record { pairs = []; answered = record { asked = refl; steps = refl }; fits = λ few. All-nil IsPair; spelled = refl }
 
-pub none_answered : (old : Market) → Answers old [] old []
-none_answered old = record { pairs = []; answered = record { asked = refl; steps = refl }; fits = λ few. All-nil IsPair; spelled = refl }
-
-pub answers_more : (old next new : Market) (r : Record) (records : List Record) (text rest : List ℕ) → AnswersOne old r next text → Answers next records new rest → Answers old (r ∷ records) new (text ++ rest)
-answers_more old next new r records text rest one more =
+pub continues_more : (old next new : Market) (r : Record) (records : List Record) (text rest : List ℕ) → AnswersOne old r next text → Continues next records new rest → Continues old (r ∷ records) new (text ++ rest)
+continues_more old next new r records text rest one more =
     let pair : Pair Record Outcome = record { asked = r; answer = one.answer } in
     let rise = steps_number_one old r one.answer next one.step in
     record {
@@ -53,25 +38,11 @@ answers_more old next new r records text rest one more =
       spelled = ap (λ xs. xs ++ rest) one.spelled ∙ ap (λ xs. pair_spelling pair ++ xs) more.spelled;
     }
 
--- such pairs keep what is promised, where the first market is sound
-pub continues : (old new : Market) (records : List Record) (text : List ℕ) → IsSound old → Answers old records new text → Continues old records new text
-continues old new records text sound so =
-    let legal = own_follows_are_right IsReadAs read_own old so.pairs new sound so.answered.steps in
-    record {
-      pairs = so.pairs;
-      answered = so.answered;
-      deposits = journals_hold_deposits old so.pairs new sound legal;
-      keeps = legal_journal_keeps_promises old so.pairs new sound legal;
-      near = own_journal_clears_near old so.pairs new sound so.answered.steps;
-      fits = so.fits;
-      spelled = so.spelled;
-    }
-
--- what a run writes behind its opening are such pairs
-answered : (old new : Market) (records : List Record) (text : List ℕ) → Goes run old records new text → Answers old records new text
-answered old new [] text goes = rw (goes.0, goes.1) (none_answered old)
-answered old new (r ∷ records) text goes =
-    rw goes.5 (answers_more old goes.0 new r records goes.1 goes.2 goes.3 (answered goes.0 new records goes.2 goes.4))
+-- what a run writes after its opening are such entries
+continues : (old new : Market) (records : List Record) (text : List ℕ) → Goes run old records new text → Continues old records new text
+continues old new [] text goes = rw (goes.0, goes.1) (none_continues old)
+continues old new (r ∷ records) text goes =
+    rw goes.5 (continues_more old goes.0 new r records goes.1 goes.2 goes.3 (continues goes.0 new records goes.2 goes.4))
 
 -- a run writes nothing last
 nothing_last : (More : Type 0) (place : ℕ) (rest : List ℕ) (new : Market) (ended : Ended Never) (last : List ℕ) → Halts run More place rest new ended last → last ≡ []
@@ -85,14 +56,14 @@ nothing_last More place rest new (Err Read) last halts = absurd halts
 nothing_last More place rest new (Err Write) last halts = absurd halts
 nothing_last More place rest new (Err Memory) last halts = absurd halts
 
-module _ (old : Market) (sound : IsSound old) (More : Type 0) (place : ℕ) (body : List ℕ) where
+module _ (old : Market) (More : Type 0) (place : ℕ) (body : List ℕ) where
   -- the text of a run is that of the units that it took
   so_far : {P : Type 0} {bytes : List ℕ} (ended : Ended Never) (text : List ℕ) (on : ComesOn run P place bytes old ended text) → text ≡ on.so_far
   so_far {P} ended text on =
       on.writes ∙ ap (λ xs. on.so_far ++ xs) (nothing_last P (place + length (spell_all commands.units on.units)) on.rest on.state ended on.last on.halts) ∙ append-nil on.so_far
 
   written : (units : List Record) (rest : List ℕ) (new : Market) (bytes text : List ℕ) → Passes run bytes old units rest new text → Continues old units new text
-  written units rest new bytes text passes = continues old new units text sound (answered old new units text passes.goes)
+  written units rest new bytes text passes = continues old new units text passes.goes
 
   serves : (ending : reading.Ending) (units : List Record) (rest : List ℕ) (new : Market) (text : List ℕ) → Passes run body old units rest new text → AtEnd run More (place + length (spell_all commands.units units)) rest ending → ServesAll old More place body (ended_by ending) text
   serves ending units rest new text passes at = record {
@@ -104,7 +75,7 @@ module _ (old : Market) (sound : IsSound old) (More : Type 0) (place : ℕ) (bod
     writes = written units rest new body text passes;
   }
 
-  -- all whole records were served
+  -- all complete records were served
   pub to_end : (text : List ℕ) → ComesOn run More place body old (Ok tt) text → ServesAll old More place body (Ok tt) text
   to_end text on = rw (so_far (Ok tt) text on) (serves reading.End on.units on.rest on.state on.so_far on.passes on.halts.0)
 
@@ -114,7 +85,7 @@ module _ (old : Market) (sound : IsSound old) (More : Type 0) (place : ℕ) (bod
   pub to_limit : (text : List ℕ) → ComesOn run More place body old (Err TooLong) text → ServesAll old More place body (Err TooLong) text
   to_limit text on = rw (so_far (Err TooLong) text on) (serves reading.TooLong on.units on.rest on.state on.so_far on.passes on.halts.0)
 
-  -- the pair of a record wasn't written whole
+  -- the entry of a record wasn't written completely
   pub to_cut : (text : List ℕ) → GetsTo run More place body old text → WritesInto old body text
   to_cut text (inl (n, ended, on)) = rw (so_far ended text on) (
     on.units,
@@ -129,10 +100,10 @@ module _ (old : Market) (sound : IsSound old) (More : Type 0) (place : ℕ) (bod
   to_cut text (inr (ended, on)) = rw (so_far ended text on)
       (on.units, on.rest, on.state, record { whole = on.passes.whole; each = on.passes.each; writes = written on.units on.rest on.state body on.so_far on.passes })
 
-  -- memory was wanted at a record
+  -- memory ran out at a record
   pub to_want : (text : List ℕ) → LacksOn run More place body old text → WritesShort old body text
   to_want text on =
-      elim on.wants [
+      elim on.allocates [
         | inl at ↦ record {
           records = on.units;
           left = on.rest;
@@ -141,7 +112,7 @@ module _ (old : Market) (sound : IsSound old) (More : Type 0) (place : ℕ) (bod
           behind = at.1;
           first = record { whole = on.passes.whole; each = on.passes.each; writes = written on.units on.rest on.state body text on.passes };
           stands = at.2;
-          wants = at.3;
+          allocates = at.3;
         }
         | inr at ↦ absurd at.1
       ]

@@ -1,2 +1,2 @@
--- What holds of what is gone on from.
+-- Laws of resumed inputs.
 use Rattle.std.specs.Prelude.{◌≡◌, ℕ, List}

@@ -1,4 +1,4 @@
--- What stands behind the part that is gone on from, and what it comes to.
+-- What follows the first part of an input, and what it results in.
 use Rattle.std.specs.Prelude.{◌≡◌, ◌≢◌, ◌+◌, ◌<◌, ℕ, List, [], ◌++◌, length, Ok, Err}
 use Rattle.wire_records.specs.Records.{Record}
 use Rattle.wire_records.specs.Reading.{Ending, ReadsOn, EndsAs}
@@ -14,31 +14,31 @@ use Rattle.session_resume.specs.declared.first.Origin.TheVariants.{Journal, Chec
 use Rattle.session_resume.specs.declared.first.Unfit.{Unfit}
 use Rattle.session_resume.specs.Continuing.{Continues}
 
--- what the rest is, where the input may have more behind it
+-- what the rest is, by whether the input has more after it
 pub data Rest : Type 0 where
   -- fewer bytes than a magic has, and the input has more
   Cut : Rest
   -- no bytes, and the input has no more
   Nothing : Rest
-  -- a command file of the version, and these bytes stand behind its magic
+  -- a command file of the version, with these bytes after its magic
   Commands : List ℕ → Rest
   -- anything else
   Other : Rest
 
--- which of these it is
+-- the rest is this
 abbrev pub IsRest : Version → Type 0 → List ℕ → Rest → Type 0
 IsRest version More rest Cut = (length rest < 8) × More
 IsRest version More rest Nothing = (rest ≡ []) × (¬ More)
 IsRest version More rest (Commands body) = rest ≡ command_magic_of version ++ body
 IsRest version More rest Other = (¬ ((length rest < 8) × More)) × (rest ≢ []) × ((body : List ℕ) → rest ≢ command_magic_of version ++ body)
 
--- how an ending of a reading ends it
+-- the result for an ending of a reading
 abbrev pub ended_by : Ending → Ended Unfit
 ended_by reading.End = Ok tt
 ended_by (reading.Torn place) = Err (Torn place)
 ended_by reading.TooLong = Err TooLong
 
--- All whole records from this place of the input on are answered, and so their reading ends.
+-- All complete records from this place of the input on are answered, and their reading ends so.
 pub record ServesAll (old : Market) (More : Type 0) (place : ℕ) (body : List ℕ) (ended : Ended Unfit) (text : List ℕ) : Type 0 where
   pub records : List Record
   pub ending : Ending
@@ -47,12 +47,13 @@ pub record ServesAll (old : Market) (More : Type 0) (place : ℕ) (body : List �
   pub ends : ended ≡ ended_by ending
   pub writes : Continues old records new text
 
--- how a rest that is no command file ends it: as more pairs of a journal do, of which none is whole; and behind a checkpoint there are none
+-- the result for a rest that is no command file: after a journal it is read as more entries, of which none is complete;
+-- after a checkpoint it is truncated
 abbrev pub IsNoFile : Origin → Type 0 → ℕ → List ℕ → Ended Unfit → Type 0
 IsNoFile Journal More place rest ended = (ending : Ending) × EndsAs journals More rest place ending × (ended ≡ ended_by ending)
 IsNoFile Checkpoint More place rest ended = ended ≡ Err (Torn place)
 
--- what the rest at this place comes to: how it ends, and what is written
+-- the result for the rest at this place, and what is written
 abbrev pub RestComesTo : Origin → Market → Type 0 → ℕ → List ℕ → Rest → Ended Unfit → List ℕ → Type 0
 RestComesTo origin market More place rest Cut ended text = (ended ≡ Err TooLong) × (text ≡ [])
 RestComesTo origin market More place rest Nothing ended text = (ended ≡ Ok tt) × (text ≡ [])

@@ -4,7 +4,7 @@ use Rattle.wire_records.specs.Records.{Record}
 use Rattle.wire_records.specs.Grammars.{BeginsWith, spell_all}
 use Rattle.wire_records.specs.Formats.{commands, command_magic_of}
 use Rattle.market_rules.specs.Market.{Market}
-use Rattle.market_rules.specs.Wanting.{RecordMayWant}
+use Rattle.market_rules.specs.Allocating.{RecordMayAllocate}
 use Rattle.word_driver.specs.Ended.{Ended}
 use Rattle.word_driver.specs.declared.fault.Fault.TheVariants.{NotFlow, TooLong, Stopped}
 use Rattle.session_resume.specs.declared.first.Origin.{Origin}
@@ -14,11 +14,11 @@ use Rattle.session_resume.specs.Firsts.{First, Neither, NoCheckpoint, Illegal, W
 use Rattle.session_resume.specs.Continuing.{Continues}
 use Rattle.session_resume.specs.Rests.{Rest, IsRest, RestComesTo}
 
--- no checkpoint stands there: the rest of it may stand behind the limit
+-- the result if there is no checkpoint: the rest of it may be past the limit
 abbrev pub EndsUnsound : Type 0 → Ended Unfit → Type 0
 EndsUnsound More ended = (More × (ended ≡ Err TooLong)) ⊎ ((¬ More) × (ended ≡ Err (Stopped unfit.NoCheckpoint)))
 
--- what comes of what stands first, where the input has more behind the considered bytes or not: how it ends, and what is written
+-- the result by what the input begins with and whether it has more after the considered bytes, and what is written
 abbrev pub FirstComesTo : Type 0 → First → Ended Unfit → List ℕ → Type 0
 FirstComesTo More Neither ended text = (ended ≡ Err NotFlow) × (text ≡ [])
 FirstComesTo More NoCheckpoint ended text = EndsUnsound More ended × (text ≡ [])
@@ -26,7 +26,7 @@ FirstComesTo More (Illegal number) ended text = (ended ≡ Err (Stopped (unfit.I
 FirstComesTo More (Whole origin market place rest) ended text =
     (behind : Rest) × IsRest market.version More rest behind × RestComesTo origin market More place rest behind ended text
 
--- What considered bytes come to, behind which the input has more or not.
+-- The considered bytes have this result and this text; the input has more after them or not.
 pub record Resumes (More : Type 0) (bytes : List ℕ) (ended : Ended Unfit) (text : List ℕ) : Type 0 where
   pub first : First
   pub stands : IsFirst bytes first
@@ -34,7 +34,8 @@ pub record Resumes (More : Type 0) (bytes : List ℕ) (ended : Ended Unfit) (tex
 
 -- The considered bytes.
 module _ (bytes : List ℕ) where
-  -- A part to go on from stands first, and behind it a command file whose first records are these; the text is that of their pairs.
+  -- The bytes begin with a part to resume from, followed by a command file whose first records are these; the text is
+  -- that of their entries.
   pub record ResumesFirst (records : List Record) (left : List ℕ) (new : Market) (text : List ℕ) : Type 0 where
     pub origin : Origin
     pub market : Market
@@ -47,14 +48,14 @@ module _ (bytes : List ℕ) where
     pub each : All commands.units.IsLawful records
     pub writes : Continues market records new text
 
-  -- The text is that of the pairs of the first records.
+  -- The text is that of the entries of the first records.
   pub record ResumesInto (text : List ℕ) : Type 0 where
     pub records : List Record
     pub left : List ℕ
     pub new : Market
     pub first : ResumesFirst records left new text
 
-  -- The text is that of the pairs of the records before one that may want memory.
+  -- The text is that of the entries of the records before one that may allocate.
   pub record ResumesShort (text : List ℕ) : Type 0 where
     pub records : List Record
     pub left : List ℕ
@@ -63,4 +64,4 @@ module _ (bytes : List ℕ) where
     pub behind : List ℕ
     pub first : ResumesFirst records left new text
     pub stands : BeginsWith commands.units left next behind
-    pub wants : RecordMayWant new next
+    pub allocates : RecordMayAllocate new next

@@ -4,8 +4,9 @@ use Rattle.word_driver.specs.Does.{Task}
 use Rattle.session_resume.specs.declared.first.Unfit.{Unfit}
 use Rattle.session_resume.specs.Resuming.{Resumes, ResumesInto, ResumesShort}
 
--- It reads its input whole, and audits a journal or restores the market of a checkpoint, before it writes, and may want memory for that; and
--- then at a record that may want some. What may stand in out before the end, besides nothing, are the pairs of the first new records.
+-- The task reads its complete input, and audits a journal or restores the market of a checkpoint, before it writes;
+-- memory may run out at that, and then at a record that may allocate. Before the end, the output is nothing or the
+-- entries of the first new records.
 abbrev pub resuming : Task Unfit
 resuming = record {
   Comes = λ limit bytes ended text. Resumes (limit < length bytes) (take limit bytes) ended text;

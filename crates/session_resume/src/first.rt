@@ -1,9 +1,10 @@
-//! What stands first in an input: the part that is gone on from.
+//! The first part of an input: the journal or checkpoint to resume from.
 ghost use Rattle.std.specs.Prelude.{◌≤◌, ◌<◌, ◌^◌, ◌≡◌, IfOk, IfErr, IfSome, drop, length, ℕ, List};
 ghost use Rattle.wire_records.specs.Grammars.{BeginsWith};
 ghost use Rattle.wire_records.specs.declared.version.Version.{Version};
 ghost use Rattle.journal_records.specs.Formats.{journals};
-ghost use Rattle.session_resume.specs.Firsts.{Whole, IsFirst, HasCheckpointMagic};
+ghost use Rattle.market_snapshot.specs.Checkpoints.{HasCheckpointMagic};
+ghost use Rattle.session_resume.specs.Firsts.{Whole, IsFirst};
 ghost use Rattle.session_resume.specs.Private.{IsFirstFault};
 
 use file_units::Ending;
@@ -14,25 +15,25 @@ use market_snapshot::{CHECKPOINT_MAGIC, SnapshotFault, read_market};
 use std::alloc::Global;
 use wire_records::Version;
 
-/// What is gone on from.
+/// What an input is resumed from.
 #[derive(Clone, Copy, PartialEq, Eq)]
 pub enum Origin {
-    /// A journal, up to behind its last whole pair.
+    /// A journal, up to the end of its last complete entry.
     Journal,
     /// A checkpoint.
     Checkpoint,
 }
 
-/// Why an input can't be gone on from.
+/// Why an input can't be resumed from.
 #[derive(Clone, Copy, PartialEq, Eq)]
 pub enum Unfit {
-    /// The pair of this number, counted from 1, isn't legal.
+    /// The entry of this number, counted from 1, isn't valid.
     Illegal(u64),
-    /// The input begins as a checkpoint, and is none of a sound market.
+    /// The input begins as a checkpoint, and is none of a consistent market.
     NoCheckpoint,
 }
 
-// Why nothing to go on from stands first.
+// Why an input has no first part to resume from.
 #[derive(Clone, Copy)]
 pub(crate) enum FirstFault {
     Neither,
@@ -41,7 +42,7 @@ pub(crate) enum FirstFault {
     Memory,
 }
 
-// The part that is gone on from: what it is, its market, and where it ends.
+// The first part, to resume from: what it is, its market, and where it ends.
 #[derive(Drop)]
 pub(crate) struct FirstPart {
     pub(crate) origin: Origin,
@@ -49,7 +50,7 @@ pub(crate) struct FirstPart {
     pub(crate) place: usize,
 }
 
-// Audits a journal up to behind its last whole pair.
+// Audits a journal up to the end of its last complete entry.
 fn journal_part(alloc: Global, version: Version, bytes: &[u8]) -> Result<FirstPart, FirstFault>
     requires begins { (body : List ℕ) × BeginsWith journals.magics bytes.now version body }
     ensures first { IfOk result (λ part. IsFirst bytes.now
@@ -97,7 +98,7 @@ fn checkpoint_part(alloc: Global, bytes: &[u8]) -> Result<FirstPart, FirstFault>
     }
 }
 
-// The part that stands first.
+// Returns the first part of an input.
 pub(crate) fn first_part(alloc: Global, bytes: &[u8]) -> Result<FirstPart, FirstFault>
     ensures first { IfOk result (λ part. IsFirst bytes.now
         (Whole part.origin part.market part.place (drop part.place bytes.now))) }

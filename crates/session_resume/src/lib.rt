@@ -1,7 +1,8 @@
-//! Going on from a journal or a checkpoint.
+//! Resuming from a journal or a checkpoint.
 //!
-//! [`resume_source`] reads a source whole. A journal or a checkpoint stands first in it, and new commands behind that: these are served over
-//! its market, and their pairs written, which stand behind the journal as if there had been no stop.
+//! [`resume_source`] reads a source to its end or the limit. The source begins with a journal or a checkpoint, and new
+//! commands follow: these are served over its market, and their entries are written, which continue the journal as if
+//! there had been no stop.
 #![tactic(auto)]
 
 mod first;

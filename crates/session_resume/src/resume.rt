@@ -1,4 +1,4 @@
-//! `flow resume`: a journal or a checkpoint in, and new commands behind it, and the pairs of these out.
+//! `flow resume`: a journal or a checkpoint in, followed by new commands, and the entries of these out.
 ghost use Rattle.std.specs.Prelude.{◌≡◌, ◌≢◌, ◌≤◌, ◌<◌, ◌+◌, ◌^◌, ◌⊎◌, ◌↔◌, ◌++◌, ℕ, List, [], Err, IsTrue, drop, length};
 ghost use Rattle.flow_io.specs.Faults.{Blames};
 ghost use Rattle.flow_io.specs.Changes.{change};
@@ -18,7 +18,7 @@ use std::alloc::Global;
 use wire_records::{COMMAND_MAGIC, Version, command_magic};
 use word_driver::{Fault, ServesWord, go_over_bytes};
 
-// Serves the records that stand in the bytes of an input from a place on, and writes their pairs.
+// Serves the records in the bytes of an input from a place on, and writes their entries.
 fn serve_all<K: Sink>(
     alloc: Global,
     session: Session,
@@ -33,8 +33,6 @@ fn serve_all<K: Sink>(
         (WritesShort session (drop place bytes.now)) result (K.held out.old) (K.held out.new) }
     ensures cause { Blames (result ≡ Err Fault.Write) (K.faults out.old) (K.faults out.new) }
 {
-    // What a session ensures of its market: it is sound.
-    let _sound = session.market();
     let text = match Vec::with_capacity(alloc, Run::ROOM) {
         Ok(text) => text,
         Err(_) => return Err(Fault::Memory),
@@ -51,7 +49,7 @@ fn serve_all<K: Sink>(
     }
 }
 
-// How a rest ends it that begins with no whole pair, as the rest of a journal.
+// Returns how a rest that begins with no complete entry ends, read as the rest of a journal.
 fn no_pair(rest: &[u8], place: usize, more: bool) -> Result<(), Fault<Unfit>>
     requires some { rest.now ≢ [] }
     ensures ends { IsNoFile Origin.Journal (IsTrue more) place rest.now result }
@@ -66,7 +64,7 @@ fn no_pair(rest: &[u8], place: usize, more: bool) -> Result<(), Fault<Unfit>>
     Err(Fault::Torn(place as u64))
 }
 
-// How a rest ends it that is no command file.
+// Returns how a rest that is no command file ends.
 fn no_file(origin: Origin, rest: &[u8], place: usize, more: bool) -> Result<(), Fault<Unfit>>
     requires some { rest.now ≢ [] }
     ensures ends { IsNoFile origin (IsTrue more) place rest.now result }
@@ -78,14 +76,14 @@ fn no_file(origin: Origin, rest: &[u8], place: usize, more: bool) -> Result<(), 
     }
 }
 
-// Whether the bytes begin as a command file of this version.
+// Returns whether the bytes begin as a command file of this version.
 fn is_command_file_of(bytes: &[u8], version: Version) -> bool
     ensures { IsTrue result ↔ ((body : List ℕ) × (bytes.now ≡ command_magic_of version ++ body)) }
 {
     bytes.starts_with(&command_magic(version))
 }
 
-// Whether a rest has fewer bytes than a magic, and the input has more.
+// Returns whether a rest has fewer bytes than a magic, and the input has more.
 fn is_cut(rest: &[u8], more: bool) -> bool
     ensures { IsTrue result ↔ ((length rest.now < 8) × IsTrue more) }
 {
@@ -95,14 +93,14 @@ fn is_cut(rest: &[u8], more: bool) -> bool
     false
 }
 
-// Whether there is no rest.
+// Returns whether there is no rest.
 fn is_none(rest: &[u8]) -> bool
     ensures { IsTrue result ↔ (rest.now ≡ []) }
 {
     rest.is_empty()
 }
 
-// The bytes from a place on.
+// Returns the bytes from a place on.
 fn behind(bytes: &[u8], place: usize) -> &[u8]
     requires inside { place ≤ length bytes.now }
     ensures { result.now ≡ drop place bytes.now }
@@ -110,7 +108,7 @@ fn behind(bytes: &[u8], place: usize) -> &[u8]
     &bytes[place..]
 }
 
-// Goes on behind the part that stands first.
+// Serves what follows the first part.
 fn go_on<K: Sink>(
     alloc: Global,
     part: FirstPart,
@@ -139,7 +137,7 @@ fn go_on<K: Sink>(
     no_file(part.origin, rest, part.place, more)
 }
 
-// Goes on from considered bytes, behind which the input has more or not.
+// Resumes from the considered bytes; `more` says whether the input has more after them.
 fn resume_bytes<K: Sink>(
     alloc: Global,
     bytes: &[u8],
@@ -164,17 +162,19 @@ fn resume_bytes<K: Sink>(
     }
 }
 
-/// Reads the source to its end or the limit, and goes on from what stands first: a legal journal, up to behind its last whole pair, or a
-/// checkpoint of a sound market. What stands behind it is a command file of the same version, whose records are served, or nothing. Their
-/// pairs are written, without a magic, each by one call.
+/// Reads the source to its end or the limit, and resumes from its first part: a valid journal, up to the end of its
+/// last complete entry, or a checkpoint of a consistent market. After it comes a command file of the same version,
+/// whose records are served, or nothing. Their entries are written, without a magic, each by one call.
 ///
-/// By the first of these that holds: `NotFlow` where the magic of a journal or of a checkpoint doesn't stand first; where no checkpoint
-/// stands behind its magic, `TooLong` where the source has more than the limit, and else `NoCheckpoint`; `Illegal` with its number, counted
-/// from 1, at the first pair of the journal that isn't legal; `TooLong` where the rest has fewer than eight bytes and the source has more;
-/// how the reading of a command file ends, with places counted from the first byte of the input; `Torn` at the first byte of any other rest,
-/// but `TooLong` where the source has more and the rest is that of a journal and states no body above its limit.
+/// The first of these that holds decides the result: `NotFlow` if the source doesn't begin with the magic of a journal
+/// or of a checkpoint; if the magic of a checkpoint begins no checkpoint, `TooLong` if the source has more than the
+/// limit, and else `NoCheckpoint`; `Illegal` with its number, counted from 1, at the first entry of the journal that
+/// isn't valid; `TooLong` if the rest has fewer than eight bytes and the source has more; how the reading of a command
+/// file ends, with places counted from the first byte of the input; `Torn` at the first byte of any other rest, but
+/// `TooLong` if the source has more and the rest is that of a journal and states no body above its limit.
 ///
-/// The input is held whole, and the market. A journal costs its audit, a checkpoint its reading, and each record its service.
+/// The complete input is held in memory, and the market. A journal costs its audit, a checkpoint its reading, and each
+/// record its service.
 pub fn resume_source<S: Source, K: Sink>(
     alloc: Global,
     limit: u64,
@@ -183,7 +183,7 @@ pub fn resume_source<S: Source, K: Sink>(
 ) -> Result<(), Fault<Unfit>>
     ensures does { Does resuming limit result (change S.rest S.faults source.old source.new)
         (change K.held K.faults out.old out.new) }
-    // All is read before anything is written.
+    // Everything is read before anything is written.
     ensures unread { result ≡ Err Fault.Read → out.new ≡ out.old }
 {
     let input = match read_all(alloc, source, limit) {

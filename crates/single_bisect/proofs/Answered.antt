@@ -1,4 +1,4 @@
--- The place before the turn, in the words of the least and of the greatest true place.
+-- The last place before the answers change, as the least and as the greatest true place.
 use Rattle.std.proofs.Common.{◌≡◌, ◌≢◌, ℤ, pos, ◌+ℤ◌, Bool, true, false, IsTrue, refl, arith}
 use Rattle.std.specs.Prelude.{IsFalse}
 use Rattle.std.proofs.Math.Bool.{beq}
@@ -28,7 +28,7 @@ true_unless : (a : Bool) → a ≢ false → IsTrue a
 true_unless true not_false = refl
 true_unless false not_false = absurd (not_false refl)
 
--- the place after the last one before the answers turn to yes
+-- the place after the last one before the answers change to yes
 pub IsLeastTrue-after : (test : ℤ → Bool) (low high place next : ℤ) → IsTrue (test high) → IsLastBefore test low high true place → next ≡ place +ℤ pos 1 → IsLeastTrue test low next
 IsLeastTrue-after test low high place next holds turn after =
     record {
@@ -39,7 +39,7 @@ IsLeastTrue-after test low high place next holds turn after =
       none_before = λ p from upto. false_unless (test p) (turn.earlier p from (omega (arith, ints, upto)));
     }
 
--- the last place before the answers turn to no
+-- the last place before the answers change to no
 pub IsGreatestTrue-before : (test : ℤ → Bool) (low high place : ℤ) → IsTrue (test low) → IsLastBefore test low high false place → IsGreatestTrue test high place
 IsGreatestTrue-before test low high place holds turn =
     record {

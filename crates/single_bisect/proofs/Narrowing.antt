@@ -1,11 +1,11 @@
--- What the search for the place where the answers turn keeps at each ask.
+-- What the search for the place at which the answers change keeps at each ask.
 use Rattle.std.proofs.Common.{◌≡◌, ◌≢◌, ℕ, ◌+◌, ◌-◌, ◌^◌, ◌<◌, ◌≤◌, ℤ, pos, ◌+ℤ◌, ◌<ℤ◌, ◌≤ℤ◌, Bool, sym, ◌∙◌, refl, arith}
 use Rattle.std.proofs.lemmas.Int.{ints}
 use Rattle.single_bisect.specs.Places.{SameTest}
 use Rattle.single_bisect.specs.Turns.{TurnsOnce, IsLastBefore}
 use Rattle.single_bisect.proofs.Halving.{HasAsks, HasAsks-start, HasAsks-more}
 
--- the last place before the turn lies from `before` on, less than `width` places later
+-- the last place before the change is from `before` on, less than `width` places later
 pub record IsNarrowed (test now : ℤ → Bool) (start asked : ℕ) (low high : ℤ) (turned : Bool) (before : ℤ) (width : ℕ) : Type 0 where
   pub asks : HasAsks start asked width
   pub same : SameTest now test
@@ -28,7 +28,7 @@ IsNarrowed-start test asked low high turned width ends bound reach =
       later = λ p after before. absurd (omega (arith, ints, reach, after, before));
     }
 
--- the answer at `middle` was `turned`, so the place lies before it
+-- the answer at `middle` was `turned`, so the place is before it
 pub IsNarrowed-turned : (test now now' : ℤ → Bool) (start asked asked' : ℕ) (low high : ℤ) (turned : Bool) (before middle : ℤ) (width half : ℕ) → TurnsOnce test low high turned → IsNarrowed test now start asked low high turned before width → 1 < width → 0 < half → half + half ≤ width + 1 → middle ≡ before +ℤ pos half → now middle ≡ turned → SameTest now' now → asked' ≡ asked + 1 → IsNarrowed test now' start asked' low high turned before half
 IsNarrowed-turned test now now' start asked asked' low high turned before middle width half turns kept wide some halved at_half answer same counted =
     let inside : low <ℤ middle = omega (arith, ints, kept.first) in
@@ -42,7 +42,7 @@ IsNarrowed-turned test now now' start asked asked' low high turned before middle
       later = λ p after end. turns middle p inside (rw at_half after) end (sym (kept.same middle) ∙ answer);
     }
 
--- the answer at `middle` was not `turned`, so the place lies from there on
+-- the answer at `middle` was not `turned`, so the place is from there on
 pub IsNarrowed-not_yet : (test now now' : ℤ → Bool) (start asked asked' : ℕ) (low high : ℤ) (turned : Bool) (before middle : ℤ) (width rest : ℕ) → TurnsOnce test low high turned → IsNarrowed test now start asked low high turned before width → 1 < width → 0 < rest → rest < width → rest + rest ≤ width + 1 → middle ≡ before +ℤ pos (width - rest) → now middle ≢ turned → SameTest now' now → asked' ≡ asked + 1 → IsNarrowed test now' start asked' low high turned middle rest
 IsNarrowed-not_yet test now now' start asked asked' low high turned before middle width rest turns kept wide some part halved at_rest answer same counted =
     let end : middle +ℤ pos rest ≡ before +ℤ pos width = omega (arith, ints) in

@@ -1,7 +1,7 @@
--- Where the answers of a test turn between two ends: what the one search finds that both public searches make.
+-- The place between two ends at which the answers of a test change: what the one search finds that both public searches use.
 use Rattle.std.specs.Prelude.{◌≡◌, ◌≢◌, ℤ, ◌<ℤ◌, ◌≤ℤ◌, Bool}
 
--- once the test answers `turned` at a place between the ends, it answers so at every later one
+-- once the test answers `turned` at a place between the ends, it does so at every later one
 abbrev pub TurnsOnce : (ℤ → Bool) → ℤ → ℤ → Bool → Type 0
 TurnsOnce test low high turned =
     (p q : ℤ) → low <ℤ p → p ≤ℤ q → q <ℤ high → test p ≡ turned → test q ≡ turned

@@ -4,11 +4,11 @@ ghost use Rattle.single_bisect.specs.Places.{IsClosedDownwards, IsGreatestTrue, 
 use crate::places::Probe;
 use crate::turn::last_before_turn;
 
-/// The greatest place below `high` at which the probe answers yes.
+/// Returns the greatest place below `high` at which the probe answers yes.
 ///
-/// The caller knows that the probe answers yes at `low`, and that below `high` it answers yes at
-/// every place before one with a yes. It costs at most 63 asks, for any two ends,
-/// and takes no memory.
+/// The caller has to know that the probe answers yes at `low`, and that below `high` it answers yes
+/// at every place before one with a yes. It costs at most 63 asks, however far apart the ends are,
+/// and allocates nothing.
 pub fn greatest_true<P: Probe>(probe: &mut P, low: i64, high: i64) -> i64
     requires ends { low <ℤ high }
     requires low_end { neg_ℤ (pos (2 ^ 62)) ≤ℤ low }

@@ -4,10 +4,10 @@ ghost use Rattle.single_bisect.specs.Places.{IsClosedUpwards, IsLeastTrue, SameT
 use crate::places::Probe;
 use crate::turn::last_before_turn;
 
-/// The least place above `low` at which the probe answers yes.
+/// Returns the least place above `low` at which the probe answers yes.
 ///
-/// The caller knows that the probe answers yes at `high`, and that above `low` it goes on answering
-/// yes once it does. It costs at most 63 asks, for any two ends, and takes no memory.
+/// The caller has to know that the probe answers yes at `high`, and that above `low` it answers yes at every
+/// place after one with a yes. It costs at most 63 asks, however far apart the ends are, and allocates nothing.
 pub fn least_true<P: Probe>(probe: &mut P, low: i64, high: i64) -> i64
     requires ends { low <ℤ high }
     requires low_end { neg_ℤ (pos (2 ^ 62)) ≤ℤ low }

@@ -1,8 +1,8 @@
-//! The least and the greatest place at which a yes-or-no question is answered with yes, found by halving.
+//! The least and the greatest place at which a monotone yes-or-no question has the answer yes, by bisection.
 //!
-//! Places are whole numbers, as the prices of one asset in grains. A [`Probe`] answers the question
+//! Places are integers, such as the prices of one asset in grains. A [`Probe`] answers the question
 //! at one place; an answer may be costly, so each search asks at most 63 times, however far apart
-//! its two ends are. Between two questions a search does a few additions, and it takes no memory.
+//! its two ends are. Between two asks a search does a few arithmetic operations, and it allocates nothing.
 #![tactic(auto)]
 
 mod greatest;

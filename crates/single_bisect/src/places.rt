@@ -3,12 +3,12 @@ ghost use Rattle.single_bisect.specs.Places.{SameTest};
 
 /// A question with the answer yes or no at each place, and a count of how often it was asked.
 ///
-/// What it answers doesn't depend on what was asked before. Any place may be asked, also one outside the range in
-/// which a caller searches. A type that can answer within a range of its own alone cuts the place to that range
-/// first, as by `place.clamp(first, last)`, and its test says so too: outside, it answers as at the nearer end. So
-/// the test stays one function of the place.
+/// The answer at a place doesn't depend on what was asked before. Any place may be asked, also one outside the range in
+/// which a caller searches. A type that can answer only within a range first clamps the place to it, as by
+/// `place.clamp(first, last)`, and its test says so too: outside, it answers as at the nearer end. So the test stays
+/// one function of the place.
 pub trait Probe {
-    /// What is answered at each place.
+    /// The answer at each place.
     ghost test: { Self → ℤ → Bool };
 
     /// How many questions were answered so far.

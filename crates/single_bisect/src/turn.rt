@@ -4,8 +4,8 @@ ghost use Rattle.single_bisect.specs.Turns.{TurnsOnce, IsLastBefore};
 
 use crate::places::Probe;
 
-// The last place from `low` on after which the probe answers `turned` at every place before `high`. It asks at
-// places between the two alone.
+// Returns the place such that, between `low` and `high`, the probe answers `turned` exactly at the places after it.
+// It is from `low` on, and before `high`. Only places between the two are asked.
 pub(crate) fn last_before_turn<P: Probe>(probe: &mut P, low: i64, high: i64, turned: bool) -> i64
     requires ends { low <ℤ high }
     requires low_end { neg_ℤ (pos (2 ^ 62)) ≤ℤ low }
@@ -19,7 +19,7 @@ pub(crate) fn last_before_turn<P: Probe>(probe: &mut P, low: i64, high: i64, tur
     ensures asks_counted { P.asked probe.old ≤ P.asked probe.new }
     ensures few_asks { P.asked probe.new ≤ P.asked probe.old + 63 }
 {
-    // The place lies from `before` on, less than `width` places later.
+    // The result is from `before` on, less than `width` places later.
     let mut before = low;
     let mut width = high.abs_diff(low);
     while width > 1 {

@@ -5,7 +5,7 @@ ghost use Rattle.statement_lines.specs.Lines.{cleared_line, skipped_line, order_
 use pair_text::Text;
 use wire_records::Memory;
 
-/// The line of a batch that cleared.
+/// Appends the line of a batch that cleared.
 pub fn put_cleared(batch: u32, out: &mut Text) -> Result<(), Memory>
     ensures before { out.new.before ≡ out.old.before }
     ensures put { OnOk result (out.new.text ≡ out.old.text ++ cleared_line batch) }
@@ -14,7 +14,7 @@ pub fn put_cleared(batch: u32, out: &mut Text) -> Result<(), Memory>
     out.put(b" cleared\n")
 }
 
-/// The line of a batch that was skipped.
+/// Appends the line of a batch that was skipped.
 pub fn put_skipped(batch: u32, out: &mut Text) -> Result<(), Memory>
     ensures before { out.new.before ≡ out.old.before }
     ensures put { OnOk result (out.new.text ≡ out.old.text ++ skipped_line batch) }
@@ -23,8 +23,8 @@ pub fn put_skipped(batch: u32, out: &mut Text) -> Result<(), Memory>
     out.put(b" skipped\n")
 }
 
-/// The line of an order of the account's own in a batch that cleared: its rate, in units of its portfolio, and what these cost at
-/// the prices, in grains.
+/// Appends the line of an order of the account's own in a batch that cleared: its rate, in units of its portfolio, and
+/// what these cost at the prices, in grains.
 pub fn put_cost(number: u64, rate: u32, cost: i128, out: &mut Text) -> Result<(), Memory>
     ensures before { out.new.before ≡ out.old.before }
     ensures put { OnOk result (out.new.text ≡ out.old.text ++ order_line number rate cost) }

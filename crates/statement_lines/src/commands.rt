@@ -11,7 +11,7 @@ use pair_text::Text;
 use ticker_table::TickerTable;
 use wire_records::{CommandView, Memory, Refusal, Reply};
 
-// A deposit, a withdrawal or a credit in money.
+// Appends the line of a deposit, a withdrawal or a credit in money.
 fn put_ticks(word: &[u8], ticks: u64, out: &mut Text) -> Result<(), Memory>
     ensures before { out.new.before ≡ out.old.before }
     ensures put { OnOk result (out.new.text ≡ out.old.text ++ money_line word.now ticks) }
@@ -21,7 +21,7 @@ fn put_ticks(word: &[u8], ticks: u64, out: &mut Text) -> Result<(), Memory>
     out.put(b"\n")
 }
 
-// A deposit, a withdrawal or a credit in an asset's units.
+// Appends the line of a deposit, a withdrawal or a credit in an asset's units.
 fn put_units(
     word: &[u8],
     tickers: &TickerTable,
@@ -38,7 +38,7 @@ fn put_units(
     out.put(b"\n")
 }
 
-// The line of a cancel.
+// Appends the line of a cancel.
 fn put_cancel(number: u64, out: &mut Text) -> Result<(), Memory>
     ensures before { out.new.before ≡ out.old.before }
     ensures put { OnOk result (out.new.text ≡ out.old.text ++ (codes "cancel " then decimal number then codes "\n")) }
@@ -47,7 +47,7 @@ fn put_cancel(number: u64, out: &mut Text) -> Result<(), Memory>
     out.put(b"\n")
 }
 
-// The line of a command that was done.
+// Appends the line of a command that was done; nothing for any other command.
 fn put_done(tickers: &TickerTable, command: &CommandView<'_>, out: &mut Text) -> Result<(), Memory>
     ensures before { out.new.before ≡ out.old.before }
     ensures put { OnOk result (out.new.text ≡ out.old.text ++ done_line tickers.now (command_of command.now)) }
@@ -74,7 +74,7 @@ fn put_done(tickers: &TickerTable, command: &CommandView<'_>, out: &mut Text) ->
     }
 }
 
-// The line of a refusal.
+// Appends the line of a refusal.
 fn put_refused(refusal: Refusal, out: &mut Text) -> Result<(), Memory>
     ensures before { out.new.before ≡ out.old.before }
     ensures put { OnOk result (out.new.text ≡ out.old.text ++ refused_line (code_of refusal)) }
@@ -83,7 +83,7 @@ fn put_refused(refusal: Refusal, out: &mut Text) -> Result<(), Memory>
     out.put(b"\n")
 }
 
-/// The line of the pair that opened the account.
+/// Appends the line of the entry that opened the account.
 pub fn put_opening(account: u32, out: &mut Text) -> Result<(), Memory>
     ensures before { out.new.before ≡ out.old.before }
     ensures put { OnOk result (out.new.text ≡ out.old.text ++ opening_line account) }
@@ -92,8 +92,9 @@ pub fn put_opening(account: u32, out: &mut Text) -> Result<(), Memory>
     out.put(b"\n")
 }
 
-/// The line of a command of the account's own, with its answer: a deposit, a withdrawal, a credit or a cancel that was done, an
-/// order under its number, or the code of a refusal. Nothing is appended for an answer that the command never gets.
+/// Appends the line of a command of the account's own, with its answer: a deposit, a withdrawal, a credit or a cancel
+/// that was done, an order under its number, or the code of a refusal. Nothing is appended for an answer that the
+/// command never gets.
 pub fn put_asked(
     tickers: &TickerTable,
     command: &CommandView<'_>,

@@ -6,7 +6,7 @@ use pair_text::Text;
 use ticker_table::TickerTable;
 use wire_records::Memory;
 
-/// The line of money: what the account has, and what its live orders need of it, in grains.
+/// Appends the line of money: what the account has, and what its live orders need of it, in grains.
 pub fn put_money(money: i128, reserved: u128, out: &mut Text) -> Result<(), Memory>
     ensures before { out.new.before ≡ out.old.before }
     ensures put { OnOk result (out.new.text ≡ out.old.text ++ money_held_line money reserved) }
@@ -16,7 +16,7 @@ pub fn put_money(money: i128, reserved: u128, out: &mut Text) -> Result<(), Memo
     out.put(b"\n")
 }
 
-/// The line of an asset: the units that the account has, and those that its live orders need.
+/// Appends the line of an asset: the units that the account has, and those that its live orders need.
 pub fn put_asset(
     tickers: &TickerTable,
     asset: u16,

@@ -1,12 +1,13 @@
 //! The lines of an account's statement, one function for each.
 //!
-//! A line is appended to a [`Text`](pair_text::Text), which can be taken back. Money is in grains but where it is given in ticks,
-//! limits are in ticks, all other amounts in whole units. Assets are named by their tickers without spaces.
+//! A line is appended to a [`Text`](pair_text::Text), which can be taken back. Money is in grains except where it is
+//! given in ticks, limits are in ticks, all other amounts in whole units. Assets are named by their tickers without
+//! spaces.
 //!
 //! # Costs
 //!
-//! Each number is printed once; an order costs one pass over its entries. Memory is taken only where the list behind the text has
-//! no room.
+//! Each number is printed once; an order costs one pass over its legs. Memory is taken only if the list that the text
+//! is appended to has no room.
 #![tactic(auto)]
 
 mod batches;

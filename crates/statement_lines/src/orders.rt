@@ -8,7 +8,7 @@ use pair_text::Text;
 use ticker_table::TickerTable;
 use wire_records::{CommandView, Memory, PlaceView};
 
-// An order's number, and the numbers of its request.
+// Appends an order's number, and the numbers of its request.
 fn put_numbers(place: &PlaceView<'_>, number: u64, out: &mut Text) -> Result<(), Memory>
     ensures before { out.new.before ≡ out.old.before }
     ensures put { OnOk result (out.new.text ≡ out.old.text ++ order_numbers number place.now) }
@@ -20,7 +20,7 @@ fn put_numbers(place: &PlaceView<'_>, number: u64, out: &mut Text) -> Result<(),
     out.put_number(b" cap ", place.cap())
 }
 
-// An order under its number.
+// Appends the line of an order under its number.
 fn put_order(
     tickers: &TickerTable,
     number: u64,
@@ -37,7 +37,7 @@ fn put_order(
     out.put(b"\n")
 }
 
-// The line of a command that placed the order of a number.
+// Appends the line of a command that placed the order of a number; nothing for any other command.
 pub(crate) fn put_placing(
     tickers: &TickerTable,
     number: u64,

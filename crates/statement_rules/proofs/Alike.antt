@@ -1,4 +1,4 @@
--- Holdings that agree with one market tell the same.
+-- Holdings that agree with one market give the same text.
 use Rattle.std.proofs.Common.{◌≡◌, ℕ, zero, suc, ◌+◌, ◌<◌, List, [], ◌∷◌, ◌++◌, length, refl, sym, ap, ◌∙◌, arith}
 use Rattle.std.specs.List.{flat_map, range_with_len, sum_by}
 use Rattle.std.specs.Prelude.{codes, decimal}
@@ -18,7 +18,7 @@ use Rattle.statement_rules.specs.Holdings.{Holding, ordered, after, after_done, 
 use Rattle.statement_rules.specs.Statements.{event_lines, lines_from, asset_line, asked_line, cost_line, money_reserved, units_reserved, end_lines}
 use Rattle.statement_rules.specs.Laws.{HoldingsTellAlike}
 
--- the same assets and the same orders
+-- the holdings have the same assets and the same orders
 record IsLike (h g : Holding) : Type 0 where
   tickers : h.tickers ≡ g.tickers
   orders : h.orders ≡ g.orders
@@ -85,8 +85,8 @@ like_held account m h g one other = record { tickers = one.tickers ∙ sym other
 pub holdings_tell_alike : HoldingsTellAlike
 holdings_tell_alike = record {
   lines = λ account m h g view one other. like_lines h g view (like_held account m h g one other);
-  last = λ account m h g sound there one other.
+  last = λ account m h g consistent there one other.
       like_end h g (like_held account m h g one other) (one.money there.0 ∙ sym (other.money there.0))
-      (λ asset inside. let is_asset : IsAsset m.balances asset = omega (arith, inside, ap length one.tickers, sound.one_each.tickers) in
+      (λ asset inside. let is_asset : IsAsset m.balances asset = omega (arith, inside, ap length one.tickers, consistent.one_each.tickers) in
       one.units there.0 asset is_asset ∙ sym (other.units there.0 asset is_asset));
 }

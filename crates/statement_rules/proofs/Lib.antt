@@ -6,3 +6,5 @@ pub mod ViewLaws
 mod WorkedRows
 pub mod Texts
 pub mod OwnRates
+pub mod FromMarkets
+mod CarriedTexts

@@ -8,7 +8,7 @@ use Rattle.list_sums.specs.Sums.{int_sum_by}
 use Rattle.flow_orders.specs.Orders.{own_sum}
 
 module _ {X : Type 0} where
-  -- two filters may change places
+  -- the order of two filters doesn't matter
   pub filters_swap : (p q : X → Bool) (xs : List X) → filter p (filter q xs) ≡ filter q (filter p xs)
   filters_swap p q [] = refl
   filters_swap p q (x ∷ xs) = by (filters_swap p q xs) (cases_Bool (p x)) (cases_Bool (q x))
@@ -19,7 +19,7 @@ module _ {X : Type 0} where
       by rest (inr one) (inl two) = rw two (rw one rest)
       by rest (inr one) (inr two) = rw two (rw one rest)
 
-  -- a filter that lets all pass that another one does changes nothing of these
+  -- after a filter that keeps all that another one keeps, the other one gives what it gives alone
   pub filter_within : (p q : X → Bool) (xs : List X) → All (λ x. p x ≡ true → q x ≡ true) xs → filter p (filter q xs) ≡ filter p xs
   filter_within p q [] all = refl
   filter_within p q (x ∷ xs) all = by (filter_within p q xs (λ k d inside. all (suc k) d (omega (arith, inside)))) (cases_Bool (p x)) (cases_Bool (q x))
@@ -32,14 +32,14 @@ module _ {X : Type 0} where
       by rest (inr one) (inl two) = rw two (rw one rest)
       by rest (inr one) (inr two) = rw two (rw one rest)
 
-  -- where none passes, nothing is left
+  -- a filter that keeps none leaves nothing
   pub filter_none : (p : X → Bool) (xs : List X) → All (λ x. p x ≡ false) xs → filter p xs ≡ []
   filter_none p [] none = refl
   filter_none p (x ∷ xs) none =
       let here : p x ≡ false = none zero x (omega arith) in
       rw here (filter_none p xs (λ k d inside. none (suc k) d (omega (arith, inside))))
 
-  -- the sum of an account's own
+  -- the sum over an account's own elements is the sum over a filter
   pub own_sum_is : (whose : X → ℕ) (account : ℕ) (f : X → ℤ) (xs : List X) → own_sum whose account f xs ≡ int_sum_by f (filter (λ x. whose x == account) xs)
   own_sum_is whose account f [] = refl
   own_sum_is whose account f (x ∷ xs) = by (own_sum_is whose account f xs) (cases_Bool (whose x == account))

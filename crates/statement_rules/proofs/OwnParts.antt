@@ -10,7 +10,7 @@ use Rattle.flow_orders.specs.Orders.{Order}
 use Rattle.flow_orders.specs.Outcomes.{trades_of, fill_of}
 use Rattle.flow_orders.specs.Trades.{Trade, trades, after_fill, is_live, staying, going_on}
 use Rattle.order_book.specs.Book.{HasOrder, without}
-use Rattle.market_rules.specs.Market.{Market, IsSound}
+use Rattle.market_rules.specs.Market.{Market, IsConsistent}
 use Rattle.statement_rules.specs.Views.{own_trades}
 use Rattle.statement_rules.specs.Holdings.{own_orders}
 use Rattle.statement_rules.proofs.Lists.{filters_swap, filter_within, filter_none, filter_map_is}
@@ -33,21 +33,21 @@ own_again account (o ∷ orders) (rate ∷ rates) = by (own_again account orders
     by rest (inl one) = rw one (ap (λ (l : List Trade). record { order = o; traded = rate } ∷ l) rest)
     by rest (inr one) = rw one rest
 
--- the own orders that go on after a batch
+-- the account's own orders that stay live after a batch
 pub own_going_on : (account batch : ℕ) (ts : List Trade) → own_orders account (going_on batch (staying ts)) ≡ going_on batch (staying (own_trades account ts))
 own_going_on account batch ts =
     filters_swap (λ (o : Order). o.account == account) (λ (o : Order). not (o.last == batch)) (staying ts)
     ∙ ap (going_on batch) (filters_swap (λ (o : Order). o.account == account) is_live (map after_fill ts)
     ∙ ap (filter is_live) (filter_map_is after_fill (λ (o : Order). o.account == account) ts))
 
--- no account of this number has a live order where it isn't there
-pub none_own : (account : ℕ) (m : Market) → IsSound m → (IsAccount m.balances account → ⊥) → own_orders account m.orders ≡ []
-none_own account m sound absent =
+-- no live order is of an account that isn't there
+pub none_own : (account : ℕ) (m : Market) → IsConsistent m → (IsAccount m.balances account → ⊥) → own_orders account m.orders ≡ []
+none_own account m consistent absent =
     filter_none (λ (o : Order). o.account == account) m.orders
     (λ k d inside. ne_eqb (slice_index_or m.orders k d).account account
-    (λ same. absent (subst (IsAccount m.balances) same (sound.live k d inside).account)))
+    (λ same. absent (subst (IsAccount m.balances) same (consistent.live k d inside).account)))
 
--- a cancel of another account's order leaves the own ones
+-- a cancel of another account's order leaves the account's own
 pub others_cancel : (account named number : ℕ) (orders : List Order) → AllPairs (λ (o : Order) (later : Order). o.number < later.number) orders
     → HasOrder orders named number → named ≢ account → own_orders account (without orders number) ≡ own_orders account orders
 others_cancel account named number orders ascending has differs =

@@ -1,4 +1,4 @@
--- Texts that go on, accounts that aren't there, and the rates of own orders.
+-- Texts that are continued, accounts that aren't there, and the rates of own orders.
 use Rattle.std.proofs.Common.{◌≡◌, ℕ, Bool, true, false, ◌&&◌, List, [], ◌∷◌, ◌++◌, Result, Ok, Err, refl, sym, ap, ◌∙◌}
 use Rattle.std.specs.Prelude.{◌==◌}
 use Rattle.std.proofs.lemmas.Bool.{true≢false, false_from_ne_true}
@@ -9,14 +9,14 @@ use Rattle.wire_records.specs.declared.command.BodyFault.{BodyFault}
 use Rattle.wire_records.specs.declared.reply.Reply.{Reply}
 use Rattle.wire_records.specs.declared.reply.Reply.TheVariants.{Done, Asset, Account, Order, Refused}
 use Rattle.flow_orders.specs.Outcomes.{Outcome, Cleared, Skipped}
-use Rattle.market_rules.specs.Market.{Market, IsSound, empty_market}
-use Rattle.market_rules.proofs.Soundness.{sound-empty}
+use Rattle.market_rules.specs.Market.{Market, IsConsistent, empty_market}
+use Rattle.market_rules.proofs.Consistency.{consistent-empty}
 use Rattle.statement_rules.specs.Views.{Sees, Event, Adds, Opens, Asks, Clears, Skips, is_there, event_if, seen, seen_plain}
 use Rattle.statement_rules.specs.Holdings.{Holding, nothing, after, after_done, after_placing, after_all, IsHeld}
 use Rattle.statement_rules.specs.Statements.{event_lines, lines_from}
 use Rattle.statement_rules.specs.Laws.{TextsGoOn, AbsentAccountsHaveNoText}
 use Rattle.statement_rules.proofs.Told.{told, is_account}
-use Rattle.statement_rules.proofs.ViewLaws.{empty_held, after_both, sound_after, told_all}
+use Rattle.statement_rules.proofs.ViewLaws.{empty_held, after_both, consistent_after, told_all}
 
 pub lines_both : (v : List Event) (h : Holding) (w : List Event) → lines_from h (v ++ w) ≡ lines_from h v ++ lines_from (after_all h v) w
 lines_both [] h w = refl
@@ -46,11 +46,11 @@ stays h (Asks c (Refused r)) closed = closed
 stays h (Clears batch prices fills) closed = closed
 stays h (Skips batch) closed = closed
 
-all_stay : (v : List Event) (h : Holding) → (after_all h v).is_open ≡ false → h.is_open ≡ false
+pub all_stay : (v : List Event) (h : Holding) → (after_all h v).is_open ≡ false → h.is_open ≡ false
 all_stay [] h closed = closed
 all_stay (event ∷ v) h closed = stays h event (all_stay v (after h event) closed)
 
--- ---- what is seen where the account isn't there has no lines
+-- ---- what isn't seen has no lines
 
 not_seen : (h : Holding) (b : Bool) (event : Event) → b ≡ false → lines_from h (event_if b event) ≡ []
 not_seen h true event closed = absurd (true≢false closed)
@@ -83,14 +83,14 @@ quiet account m h (Ok c) (Batch batch (Cleared k)) not_there closed = not_seen h
 quiet account m h (Ok c) (Batch batch (Skipped s)) not_there closed = not_seen h (is_there m account) _ not_there
 quiet account m h (Err why) a not_there closed = refl
 
-no_text : (account : ℕ) (old : Market) (pairs : List (Pair Record Outcome)) (view : List Event) (new : Market) (h : Holding) → IsSound old → IsHeld account old h → Sees account old pairs view new
+pub no_text : (account : ℕ) (old : Market) (pairs : List (Pair Record Outcome)) (view : List Event) (new : Market) (h : Holding) → IsConsistent old → IsHeld account old h → Sees account old pairs view new
     → (after_all h view).is_open ≡ false → lines_from h view ≡ []
-no_text account old [] view new h sound held sees closed = ap (lines_from h) sees.0
-no_text account old (pair ∷ pairs) view new h sound held (next, read, rest, reads, serves, more, is) closed =
+no_text account old [] view new h consistent held sees closed = ap (lines_from h) sees.0
+no_text account old (pair ∷ pairs) view new h consistent held (next, read, rest, reads, serves, more, is) closed =
     let first = seen account old read pair.answer in
-    let here = told account old h sound held read pair.answer next serves in
+    let here = told account old h consistent held read pair.answer next serves in
     let all : (after_all (after_all h first) rest).is_open ≡ false = ap (λ (x : Holding). x.is_open) (sym (ap (after_all h) is ∙ after_both first h rest)) ∙ closed in
-    let behind = no_text account next pairs rest new (after_all h first) (sound_after old pair.asked pair.answer next read sound reads serves) here more all in
+    let behind = no_text account next pairs rest new (after_all h first) (consistent_after old pair.asked pair.answer next read consistent reads serves) here more all in
     let closed_here = all_stay rest (after_all h first) all in
     let not_there : is_there old account ≡ false = sym held.opened ∙ all_stay first h closed_here in
     ap (lines_from h) is ∙ lines_both first h rest ∙ ap (λ l. l ++ lines_from (after_all h first) rest) (quiet account old h read pair.answer not_there closed_here) ∙ behind
@@ -98,5 +98,5 @@ no_text account old (pair ∷ pairs) view new h sound held (next, read, rest, re
 pub absent_accounts_have_no_text : AbsentAccountsHaveNoText
 absent_accounts_have_no_text account version pairs view m sees absent =
     let held = told_all account version pairs view m sees in
-    no_text account (empty_market version) pairs view m nothing (sound-empty version) (empty_held account version) sees
+    no_text account (empty_market version) pairs view m nothing (consistent-empty version) (empty_held account version) sees
     (held.opened ∙ false_from_ne_true (is_there m account) (λ there. absent (is_account m account there)))

@@ -1,4 +1,4 @@
--- What an account's view tells of a step is what the step makes of the account.
+-- What an account's view says of a step is what the step changes in the account.
 use Rattle.std.proofs.Common.{◌≡◌, ◌≢◌, ◌⊎◌, inl, inr, ℕ, ◌+◌, ◌<◌, ◌≤◌, Bool, true, false, not, ◌&&◌, ℤ, pos, neg_ℤ, ◌+ℤ◌, ◌-ℤ◌, List, [], ◌∷◌, ◌++◌, length, map, Option, Some, None, Result, Ok, Err, refl, sym, ap, subst, ◌∙◌, arith}
 use Rattle.std.specs.Prelude.{nat_lt, ◌==◌}
 use Rattle.std.proofs.lemmas.Bool.{cases_Bool, ne_eqb, eq-eqb, eqb-true, lt-ltb, ltb-true, and_from, and_parts, true≢false}
@@ -14,15 +14,15 @@ use Rattle.flow_accounts.specs.Balances.{Balances, IsAccount, IsAsset, account_c
 use Rattle.flow_accounts.specs.Changes.{KeepsBalances, AddsAsset, ChangesUnitsOf}
 use Rattle.flow_accounts.proofs.Moves.{money_changes, units_change, opened_kept, asset_kept, assets_start_at_zero}
 use Rattle.flow_orders.specs.Orders.{Order, own_sum}
-use Rattle.flow_orders.specs.Outcomes.{Outcome, Cleared, Skipped, Fill, Clearing, IsRightOutcome, trades_of}
+use Rattle.flow_orders.specs.Outcomes.{Outcome, Cleared, Skipped, Fill, Clearing, IsAdmissibleOutcome, trades_of}
 use Rattle.flow_orders.specs.Trades.{Trade, trader, paid, received, staying, going_on}
 use Rattle.fill_caps.specs.Settles.{Settles}
 use Rattle.fill_caps.proofs.SettledBalances.{settles}
 use Rattle.order_book.specs.Book.{without}
-use Rattle.market_rules.specs.Market.{Market, IsSound}
+use Rattle.market_rules.specs.Market.{Market, IsConsistent}
 use Rattle.market_rules.specs.Step.{FirstRefusal, Accepts, Answers, ServesRead, placed, after_batch}
 use Rattle.market_rules.proofs.Accepted.{past_unless}
-use Rattle.market_rules.proofs.Lawful.{sound_is_lawful}
+use Rattle.market_rules.proofs.Lawful.{consistent_is_lawful}
 use Rattle.statement_rules.specs.Views.{Event, Adds, Opens, Asks, Clears, Skips, is_there, event_if, seen, own_trades, own_fills}
 use Rattle.statement_rules.specs.Holdings.{Holding, IsHeld, after, after_all, own_orders, units_changed}
 use Rattle.statement_rules.proofs.Lists.{filters_swap, own_sum_is}
@@ -43,7 +43,7 @@ is_account m account is =
 pub isn't_account : (m : Market) (account : ℕ) → is_there m account ≡ false → IsAccount m.balances account → ⊥
 isn't_account m account not_there there = true≢false (sym (there_is m account there) ∙ not_there)
 
--- as many accounts, and so the same are there
+-- markets with as many accounts have the same accounts
 same_there : (m n : Market) (account : ℕ) → account_count n.balances ≡ account_count m.balances → is_there m account ≡ is_there n account
 same_there m n account count = ap (λ k. nat_lt 0 account && nat_lt account (k + 1)) (sym count)
 
@@ -52,13 +52,13 @@ told_if : (account : ℕ) (n : Market) (h : Holding) (b : Bool) (event : Event) 
 told_if account n h true event is_so not_so = is_so refl
 told_if account n h false event is_so not_so = not_so refl
 
-module _ (account : ℕ) (m : Market) (h : Holding) (sound : IsSound m) (held : IsHeld account m h) where
-  -- a command that names an account that is there, and isn't seen, is another one's
+module _ (account : ℕ) (m : Market) (h : Holding) (consistent : IsConsistent m) (held : IsHeld account m h) where
+  -- a command that names an account that is there, and isn't seen, is another account's
   unseen : (named : ℕ) → IsAccount m.balances named → (is_there m account && (named == account)) ≡ false → named ≢ account
   unseen named there unseen_it same =
       true≢false (sym (and_from (is_there m account) (named == account) (subst (λ a. is_there m a ≡ true) same (there_is m named there)) (eq-eqb named account same)) ∙ unseen_it)
 
-  -- and one that is seen names this one
+  -- a command that is seen names this account
   seen_names : (named : ℕ) → (is_there m account && (named == account)) ≡ true → named ≡ account
   seen_names named is = eqb-true named account (and_parts (is_there m account) (named == account) is).1
 
@@ -120,7 +120,7 @@ module _ (account : ℕ) (m : Market) (h : Holding) (sound : IsSound m) (held : 
       n = record m { balances = change_units m.balances named changed amount }
 
       changes : ChangesUnitsOf named changed amount m.balances n.balances
-      changes = (units_change m.balances named changed amount (sound_is_lawful m sound) there is_changed).0
+      changes = (units_change m.balances named changed amount (consistent_is_lawful m consistent) there is_changed).0
 
       at : 0 < account → (asset : ℕ) → IsAsset m.balances asset → named ≡ account → (((asset == changed) ≡ true) × (asset ≡ changed)) ⊎ (((asset == changed) ≡ false) × (asset ≢ changed))
           → units_changed h.units changed amount asset ≡ units_of n.balances account asset
@@ -182,7 +182,7 @@ module _ (account : ℕ) (m : Market) (h : Holding) (sound : IsSound m) (held : 
         opened = held.opened;
         money = held.money;
         units = held.units;
-        orders = held.orders ∙ sym (others_cancel account named number m.orders sound.ascending two.0 (unseen named one.0 not_so));
+        orders = held.orders ∙ sym (others_cancel account named number m.orders consistent.ascending two.0 (unseen named one.0 not_so));
       })
 
   -- an asset is added
@@ -199,10 +199,10 @@ module _ (account : ℕ) (m : Market) (h : Holding) (sound : IsSound m) (held : 
       kept = asset_kept m.balances
 
       adds : AddsAsset m.balances (add_asset m.balances)
-      adds = assets_start_at_zero m.balances (sound_is_lawful m sound)
+      adds = assets_start_at_zero m.balances (consistent_is_lawful m consistent)
 
       count : length h.tickers ≡ asset_count m.balances
-      count = ap length held.tickers ∙ sound.one_each.tickers
+      count = ap length held.tickers ∙ consistent.one_each.tickers
 
       zero_of : 0 < account → (is_there m account ≡ true) ⊎ (is_there m account ≡ false) → units_of (add_asset m.balances) account (asset_count m.balances) ≡ pos 0
       zero_of some (inl is_so) = adds.units account (is_account m account is_so)
@@ -278,8 +278,8 @@ module _ (account : ℕ) (m : Market) (h : Holding) (sound : IsSound m) (held : 
         money = λ some. held.money some ∙ no_money m.balances account some (isn't_account m account not_so) ∙ sym (no_money n.balances account some (absent not_so));
         units = λ some asset is. let old : IsAsset m.balances asset = is in
             held.units some asset old ∙ no_units m.balances account asset some (isn't_account m account not_so) ∙ sym (no_units n.balances account asset some (absent not_so));
-        orders = held.orders ∙ none_own account m sound (isn't_account m account not_so)
-            ∙ sym (own_going_on account (m.batches + 1) ts ∙ ap (λ l. going_on (m.batches + 1) (staying l)) (sym (own_again account m.orders rates) ∙ ap (λ l. trades_of l (own_fills account m c)) (none_own account m sound (isn't_account m account not_so))));
+        orders = held.orders ∙ none_own account m consistent (isn't_account m account not_so)
+            ∙ sym (own_going_on account (m.batches + 1) ts ∙ ap (λ l. going_on (m.batches + 1) (staying l)) (sym (own_again account m.orders rates) ∙ ap (λ l. trades_of l (own_fills account m c)) (none_own account m consistent (isn't_account m account not_so))));
       })
     where
       ts : List Trade
@@ -319,7 +319,7 @@ module _ (account : ℕ) (m : Market) (h : Holding) (sound : IsSound m) (held : 
         opened = held.opened;
         money = held.money;
         units = held.units;
-        orders = held.orders ∙ none_own account m sound (isn't_account m account not_so) ∙ ap (going_on (m.batches + 1)) (sym (none_own account m sound (isn't_account m account not_so))) ∙ swapped;
+        orders = held.orders ∙ none_own account m consistent (isn't_account m account not_so) ∙ ap (going_on (m.batches + 1)) (sym (none_own account m consistent (isn't_account m account not_so))) ∙ swapped;
       }))
     where
       k : Market
@@ -335,7 +335,7 @@ module _ (account : ℕ) (m : Market) (h : Holding) (sound : IsSound m) (held : 
   refused_keeps (RunBatch budget) r = held
   refused_keeps command r = told_if account m h _ (Asks command (reply.Refused r)) (λ is_so. held) (λ not_so. held)
 
-  -- what is seen of an accepted command, with its answer put in
+  -- what is seen of an accepted command, by an equal answer and market
   answered_so : (c : Command) (a b : Answer Outcome) (n k : Market) → a ≡ b → n ≡ k → IsHeld account k (after_all h (seen account m (Ok c) b)) → IsHeld account n (after_all h (seen account m (Ok c) a))
   answered_so c a b n k same made told = rw (same, made) told
 
@@ -346,7 +346,7 @@ module _ (account : ℕ) (m : Market) (h : Holding) (sound : IsSound m) (held : 
   told_batch (Cleared c) = told_cleared (m.batches + 1) c refl
   told_batch (Skipped s) = told_skipped (m.batches + 1) (after_batch m (Skipped s)) refl refl
 
-  told_accepted : (c : Command) (a : Answer Outcome) (n : Market) → FirstRefusal m c None → Accepts IsRightOutcome m c a n → IsHeld account n (after_all h (seen account m (Ok c) a))
+  told_accepted : (c : Command) (a : Answer Outcome) (n : Market) → FirstRefusal m c None → Accepts IsAdmissibleOutcome m c a n → IsHeld account n (after_all h (seen account m (Ok c) a))
   told_accepted (AddAsset ticker) a n none accepts = answered_so (AddAsset ticker) a _ n _ accepts.0 accepts.1 (told_asset ticker _ refl refl refl)
   told_accepted OpenAccount a n none accepts = answered_so OpenAccount a _ n _ accepts.0 accepts.1 (told_opening (Opens account) refl)
   told_accepted (DepositMoney named ticks) a n none accepts = answered_so (DepositMoney named ticks) a _ n _ accepts.0 accepts.1 (told_money named (grains ticks) (Asks (DepositMoney named ticks) reply.Done) (past_unless none).0 refl)
@@ -372,10 +372,10 @@ module _ (account : ℕ) (m : Market) (h : Holding) (sound : IsSound m) (held : 
       (record { tickers = held.tickers; opened = held.opened; money = held.money; units = held.units; orders = held.orders }))
 
   -- a step of a market
-  pub told : (read : Result Command BodyFault) (a : Answer Outcome) (n : Market) → ServesRead IsRightOutcome m read a n → IsHeld account n (after_all h (seen account m read a))
+  pub told : (read : Result Command BodyFault) (a : Answer Outcome) (n : Market) → ServesRead IsAdmissibleOutcome m read a n → IsHeld account n (after_all h (seen account m read a))
   told (Err why) a n served = subst (λ x. IsHeld account x h) (sym served.1) held
   told (Ok c) a n served = by served.first served.refused served.answered
     where
-      by : (first : Option Refusal) → FirstRefusal m c first → Answers IsRightOutcome m c first a n → IsHeld account n (after_all h (seen account m (Ok c) a))
+      by : (first : Option Refusal) → FirstRefusal m c first → Answers IsAdmissibleOutcome m c first a n → IsHeld account n (after_all h (seen account m (Ok c) a))
       by (Some r) refused answered = answered_so c a _ n _ answered.0 answered.1 (refused_keeps c r)
       by None refused answered = told_accepted c a n refused answered

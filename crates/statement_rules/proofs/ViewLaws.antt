@@ -11,13 +11,13 @@ use Rattle.wire_records.specs.declared.command.BodyFault.{BodyFault}
 use Rattle.wire_records.specs.declared.version.Version.{Version}
 use Rattle.wire_records.proofs.Readings.{reading_unique, read_own}
 use Rattle.flow_orders.specs.Orders.{Order, money_need, unit_need}
-use Rattle.flow_orders.specs.Outcomes.{Outcome, IsRightOutcome}
-use Rattle.market_rules.specs.Market.{Market, IsSound, empty_market}
+use Rattle.flow_orders.specs.Outcomes.{Outcome, IsAdmissibleOutcome}
+use Rattle.market_rules.specs.Market.{Market, IsConsistent, empty_market}
 use Rattle.market_rules.specs.Step.{ServesRead}
 use Rattle.market_rules.specs.Journal.{Step}
 use Rattle.market_rules.specs.Laws.{Leads}
 use Rattle.market_rules.proofs.LawProofs.{market_is_determined}
-use Rattle.market_rules.proofs.Soundness.{sound_step, sound-empty}
+use Rattle.market_rules.proofs.Consistency.{consistent_step, consistent-empty}
 use Rattle.statement_rules.specs.Views.{Sees, Event, seen, is_there}
 use Rattle.statement_rules.specs.Holdings.{Holding, nothing, IsHeld, after, after_all}
 use Rattle.statement_rules.specs.Statements.{IsStatement, statement}
@@ -29,7 +29,7 @@ use Rattle.flow_accounts.specs.Balances.{no_balances}
 use Rattle.statement_rules.proofs.OwnParts.{no_money}
 use Rattle.statement_rules.proofs.Told.{told, there_is, is_account}
 
-step_of : (old : Market) (asked : Record) (a : Answer Outcome) (next : Market) (read : Result Command BodyFault) → IsReadAs old.version asked read → ServesRead IsRightOutcome old read a next → Step IsReadAs IsRightOutcome old asked a next
+step_of : (old : Market) (asked : Record) (a : Answer Outcome) (next : Market) (read : Result Command BodyFault) → IsReadAs old.version asked read → ServesRead IsAdmissibleOutcome old read a next → Step IsReadAs IsAdmissibleOutcome old asked a next
 step_of old asked a next read reads serves = record { read = read; spelled = reads; served = serves }
 
 leads : (account : ℕ) (old : Market) (pairs : List (Pair Record Outcome)) (view : List Event) (new : Market) → Sees account old pairs view new → Leads old pairs new
@@ -70,22 +70,22 @@ views_compose account old mid new (pair ∷ pairs) more v w (next, read, rest, r
 pub equal_views_equal_statements : EqualViewsEqualStatements
 equal_views_equal_statements account one other pairs more v w m n first second same = ap statement same
 
--- the market after a step is sound too
-pub sound_after : (old : Market) (asked : Record) (a : Answer Outcome) (next : Market) (read : Result Command BodyFault) → IsSound old → IsReadAs old.version asked read → ServesRead IsRightOutcome old read a next → IsSound next
-sound_after old asked a next read sound reads serves = sound_step IsReadAs read_own old asked a next sound (step_of old asked a next read reads serves)
+-- the market after a step is consistent too
+pub consistent_after : (old : Market) (asked : Record) (a : Answer Outcome) (next : Market) (read : Result Command BodyFault) → IsConsistent old → IsReadAs old.version asked read → ServesRead IsAdmissibleOutcome old read a next → IsConsistent next
+consistent_after old asked a next read consistent reads serves = consistent_step IsReadAs read_own old asked a next consistent (step_of old asked a next read reads serves)
 
 -- events one after the other
 pub after_both : (v : List Event) (h : Holding) (w : List Event) → after_all h (v ++ w) ≡ after_all (after_all h v) w
 after_both [] h w = refl
 after_both (event ∷ v) h w = after_both v (after h event) w
 
-steps : (account : ℕ) (old : Market) (pairs : List (Pair Record Outcome)) (view : List Event) (new : Market) (h : Holding) → IsSound old → IsHeld account old h → Sees account old pairs view new → IsHeld account new (after_all h view)
-steps account old [] view new h sound held sees =
+steps : (account : ℕ) (old : Market) (pairs : List (Pair Record Outcome)) (view : List Event) (new : Market) (h : Holding) → IsConsistent old → IsHeld account old h → Sees account old pairs view new → IsHeld account new (after_all h view)
+steps account old [] view new h consistent held sees =
     subst (λ x. IsHeld account x (after_all h view)) (sym sees.1) (subst (λ l. IsHeld account old (after_all h l)) (sym sees.0) held)
-steps account old (pair ∷ pairs) view new h sound held (next, read, rest, reads, serves, more, is) =
-    let here = told account old h sound held read pair.answer next serves in
-    let sound_next = sound_step IsReadAs read_own old pair.asked pair.answer next sound (step_of old pair.asked pair.answer next read reads serves) in
-    let all = steps account next pairs rest new (after_all h (seen account old read pair.answer)) sound_next here more in
+steps account old (pair ∷ pairs) view new h consistent held (next, read, rest, reads, serves, more, is) =
+    let here = told account old h consistent held read pair.answer next serves in
+    let consistent_next = consistent_step IsReadAs read_own old pair.asked pair.answer next consistent (step_of old pair.asked pair.answer next read reads serves) in
+    let all = steps account next pairs rest new (after_all h (seen account old read pair.answer)) consistent_next here more in
     subst (IsHeld account new) (sym (ap (after_all h) is ∙ after_both (seen account old read pair.answer) h rest)) all
 
 pub empty_held : (account : ℕ) (version : Version) → IsHeld account (empty_market version) nothing
@@ -102,12 +102,12 @@ empty_held account version = record {
     closed (suc k) = sym (and_right (nat_lt 0 (suc k)) (nat_lt (suc k) 1) (le-ltb (suc k) 1 (omega arith)))
 
 pub told_all : (account : ℕ) (version : Version) (pairs : List (Pair Record Outcome)) (view : List Event) (m : Market) → Sees account (empty_market version) pairs view m → IsHeld account m (after_all nothing view)
-told_all account version pairs view m sees = steps account (empty_market version) pairs view m nothing (sound-empty version) (empty_held account version) sees
+told_all account version pairs view m sees = steps account (empty_market version) pairs view m nothing (consistent-empty version) (empty_held account version) sees
 
 pub views_tell_holdings : ViewsTellHoldings
 views_tell_holdings = record {
   steps = steps;
-  journal = λ account version pairs view m sees. steps account (empty_market version) pairs view m nothing (sound-empty version) (empty_held account version) sees;
+  journal = λ account version pairs view m sees. steps account (empty_market version) pairs view m nothing (consistent-empty version) (empty_held account version) sees;
 }
 
 -- a sum in ℕ is the same in ℤ

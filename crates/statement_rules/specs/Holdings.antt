@@ -1,4 +1,4 @@
--- What an account has, as its view alone tells it.
+-- What an account has, as its view alone says.
 use Rattle.std.specs.Prelude.{◌≡◌, ℕ, ◌<◌, ◌==◌, Bool, true, false, if◌then◌else◌, ℤ, pos, neg_ℤ, ◌+ℤ◌, ◌-ℤ◌, List, [], ◌∷◌, ◌++◌, length, Option, unwrap_or}
 use Rattle.std.specs.List.{filter}
 use Rattle.list_sums.specs.Sums.{int_sum_by}
@@ -21,15 +21,15 @@ pub record Holding : Type 0 where
   pub units : ℕ → ℤ
   pub orders : List Order
 
--- before the first pair
+-- what the account has before the first entry
 abbrev pub nothing : Holding
 nothing = record { tickers = []; is_open = false; money = pos 0; units = λ asset. pos 0; orders = [] }
 
--- the units after those of one asset changed by the amount
+-- the units of each asset after those of one asset changed by the amount
 abbrev pub units_changed : (ℕ → ℤ) → ℕ → ℤ → ℕ → ℤ
 units_changed units changed amount asset = if asset == changed then units asset +ℤ amount else units asset
 
--- the order that was placed on a request under a number, with its last batch, or 0 where it has none
+-- the order that was placed on a request under a number, with its last batch, or 0 if it has none
 abbrev pub ordered : ℕ → Option ℕ → Request → Order
 ordered number last r = record {
   number = number;
@@ -43,7 +43,7 @@ ordered number last r = record {
   last = unwrap_or last 0;
 }
 
--- after a command of its own that was done
+-- what the account has after a command of its own that was done
 abbrev pub after_done : Holding → Command → Holding
 after_done h (DepositMoney account ticks) = record h { money = h.money +ℤ grains ticks }
 after_done h (DepositAsset account asset units) = record h { units = units_changed h.units asset (pos units) }
@@ -57,7 +57,7 @@ after_done h (RunBatch budget) = h
 after_done h (SetMoneyCredit account ticks) = h
 after_done h (SetUnitCredit account asset units) = h
 
--- after a command of its own that placed the order of a number
+-- what the account has after a command of its own that placed the order of a number
 abbrev pub after_placing : Holding → ℕ → Command → Holding
 after_placing h number (Place last r) = record h { orders = h.orders ++ ordered number last r ∷ [] }
 after_placing h number (AddAsset ticker) = h
@@ -71,7 +71,7 @@ after_placing h number (RunBatch budget) = h
 after_placing h number (SetMoneyCredit account ticks) = h
 after_placing h number (SetUnitCredit account asset units) = h
 
--- after a command of its own with this answer; a refusal changes nothing
+-- what the account has after a command of its own with this answer; a refusal changes nothing
 abbrev pub after_asked : Holding → Command → Reply → Holding
 after_asked h command reply.Done = after_done h command
 after_asked h command (reply.Order number) = after_placing h number command
@@ -79,8 +79,8 @@ after_asked h command (reply.Asset asset) = h
 after_asked h command (reply.Account number) = h
 after_asked h command (reply.Refused refusal) = h
 
--- after an event: of an asset that is added the account has nothing; a batch that clears takes what its trades cost and brings their units, and either way the orders leave whose
--- last batch it was
+-- what the account has after an event: nothing of an asset that is added; a batch that clears takes what its trades
+-- cost and brings their units, and any batch removes the orders whose last batch it was
 abbrev pub after : Holding → Event → Holding
 after h (Adds ticker) = record h { tickers = h.tickers ++ ticker ∷ []; units = λ asset. if asset == length h.tickers then pos 0 else h.units asset }
 after h (Opens account) = record h { is_open = true }
@@ -92,16 +92,26 @@ after h (Clears batch prices fills) = record h {
 }
 after h (Skips batch) = record h { orders = going_on batch h.orders }
 
--- after all events of a view, one after the other
+-- what the account has after all events of a view, one after the other
 abbrev pub after_all : Holding → List Event → Holding
 after_all h [] = h
 after_all h (event ∷ view) = after_all (after h event) view
 
--- an account's own orders among these
+-- the orders of an account among these
 abbrev pub own_orders : ℕ → List Order → List Order
 own_orders account orders = filter (λ o. o.account == account) orders
 
--- This is what the account of a number has in a market. Of an account that isn't there yet it is nothing.
+-- what the account of a number has in a market
+abbrev pub held_in : ℕ → Market → Holding
+held_in account m = record {
+  tickers = m.tickers;
+  is_open = is_there m account;
+  money = money_of m.balances account;
+  units = units_of m.balances account;
+  orders = own_orders account m.orders;
+}
+
+-- This is what the account of a number has in a market. An account that isn't there yet has nothing.
 pub record IsHeld (account : ℕ) (m : Market) (h : Holding) : Type 0 where
   pub tickers : h.tickers ≡ m.tickers
   pub opened : h.is_open ≡ is_there m account

@@ -1,6 +1,6 @@
--- The statement of an account: the text of its view, and its last lines. Money is in grains but where it is given in ticks, limits
--- are in ticks, all other amounts in whole units; numbers are plain decimal.
-use Rattle.std.specs.Prelude.{◌≡◌, ℕ, ℤ, List, [], ◌∷◌, ◌++◌, length, codes, decimal}
+-- The statement of an account: the text of its view, and its last lines. Money is in grains except where a line says
+-- ticks, limits are in ticks, all other amounts in whole units; numbers are plain decimal.
+use Rattle.std.specs.Prelude.{◌≡◌, ℕ, ℤ, List, [], ◌∷◌, ◌++◌, length, codes, decimal, if◌then◌else◌}
 use Rattle.std.specs.Fmt.{signed_decimal}
 use Rattle.std.specs.List.{flat_map, range_with_len, sum_by}
 use Rattle.wire_records.specs.Commands.{Request, Command, AddAsset, OpenAccount, DepositMoney, DepositAsset, WithdrawMoney, WithdrawAsset, Place, CancelOrder, RunBatch, SetMoneyCredit, SetUnitCredit, Pair}
@@ -15,18 +15,18 @@ use Rattle.flow_orders.specs.Outcomes.{Outcome, trades_of}
 use Rattle.flow_orders.specs.Trades.{Trade, paid}
 use Rattle.market_rules.specs.Market.{Market, empty_market}
 use Rattle.pair_text.specs.Texts.{◌then◌, asset_name, entry_text, last_text}
-use Rattle.statement_rules.specs.Views.{Event, Adds, Opens, Asks, Clears, Skips, Sees}
-use Rattle.statement_rules.specs.Holdings.{Holding, nothing, after, after_all}
+use Rattle.statement_rules.specs.Views.{Event, Adds, Opens, Asks, Clears, Skips, Sees, is_there}
+use Rattle.statement_rules.specs.Holdings.{Holding, nothing, after, after_all, held_in}
 
--- a deposit, a withdrawal or a credit in money, with the end of its line
+-- the line of a deposit, a withdrawal or a credit in money, in ticks
 abbrev pub money_line : List ℕ → ℕ → List ℕ
 money_line word ticks = word then codes " ticks " then decimal ticks then codes "\n"
 
--- and one in units of an asset
+-- the line of a deposit, a withdrawal or a credit in units of an asset
 abbrev pub units_line : List ℕ → List (List ℕ) → ℕ → ℕ → List ℕ
 units_line word tickers asset units = word then codes " " then asset_name tickers asset then codes " units " then decimal units then codes "\n"
 
--- the line of a command that was done
+-- the line of a command that was done; no other command has one
 abbrev pub done_line : List (List ℕ) → Command → List ℕ
 done_line tickers (DepositMoney account ticks) = money_line (codes "deposit") ticks
 done_line tickers (DepositAsset account asset units) = units_line (codes "deposit") tickers asset units
@@ -40,13 +40,13 @@ done_line tickers OpenAccount = []
 done_line tickers (Place last request) = []
 done_line tickers (RunBatch budget) = []
 
--- an order's number, and the numbers of its request
+-- the text of an order's number and the numbers of its request, limits in ticks
 abbrev pub order_numbers : ℕ → Request → List ℕ
 order_numbers number r =
     codes "order " then decimal number then codes " low " then signed_decimal r.low then codes " high " then signed_decimal r.high
     then codes " rate " then decimal r.rate then codes " cap " then decimal r.cap
 
--- the line of a command that placed the order of a number
+-- the line of a command that placed the order of a number; no other command has one
 abbrev pub placing_line : List (List ℕ) → ℕ → Command → List ℕ
 placing_line tickers number (Place last r) = order_numbers number r then last_text last then flat_map (entry_text tickers) r.row then codes "\n"
 placing_line tickers number (AddAsset ticker) = []
@@ -68,13 +68,13 @@ asked_line tickers command (reply.Refused refusal) = codes "refused " then decim
 asked_line tickers command (reply.Asset asset) = []
 asked_line tickers command (reply.Account number) = []
 
--- the line of an order of its own in a batch that cleared: its rate, and what that costs at the prices
+-- the line of an account's own order in a batch that cleared: its rate, and what that costs at the prices, in grains
 abbrev pub cost_line : List ℤ → Trade → List ℕ
 cost_line prices t =
     codes "  order " then decimal t.order.number then codes " rate " then decimal t.traded
     then codes " cost " then signed_decimal (paid prices t) then codes "\n"
 
--- the lines of an event, with what the account has before it
+-- the lines of an event, by what the account has before it
 abbrev pub event_lines : Holding → Event → List ℕ
 event_lines h (Adds ticker) = []
 event_lines h (Opens account) = codes "account " then decimal account then codes "\n"
@@ -87,7 +87,7 @@ abbrev pub lines_from : Holding → List Event → List ℕ
 lines_from h [] = []
 lines_from h (event ∷ view) = event_lines h event ++ lines_from (after h event) view
 
--- the text of a view
+-- the text of a view, from nothing on
 abbrev pub view_text : List Event → List ℕ
 view_text view = lines_from nothing view
 
@@ -95,30 +95,52 @@ view_text view = lines_from nothing view
 abbrev pub money_reserved : Holding → ℕ
 money_reserved h = sum_by money_need h.orders
 
--- the units of an asset that they need
+-- the units of an asset that the account's live orders need
 abbrev pub units_reserved : Holding → ℕ → ℕ
 units_reserved h asset = sum_by (unit_need asset) h.orders
 
--- the line of an asset
+-- the last line for an asset: the units that the account has, and those that its live orders need
 abbrev pub asset_line : Holding → ℕ → List ℕ
 asset_line h asset =
     asset_name h.tickers asset then codes " units " then signed_decimal (h.units asset)
     then codes " reserved " then decimal (units_reserved h asset) then codes "\n"
 
--- the last lines: money, and each asset
+-- the last lines: one for money, in grains, and one for each asset
 abbrev pub end_lines : Holding → List ℕ
 end_lines h =
     codes "money " then signed_decimal h.money then codes " reserved " then decimal (money_reserved h) then codes "\n"
     then flat_map (asset_line h) (range_with_len 0 (length h.tickers))
 
--- the statement of a view
+-- the statement of a view: its text, and the last lines
 abbrev pub statement : List Event → List ℕ
 statement view = view_text view then end_lines (after_all nothing view)
 
--- The statement of an account after a legal journal of a version, in whose market the account is there.
+-- The statement of an account after a valid journal of a version, in whose market the account is there.
 pub record IsStatement (account : ℕ) (version : Version) (pairs : List (Pair Record Outcome)) (text : List ℕ) : Type 0 where
   pub view : List Event
   pub market : Market
   pub sees : Sees account (empty_market version) pairs view market
   pub there : IsAccount market.balances account
   pub text_is : text ≡ statement view
+
+-- ---- the statement that begins in a market, for the entries after it
+
+-- the lines that are carried forward from a market: the account's last lines there, or none if it isn't there
+abbrev pub carried_lines : ℕ → Market → List ℕ
+carried_lines account m = if is_there m account then end_lines (held_in account m) else []
+
+-- the text of a view that begins in a market: the lines that are carried forward, and then those of what the account sees
+abbrev pub text_from : ℕ → Market → List Event → List ℕ
+text_from account m view = carried_lines account m ++ lines_from (held_in account m) view
+
+-- the statement of a view that begins in a market: its text, and the last lines after the view
+abbrev pub statement_from : ℕ → Market → List Event → List ℕ
+statement_from account m view = text_from account m view ++ end_lines (after_all (held_in account m) view)
+
+-- The statement of an account that begins in a market, after valid entries that lead to a market in which the account is there.
+pub record IsStatementFrom (account : ℕ) (start : Market) (pairs : List (Pair Record Outcome)) (text : List ℕ) : Type 0 where
+  pub view : List Event
+  pub market : Market
+  pub sees : Sees account start pairs view market
+  pub there : IsAccount market.balances account
+  pub text_is : text ≡ statement_from account start view

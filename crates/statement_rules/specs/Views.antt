@@ -1,4 +1,4 @@
--- What an account sees of a journal: its view. Nothing else of the journal is in it.
+-- The view of an account: what it sees of a journal. Nothing else of the journal is in it.
 use Rattle.std.specs.Prelude.{◌≡◌, ℕ, ◌+◌, nat_lt, ◌==◌, Bool, ◌&&◌, if◌then◌else◌, ℤ, List, [], ◌∷◌, ◌++◌, map, Result, Ok, Err}
 use Rattle.std.specs.List.{filter}
 use Rattle.wire_records.specs.Records.{Record}
@@ -9,13 +9,13 @@ use Rattle.wire_records.specs.declared.version.Version.{Version}
 use Rattle.wire_records.specs.declared.reply.Reply.{Reply}
 use Rattle.wire_records.specs.declared.reply.Reply.TheVariants.{Done, Asset, Account, Order, Refused}
 use Rattle.flow_accounts.specs.Balances.{account_count}
-use Rattle.flow_orders.specs.Outcomes.{Fill, Clearing, Outcome, BatchRule, IsRightOutcome, Cleared, Skipped, trades_of, fill_of}
+use Rattle.flow_orders.specs.Outcomes.{Fill, Clearing, Outcome, BatchRule, IsAdmissibleOutcome, Cleared, Skipped, trades_of, fill_of}
 use Rattle.flow_orders.specs.Trades.{Trade, trader}
 use Rattle.market_rules.specs.Market.{Market}
 use Rattle.market_rules.specs.Step.{ServesRead}
 
--- What an account sees: an asset that is added, the pair that opens the account, a command of its own with its answer, and of a
--- batch its number, whether it cleared, the prices, and the rates of its own orders.
+-- What an account sees: an asset that is added, the entry that opens the account, a command of its own with its answer,
+-- and of a batch its number, whether it cleared, the prices in grains, and the rates of its own orders.
 pub data Event : Type 0 where
   Adds : (ticker : List ℕ) → Event
   Opens : (account : ℕ) → Event
@@ -23,15 +23,15 @@ pub data Event : Type 0 where
   Clears : (batch : ℕ) (prices : List ℤ) (fills : List Fill) → Event
   Skips : (batch : ℕ) → Event
 
--- an account of this number is there; there is none of number 0
+-- there is an account of this number; there is none of number 0
 abbrev pub is_there : Market → ℕ → Bool
 is_there m account = nat_lt 0 account && nat_lt account (account_count m.balances + 1)
 
--- the event, where this holds
+-- the event, if it is seen, and else none
 abbrev pub event_if : Bool → Event → List Event
 event_if seen event = if seen then event ∷ [] else []
 
--- an asset that is added
+-- what is seen of an asset that is added, by the reply
 abbrev pub seen_asset : List ℕ → Reply → List Event
 seen_asset ticker Done = []
 seen_asset ticker (Asset asset) = Adds ticker ∷ []
@@ -39,7 +39,7 @@ seen_asset ticker (Account number) = []
 seen_asset ticker (Order number) = []
 seen_asset ticker (Refused refusal) = []
 
--- an account that is opened, where it is this one
+-- what is seen of an account that is opened, by the reply: the opening, if it is the account's own
 abbrev pub seen_opening : ℕ → Reply → List Event
 seen_opening account Done = []
 seen_opening account (Asset asset) = []
@@ -47,7 +47,7 @@ seen_opening account (Account number) = event_if (number == account) (Opens acco
 seen_opening account (Order number) = []
 seen_opening account (Refused refusal) = []
 
--- what an account sees of a command with a plain answer, where it is there or isn't: its own commands are those that name it
+-- what an account sees of a command with a plain answer, by whether the account is there: its own commands are those that name it
 abbrev pub seen_plain : ℕ → Bool → Command → Reply → List Event
 seen_plain account there (AddAsset ticker) reply = seen_asset ticker reply
 seen_plain account there OpenAccount reply = seen_opening account reply
@@ -69,12 +69,12 @@ own_trades account ts = filter (λ t. trader t == account) ts
 abbrev pub own_fills : ℕ → Market → Clearing → List Fill
 own_fills account m c = map fill_of (own_trades account (trades_of m.orders c.fills))
 
--- what it sees of a batch, where it is there
+-- what an account sees of a batch, if it is there
 abbrev pub seen_batch : ℕ → Market → ℕ → Outcome → List Event
 seen_batch account m batch (Cleared c) = event_if (is_there m account) (Clears batch c.prices (own_fills account m c))
 seen_batch account m batch (Skipped s) = event_if (is_there m account) (Skips batch)
 
--- what it sees of a pair, with the market before it and what its record is read as: of one that is no command nothing
+-- what an account sees of an entry, by the market before it and what its record is read as: nothing if the record is no command
 abbrev pub seen : ℕ → Market → Result Command BodyFault → Answer Outcome → List Event
 seen account m (Ok command) (Plain reply) = seen_plain account (is_there m account) command reply
 seen account m (Ok command) (Batch batch outcome) = seen_batch account m batch outcome
@@ -82,13 +82,13 @@ seen account m (Err why) answer = []
 
 -- records of any kind, what each is read as in each version, and how a batch may end
 module _ {R : Type 0} (Reads : Version → R → Result Command BodyFault → Type 0) (Rule : BatchRule) where
-  -- the pairs are steps from the old market to the new one, and this is what an account sees of them
+  -- the entries are steps from the old market to the new one, and this is what an account sees of them
   abbrev pub Shows : ℕ → Market → List (Pair R Outcome) → List Event → Market → Type 0
   Shows account old [] view new = (view ≡ []) × (new ≡ old)
   Shows account old (pair ∷ pairs) view new =
       (next : Market) × (read : Result Command BodyFault) × (rest : List Event) × Reads old.version pair.asked read
       × ServesRead Rule old read pair.answer next × Shows account next pairs rest new × (view ≡ seen account old read pair.answer ++ rest)
 
--- this is what an account sees of legal steps, whatever right outcomes their batches have
+-- this is what an account sees of valid steps, whichever admissible outcomes their batches have
 abbrev pub Sees : ℕ → Market → List (Pair Record Outcome) → List Event → Market → Type 0
-Sees = Shows IsReadAs IsRightOutcome
+Sees = Shows IsReadAs IsAdmissibleOutcome

@@ -1,5 +1,5 @@
--- A statement comes to one end and one text, keeps a journal, and is without an end for no bytes.
-use Rattle.std.proofs.Common.{◌≡◌, ◌⊎◌, ◌+◌, ◌-◌, ◌<◌, ◌≤◌, ◌^◌, ℕ, true, false, List, [], Result, inl, inr, refl, sym, ap, subst, ◌∙◌, arith}
+-- A statement results in one end and one text, keeps a journal, and has an end for all bytes.
+use Rattle.std.proofs.Common.{◌≡◌, ◌⊎◌, ◌+◌, ◌≤◌, ◌^◌, ℕ, true, false, List, [], Result, inl, inr, refl, sym, ap, subst, ◌∙◌, arith}
 use Rattle.std.proofs.lemmas.Bool.{cases_Bool, false_from_ne_true}
 use Rattle.wire_records.specs.Records.{Record}
 use Rattle.wire_records.specs.Commands.{Command, Answer}
@@ -8,27 +8,27 @@ use Rattle.wire_records.specs.declared.command.BodyFault.{BodyFault}
 use Rattle.wire_records.specs.declared.version.Version.{Version}
 use Rattle.wire_records.proofs.Readings.{reading_unique}
 use Rattle.flow_accounts.specs.Balances.{IsAccount}
-use Rattle.flow_orders.specs.Outcomes.{Outcome, IsRightOutcome}
+use Rattle.flow_orders.specs.Outcomes.{Outcome, IsAdmissibleOutcome}
 use Rattle.journal_records.proofs.Spelled.{answer_unique}
-use Rattle.market_rules.specs.Market.{Market, IsSound}
-use Rattle.market_rules.proofs.LawProofs.{steps_keep_soundness}
-use Rattle.market_rules.proofs.Soundness.{sound-empty}
+use Rattle.market_rules.specs.Market.{Market, IsConsistent}
+use Rattle.market_rules.proofs.LawProofs.{steps_keep_consistency}
 use Rattle.market_rules.proofs.Versions.{step_version}
-use Rattle.batch_audit.specs.Legal.{IsLegalPair, IsIllegalPair}
+use Rattle.batch_audit.specs.Legal.{IsLegalPair}
 use Rattle.statement_rules.specs.Views.{is_there, seen}
-use Rattle.statement_rules.specs.Holdings.{after_all, IsHeld}
+use Rattle.statement_rules.specs.Holdings.{held_in}
 use Rattle.statement_rules.specs.Statements.{lines_from, end_lines}
 use Rattle.statement_rules.proofs.Told.{told, there_is, is_account}
 use Rattle.statement_rules.proofs.Texts.{quiet}
-use Rattle.word_driver.specs.Laws.{IsExact, IsKept, HasNext}
+use Rattle.statement_rules.proofs.FromMarkets.{held_there}
+use Rattle.word_driver.specs.Laws.{IsExact, HasNext}
 use Rattle.word_driver.proofs.Denying.{not_denied}
-use Rattle.journal_words.proofs.JournalLaws.{IsExactWatch, HasSight, over_pairs_is_exact, over_pairs_is_kept, over_pairs_has_next}
+use Rattle.journal_words.specs.Watching.{Watched}
+use Rattle.journal_words.proofs.JournalLaws.{IsExactWatch, HasSight, over_pairs_is_exact, over_pairs_has_next}
 use Rattle.statement_word.specs.declared.no_statement.NoStatement.{NoStatement}
 use Rattle.statement_word.specs.declared.no_statement.NoStatement.TheVariants.{Rejected, NoAccount}
-use Rattle.statement_word.specs.Stating.{Stated, TellsOwn, held_in, stating, statement, statement_start}
-use Rattle.statement_word.proofs.Held.{held_there}
+use Rattle.statement_word.specs.Stating.{Stated, TellsOwn, stating, statement}
 
--- a pair has one text
+-- an entry has one text
 one_text : (account : ℕ) (version : Version) (old : Market) (pair : Record × Record) (x y : List ℕ) → TellsOwn account version old pair x → TellsOwn account version old pair y → x ≡ y
 one_text account version old pair x y a b =
     let read = reading_unique version pair.0 a.read b.read a.reads b.reads in
@@ -48,9 +48,6 @@ stating_is_exact = record {
 pub statement_is_exact : IsExact statement
 statement_is_exact = over_pairs_is_exact stating stating_is_exact
 
-pub statement_is_kept : (account : ℕ) → IsKept statement (statement_start account)
-statement_is_kept account = over_pairs_is_kept stating (statement_start account) (λ version. (refl, refl))
-
 -- each legal pair has a text
 some_lines : (old new : Market) (n : ℕ) (pair : Record × Record) (s : Stated) → IsLegalPair old pair new → (t : Stated) × (x : List ℕ) × stating.Sees new n pair s t x
 some_lines old new n pair s legal =
@@ -62,7 +59,7 @@ some_lines old new n pair s legal =
         record {
           read = step.read;
           answer = legal.answer;
-          reads = subst (λ (v : Version). IsReadAs v pair.0 step.read) (sym (step_version IsRightOutcome IsReadAs old pair.0 legal.answer new step)) step.spelled;
+          reads = subst (λ (v : Version). IsReadAs v pair.0 step.read) (sym (step_version IsAdmissibleOutcome IsReadAs old pair.0 legal.answer new step)) step.spelled;
           spelled = legal.spelled;
           lines = refl;
         },
@@ -87,24 +84,24 @@ some_close m n s =
 stating_has_sight : HasSight stating
 stating_has_sight = record {
   some_sight = some_lines;
-  some_reject = λ m n pair s sound illegal. not_denied (Rejected (n + 1), [], (refl, refl));
+  some_reject = λ m n pair s consistent illegal. not_denied (Rejected (n + 1), [], (refl, refl));
   some_close = some_close;
 }
 
-pub statement_has_next : (account : ℕ) → HasNext statement (statement_start account)
-statement_has_next account = over_pairs_has_next stating stating_has_sight (statement_start account) sound-empty
+pub statement_has_next : (start : Version → Watched Stated) → ((version : Version) → IsConsistent (start version).market) → HasNext statement start
+statement_has_next start consistent = over_pairs_has_next stating stating_has_sight start consistent
 
 -- ---- accounts of numbers that no market has
 
--- no sound market has so many accounts
-pub not_there : (account : ℕ) (m : Market) → IsSound m → 2 ^ 32 ≤ account → is_there m account ≡ false
-not_there account m sound far = false_from_ne_true (is_there m account) (λ there. let is = is_account m account there in omega (arith, is.1, sound.few_accounts, far))
+-- no consistent market has so many accounts
+pub not_there : (account : ℕ) (m : Market) → IsConsistent m → 2 ^ 32 ≤ account → is_there m account ≡ false
+not_there account m consistent far = false_from_ne_true (is_there m account) (λ there. let is = is_account m account there in omega (arith, is.1, consistent.few_accounts, far))
 
--- so such an account sees nothing of a legal pair that has a line
-pub far_is_quiet : (account : ℕ) (old new : Market) (pair : Record × Record) → IsSound old → 2 ^ 32 ≤ account → (legal : IsLegalPair old pair new)
+-- such an account sees nothing of a valid entry that has a line
+pub far_is_quiet : (account : ℕ) (old new : Market) (pair : Record × Record) → IsConsistent old → 2 ^ 32 ≤ account → (legal : IsLegalPair old pair new)
     → lines_from (held_in account old) (seen account old legal.step.read legal.answer) ≡ []
-far_is_quiet account old new pair sound far legal =
+far_is_quiet account old new pair consistent far legal =
     let step = legal.step in
-    let sound_new = (steps_keep_soundness.1 old pair.0 legal.answer new sound step).0 in
-    let held = told account old (held_in account old) sound (held_there account old) step.read legal.answer new step.served in
-    quiet account old (held_in account old) step.read legal.answer (not_there account old sound far) (held.opened ∙ not_there account new sound_new far)
+    let consistent_new = (steps_keep_consistency.1 old pair.0 legal.answer new consistent step).0 in
+    let held = told account old (held_in account old) consistent (held_there account old) step.read legal.answer new step.served in
+    quiet account old (held_in account old) step.read legal.answer (not_there account old consistent far) (held.opened ∙ not_there account new consistent_new far)

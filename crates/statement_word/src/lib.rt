@@ -1,14 +1,16 @@
-//! The statement of an account as a word over the pairs of a journal.
+//! The statement of an account as a subcommand over the entries of a history.
 //!
-//! [`Stating`] is what is done with the pairs of an audit ([`Pairs`](journal_words::Pairs)): it has a
-//! [`Statement`](account_statement::Statement) tell each legal one. At the end of a legal journal it writes the account's last lines,
-//! where the account is there; else it stops, for a reason of its own ([`NoStatement`]).
+//! [`StatementOf`] begins in the market of a history, and writes the lines that are carried forward: the account's last lines there.
+//! [`Stating`] is what is done with the entries of an audit ([`Pairs`](journal_words::Pairs)): it has a
+//! [`Statement`](account_statement::Statement) write the lines of each valid one. At the end of a valid history it writes the account's
+//! last lines, if there is such an account; else it stops, for a reason of its own ([`NoStatement`]).
 //!
 //! # Costs
 //!
-//! One audit of each pair, and its lines. What the account sees of a pair is said with the market before it, so it is told when the pair
-//! is judged and its step isn't made yet.
-//! Beside the market a statement holds what is the account's own, and one buffer for the lines of a pair.
+//! At the start one copy of what the account has in the market, with one pass over all live orders. Then one audit of each entry, and
+//! its lines. What the account sees of an entry is written by the market before it, so it is written when the entry has been judged and
+//! its step isn't made yet.
+//! Beside the market a statement holds what is the account's own, and one buffer for the lines of an entry.
 #![tactic(auto)]
 
 mod no_statement;
@@ -16,4 +18,4 @@ mod own;
 mod stating;
 
 pub use no_statement::NoStatement;
-pub use stating::Stating;
+pub use stating::{StatementOf, Stating};

@@ -1,7 +1,10 @@
-//! What is an account's own, by the number that was asked for.
-ghost use Rattle.std.specs.Prelude.{◌≡◌, ◌≤◌, ℕ, [], OnOk, OnErr, vec_capacity};
+//! What a statement keeps of its account, by the number that was asked for.
+ghost use Rattle.std.specs.Prelude.{◌≡◌, ◌≤◌, ℕ, [], IfOk, OnOk, OnErr, vec_capacity};
 ghost use Rattle.wire_records.specs.declared.version.Version.{Version};
 ghost use Rattle.market_rules.specs.Market.{Market as market_value, empty_market};
+ghost use Rattle.flow_accounts.specs.Balances.{IsAccount};
+ghost use Rattle.statement_rules.specs.Statements.{carried_lines};
+ghost use Rattle.account_statement.specs.Telling.{AllocatesCopy};
 ghost use Rattle.batch_audit.specs.Legal.{IsLegalPair};
 ghost use Rattle.journal_words.specs.Private.{IsClosedBy};
 ghost use Rattle.statement_word.specs.Stating.{stating};
@@ -14,16 +17,16 @@ use market_core::Market;
 use std::alloc::Global;
 use word_driver::{Halt, Memory};
 
-// The statement of the account of a number, from pair to pair.
+// The statement of the account of a number, from entry to entry.
 #[derive(Drop)]
 pub(crate) struct Own {
     pub(crate) number: u64,
-    // None where no account can have the number, since it has more than 32 bits.
+    // None if no account can have the number, since it has more than 32 bits.
     pub(crate) statement: Option<Statement>,
 }
 
 impl Own {
-    // Before the first pair. Takes no memory.
+    // Creates it for an empty market. Allocates nothing.
     pub(crate) fn new(alloc: Global, number: u64) -> Own
         ensures number { result.number ≡ number }
         ensures is_of { (version : Version) → IsOf result.number (empty_market version) result.statement }
@@ -35,8 +38,51 @@ impl Own {
         Own { number, statement }
     }
 
-    // Tells a legal pair: puts the lines of what the account sees of it into the buffer, which is empty. After `Memory` what is kept is as
-    // before.
+    // Creates it for a market, which is as before: copies what the account has there.
+    pub(crate) fn from_market(
+        alloc: Global,
+        number: u64,
+        market: &mut Market,
+    ) -> Result<Own, Memory>
+        ensures number { IfOk result (λ own. own.number ≡ number) }
+        ensures is_of { IfOk result (λ own. IsOf own.number market.old own.statement) }
+        ensures wanted { OnErr result (AllocatesCopy number market.old) }
+        ensures market { market.new ≡ market.old }
+    {
+        match u32::try_from(number) {
+            Ok(account) => match Statement::from_market(alloc, account, market) {
+                Ok(statement) => Ok(Own {
+                    number,
+                    statement: Some(statement),
+                }),
+                Err(_) => Err(Memory),
+            },
+            Err(_) => Ok(Own {
+                number,
+                statement: None,
+            }),
+        }
+    }
+
+    // Puts the lines that are carried forward from a market into the buffer, which is empty.
+    pub(crate) fn carry(&self, market: &Market, text: &mut Vec<u8>) -> Result<(), Memory>
+        requires is_of { IsOf self.now.number market.now self.now.statement }
+        requires empty { text.old.items ≡ [] }
+        ensures carried { OnOk result (text.new.items ≡ carried_lines self.now.number market.now) }
+        ensures wanted { OnErr result (IsAccount market.now.balances self.now.number) }
+        ensures room { vec_capacity text.old ≤ vec_capacity text.new }
+    {
+        // Called for its contract: the market is consistent.
+        let _consistent = market.version();
+        match &self.statement {
+            Some(statement) if statement.is_open() => statement.finish(text),
+            Some(_) => Ok(()),
+            None => Ok(()),
+        }
+    }
+
+    // Takes a valid entry: puts the lines of what the account sees of it into the buffer, which is empty. After `Memory` the statement is
+    // unchanged.
     pub(crate) fn tell(
         &mut self,
         market: &Market,
@@ -55,14 +101,14 @@ impl Own {
         match &mut self.statement {
             Some(statement) => statement.pair(market, pair, text),
             None => {
-                // Called for its contract: the market is sound.
-                let _sound = market.version();
+                // Called for its contract: the market is consistent.
+                let _consistent = market.version();
                 Ok(())
             }
         }
     }
 
-    // Ends with a legal journal, which made the market: puts the last lines into the buffer, where the account is there.
+    // Takes the end of a valid history, in this market: puts the last lines into the buffer, if there is such an account.
     pub(crate) fn finish(
         &self,
         market: &Market,
@@ -74,8 +120,8 @@ impl Own {
             (record { account = self.now.number; market = market.now }) result text.new.items }
         ensures room { vec_capacity text.old ≤ vec_capacity text.new }
     {
-        // Called for its contract: the market is sound.
-        let _sound = market.version();
+        // Called for its contract: the market is consistent.
+        let _consistent = market.version();
         match &self.statement {
             Some(statement) if statement.is_open() => match statement.finish(text) {
                 Ok(()) => Ok(()),

@@ -12,7 +12,7 @@ all_same : (xs : List ℕ) (x : ℕ) → All (λ y. y ≡ x) xs → xs ≡ repli
 all_same xs x same =
     same_lists xs (replicate (length xs) x) (sym (length-replicate (length xs) x)) (λ k d l. same k d l ∙ sym (get_or-replicate (length xs) k x d l))
 
--- what the code tests is enough
+-- what the code tests is enough for a valid ticker
 pub IsTicker-from_parts : (bytes : List ℕ) (name : ℕ) → length bytes ≡ 8 → 0 < name → name ≤ 8 → All IsNameCharacter (take name bytes) → All (λ byte. byte ≡ 32) (drop name bytes) → IsTicker bytes
 IsTicker-from_parts bytes name whole named within characters spaces = record {
   name = take name bytes;
@@ -38,7 +38,7 @@ module _ (bytes : List ℕ) (ticker : IsTicker bytes) where
       let here = ap (λ list. get_or list k 0) ticker.spelled ∙ get_or_append_left ticker.name (replicate ticker.spaces 32) 0 k below in
       rw here (ticker.characters k 0 below)
 
-  -- where a character stands, the name goes on
+  -- if a character is at a place, the name reaches beyond it
   within_name : (k : ℕ) → k < 8 → IsNameCharacter (get_or bytes k 0) → k < length ticker.name
   within_name k below character =
       ⊎_elim
@@ -68,7 +68,7 @@ module _ (bytes : List ℕ) (name : ℕ) (within : name ≤ 8) (characters : All
       let inside = within_name bytes ticker (length ticker.name) (omega arith) character in
       omega arith
 
-  -- and it isn't shorter
+  -- the name that the code found isn't shorter
   found_not_shorter : name < length ticker.name → ⊥
   found_not_shorter shorter =
       end (omega (arith, parts_fill bytes ticker)) (character_at bytes ticker name shorter)
@@ -76,7 +76,7 @@ module _ (bytes : List ℕ) (name : ℕ) (within : name ≤ 8) (characters : All
   found_whole : length ticker.name ≡ name
   found_whole = omega (arith, found_not_longer, found_not_shorter)
 
-  -- what the code tests holds of each ticker
+  -- what the code tests holds for each ticker
   pub parts_from_IsTicker : (0 < name) × All (λ byte. byte ≡ 32) (drop name bytes)
   parts_from_IsTicker = (omega (arith, found_whole, ticker.named), rest_is_spaces)
     where

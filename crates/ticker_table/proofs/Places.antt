@@ -1,4 +1,4 @@
--- Where a ticker stands in a table.
+-- The place of a ticker in a table.
 use Rattle.std.proofs.Common.{◌≡◌, ◌≢◌, ℕ, ◌<◌, ◌≤◌, Bool, true, false, cond, List, [], ◌∷◌, ◌++◌, get_or, slice_get, Some, Contains, AllPairs, position, bytes_eq, true≢false, ⊎_elim, refl, sym, ap, ◌∙◌, arith}
 use Rattle.std.specs.List.{list_any}
 use Rattle.std.specs.Cmp.Lexicographic.{nat_list_eq_equiv}
@@ -13,7 +13,7 @@ use Rattle.indexmap.specs.IndexSet.{insert_key}
 use Rattle.ticker_table.specs.Tickers.{HasNumber, IsTicker, AreTickers}
 use Rattle.ticker_table.specs.Adding.{IsAddable}
 
--- a ticker with a number is there
+-- a ticker with a number is in the table
 pub Contains-from_number : (tickers : List (List ℕ)) (number : ℕ) (ticker : List ℕ) → HasNumber tickers number ticker → Contains tickers ticker
 Contains-from_number tickers number ticker at =
     (number, slice_get_within tickers number ticker at, get_or_from_slice_get tickers number ticker ticker at)
@@ -37,7 +37,7 @@ found_number keys tickers ticker number same found =
     let equal = (bytes_eq-Decides ticker (get_or keys number ticker)).0 p.1 in
     ap (λ list. slice_get list number) (sym same) ∙ slice_get-get_or keys number ticker p.0 ∙ ap Some (sym equal)
 
--- and what one that found nothing says
+-- a look-up that found nothing shows that the ticker isn't in the table
 pub found_none : (keys tickers : List (List ℕ)) (ticker : List ℕ) → keys ≡ tickers → false ≡ list_any (bytes_eq ticker) keys → Contains tickers ticker → ⊥
 found_none keys tickers ticker same none there =
     true≢false (sym (list_any-from_Contains nat_list_eq_equiv ticker tickers there) ∙ ap (list_any (bytes_eq ticker)) (sym same) ∙ sym none)
@@ -57,7 +57,7 @@ no_key keys ticker absent = by (list_any (bytes_eq ticker) keys) refl
     by true e = absurd (absent (Contains-from_any (λ x y. (bytes_eq-Decides x y).0) ticker keys e))
     by false e = e
 
--- a ticker that isn't there is inserted at the end
+-- a ticker that isn't in the table is inserted at the end
 pub inserted_last : (keys tickers : List (List ℕ)) (ticker : List ℕ) → keys ≡ tickers → (Contains tickers ticker → ⊥) → insert_key bytes_eq keys ticker ≡ tickers ++ ticker ∷ []
 inserted_last keys tickers ticker same absent =
     ap (λ list. insert_key bytes_eq list ticker) same ∙ ap (λ b. cond b tickers (tickers ++ ticker ∷ [])) (no_key tickers ticker absent)

@@ -1,4 +1,4 @@
--- What holds of tickers and tables, for the crates that print and number them.
+-- Laws of tickers and tables, for the crates that print and number them.
 use Rattle.std.specs.Prelude.{◌≡◌, ℕ, List}
 use Rattle.ticker_table.specs.Tickers.{IsTicker, HasNumber, AreTickers}
 

@@ -6,7 +6,7 @@ use Rattle.std.specs.Char.{IsAsciiUppercase, IsAsciiDigit}
 abbrev pub IsNameCharacter : ℕ → Type 0
 IsNameCharacter c = IsAsciiUppercase c ⊎ IsAsciiDigit c ⊎ (c ≡ 46) ⊎ (c ≡ 45)
 
--- eight bytes that are a valid ticker: a name of one or more such characters, and then spaces (32)
+-- eight bytes that are a valid ticker: a name of one or more such characters, followed by spaces (32)
 pub record IsTicker (bytes : List ℕ) : Type 0 where
   pub name : List ℕ
   pub spaces : ℕ
@@ -15,15 +15,15 @@ pub record IsTicker (bytes : List ℕ) : Type 0 where
   pub characters : All IsNameCharacter name
   pub whole : length bytes ≡ 8
 
--- the ticker with this number is this one
+-- this ticker has this number in the table, counted from 0
 abbrev pub HasNumber : List (List ℕ) → ℕ → List ℕ → Type 0
 HasNumber tickers number ticker = slice_get tickers number ≡ Some ticker
 
--- how many tickers there may be
+-- the most tickers of a table
 abbrev pub ticker_limit : ℕ
 ticker_limit = 64
 
--- what may stand in a table: valid tickers, each once, and not too many
+-- what a table may hold: valid tickers, each once, and at most 64
 pub record AreTickers (tickers : List (List ℕ)) : Type 0 where
   pub valid : All IsTicker tickers
   pub distinct : AllPairs ◌≢◌ tickers

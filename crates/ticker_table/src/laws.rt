@@ -1,4 +1,4 @@
-//! What holds of tickers and tables. A function here does nothing when it runs: its `ensures` is the law.
+//! Laws of tickers and tables. A function here does nothing when it runs: its `ensures` is the law.
 ghost use Rattle.ticker_table.specs.Laws.{OneName, OneNumber};
 
 /// A valid ticker has one name: its bytes before the spaces.

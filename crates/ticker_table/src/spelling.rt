@@ -2,7 +2,7 @@
 ghost use Rattle.std.specs.Prelude.{◌≡◌, ◌<◌, ◌≤◌, ◌↔◌, take, All, IsTrue, slice_index};
 ghost use Rattle.ticker_table.specs.Tickers.{IsNameCharacter, IsTicker};
 
-/// Whether the bytes are a name of one or more of `A` to `Z`, digits, `.` and `-`, and then spaces.
+/// Returns whether the bytes are a name of one or more of `A` to `Z`, digits, `.` and `-`, followed by spaces.
 pub(crate) fn is_ticker(bytes: &[u8; 8]) -> bool
     ensures { IsTrue result ↔ IsTicker bytes.now }
 {

@@ -10,13 +10,13 @@ use std::marker::Model;
 /// Why a ticker isn't added.
 #[derive(Clone, Copy, Debug, PartialEq, Eq)]
 pub enum TickerFault {
-    /// It isn't a name of one or more of `A` to `Z`, digits, `.` and `-`, filled up with spaces.
+    /// It isn't a name of one or more of `A` to `Z`, digits, `.` and `-`, padded with spaces.
     BadTicker,
-    /// It is there already, with this number.
+    /// It is in the table already, with this number.
     Taken(u16),
-    /// There are [`MOST_TICKERS`] already.
+    /// The table has [`MOST_TICKERS`] already.
     Full,
-    /// There was no memory for it.
+    /// Out of memory.
     Memory,
 }
 
@@ -41,7 +41,7 @@ impl TickerTable {
     ghost use Rattle.ticker_table.specs.Tickers.{IsTicker, HasNumber, AreTickers, ticker_limit};
     ghost use Rattle.ticker_table.specs.Adding.{IsAddable};
 
-    /// A table with no tickers. It takes no memory before the first is added.
+    /// Makes a table without tickers. It allocates nothing until the first is added.
     pub fn new(alloc: Global) -> TickerTable
         ensures { result ≡ [] }
     {
@@ -50,7 +50,7 @@ impl TickerTable {
         }
     }
 
-    /// How many tickers there are, at most [`MOST_TICKERS`].
+    /// Returns how many tickers there are, at most [`MOST_TICKERS`].
     pub fn len(&self) -> u16
         ensures count { result ≡ length self.now }
         ensures tickers { AreTickers self.now }
@@ -58,7 +58,7 @@ impl TickerTable {
         self.tickers.len() as u16
     }
 
-    /// The ticker with this number, or `None` where there are no more than `number` tickers.
+    /// Returns the ticker with this number, or `None` if there are no more than `number` tickers.
     pub fn ticker(&self, number: u16) -> Option<[u8; 8]>
         ensures value { result ≡ slice_get self.now number }
         ensures none { IsNone result ↔ (length self.now ≤ number) }
@@ -66,7 +66,7 @@ impl TickerTable {
         self.tickers.get_index(number as usize).copied()
     }
 
-    /// The number of this ticker, or `None` where it isn't there.
+    /// Returns the number of this ticker, or `None` if it isn't in the table.
     pub fn find(&self, ticker: &[u8; 8]) -> Option<u16>
         ensures found { IfSome result (λ number. HasNumber self.now number ticker.now) }
         ensures exact { (number : ℕ) → HasNumber self.now number ticker.now → result ≡ Some number }
@@ -76,9 +76,9 @@ impl TickerTable {
         Some(number as u16)
     }
 
-    /// Adds a ticker, whose number is then the number of tickers before. An `Err` leaves the table as it was.
+    /// Adds a ticker and returns its number: how many tickers there were before. An `Err` leaves the table as it was.
     ///
-    /// A ticker that isn't valid is refused first, then one that is there already, and then a full table.
+    /// A ticker that isn't valid is refused first, then one that is in the table already, and then any if the table is full.
     pub fn add(&mut self, ticker: [u8; 8]) -> Result<u16, TickerFault>
         ensures added { IfOk result (λ number. (number ≡ length self.old) × (self.new ≡ self.old ++ ticker ∷ [])) }
         ensures addable { OnOk result (IsAddable self.old ticker) }
@@ -89,7 +89,7 @@ impl TickerTable {
         ensures full { IsErrOf result TickerFault.Full
             ↔ (IsTicker ticker × (¬ Contains self.old ticker) × (length self.old ≡ ticker_limit)) }
 
-        // Without memory nothing is added: the ticker could have been.
+        // Running out of memory is reported only for a ticker that could have been added, and adds nothing.
         ensures memory { IsErrOf result TickerFault.Memory → IsAddable self.old ticker }
         ensures stays { OnErr result (self.new ≡ self.old) }
         ensures tickers { AreTickers self.new }
@@ -104,8 +104,8 @@ impl TickerTable {
         }
     }
 
-    /// Why [`TickerTable::add`] would refuse this ticker, or `None` exactly where it can be added. It is never
-    /// `Memory`, and takes none.
+    /// Returns why [`TickerTable::add`] would refuse this ticker, or `None` exactly if it can be added. It is never
+    /// `Memory`, and allocates nothing.
     pub fn fault(&self, ticker: &[u8; 8]) -> Option<TickerFault>
         ensures bad_ticker { (result ≡ Some TickerFault.BadTicker) ↔ (¬ IsTicker ticker.now) }
         ensures taken { (number : ℕ) → (result ≡ Some (TickerFault.Taken number))

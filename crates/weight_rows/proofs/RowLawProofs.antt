@@ -1,4 +1,4 @@
--- The laws of rows.
+-- The laws of weight vectors.
 use Rattle.std.proofs.Common.{◌≡◌, ◌≢◌, ℕ, zero, suc, ◌<◌, ◌≤◌, ℤ, pos, ◌+ℤ◌, ◌-ℤ◌, ◌*ℤ◌, eqb, cond, List, [], ◌∷◌, length, get_or, set, sym, ap, ◌∙◌, refl, subst, arith, ⊎_elim}
 use Rattle.std.specs.Prelude.{unsigned_abs, All, AllPairs, Contains, slice_index_or}
 use Rattle.std.specs.List.{range_with_len}
@@ -10,7 +10,7 @@ use Rattle.std.proofs.lemmas.List.{get_or-set_other, get_or-set_same, get_or_def
 use Rattle.std.proofs.lemmas.List.Kept.{AllPairs-from_increasing}
 use Rattle.weight_rows.specs.declared.entries.Entry.{Entry}
 use Rattle.list_sums.specs.Sums.{int_sum_by}
-use Rattle.weight_rows.specs.Rows.{most_weight, assets_of, IsLawfulWeight, IsLawfulRow, weight_in, price_of, IsPricedBy, portfolio_price}
+use Rattle.weight_rows.specs.Rows.{most_weight, assets_of, IsLawfulWeight, IsWeightVector, weight_in, price_of, IsPricedBy, portfolio_price}
 use Rattle.weight_rows.specs.RowLaws.{PriceFollowsOnePrice, PriceSumsOverAssets, EntriesGiveWeights, NamedAssetsWeigh, WeightsAreSmall}
 use Rattle.list_sums.proofs.Products.{*ℤ-sub}
 use Rattle.list_sums.proofs.SumLemmas.{int_sum_by-same, int_sum_by-add, int_sum_by-zeros, int_sum_by-only}
@@ -20,17 +20,17 @@ use Rattle.weight_rows.proofs.RowLemmas.{no_entry, length-assets_of, asset_at}
 abbrev Ascend : List Entry → Type 0
 Ascend row = AllPairs (λ x y. x < y) (assets_of row)
 
-Ascend-lawful : (row : List Entry) → IsLawfulRow row → Ascend row
+Ascend-lawful : (row : List Entry) → IsWeightVector row → Ascend row
 Ascend-lawful row lawful = AllPairs-from_increasing (assets_of row) lawful.ascending
 
 Ascend-tail : (e : Entry) (row : List Entry) → Ascend (e ∷ row) → Ascend row
 Ascend-tail e row h i j d before within = h (suc i) (suc j) d (omega (arith, before)) (omega (arith, within))
 
--- no entry names this asset
+-- no leg names this asset
 abbrev IsAbsent : List Entry → ℕ → Type 0
 IsAbsent row asset = (k : ℕ) (d : ℕ) → k < length (assets_of row) → get_or (assets_of row) k d ≢ asset
 
--- the first entry's asset is named by no later entry
+-- the first leg's asset is named by no later leg
 IsAbsent-head : (e : Entry) (row : List Entry) → Ascend (e ∷ row) → IsAbsent row e.asset
 IsAbsent-head e row h k d within same =
     let later : e.asset < get_or (assets_of row) k d = h 0 (suc k) d (omega arith) (omega (arith, within)) in
@@ -64,7 +64,7 @@ price_follows_one_price row prices asset price lawful within = moved row prices 
 cost : List Entry → List ℤ → ℕ → ℤ
 cost row prices asset = weight_in row asset *ℤ price_of prices asset
 
--- the first entry's part of an asset's cost, and that of the others
+-- the first leg's part of an asset's cost, and that of the others
 split_cost : (e : Entry) (row : List Entry) (prices : List ℤ) (asset : ℕ) → Ascend (e ∷ row) → cost (e ∷ row) prices asset ≡ cond (eqb e.asset asset) (e.weight *ℤ price_of prices asset) (pos 0) +ℤ cost row prices asset
 unfolding cost weight_in
 split_cost e row prices asset ascend =
@@ -91,7 +91,7 @@ pub price_sums_over_assets : PriceSumsOverAssets
 unfolding cost
 price_sums_over_assets row prices lawful priced = summed row prices (Ascend-lawful row lawful) priced
 
--- ---- weights and entries
+-- ---- weights and legs
 given : (row : List Entry) → Ascend row → All (λ e. weight_in row e.asset ≡ e.weight) row
 unfolding weight_in
 given [] ascend k d within = absurd (omega (arith, within))
@@ -116,7 +116,7 @@ found (e ∷ row) asset weighs =
     (suc later.0, omega (arith, later.1), later.2))
     (eqb_tells e.asset asset)
 
-weighs : (row : List Entry) (asset : ℕ) → IsLawfulRow row → Contains (assets_of row) asset → weight_in row asset ≢ pos 0
+weighs : (row : List Entry) (asset : ℕ) → IsWeightVector row → Contains (assets_of row) asset → weight_in row asset ≢ pos 0
 weighs row asset lawful (k, within, at_k) none =
     let inside : k < length row = omega (arith, within, length-assets_of row) in
     let named : (get_or row k no_entry).asset ≡ asset = sym (asset_at row k no_entry inside) ∙ get_or_default (assets_of row) k 0 asset within ∙ at_k in

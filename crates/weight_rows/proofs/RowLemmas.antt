@@ -1,4 +1,4 @@
--- Weights and prices of rows.
+-- Weights and prices of weight vectors.
 use Rattle.std.proofs.Common.{◌≡◌, ◌≢◌, ℕ, ◌+◌, ◌*◌, ◌^◌, ◌<◌, ◌≤◌, ℤ, pos, ◌+ℤ◌, ◌*ℤ◌, cond, List, length, take, drop, get_or, to_z, of_z, sym, ap, ◌∙◌, refl, ne_eqb, arith, ⊎_elim}
 use Rattle.std.specs.Prelude.{unsigned_abs, All, FitsSigned}
 use mir.Syntax.{w128}
@@ -6,13 +6,13 @@ use Rattle.std.proofs.lemmas.Int.{to_z-of_z, fits_signed_from_abs}
 use Rattle.std.proofs.lemmas.Bool.{eq-eqb, cases_lt}
 use Rattle.std.proofs.lemmas.List.{get_or-map, get_or_past, length-map, at_drop_more, at_drop_all}
 use Rattle.weight_rows.specs.declared.entries.Entry.{Entry}
-use Rattle.weight_rows.specs.Rows.{most_weight, assets_of, IsLawfulRow, weight_in, IsPrice, price_of, portfolio_price}
+use Rattle.weight_rows.specs.Rows.{most_weight, assets_of, IsWeightVector, weight_in, IsPrice, price_of, portfolio_price}
 use Rattle.weight_rows.specs.RowLaws.{PriceIsBounded}
 use Rattle.list_sums.proofs.Products.{unsigned_abs-add, unsigned_abs-mul_le}
 use Rattle.list_sums.proofs.SumLemmas.{int_sum_by_more, unsigned_abs-int_sum_by}
 
--- ---- the entry at a place
--- what a read past the end of a list answers
+-- ---- the leg at a place
+-- what a read past the end of a list gives
 abbrev pub no_entry : Entry
 no_entry = record { asset = 0; weight = pos 0 }
 
@@ -28,7 +28,7 @@ price_small prices asset range =
     ⊎_elim (λ inside. range asset (pos 0) inside) (λ past. rw (get_or_past prices asset (pos 0) past) (omega arith)) (cases_lt asset (length prices))
 
 -- ---- the price
--- the sum of the first i entries' prices
+-- the sum of the first i legs' prices
 pub record IsPriceBefore (row : List Entry) (prices : List ℤ) (i : ℕ) (total : ℤ) : Type 0 where
   pub value : total ≡ portfolio_price (take i row) prices
   pub bound : unsigned_abs total ≤ i * 2 ^ 74
@@ -48,12 +48,12 @@ pub IsPriceBefore-none : (row : List Entry) (prices : List ℤ) → IsPriceBefor
 unfolding portfolio_price
 IsPriceBefore-none row prices = record { value = refl; bound = omega arith }
 
--- what the code has after one entry more: its sum in 128 bits fits, and is the sum of one price more
+-- what the code has after one leg more: its sum in 128 bits fits, and is the sum of one price more
 pub record HasGrown (row : List Entry) (prices : List ℤ) (i : ℕ) (total part : ℤ) : Type 0 where
   pub fits : FitsSigned w128 (total +ℤ to_z w128 (of_z w128 part))
   pub next : IsPriceBefore row prices (i + 1) (to_z w128 (of_z w128 (total +ℤ to_z w128 (of_z w128 part))))
 
-pub price_grows : (row : List Entry) (prices : List ℤ) (i : ℕ) (total part : ℤ) (d : Entry) → IsLawfulRow row → All IsPrice prices → i < length row → FitsSigned w128 part → IsPriceBefore row prices i total → part ≡ (get_or row i d).weight *ℤ price_of prices (get_or row i d).asset → HasGrown row prices i total part
+pub price_grows : (row : List Entry) (prices : List ℤ) (i : ℕ) (total part : ℤ) (d : Entry) → IsWeightVector row → All IsPrice prices → i < length row → FitsSigned w128 part → IsPriceBefore row prices i total → part ≡ (get_or row i d).weight *ℤ price_of prices (get_or row i d).asset → HasGrown row prices i total part
 unfolding portfolio_price
 price_grows row prices i total part d lawful range within part_fits before is =
     let e = get_or row i d in

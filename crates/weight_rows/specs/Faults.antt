@@ -1,46 +1,46 @@
--- Why a list of entries is no row, and the fault of each of its places.
+-- Why a list of legs is no weight vector, and the fault of each of its places.
 use Rattle.std.specs.Prelude.{◌≡◌, ℕ, zero, suc, ◌-◌, ◌<◌, ◌≤◌, List, [], length, slice_get, slice_index, Option, Some, None, IfSome}
 use Rattle.std.specs.List.{HoldsAt}
 use Rattle.weight_rows.specs.declared.entries.Entry.{Entry}
 use Rattle.weight_rows.specs.declared.faults.RowFault.{RowFault}
 use Rattle.weight_rows.specs.declared.faults.RowFault.TheVariants.{Empty, TooMany, Unordered, BadWeight}
-use Rattle.weight_rows.specs.Rows.{most_entries, assets_of, IsLawfulWeight, IsLawfulRow}
+use Rattle.weight_rows.specs.Rows.{most_entries, assets_of, IsLawfulWeight, IsWeightVector}
 
 -- the asset at this place is above the asset at the place before it, if there is one
 abbrev pub IsAscendingAt : List Entry → ℕ → Type 0
 IsAscendingAt row place =
     0 < place → slice_index (assets_of row) (place - 1) < slice_index (assets_of row) place
 
--- the weight at this place is lawful
+-- the weight at this place is in range
 abbrev pub HasLawfulWeightAt : List Entry → ℕ → Type 0
 HasLawfulWeightAt row place = HoldsAt (λ e. IsLawfulWeight e.weight) row place
 
--- this place is sound: its asset ascends and its weight is lawful
-abbrev pub IsSoundAt : List Entry → ℕ → Type 0
-IsSoundAt row place = IsAscendingAt row place × HasLawfulWeightAt row place
+-- this place is consistent: its asset ascends and its weight is in range
+abbrev pub IsConsistentAt : List Entry → ℕ → Type 0
+IsConsistentAt row place = IsAscendingAt row place × HasLawfulWeightAt row place
 
--- every place before this one is sound
-abbrev pub IsSoundBefore : List Entry → ℕ → Type 0
-IsSoundBefore row place = (k : ℕ) → k < place → IsSoundAt row k
+-- every place before this one is consistent
+abbrev pub IsConsistentBefore : List Entry → ℕ → Type 0
+IsConsistentBefore row place = (k : ℕ) → k < place → IsConsistentAt row k
 
--- in a list of at most 16 entries this is the first place that isn't sound, and its asset doesn't ascend
+-- in a list of at most 16 legs this is the first place that isn't consistent, and its asset doesn't ascend
 pub record IsUnorderedFirstAt (row : List Entry) (place : ℕ) : Type 0 where
   pub few : length row ≤ most_entries
   pub within : place < length row
-  pub before : IsSoundBefore row place
+  pub before : IsConsistentBefore row place
   pub unordered : ¬ IsAscendingAt row place
 
--- in a list of at most 16 entries this is the first place that isn't sound; its asset ascends, but its weight isn't lawful
+-- in a list of at most 16 legs this is the first place that isn't consistent; its asset ascends, but its weight isn't in range
 pub record IsBadWeightFirstAt (row : List Entry) (place : ℕ) : Type 0 where
   pub few : length row ≤ most_entries
   pub within : place < length row
-  pub before : IsSoundBefore row place
+  pub before : IsConsistentBefore row place
   pub ascending : IsAscendingAt row place
   pub bad : ¬ HasLawfulWeightAt row place
 
--- this is the first fault of a list of entries, or `None` for a lawful row
+-- this is the first fault of a list of legs, or `None` for a weight vector
 abbrev pub IsFaultOf : List Entry → Option RowFault → Type 0
-IsFaultOf row None = IsLawfulRow row
+IsFaultOf row None = IsWeightVector row
 IsFaultOf row (Some Empty) = row ≡ []
 IsFaultOf row (Some TooMany) = most_entries < length row
 IsFaultOf row (Some (Unordered place)) = IsUnorderedFirstAt row place
@@ -50,7 +50,7 @@ IsFaultOf row (Some (BadWeight place)) = IsBadWeightFirstAt row place
 abbrev pub IsAbove : ℕ → Option ℕ → Type 0
 IsAbove asset before = IfSome before (λ b. b < asset)
 
--- this is the fault of an entry at a place, given the asset before it, or `None` where it has none
+-- this is the fault of a leg at a place, given the asset of the leg before it, or `None` if it has none
 abbrev pub IsPlaceFaultOf : ℕ → Option ℕ → Entry → Option RowFault → Type 0
 IsPlaceFaultOf place before e None = IsAbove e.asset before × IsLawfulWeight e.weight
 IsPlaceFaultOf place before e (Some Empty) = ⊥
@@ -63,7 +63,7 @@ abbrev pub asset_before : List Entry → ℕ → Option ℕ
 asset_before row zero = None
 asset_before row (suc k) = slice_get (assets_of row) k
 
--- this is the fault of a place of a list of entries, or `None` where that place has none
+-- this is the fault of a place of a list of legs, or `None` if that place has none
 abbrev pub IsFaultAt : List Entry → ℕ → Option RowFault → Type 0
 IsFaultAt row place fault = HoldsAt (λ e. IsPlaceFaultOf place (asset_before row place) e fault) row place
 

@@ -2,7 +2,7 @@ ghost use Rattle.std.specs.Prelude.{◌≡◌};
 
 use std::marker::Model;
 
-/// One asset of a portfolio and how many units of it one unit of the portfolio buys.
+/// A leg of an order: an asset, and how many units of it one unit of the portfolio buys.
 #[derive(Clone, Copy, PartialEq, Eq, Hash)]
 pub struct Entry {
     /// The asset's number, counted from 0.
@@ -11,7 +11,7 @@ pub struct Entry {
     pub weight: i32,
 }
 
-/// Entries in the order in which they were given, lawful as a row or not.
+/// Legs in the order in which they were given. They may be a weight vector or not.
 #[derive(Drop)]
 pub struct EntryList {
     entries: Vec<Entry>,
@@ -27,21 +27,21 @@ impl Model for EntryList {
 }
 
 impl EntryList {
-    /// The entries of a vector, whose memory it keeps.
+    /// Makes a list of the legs of a vector, whose memory it keeps.
     pub fn new(entries: Vec<Entry>) -> EntryList
         ensures { result ≡ entries.items }
     {
         EntryList { entries }
     }
 
-    /// The entries, without copying them.
+    /// Returns the legs, without copying them.
     pub fn as_slice(&self) -> &[Entry]
         ensures { result.now ≡ self.now }
     {
         self.entries.as_slice()
     }
 
-    /// Gives the vector back; takes no memory.
+    /// Gives the vector back; allocates nothing.
     pub fn into_vec(self) -> Vec<Entry>
         ensures { result.items ≡ self }
     {

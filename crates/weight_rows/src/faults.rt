@@ -1,22 +1,22 @@
 ghost use Rattle.std.specs.Prelude.{◌≡◌, ◌<◌, ◌≤◌, ◌↔◌, length, Option, IsNone};
 ghost use Rattle.weight_rows.specs.declared.faults.RowFault.{RowFault};
-ghost use Rattle.weight_rows.specs.Rows.{most_entries, IsLawfulRow, IsLawfulWeight};
+ghost use Rattle.weight_rows.specs.Rows.{most_entries, IsWeightVector, IsLawfulWeight};
 ghost use Rattle.weight_rows.specs.Faults.{IsAbove, IsFaultOf, IsPlaceFaultOf};
 
 use crate::entries::Entry;
 
-/// The most entries of a row.
+/// The most legs of a weight vector.
 pub const MOST_ENTRIES: usize = 16;
 
 /// The greatest absolute weight.
 const MOST_WEIGHT: u32 = 4096;
 
-/// Why a list of entries is no row. Places are counted from 0, and a list names its first that has a fault.
+/// Why a list of legs is no weight vector. Places are counted from 0, and a list names the first place that has a fault.
 #[derive(Clone, Copy, PartialEq, Eq)]
 pub enum RowFault {
-    /// There is no entry.
+    /// There is no leg.
     Empty,
-    /// There are more than [`MOST_ENTRIES`] entries.
+    /// There are more than [`MOST_ENTRIES`] legs.
     TooMany,
     /// At this place the asset isn't above the one before it.
     Unordered(u32),
@@ -24,13 +24,13 @@ pub enum RowFault {
     BadWeight(u32),
 }
 
-/// The first fault of a list of entries: that there is none of them, that there are too many, and else the
-/// fault of the first place that has one, where the order counts before the weight. `None` exactly for a lawful row.
+/// Returns the first fault of a list of legs: that it has none, that it has too many, or else the fault of the
+/// first place that has one, and there the order before the weight. `None` exactly for a weight vector.
 ///
-/// It costs one pass over the entries, and none where there are more than 16.
+/// It costs one pass over the legs, and none if there are more than 16.
 pub fn row_fault(entries: &[Entry]) -> Option<RowFault>
     ensures exact { (fault : Option RowFault) → (result ≡ fault) ↔ IsFaultOf entries.now fault }
-    ensures lawful { IsNone result ↔ IsLawfulRow entries.now }
+    ensures lawful { IsNone result ↔ IsWeightVector entries.now }
     ensures too_many { (result ≡ Some RowFault.TooMany) ↔ (MOST_ENTRIES < length entries.now) }
 {
     if entries.is_empty() {
@@ -42,15 +42,15 @@ pub fn row_fault(entries: &[Entry]) -> Option<RowFault>
     first_fault(entries)
 }
 
-/// The fault of one place of a list, for entries that are read where they lie: `Unordered` where the entry's asset
-/// isn't above the one before it, else `BadWeight` where its absolute weight isn't in 1 to 4,096, else `None`.
+/// Returns the fault of one place of a list, for legs that are read in place: `Unordered` if the leg's asset isn't
+/// above the one before it, else `BadWeight` if its absolute weight isn't in 1 to 4,096, else `None`.
 ///
 /// `place` is counted from 0, and `before` is the asset at the place before it, `None` at place 0. By
-/// [`laws::first_place_fault_is_row_fault`](crate::laws::first_place_fault_is_row_fault) the first place of 1 to 16
-/// entries that has a fault tells [`row_fault`]. It takes constant time.
+/// [`laws::first_place_fault_is_row_fault`](crate::laws::first_place_fault_is_row_fault) the fault of the first place
+/// of 1 to 16 legs that has one is [`row_fault`]'s. It takes constant time.
 pub fn place_fault(place: u32, before: Option<u16>, entry: Entry) -> Option<RowFault>
     ensures exact { (fault : Option RowFault) → (result ≡ fault) ↔ IsPlaceFaultOf place before entry fault }
-    ensures sound { IsNone result ↔ (IsAbove entry.asset before × IsLawfulWeight entry.weight) }
+    ensures consistent { IsNone result ↔ (IsAbove entry.asset before × IsLawfulWeight entry.weight) }
 {
     if before.is_some_and(|asset| entry.asset <= asset) {
         return Some(RowFault::Unordered(place));

@@ -1,9 +1,9 @@
-//! The rows of portfolio orders: which assets one unit of a portfolio has, with what weights, and its price.
+//! The weight vectors of portfolio orders: which assets one unit of a portfolio has, with what weights, and its price.
 //!
-//! A row is 1 to 16 entries with strictly ascending assets and absolute weights of 1 to 4,096. A negative
-//! weight sells its asset. Entries that lie elsewhere, as bytes, are tested one by one with [`place_fault`].
+//! A weight vector is 1 to 16 legs with strictly ascending assets and absolute weights of 1 to 4,096. A negative
+//! weight sells its asset. Legs that are stored elsewhere, as bytes, are tested one by one with [`place_fault`].
 //!
-//! Every call goes once over the entries at most, and none takes memory.
+//! Every call makes at most one pass over the legs, and none allocates.
 #![tactic(auto)]
 
 mod entries;

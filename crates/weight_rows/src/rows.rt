@@ -1,10 +1,10 @@
 ghost use Rattle.std.specs.Prelude.{◌≡◌, ◌<◌, ◌≤◌, ◌^◌, ◌*ℤ◌, ◌↔◌, length, slice_set, unsigned_abs, IsTrue, All};
-ghost use Rattle.weight_rows.specs.Rows.{most_weight, IsLawfulRow, IsPrice, IsPricedBy, price_of, weight_in, portfolio_price};
+ghost use Rattle.weight_rows.specs.Rows.{most_weight, IsWeightVector, IsPrice, IsPricedBy, price_of, weight_in, portfolio_price};
 
 use crate::entries::{Entry, EntryList};
 use std::marker::Model;
 
-/// A lawful row: 1 to 16 entries with strictly ascending assets and absolute weights of 1 to 4,096.
+/// A weight vector: 1 to 16 legs with strictly ascending assets and absolute weights of 1 to 4,096.
 #[derive(Drop)]
 pub struct WeightRow {
     list: EntryList,
@@ -13,38 +13,38 @@ pub struct WeightRow {
 impl Model for WeightRow {
     ghost use Rattle.std.specs.Prelude.{List};
     ghost use Rattle.weight_rows.specs.declared.entries.Entry.{Entry};
-    ghost use Rattle.weight_rows.specs.Rows.{IsLawfulRow};
+    ghost use Rattle.weight_rows.specs.Rows.{IsWeightVector};
 
     ghost Value = { List Entry };
 
     ghost view = { λ row. row.list };
 
-    ghost invariant = { λ row. IsLawfulRow row.list };
+    ghost invariant = { λ row. IsWeightVector row.list };
 }
 
 impl WeightRow {
-    /// The row of these entries, which have no fault. It keeps their memory.
+    /// Makes the weight vector of these legs, which have no fault. It keeps their memory.
     pub fn new(entries: EntryList) -> WeightRow
-        requires { IsLawfulRow entries }
+        requires { IsWeightVector entries }
         ensures { result ≡ entries }
     {
         WeightRow { list: entries }
     }
 
-    /// The entries, in ascending order of their assets.
+    /// Returns the legs, in ascending order of their assets.
     pub fn entries(&self) -> &[Entry]
         ensures value { result.now ≡ self.now }
-        ensures lawful { IsLawfulRow self.now }
+        ensures lawful { IsWeightVector self.now }
     {
         self.list.as_slice()
     }
 
-    /// How many units of an asset one unit of the portfolio buys, 0 where the row doesn't name it.
-    /// It costs one pass over the entries.
+    /// Returns how many units of an asset one unit of the portfolio buys, 0 if the weight vector doesn't name it.
+    /// It costs one pass over the legs.
     pub fn weight_of(&self, asset: u16) -> i64
         ensures value { result ≡ weight_in self.now asset }
         ensures bound { unsigned_abs result ≤ most_weight }
-        ensures lawful { IsLawfulRow self.now }
+        ensures lawful { IsWeightVector self.now }
     {
         for entry in self.list.as_slice() {
             if entry.asset == asset {
@@ -54,25 +54,25 @@ impl WeightRow {
         0
     }
 
-    /// Whether the row names one asset alone.
+    /// Returns whether the weight vector names one asset alone.
     pub fn is_single(&self) -> bool
         ensures value { IsTrue result ↔ (length self.now ≡ 1) }
-        ensures lawful { IsLawfulRow self.now }
+        ensures lawful { IsWeightVector self.now }
     {
         self.list.as_slice().len() == 1
     }
 
-    /// The price of one unit of the portfolio, in grains: each weight times the price of its asset, summed over
-    /// the row. `prices` has one price per asset, in grains, by the asset's number.
+    /// Returns the price of one unit of the portfolio, in grains: each weight times the price of its asset, summed over
+    /// the legs. `prices` has one price per asset, in grains, by the asset's number.
     ///
     /// All orders trade at one price per asset (Budish, Cramton, Kyle, Lee and Malec, "Flow Trading", 2023).
-    /// It costs one pass over the entries.
+    /// It costs one pass over the legs.
     pub fn price(&self, prices: &[i64]) -> i128
         requires priced { IsPricedBy self.now prices.now }
         requires range { All IsPrice prices.now }
         ensures value { result ≡ portfolio_price self.now prices.now }
         ensures bound { unsigned_abs result ≤ 2 ^ 78 }
-        ensures lawful { IsLawfulRow self.now }
+        ensures lawful { IsWeightVector self.now }
     {
         let mut sum = 0;
         for entry in self.list.as_slice() {
@@ -81,10 +81,10 @@ impl WeightRow {
         sum
     }
 
-    /// The price of one unit of the portfolio, in grains, with one asset's price changed: what [`WeightRow::price`]
-    /// answers where `prices` has `price` at the asset's place.
+    /// Returns the price of one unit of the portfolio, in grains, with one asset's price changed: what
+    /// [`WeightRow::price`] returns if `prices` has `price` at the asset's place.
     ///
-    /// It costs one pass over the entries, and copies no list. Where the price at `prices` is known already, this one
+    /// It costs one pass over the legs, and copies no list. If the price at `prices` is known already, this one
     /// differs from it as [`laws::price_follows_one_price`](crate::laws::price_follows_one_price) says.
     pub fn price_with(&self, prices: &[i64], asset: u16, price: i64) -> i128
         requires priced { IsPricedBy self.now prices.now }
@@ -93,7 +93,7 @@ impl WeightRow {
         requires price { IsPrice price }
         ensures value { result ≡ portfolio_price self.now (slice_set prices.now asset price) }
         ensures bound { unsigned_abs result ≤ 2 ^ 78 }
-        ensures lawful { IsLawfulRow self.now }
+        ensures lawful { IsWeightVector self.now }
     {
         let mut sum = 0;
         for entry in self.list.as_slice() {
@@ -103,7 +103,7 @@ impl WeightRow {
     }
 }
 
-/// What the units of one entry cost.
+/// Returns what the units of one leg cost, in grains.
 fn entry_price(entry: Entry, prices: &[i64]) -> i128
     requires { entry.asset < length prices.now }
     ensures { result ≡ entry.weight *ℤ price_of prices.now entry.asset }
@@ -111,7 +111,7 @@ fn entry_price(entry: Entry, prices: &[i64]) -> i128
     cost(entry.weight, prices[usize::from(entry.asset)])
 }
 
-/// What the units of one entry cost where one asset has this price.
+/// Returns what the units of one leg cost, in grains, if one asset has this price instead of its own.
 fn entry_price_with(entry: Entry, prices: &[i64], asset: u16, price: i64) -> i128
     requires priced { entry.asset < length prices.now }
     requires asset { asset < length prices.now }
@@ -124,7 +124,7 @@ fn entry_price_with(entry: Entry, prices: &[i64], asset: u16, price: i64) -> i12
     }
 }
 
-/// What so many units cost at this price.
+/// Returns what so many units cost at this price, in grains.
 fn cost(weight: i32, price: i64) -> i128
     ensures { result ≡ weight *ℤ price }
 {

@@ -1,4 +1,4 @@
--- What holds of every spelling.
+-- Lemmas of the encodings of numbers.
 use mir.Val.{hbits}
 use Rattle.std.specs.Int.{Width}
 use Rattle.std.proofs.Common.{FitsSigned, ◌≡◌, ℕ, zero, suc, ◌+◌, ◌-◌, ◌*◌, ◌/◌, ◌%◌, ◌^◌, ◌<◌, ◌≤◌, List, [], ◌∷◌, ◌++◌, length, take, get_or, All, ℤ, pos, negsuc, ⊎_elim, refl, sym, ap, ◌∙◌, append_assoc, arith}
@@ -14,7 +14,7 @@ use Rattle.wire_fields.specs.Numbers.{unsigned, signed, IsUnsigned, IsSigned}
 pow_more : (size : ℕ) → 2 ^ (8 * suc size) ≡ 2 ^ (8 * size) * 256
 pow_more size = let e : 8 * suc size ≡ 8 * size + 8 = omega arith in ap (λ k. 2 ^ k) e ∙ pow-add 2 (8 * size) 8
 
--- the range in bytes and the range in bits are one
+-- the range in bytes and the range in bits are the same
 bytes_bits : (size : ℕ) → 256 ^ size ≡ 2 ^ (8 * size)
 bytes_bits zero = refl
 bytes_bits (suc size) = nat.pow-suc 256 size ∙ ap (λ k. k * 256) (bytes_bits size) ∙ sym (pow_more size)
@@ -63,7 +63,7 @@ unsigned_complete (suc size) bytes l small =
     let whole : front ++ last ∷ [] ≡ bytes = sym (take_more bytes size 0 (omega arith)) ∙ take_all (size + 1) bytes (omega arith) in
     (found.0 * 256 + last, omega (arith, pow_more size, found.1), spelled_more size found.0 last front below found.2 ∙ whole)
 
--- the number without a sign that has the same bytes
+-- the unsigned number that has the same bytes
 stored : ℕ → ℤ → ℕ
 stored size (pos n) = n
 stored size (negsuc n) = 256 ^ size - suc n
@@ -117,7 +117,7 @@ signed_complete size bytes some l small =
     let z = of_stored size found.0 some found.1 in
     (z.0, z.1, signed_is size z.0 ∙ ap (unsigned size) z.2 ∙ found.2)
 
--- what the code knows of a number of a type with a sign is its range here, and the other way round
+-- the range of a signed type, as the code knows it, is the range of signed numbers of its bytes
 pub IsSigned-from_fits : (size : ℕ) (w : Width) → hbits w ≡ 8 * size - 1 → (z : ℤ) → FitsSigned w z → IsSigned size z
 IsSigned-from_fits size w whole z fits =
     let range = ap (λ k. 2 ^ k) whole in
@@ -130,5 +130,5 @@ FitsSigned-from_signed size w whole z in_z =
     let most = in_z.1 in
     omega (arith, ints)
 
--- for `omega`: how long spellings are
+-- for `omega`: the lengths of encodings
 pub ruleset lengths = (length-unsigned, length-signed)

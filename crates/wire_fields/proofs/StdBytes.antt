@@ -51,7 +51,7 @@ read_of-suc bytes k =
     let last = ap (λ j. byte_worth j (get_or bytes (suc k) 0)) none in
     ap (λ n. n + worth (suc k) (suc k)) front ∙ ap (λ n. read_of bytes k * 256 + n) last
 
--- what `from_be_bytes` reads has these bytes
+-- the bytes of what `from_be_bytes` reads are the first k + 1 bytes
 pub read_of_is : (bytes : List ℕ) → ((i : ℕ) → get_or bytes i 0 < 256) → (k : ℕ) → k < length bytes → unsigned (suc k) (read_of bytes k) ≡ take (suc k) bytes
 unfolding unsigned
 read_of_is bytes small zero l =
@@ -65,12 +65,12 @@ read_of_is bytes small (suc k) l =
     let next : take (suc (suc k)) bytes ≡ take (suc k) bytes ++ b ∷ [] = rw (← add-one) (take_more bytes (suc k) 0 l) in
     ap (unsigned (suc (suc k))) (read_of-suc bytes k) ∙ spelled_more (suc k) (read_of bytes k) b (take (suc k) bytes) (small (suc k)) front ∙ sym next
 
--- the same, of an array of k + 1 bytes
+-- the bytes of what `from_be_bytes` reads from an array of k + 1 bytes are that array
 pub read_whole : (bytes : List ℕ) (k n : ℕ) → ((i : ℕ) → get_or bytes i 0 < 256) → length bytes ≡ suc k → n ≡ read_of bytes k → unsigned (suc k) n ≡ bytes
 read_whole bytes k n small whole read =
     ap (unsigned (suc k)) read ∙ read_of_is bytes small k (omega arith) ∙ take_all (suc k) bytes (omega arith)
 
--- two's complement is what a cast to the type without a sign gives
+-- two's complement is the encoding of the cast to the unsigned type
 signed_is_cast : (size : ℕ) (w : Width) → 256 ^ size ≡ 2 ^ bits w → (z : ℤ) → signed size z ≡ unsigned size (of_z w z)
 unfolding signed
 signed_is_cast size w same (pos n) = refl

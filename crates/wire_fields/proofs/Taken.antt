@@ -1,4 +1,4 @@
--- What was put is taken again: what a read gave, where the bytes are known to begin with a spelling.
+-- What was put is taken again: what a read gives if the bytes are known to begin with an encoding.
 use mir.Val.{hbits}
 use Rattle.std.proofs.Common.{◌≡◌, ℕ, ◌-◌, ◌*◌, ◌<◌, List, ◌++◌, length, ℤ, FitsSigned, to_z, of_z, Option, Some, sym, ap, ◌∙◌, arith}
 use Rattle.std.specs.Int.{Width}
@@ -29,7 +29,7 @@ same_signed size a bytes old new some in_a spelled found z rest in_z e =
     let same = signed_unique size a z new rest some in_a in_z (ap (λ front. front ++ new) spelled ∙ sym found ∙ e) in
     (ap Some same.0, same.1)
 
--- the same, as the code returns the number: cast to the type without a sign and back
+-- what a read gives, as the code returns the number: cast to the unsigned type and back
 pub read_again : (size : ℕ) (w : Width) → 0 < size → hbits w ≡ 8 * size - 1 → (a : ℤ) (bytes old new : List ℕ) → FitsSigned w a → signed size a ≡ bytes → old ≡ bytes ++ new → (z : ℤ) (rest : List ℕ) → IsSigned size z → old ≡ signed size z ++ rest → (Some (to_z w (of_z w a)) ≡ Some z) × (new ≡ rest)
 read_again size w some whole a bytes old new fits spelled found z rest in_z e =
     let in_a = IsSigned-from_fits size w whole a fits in

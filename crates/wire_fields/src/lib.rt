@@ -1,11 +1,11 @@
 //! Numbers and slices at a cursor: how each field of a record is read and written.
 //!
-//! This is the one place that knows how a number is spelled in bytes: big-endian, in 1, 2, 4, 8 or 16
-//! bytes, and in two's complement where it has a sign. Contracts name the spelling, `unsigned size n` and
-//! `signed size z`, and never the bytes; what is known of all spellings stands in [`laws`].
+//! This is the one place that knows how a number is encoded in bytes: big-endian, in 1, 2, 4, 8 or 16
+//! bytes, and in two's complement if it is signed. Contracts name the encoding, `unsigned size n` and
+//! `signed size z`, and never the bytes; the laws of all encodings are in [`laws`].
 //!
-//! A [`Cursor`] reads from borrowed bytes and copies none but those of the number that it answers. The
-//! `put_` functions append to a vector that has the room already, so they can't fail.
+//! A [`Cursor`] reads from borrowed bytes and copies none but those of the number that it returns. The
+//! `put_` functions append to a vector that already has the capacity, so they can't fail.
 #![tactic(auto)]
 
 mod conversions;

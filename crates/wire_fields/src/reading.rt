@@ -8,7 +8,7 @@ use std::marker::Model;
 /// The bytes of a record that are not read yet. Contracts see a cursor as the list of these bytes.
 ///
 /// Each call that takes something costs the bytes that it takes, or nothing for a slice, and allocates
-/// nothing. Where too few bytes are left it answers `None`, and the cursor stays as it was.
+/// nothing. If too few bytes are left it returns `None`, and the cursor stays as it was.
 #[derive(Drop)]
 pub struct Cursor<'a> {
     rest: &'a [u8],
@@ -21,29 +21,29 @@ impl<'a> Model for Cursor<'a> {
 }
 
 impl<'a> Cursor<'a> {
-    /// A cursor before the first of the bytes.
+    /// Makes a cursor before the first of the bytes.
     pub fn new(bytes: &'a [u8]) -> Cursor<'a>
         ensures { result ≡ bytes.now }
     {
         Cursor { rest: bytes }
     }
 
-    /// How many bytes are left.
+    /// Returns how many bytes are left.
     pub fn left(&self) -> usize
         ensures { result ≡ length self.now }
     {
         self.rest.len()
     }
 
-    /// Whether nothing is left.
+    /// Returns whether nothing is left.
     pub fn is_empty(&self) -> bool
         ensures { IsTrue result ↔ (self.now ≡ []) }
     {
         self.rest.is_empty()
     }
 
-    /// The next n bytes, borrowed from the bytes that the cursor was made of; `None` exactly where fewer are
-    /// left.
+    /// Takes the next `n` bytes, borrowed from the bytes that the cursor was made of; `None` exactly if fewer
+    /// are left.
     pub fn take(&mut self, n: usize) -> Option<&'a [u8]>
         ensures found { IfSome result (λ taken. self.old ≡ taken.now ++ self.new) }
         ensures size { IfSome result (λ taken. length taken.now ≡ n) }
@@ -60,7 +60,7 @@ impl<'a> Cursor<'a> {
         Some(taken)
     }
 
-    /// The number without a sign that the next byte spells; `None` exactly where none is left.
+    /// Takes the unsigned number that the next byte encodes; `None` exactly if none is left.
     pub fn take_u8(&mut self) -> Option<u8>
         ensures found { IfSome result (λ n. self.old ≡ unsigned 1 n ++ self.new) }
         ensures rest { OnSome result (length self.new + 1 ≡ length self.old) }
@@ -74,7 +74,7 @@ impl<'a> Cursor<'a> {
         Some(u8_of(self.take_array()?))
     }
 
-    /// The number without a sign that the next 2 bytes spell; `None` exactly where fewer are left.
+    /// Takes the unsigned number that the next 2 bytes encode; `None` exactly if fewer are left.
     pub fn take_u16(&mut self) -> Option<u16>
         ensures found { IfSome result (λ n. self.old ≡ unsigned 2 n ++ self.new) }
         ensures rest { OnSome result (length self.new + 2 ≡ length self.old) }
@@ -88,7 +88,7 @@ impl<'a> Cursor<'a> {
         Some(u16_of(self.take_array()?))
     }
 
-    /// The number without a sign that the next 4 bytes spell; `None` exactly where fewer are left.
+    /// Takes the unsigned number that the next 4 bytes encode; `None` exactly if fewer are left.
     pub fn take_u32(&mut self) -> Option<u32>
         ensures found { IfSome result (λ n. self.old ≡ unsigned 4 n ++ self.new) }
         ensures rest { OnSome result (length self.new + 4 ≡ length self.old) }
@@ -102,7 +102,7 @@ impl<'a> Cursor<'a> {
         Some(u32_of(self.take_array()?))
     }
 
-    /// The number without a sign that the next 8 bytes spell; `None` exactly where fewer are left.
+    /// Takes the unsigned number that the next 8 bytes encode; `None` exactly if fewer are left.
     pub fn take_u64(&mut self) -> Option<u64>
         ensures found { IfSome result (λ n. self.old ≡ unsigned 8 n ++ self.new) }
         ensures rest { OnSome result (length self.new + 8 ≡ length self.old) }
@@ -116,7 +116,7 @@ impl<'a> Cursor<'a> {
         Some(u64_of(self.take_array()?))
     }
 
-    /// The number with a sign that the next 4 bytes spell; `None` exactly where fewer are left.
+    /// Takes the signed number that the next 4 bytes encode; `None` exactly if fewer are left.
     pub fn take_i32(&mut self) -> Option<i32>
         ensures found { IfSome result (λ z. self.old ≡ signed 4 z ++ self.new) }
         ensures rest { OnSome result (length self.new + 4 ≡ length self.old) }
@@ -130,7 +130,7 @@ impl<'a> Cursor<'a> {
         Some(i32_of(self.take_array()?))
     }
 
-    /// The number with a sign that the next 8 bytes spell; `None` exactly where fewer are left.
+    /// Takes the signed number that the next 8 bytes encode; `None` exactly if fewer are left.
     pub fn take_i64(&mut self) -> Option<i64>
         ensures found { IfSome result (λ z. self.old ≡ signed 8 z ++ self.new) }
         ensures rest { OnSome result (length self.new + 8 ≡ length self.old) }
@@ -144,7 +144,7 @@ impl<'a> Cursor<'a> {
         Some(i64_of(self.take_array()?))
     }
 
-    /// The number with a sign that the next 16 bytes spell; `None` exactly where fewer are left.
+    /// Takes the signed number that the next 16 bytes encode; `None` exactly if fewer are left.
     pub fn take_i128(&mut self) -> Option<i128>
         ensures found { IfSome result (λ z. self.old ≡ signed 16 z ++ self.new) }
         ensures rest { OnSome result (length self.new + 16 ≡ length self.old) }

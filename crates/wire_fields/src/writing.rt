@@ -1,4 +1,4 @@
-//! How fields are appended to a vector that has the room for them already.
+//! How fields are appended to a vector that already has the capacity for them.
 ghost use Rattle.std.specs.Prelude.{◌≡◌, ◌+◌, ◌≤◌, ◌++◌, length, vec_len, vec_capacity};
 ghost use Rattle.wire_fields.specs.Numbers.{unsigned, signed};
 
@@ -6,7 +6,7 @@ use crate::conversions::{
     i32_bytes, i64_bytes, i128_bytes, u8_bytes, u16_bytes, u32_bytes, u64_bytes,
 };
 
-/// Appends the bytes. `out` has room for them, so nothing is allocated.
+/// Appends the bytes. `out` has the capacity for them, so nothing is allocated.
 pub fn put_bytes(out: &mut Vec<u8>, bytes: &[u8])
     requires { vec_len out.old + length bytes.now ≤ vec_capacity out.old }
     ensures written { out.new.items ≡ out.old.items ++ bytes.now }
@@ -18,7 +18,7 @@ pub fn put_bytes(out: &mut Vec<u8>, bytes: &[u8])
     }
 }
 
-/// Appends the one byte of a number without a sign. `out` has room for it, so nothing is allocated.
+/// Appends the one byte of an unsigned number. `out` has the capacity for it, so nothing is allocated.
 pub fn put_u8(out: &mut Vec<u8>, n: u8)
     requires { vec_len out.old + 1 ≤ vec_capacity out.old }
     ensures written { out.new.items ≡ out.old.items ++ unsigned 1 n }
@@ -28,7 +28,7 @@ pub fn put_u8(out: &mut Vec<u8>, n: u8)
     put_bytes(out, &u8_bytes(n));
 }
 
-/// Appends the 2 bytes of a number without a sign. `out` has room for them, so nothing is allocated.
+/// Appends the 2 bytes of an unsigned number. `out` has the capacity for them, so nothing is allocated.
 pub fn put_u16(out: &mut Vec<u8>, n: u16)
     requires { vec_len out.old + 2 ≤ vec_capacity out.old }
     ensures written { out.new.items ≡ out.old.items ++ unsigned 2 n }
@@ -38,7 +38,7 @@ pub fn put_u16(out: &mut Vec<u8>, n: u16)
     put_bytes(out, &u16_bytes(n));
 }
 
-/// Appends the 4 bytes of a number without a sign. `out` has room for them, so nothing is allocated.
+/// Appends the 4 bytes of an unsigned number. `out` has the capacity for them, so nothing is allocated.
 pub fn put_u32(out: &mut Vec<u8>, n: u32)
     requires { vec_len out.old + 4 ≤ vec_capacity out.old }
     ensures written { out.new.items ≡ out.old.items ++ unsigned 4 n }
@@ -48,7 +48,7 @@ pub fn put_u32(out: &mut Vec<u8>, n: u32)
     put_bytes(out, &u32_bytes(n));
 }
 
-/// Appends the 8 bytes of a number without a sign. `out` has room for them, so nothing is allocated.
+/// Appends the 8 bytes of an unsigned number. `out` has the capacity for them, so nothing is allocated.
 pub fn put_u64(out: &mut Vec<u8>, n: u64)
     requires { vec_len out.old + 8 ≤ vec_capacity out.old }
     ensures written { out.new.items ≡ out.old.items ++ unsigned 8 n }
@@ -58,7 +58,7 @@ pub fn put_u64(out: &mut Vec<u8>, n: u64)
     put_bytes(out, &u64_bytes(n));
 }
 
-/// Appends the 4 bytes of a number with a sign. `out` has room for them, so nothing is allocated.
+/// Appends the 4 bytes of a signed number. `out` has the capacity for them, so nothing is allocated.
 pub fn put_i32(out: &mut Vec<u8>, n: i32)
     requires { vec_len out.old + 4 ≤ vec_capacity out.old }
     ensures written { out.new.items ≡ out.old.items ++ signed 4 n }
@@ -68,7 +68,7 @@ pub fn put_i32(out: &mut Vec<u8>, n: i32)
     put_bytes(out, &i32_bytes(n));
 }
 
-/// Appends the 8 bytes of a number with a sign. `out` has room for them, so nothing is allocated.
+/// Appends the 8 bytes of a signed number. `out` has the capacity for them, so nothing is allocated.
 pub fn put_i64(out: &mut Vec<u8>, n: i64)
     requires { vec_len out.old + 8 ≤ vec_capacity out.old }
     ensures written { out.new.items ≡ out.old.items ++ signed 8 n }
@@ -78,7 +78,7 @@ pub fn put_i64(out: &mut Vec<u8>, n: i64)
     put_bytes(out, &i64_bytes(n));
 }
 
-/// Appends the 16 bytes of a number with a sign. `out` has room for them, so nothing is allocated.
+/// Appends the 16 bytes of a signed number. `out` has the capacity for them, so nothing is allocated.
 pub fn put_i128(out: &mut Vec<u8>, n: i128)
     requires { vec_len out.old + 16 ≤ vec_capacity out.old }
     ensures written { out.new.items ≡ out.old.items ++ signed 16 n }

@@ -48,7 +48,7 @@ unfolding body_of
 is_request (Place None request) h e none = none request (record { fits = h; spelled = refl })
 is_request command h e none = absurd (omega (arith, e))
 
--- a body that is no request's is no order's
+-- a body that encodes no request is no order's
 pub spells_none-from_request : (r : Record) → r.tag ≡ 7 → SpellsNoRequest r.body → SpellsNone r
 spells_none-from_request r order none c s =
     is_request c s.fits (sym (tag_is c r s) ∙ order) (rw (body_is c r s) at none)
@@ -59,25 +59,25 @@ unfolding body_of
 is_until (Place (Some last) request) h e none = none last request (record { fits = h; spelled = refl })
 is_until command h e none = absurd (omega (arith, e))
 
--- a body that is none of these is no such order's
+-- a body that encodes no last batch with a request is no such order's
 pub spells_none-from_until : (r : Record) → r.tag ≡ 10 → SpellsNoUntil r.body → SpellsNone r
 spells_none-from_until r until none c s =
     is_until c s.fits (sym (tag_is c r s) ∙ until) (rw (body_is c r s) at none)
 
--- two last batches with requests behind them, of one spelling
+-- two last batches with requests after them, of one encoding
 until_unique : (m n : ℕ) (r s : Request) → IsUnsigned 4 m × IsRequest r → IsUnsigned 4 n × IsRequest s → unsigned 4 m ++ request_spelling r ≡ unsigned 4 n ++ request_spelling s → (m ≡ n) × (r ≡ s)
 until_unique m n r s h k e =
     let lasts = unsigned_unique 4 m n _ _ h.0 k.0 e in
     (lasts.0, request_unique r s h.1 k.1 lasts.1)
 
--- two amounts of money of one spelling, or an account and another number of its width
+-- two amounts of money of one encoding, or an account and another number of its width
 money_unique : (a t b u : ℕ) → (a < 2 ^ 32) × (t < 2 ^ 64) → (b < 2 ^ 32) × (u < 2 ^ 64) → unsigned 4 a ++ unsigned 8 t ≡ unsigned 4 b ++ unsigned 8 u → (a ≡ b) × (t ≡ u)
 money_unique a t b u h k e =
     let accounts = unsigned_unique 4 a b _ _ h.0 k.0 e in
     let ticks = unsigned_unique 8 t u [] [] h.1 k.1 (append-nil (unsigned 8 t) ∙ accounts.1 ∙ sym (append-nil (unsigned 8 u))) in
     (accounts.0, ticks.0)
 
--- two amounts of units of one spelling
+-- two amounts of units of one encoding
 units_unique : (a i t b j u : ℕ) → (a < 2 ^ 32) × (i < 2 ^ 16) × (t < 2 ^ 64) → (b < 2 ^ 32) × (j < 2 ^ 16) × (u < 2 ^ 64) → unsigned 4 a ++ (unsigned 2 i ++ unsigned 8 t) ≡ unsigned 4 b ++ (unsigned 2 j ++ unsigned 8 u) → (a ≡ b) × (i ≡ j) × (t ≡ u)
 units_unique a i t b j u h k e =
     let accounts = unsigned_unique 4 a b _ _ h.0 k.0 e in
@@ -85,7 +85,7 @@ units_unique a i t b j u h k e =
     let units = unsigned_unique 8 t u [] [] h.2 k.2 (append-nil (unsigned 8 t) ∙ assets.1 ∙ sym (append-nil (unsigned 8 u))) in
     (accounts.0, assets.0, units.0)
 
--- a number that is a whole body is read once
+-- a number that is all of a body is read once
 pub number_unique : (size m n : ℕ) → IsUnsigned size m → IsUnsigned size n → unsigned size m ≡ unsigned size n → m ≡ n
 number_unique size m n a b e =
     let found = unsigned_unique size m n [] [] a b (append-nil (unsigned size m) ∙ e ∙ sym (append-nil (unsigned size n))) in
@@ -109,7 +109,7 @@ same_command (SetUnitCredit a i t) (SetUnitCredit b j u) h k tags bodies = let e
 same_command command (Place None s) h k tags bodies = absurd (omega (arith, tags))
 same_command command d h k tags bodies = absurd (omega (arith, tags))
 
--- a record spells at most one command
+-- a record encodes at most one command
 pub command_unique : (c d : Command) (r : Record) → Spells c r → Spells d r → c ≡ d
 command_unique c d r p q =
     same_command c d p.fits q.fits (sym (tag_is c r p) ∙ tag_is d r q) (sym (body_is c r p) ∙ body_is d r q)

@@ -1,18 +1,18 @@
--- Values that stand one after the other are read in one way, and all bytes are read.
+-- Values that are encoded one after the other are read in one way, and all bytes are read.
 use Rattle.std.proofs.Common.{◌≡◌, ◌<◌, ◌≤◌, ◌+◌, ◌*◌, ℕ, zero, suc, List, [], ◌∷◌, ◌++◌, inl, inr, ◌⊎◌, length, length-append, append_assoc, refl, sym, ap, ◌∙◌, arith}
 use Rattle.std.specs.Prelude.{All}
 use Rattle.std.specs.List.{flat_map, AllByRecursion}
 use Rattle.std.proofs.lemmas.List.Elements.{recursion_from_All, All-cons, All-nil}
 use Rattle.wire_records.specs.Grammars.{Grammar, BeginsWith, BeginsWithNone, spell_all, both}
 
--- A code: each value takes some bytes, no value's spelling is a proper front of another's, and of all
--- bytes it can be told whether they begin with a value.
+-- A code: each value takes some bytes, no value's encoding is a proper prefix of another's, and it is decidable
+-- whether bytes begin with a value.
 pub record IsCode {A : Type 0} (g : Grammar A) : Type 0 where
   pub some : (a : A) → g.IsLawful a → 0 < length (g.spell a)
   pub one : (a b : A) (x y : List ℕ) → g.IsLawful a → g.IsLawful b → g.spell a ++ x ≡ g.spell b ++ y → (a ≡ b) × (x ≡ y)
   pub told : (bytes : List ℕ) → ((a : A) × (rest : List ℕ) × BeginsWith g bytes a rest) ⊎ BeginsWithNone g bytes
 
--- the same by recursion
+-- as many values of a prefix-free encoding are read once, by recursion
 counted : {A : Type 0} (Fits : A → Type 0) (spell : A → List ℕ) → ((a b : A) (x y : List ℕ) → Fits a → Fits b → spell a ++ x ≡ spell b ++ y → (a ≡ b) × (x ≡ y)) → (p q : List A) (x y : List ℕ) → AllByRecursion Fits p → AllByRecursion Fits q → length p ≡ length q → flat_map spell p ++ x ≡ flat_map spell q ++ y → (p ≡ q) × (x ≡ y)
 counted Fits spell one [] [] x y h k len e = (refl, e)
 counted Fits spell one [] (b ∷ q) x y h k len e = absurd (omega (arith, len))
@@ -22,7 +22,7 @@ counted Fits spell one (a ∷ p) (b ∷ q) x y h k len e =
     let others = counted Fits spell one p q x y h.1 k.1 (omega (arith, len)) first.1 in
     (rw (first.0, others.0) refl, others.1)
 
--- as many values of a spelling that is read once are read once
+-- as many values of a prefix-free encoding are read once
 pub counted_unique : {A : Type 0} (Fits : A → Type 0) (spell : A → List ℕ) → ((a b : A) (x y : List ℕ) → Fits a → Fits b → spell a ++ x ≡ spell b ++ y → (a ≡ b) × (x ≡ y)) → (p q : List A) (x y : List ℕ) → All Fits p → All Fits q → length p ≡ length q → flat_map spell p ++ x ≡ flat_map spell q ++ y → (p ≡ q) × (x ≡ y)
 counted_unique Fits spell one p q x y h k len e = counted Fits spell one p q x y (recursion_from_All Fits p h) (recursion_from_All Fits q k) len e
 
@@ -43,11 +43,11 @@ all_unique g code (v ∷ p) (w ∷ q) x y a b n m e =
     let others = all_unique g code p q x y a.1 b.1 n m one.1 in
     (rw (one.0, others.0) refl, others.1)
 
--- the same from what the definitions say
+-- values, and a rest that begins with none, are one list of values and one rest, as the definitions state it
 pub values_unique : {A : Type 0} (g : Grammar A) → IsCode g → (p q : List A) (x y : List ℕ) → All g.IsLawful p → All g.IsLawful q → BeginsWithNone g x → BeginsWithNone g y → spell_all g p ++ x ≡ spell_all g q ++ y → (p ≡ q) × (x ≡ y)
 values_unique g code p q x y a b n m e = all_unique g code p q x y (recursion_from_All g.IsLawful p a) (recursion_from_All g.IsLawful q b) n m e
 
--- The values that stand one after the other in bytes, up to a rest that begins with none.
+-- The values that are encoded one after the other in bytes, up to a rest that begins with none.
 pub record Parted {A : Type 0} (g : Grammar A) (bytes : List ℕ) : Type 0 where
   pub values : List A
   pub rest : List ℕ
@@ -55,7 +55,7 @@ pub record Parted {A : Type 0} (g : Grammar A) (bytes : List ℕ) : Type 0 where
   pub each : All g.IsLawful values
   pub none : BeginsWithNone g rest
 
--- one value, and then what stands behind it
+-- one value, and then what follows it
 parted_more : {A : Type 0} (g : Grammar A) (bytes : List ℕ) (a : A) (rest : List ℕ) → BeginsWith g bytes a rest → Parted g rest → Parted g bytes
 parted_more g bytes a rest first more = record {
   values = a ∷ more.values;
@@ -90,11 +90,11 @@ parted_up_to g code (suc most) bytes short =
 pub parted : {A : Type 0} (g : Grammar A) → IsCode g → (bytes : List ℕ) → Parted g bytes
 parted g code bytes = parted_up_to g code (length bytes) bytes (omega arith)
 
--- two values in a row, from their spellings
+-- two values in a row, from their parts
 pair_same : {A B : Type 0} (p q : A × B) → p.0 ≡ q.0 → p.1 ≡ q.1 → p ≡ q
 pair_same p q a b = rw (a, b) refl
 
--- the bytes begin with a pair where they begin with its first, and the rest with its second
+-- the bytes begin with a pair if they begin with its first, and the rest with its second
 both_told : {A B : Type 0} (g : Grammar A) (h : Grammar B) → IsCode g → IsCode h → (bytes : List ℕ) → ((pair : A × B) × (rest : List ℕ) × BeginsWith (both g h) bytes pair rest) ⊎ BeginsWithNone (both g h) bytes
 both_told g h first second bytes =
     elim (first.told bytes) [

@@ -5,7 +5,7 @@ use Rattle.wire_records.specs.declared.reply.Refusal.{Refusal}
 use Rattle.wire_records.specs.declared.reply.Refusal.TheVariants.{UnknownTag, BadBody, AssetLimit, TickerTaken, BadTicker, AccountLimit, NoAccount, NoAsset, ZeroAmount, TotalLimit, NotFree, BadLimits, BadRate, BadCap, BadRow, OrderLimit, NoOrder, BadBudget, BatchLimit, BadLast, CreditInUse, CreditLimit}
 use Rattle.wire_records.specs.Refusals.{code_of}
 
--- the refusals in the order of their codes; no refusal has the codes 20 and 21, and any stands there
+-- the refusals in the order of their codes; no refusal has the codes 20 and 21, so any refusal fills these places
 abbrev refusals : List Refusal
 refusals =
     UnknownTag ∷ BadBody ∷ AssetLimit ∷ TickerTaken ∷ BadTicker ∷ AccountLimit ∷ NoAccount ∷ NoAsset ∷ ZeroAmount ∷ TotalLimit
@@ -15,7 +15,7 @@ refusals =
 abbrev refusal_at : ℕ → Refusal
 refusal_at code = slice_index_or refusals (code - 1) UnknownTag
 
--- a code says which refusal it is
+-- a code determines its refusal
 refusal_at-code_of : (r : Refusal) → refusal_at (code_of r) ≡ r
 refusal_at-code_of UnknownTag = refl
 refusal_at-code_of BadBody = refl

@@ -1,4 +1,4 @@
--- Entries in bytes, six each.
+-- Legs in bytes, six each.
 use Rattle.std.proofs.Common.{◌≡◌, ◌+◌, ◌*◌, ◌%◌, ◌<◌, ℕ, zero, suc, List, [], ◌∷◌, ◌++◌, ℤ, pos, negsuc, of_z, w32, length, get_or, drop, refl, sym, ap, ◌∙◌, arith}
 use Rattle.std.specs.List.{flat_map}
 use Rattle.std.specs.Int.{cast_signed}
@@ -40,18 +40,18 @@ weight_spelled c d e f small_c small_d small_e small_f =
     ∙ ap (λ xs. (xs ++ e ∷ []) ++ f ∷ []) (number_more 1 c d small_d)
     ∙ ap (λ xs. ((xs ++ d ∷ []) ++ e ∷ []) ++ f ∷ []) (one_byte c small_c)
 
--- the bytes of an entry
+-- the bytes of a leg
 entry_spelled : (a b c d e f : ℕ) → a < 256 → b < 256 → c < 256 → d < 256 → e < 256 → f < 256 → entry_spelling (entry_in a b c d e f) ≡ a ∷ b ∷ c ∷ d ∷ e ∷ f ∷ []
 unfolding entry_spelling
 entry_spelled a b c d e f small_a small_b small_c small_d small_e small_f =
     ap (λ xs. xs ++ signed 4 (cast_signed w32 (((c * 256 + d) * 256 + e) * 256 + f))) (number_more 1 a b small_b ∙ ap (λ xs. xs ++ b ∷ []) (one_byte a small_a))
     ∙ ap (λ xs. a ∷ b ∷ xs) (weight_spelled c d e f small_c small_d small_e small_f)
 
--- its numbers fit
+-- the numbers of a leg are in the ranges of their fields
 entry_fits : (a b c d e f : ℕ) → a < 256 → b < 256 → c < 256 → d < 256 → e < 256 → f < 256 → IsEntry (entry_in a b c d e f)
 entry_fits a b c d e f small_a small_b small_c small_d small_e small_f = (omega arith, (omega (arith, ints), omega (arith, ints)))
 
--- bytes, six for each entry, spell the entries that are read from them
+-- bytes, six for each leg, encode the legs that are read from them
 pub entries_spelled : (n : ℕ) (bytes : List ℕ) → length bytes ≡ 6 * n → AreBytes bytes → SpellEntries bytes (entries_in bytes)
 unfolding entries_in
 entries_spelled zero [] len small = record { fit = All-nil IsEntry; spelled = refl }
@@ -71,7 +71,7 @@ entries_spelled (suc n) (a ∷ b ∷ c ∷ d ∷ e ∷ f ∷ rest) len small =
     }
 entries_spelled n bytes len small = absurd (omega arith)
 
--- what stands from a place on
+-- the bytes from a place on
 from_place : (k : ℕ) (row : List Entry) → drop (6 * k) (flat_map entry_spelling row) ≡ flat_map entry_spelling (drop k row)
 from_place zero row = refl
 from_place (suc k) [] = drop_all (6 * suc k) [] (omega arith)
@@ -82,11 +82,11 @@ from_place (suc k) (e ∷ row) =
     ∙ ap (drop (6 * k)) (drop_at (entry_spelling e) (flat_map entry_spelling row) 6 (entry_size e))
     ∙ from_place k row
 
--- at a place stands its entry
+-- the leg at a place
 pub at_place : (bytes : List ℕ) (row : List Entry) (k : ℕ) (e : Entry) → SpellEntries bytes row → k < length row → drop (6 * k) bytes ≡ entry_spelling (get_or row k e) ++ flat_map entry_spelling (drop (k + 1) row)
 at_place bytes row k e spells in' =
     ap (drop (6 * k)) spells.spelled ∙ from_place k row ∙ ap (flat_map entry_spelling) (drop_more row k e in')
 
--- how many bytes there are
+-- how many bytes legs take
 pub length-entries : (bytes : List ℕ) (row : List Entry) → SpellEntries bytes row → length bytes ≡ 6 * length row
 length-entries bytes row spells = ap length spells.spelled ∙ counted_size entry_spelling 6 entry_size row

@@ -1,4 +1,4 @@
--- Bytes as a number and what stands behind it.
+-- Bytes as a number and what follows it.
 use Rattle.std.proofs.Common.{◌≡◌, ◌+◌, ◌<◌, ℕ, ℤ, List, ◌++◌, length, take, drop, length-drop, sym, ap, ◌∙◌, arith}
 use Rattle.std.proofs.lemmas.List.{take-append-drop, length-take-le}
 use Rattle.std.proofs.lemmas.List.Elements.{All-take, All-drop}
@@ -18,7 +18,7 @@ front_number size n bytes len small =
     let left : length rest ≡ n = length-drop size bytes ∙ omega (arith, len) in
     (found.0, rest, found.1, left, All-drop (λ b. b < 256) size bytes small, sym (take-append-drop size bytes) ∙ ap (λ xs. xs ++ rest) (sym found.2))
 
--- the same for a number with a sign
+-- bytes are a signed number and a rest, if they have as many
 pub front_signed : (size n : ℕ) (bytes : List ℕ) → 0 < size → length bytes ≡ size + n → AreBytes bytes → (z : ℤ) × (rest : List ℕ) × IsSigned size z × (length rest ≡ n) × AreBytes rest × (bytes ≡ signed size z ++ rest)
 front_signed size n bytes some len small =
     let rest = drop size bytes in

@@ -1,4 +1,4 @@
--- Bytes that don't begin with a whole record.
+-- Bytes that don't begin with a complete record.
 use Rattle.std.proofs.Common.{◌≡◌, ◌<◌, ◌^◌, ℕ, List, ◌++◌, length, length-append, append_assoc, sym, ap, ◌∙◌, arith}
 use Rattle.wire_records.specs.Records.{head, spelling, StatesLength, HasNoFront}
 use Rattle.wire_records.proofs.Spelled.{length-head, length-spelling, head_unique}
@@ -14,7 +14,7 @@ states_none-from_few n bytes few states =
     let rest = states.3 in
     omega (arith, few, ap length states.4, length-append (head tag n) rest, length-head tag n)
 
--- a body that isn't all there
+-- a body that isn't all there is no record
 pub no_front-from_stated : (limit tag n : ℕ) (bytes first : List ℕ) → limit < 2 ^ 32 → tag < 256 → n < 2 ^ 32 → bytes ≡ head tag n ++ first → length first < n → HasNoFront limit bytes
 unfolding spelling
 no_front-from_stated limit tag n bytes first small byte fits a few r rest front e =
@@ -30,7 +30,7 @@ states_one tag n m bytes first byte fits a states =
     let heads = head_unique tag n states.1 m first states.3 byte fits states.2 states.0 (sym a ∙ states.4) in
     sym heads.1
 
--- a length above the limit
+-- a length above the limit begins no record
 pub no_front-from_overlong : (limit n : ℕ) (bytes : List ℕ) → limit < 2 ^ 32 → StatesLength n bytes → limit < n → HasNoFront limit bytes
 unfolding spelling
 no_front-from_overlong limit n bytes small states above r rest front e =

@@ -1,4 +1,4 @@
--- A version is told by its number, and which commands each has.
+-- A version is determined by its number, and has the commands up to its highest tag.
 use Rattle.std.proofs.Common.{◌≡◌, ◌<◌, ◌≤◌, ℕ, zero, suc, refl, sym, ap, ◌∙◌, arith}
 use Rattle.wire_records.specs.declared.version.Version.{Version}
 use Rattle.wire_records.specs.declared.version.Version.TheVariants.{One, Two, Three}
@@ -30,7 +30,7 @@ first_tags One = omega arith
 first_tags Two = omega arith
 first_tags Three = omega arith
 
--- one that has more has all
+-- a version that has more commands than the first has all of them
 pub all_tags : (version : Version) → 10 ≤ most_tag version → most_tag version ≡ 12
 all_tags One more = absurd (omega (arith, more))
 all_tags Two more = refl

@@ -1,4 +1,4 @@
--- Bytes have one front.
+-- What bytes begin with is unique.
 use Rattle.std.proofs.Common.{◌≡◌, ◌<◌, ◌^◌, ℕ, List, ◌++◌, length, length-append, refl, sym, ap, ◌∙◌, drop, arith}
 use Rattle.std.proofs.lemmas.List.{drop_at}
 use Rattle.wire_records.specs.declared.record.Framed.{Framed}
@@ -17,7 +17,7 @@ end_is_not_whole limit n r bytes whole none =
 end_is_not_overlong : (limit n : ℕ) (bytes : List ℕ) → IsFront (TooLarge n) limit bytes → IsFront End limit bytes → ⊥
 end_is_not_overlong limit n bytes above none = states_none-from_few n bytes (omega (arith, ap length none)) above.0
 
--- a whole record states no length above the limit
+-- a complete record states no length above the limit
 overlong_is_not_whole : (limit n m : ℕ) (r : Record) (bytes : List ℕ) → limit < 2 ^ 32 → IsFront (Whole r n) limit bytes → IsFront (TooLarge m) limit bytes → ⊥
 overlong_is_not_whole limit n m r bytes small whole above =
     no_front-from_overlong limit m bytes small above.0 above.1 r (drop n bytes) whole.0 whole.2
@@ -26,20 +26,20 @@ overlong_is_not_whole limit n m r bytes small whole above =
 overlong_is_not_short : (limit n : ℕ) (bytes : List ℕ) → IsFront (TooLarge n) limit bytes → IsFront Short limit bytes → ⊥
 overlong_is_not_short limit n bytes above few = omega (arith, above.1, few.2 n above.0)
 
--- two whole records at one front are one
+-- two complete records that the same bytes begin with are one
 whole_unique : (limit n m : ℕ) (r s : Record) (bytes : List ℕ) → limit < 2 ^ 32 → IsFront (Whole r n) limit bytes → IsFront (Whole s m) limit bytes → Whole r n ≡ Whole s m
 whole_unique limit n m r s bytes small p q =
     let same = spelling_unique limit r s (drop n bytes) (drop m bytes) small p.0 q.0 (sym p.2 ∙ q.2) in
     let taken : n ≡ m = p.1 ∙ ap (λ x. length (spelling x)) same.0 ∙ sym q.1 in
     ap (λ x. Whole x n) same.0 ∙ ap (λ k. Whole s k) taken
 
--- two lengths that are stated at one front are one
+-- two lengths that the same bytes state are one
 overlong_unique : (limit n m : ℕ) (bytes : List ℕ) → IsFront (TooLarge n) limit bytes → IsFront (TooLarge m) limit bytes → n ≡ m
 overlong_unique limit n m bytes p q =
     let states = q.0 in
     states_one states.1 m n bytes states.3 states.2 states.0 states.4 p.0
 
--- bytes have one front
+-- what bytes begin with is unique
 pub front_unique : (a b : Framed) (limit : ℕ) (bytes : List ℕ) → limit < 2 ^ 32 → IsFront a limit bytes → IsFront b limit bytes → a ≡ b
 front_unique (Whole r n) (Whole s m) limit bytes small p q = whole_unique limit n m r s bytes small p q
 front_unique (Whole r n) End limit bytes small p q = absurd (end_is_not_whole limit n r bytes p q)
@@ -58,11 +58,11 @@ front_unique Short End limit bytes small p q = absurd (p.0 q)
 front_unique Short (TooLarge n) limit bytes small p q = absurd (overlong_is_not_short limit n bytes q p)
 front_unique Short Short limit bytes small p q = refl
 
--- a record that was written is a front, whatever follows it
+-- a record that was written is what the bytes begin with, whatever follows it
 written_is_front : (limit : ℕ) (r : Record) (rest : List ℕ) → IsRecord limit r → IsFront (Whole r (length (spelling r))) limit (spelling r ++ rest)
 written_is_front limit r rest fits = (fits, refl, ap (λ xs. spelling r ++ xs) (sym (drop_at (spelling r) rest (length (spelling r)) refl)))
 
--- a record that was written is the front, whatever follows it
+-- bytes that begin with a record that was written are framed as that record, whatever follows it
 pub written_framed : (limit : ℕ) (r : Record) (rest : List ℕ) (front : Framed) → limit < 2 ^ 32 → IsRecord limit r → IsFront front limit (spelling r ++ rest) → front ≡ Whole r (length (spelling r))
 written_framed limit r rest front small fits found =
     front_unique front (Whole r (length (spelling r))) limit (spelling r ++ rest) small found (written_is_front limit r rest fits)

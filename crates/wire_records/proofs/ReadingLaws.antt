@@ -8,7 +8,7 @@ use Rattle.wire_records.specs.Grammars.{Grammar, BeginsWithNone, spell_all}
 use Rattle.wire_records.specs.Reading.{Format, Ending, End, Torn, TooLong, EndsAs, ReadsOn, Reading, NotFlow, File, Reads, StartsWith}
 use Rattle.wire_records.proofs.CodeLaws.{IsCode, values_unique, parted}
 
--- A format that can be read: magics and units are codes, and overlong units can be told.
+-- A format that can be read: magics and units are codes, and it is decidable whether bytes are overlong.
 pub record IsReadable {V U : Type 0} (format : Format V U) : Type 0 where
   pub magics : IsCode format.magics
   pub units : IsCode format.units
@@ -95,7 +95,7 @@ starts_first format readable limit bytes v w units all ending starts reads =
     let same = values_unique format.units readable.units all (units ++ parts.values) reads.2.rest parts.rest reads.2.each each reads.2.none parts.none (sym reads.2.whole ∙ whole) in
     (magic.0, parts.values, same.0)
 
--- no value stands at the front of no bytes
+-- no bytes begin with no value
 pub none_in_none : {A : Type 0} (g : Grammar A) → IsCode g → BeginsWithNone g []
 none_in_none g code a rest lawful e = omega (arith, code.some a lawful, ap length e, length-append (g.spell a) rest)
 

@@ -19,7 +19,7 @@ use Rattle.wire_records.proofs.Requests.{request_size}
 use Rattle.wire_records.proofs.RequestsTold.{request_told, until_told}
 use Rattle.wire_records.proofs.Bodies.{size_of, same_record, tag_is, spells_none, spells_none-from_request, spells_none-from_until, command_unique}
 
--- the tag of each command, from above and below
+-- the tag of each command is 1 to 12
 tag_of-range : (c : Command) → IsTag (tag_of c)
 tag_of-range (AddAsset ticker) = (omega arith, omega arith)
 tag_of-range (Place None request) = (omega arith, omega arith)
@@ -40,12 +40,12 @@ fault_unique UnknownTag BadBody r p q = absurd (p q.0)
 fault_unique BadBody UnknownTag r p q = absurd (q p.0)
 fault_unique BadBody BadBody r p q = refl
 
--- the record of a command is read as that command, in whatever version
+-- the record of a command is read as that command, whatever the version
 pub command_seen : (c : Command) (r : Record) (read : Result Command BodyFault) → Spells c r → IsRead r read → read ≡ Ok c
 command_seen c r (Ok d) s found = ap Ok (command_unique d c r found s)
 command_seen c r (Err why) s found = absurd (no_fault c r why s found)
 
--- a record has at most one reading in whatever version
+-- a record has at most one reading, whatever the version
 pub seen_unique : (r : Record) (a b : Result Command BodyFault) → IsRead r a → IsRead r b → a ≡ b
 seen_unique r (Ok c) b p q = sym (command_seen c r b p q)
 seen_unique r a (Ok c) p q = command_seen c r a q p
@@ -77,7 +77,7 @@ reading_unique version r (Ok c) b p q = sym (read_here version c r b p.0 p.1 q)
 reading_unique version r a (Ok c) p q = read_here version c r a q.0 q.1 p
 reading_unique version r (Err e) (Err f) p q = ap Err (fault_unique_in version e f r p q)
 
--- a command that is read in a version is one of it
+-- a command that is read in a version is a command of that version
 pub read_own : (version : Version) (r : Record) (c : Command) → IsReadAs version r (Ok c) → IsOfVersion version c
 read_own version r c read = rw (← tag_is c r read.1) read.0
 
@@ -144,12 +144,12 @@ spelled r small tag order until len =
           ]
     ]
 
--- the order of the tag 7, if the body is a request's
+-- the order of the tag 7, if the body encodes a request
 pub order_spelled : (r : Record) (request : Request) → r.tag ≡ 7 → SpellsRequest r.body request → Spells (Place None request) r
 unfolding body_of
 order_spelled r request is found = from_body (Place None request) r found.fits is found.spelled
 
--- the order of the tag 10, if the body is a last batch's and a request's
+-- the order of the tag 10, if the body encodes a last batch and a request
 pub until_spelled : (r : Record) (last : ℕ) (request : Request) → r.tag ≡ 10 → SpellsUntil r.body last request → Spells (Place (Some last) request) r
 unfolding body_of
 until_spelled r last request is found = from_body (Place (Some last) request) r found.fits is found.spelled
@@ -162,7 +162,7 @@ up_to_or_not most tag =
       | inr some ↦ elim (cases_lt most tag) [ inl above ↦ inr (λ is. omega (arith, above, is.1)) | inr below ↦ inl (some, below) ]
     ]
 
--- a command's tag: some command is spelled, or none is
+-- the tag is a command's: the record encodes some command, or none
 told : (r : Record) → AreBytes r.body → IsTag r.tag → ((c : Command) × Spells c r) ⊎ SpellsNone r
 told r small tag =
     elim (cases_eq r.tag 7) [
@@ -186,7 +186,7 @@ told r small tag =
           ]
     ]
 
--- a record of bytes has a reading in whatever version
+-- a record of bytes has a reading, whatever the version
 pub seen_some : (r : Record) → AreBytes r.body → (read : Result Command BodyFault) × IsRead r read
 seen_some r small =
     elim (up_to_or_not 12 r.tag) [
@@ -218,7 +218,7 @@ later_tags One later = absurd (later refl)
 later_tags Two later = refl
 later_tags Three later = refl
 
--- what is read in whatever version is read in a version that has all commands
+-- what is read whatever the version is read in a version that has all commands
 pub seen_in_later : (version : Version) (r : Record) (read : Result Command BodyFault) → version ≢ One → IsRead r read ↔ IsReadAs version r read
 seen_in_later version r (Ok c) later =
     (λ s. let tag = tag_of-range c in let is = tag_is c r s in ((omega (arith, is, tag.0), omega (arith, is, tag.1, later_tags version later)), s), λ both. both.1)
@@ -228,15 +228,15 @@ seen_in_later version r (Err BadBody) later =
     let all = later_tags version later in
     (λ p. ((p.0.0, omega (arith, p.0.1, all)), p.1), λ p. ((p.0.0, omega (arith, p.0.1, all)), p.1))
 
--- how long an account and an amount of money are
+-- the length of an account and an amount of money
 money_size : (account ticks : ℕ) → length (unsigned 4 account ++ unsigned 8 ticks) ≡ 12
 money_size account ticks = simp (length-append, length-unsigned)
 
--- how long an account, an asset and units are
+-- the length of an account, an asset and units
 units_size : (account asset units : ℕ) → length (unsigned 4 account ++ (unsigned 2 asset ++ unsigned 8 units)) ≡ 14
 units_size account asset units = simp (length-append, length-unsigned)
 
--- the record of a command whose row is short is within the limit
+-- the record of a command with few enough legs is within the limit
 pub command_short : (c : Command) → IsCommand c → HasShortRow c → IsRecord most_body (record_of c)
 unfolding body_of
 command_short (AddAsset ticker) h few = record { tag = omega arith; body = omega (arith, h.0) }

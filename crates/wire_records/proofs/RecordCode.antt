@@ -1,4 +1,4 @@
--- Records are a code, and overlong ones can be told.
+-- Records are a code, and it is decidable whether bytes are overlong.
 use Rattle.std.proofs.Common.{◌≡◌, ◌≢◌, ◌<◌, ◌≤◌, ◌+◌, ◌^◌, ℕ, zero, suc, List, ◌++◌, Bool, true, false, inl, inr, ◌⊎◌, length, take, drop, get_or, length-append, append_assoc, refl, sym, ap, ◌∙◌, arith}
 use Rattle.std.specs.Bool.{Decides}
 use Rattle.std.specs.Str.{bytes_eq}
@@ -16,7 +16,7 @@ use Rattle.wire_records.proofs.ReadingLaws.{IsReadable}
 use Rattle.wire_records.proofs.Numbered.{version_at, at_number, number_small, same_number}
 use Rattle.wire_records.proofs.Spelled.{length-head, length-spelling, read_whole, spelling_unique}
 
--- what a test tells
+-- what a test decides
 told_by : (b : Bool) (P : Type 0) → Decides b P → P ⊎ (¬ P)
 told_by true P decides = inl (decides.0 refl)
 told_by false P decides = inr (λ p. absurd (let e = decides.1 p in cc))
@@ -42,7 +42,7 @@ found_below P told (suc k) =
           ]
     ]
 
--- two facts that can be told
+-- the conjunction of two decidable facts is decidable
 told_both : (P Q : Type 0) → P ⊎ (¬ P) → Q ⊎ (¬ Q) → (P × Q) ⊎ (¬ (P × Q))
 told_both P Q p q =
     elim p [
@@ -54,14 +54,14 @@ told_both P Q p q =
 IsAt : List ℕ → ℕ → ℕ → Type 0
 IsAt bytes n tag = (bytes ≡ head tag n ++ drop 5 bytes) × (n ≤ length (drop 5 bytes))
 
--- whether they do
+-- whether the bytes begin so
 at_or_not : (bytes : List ℕ) (n tag : ℕ) → IsAt bytes n tag ⊎ (¬ IsAt bytes n tag)
 unfolding IsAt
 at_or_not bytes n tag =
     told_both _ _ (same_or_not bytes (head tag n ++ drop 5 bytes))
     (elim (cases_lt (length (drop 5 bytes)) n) [ inl few ↦ inr (λ enough. omega (arith, few, enough)) | inr enough ↦ inl enough ])
 
--- what stands behind a head
+-- the bytes after a head
 behind_head : (bytes rest : List ℕ) (n tag : ℕ) → bytes ≡ head tag n ++ rest → drop 5 bytes ≡ rest
 behind_head bytes rest n tag e = ap (drop 5) e ∙ drop_at (head tag n) rest 5 (length-head tag n)
 
@@ -121,7 +121,7 @@ over_told limit bytes =
           none over.0 states.0 (over.2, (states.1, states.2, states.4 ∙ ap (λ xs. head states.1 over.0 ++ xs) (sym (behind_head bytes states.3 over.0 states.1 states.4)))))
     ]
 
--- the same of two records in a row
+-- whether the first of two records in a row that isn't complete states a body above its limit
 pub either_over_told : (limit next : ℕ) → limit < 2 ^ 32 → (bytes : List ℕ) → EitherStatesOver limit next bytes ⊎ (¬ EitherStatesOver limit next bytes)
 either_over_told limit next small bytes =
     elim (over_told limit bytes) [
@@ -143,24 +143,24 @@ either_over_told limit next small bytes =
           ]
     ]
 
--- a magic of each version, of eight bytes, and the last of these tells the version
+-- a magic of each version, of eight bytes, the last of which determines the version
 pub record AreMagics (magic_of : Version → List ℕ) : Type 0 where
   pub eight : (version : Version) → length (magic_of version) ≡ 8
   pub last : (version : Version) → get_or (magic_of version) 7 0 ≡ 48 + number_of version
 
--- as many bytes at the front of the same bytes are the same
+-- as many bytes at the beginning of the same bytes are the same
 same_front : (a b x y : List ℕ) → length b ≡ length a → a ++ x ≡ b ++ y → a ≡ b
 same_front a b x y alike e = sym (take_at a x (length a) refl) ∙ ap (take (length a)) e ∙ take_at b y (length a) alike
 
 module _ (magic_of : Version → List ℕ) (are : AreMagics magic_of) where
-  -- one magic stands at the front of bytes
+  -- bytes begin with one magic
   pub one_magic : (v w : Version) (x y : List ℕ) → magic_of v ++ x ≡ magic_of w ++ y → (v ≡ w) × (x ≡ y)
   one_magic v w x y e =
       let magic = same_front (magic_of v) (magic_of w) x y (are.eight w ∙ sym (are.eight v)) e in
       let last = sym (are.last v) ∙ ap (λ (l : List ℕ). get_or l 7 0) magic ∙ are.last w in
       (same_number v w (omega (arith, last)), append_cancel_left (magic_of v) x y (e ∙ ap (λ (l : List ℕ). l ++ y) (sym magic)))
 
-  -- bytes that begin with a magic, from what stands there
+  -- bytes that begin with a magic are the magic and the bytes after its length
   begins_with : (magic bytes rest : List ℕ) → bytes ≡ magic ++ rest → bytes ≡ magic ++ drop (length magic) bytes
   begins_with magic bytes rest e = e ∙ ap (λ xs. magic ++ xs) (sym (ap (drop (length magic)) e ∙ drop_at magic rest (length magic) refl))
 

@@ -1,4 +1,4 @@
--- Requests from their spellings.
+-- Requests from their encodings.
 use Rattle.std.proofs.Common.{◌≡◌, ◌+◌, ◌*◌, ℕ, ℤ, List, [], ◌++◌, length, length-append, append_assoc, sym, ap, ◌∙◌, arith}
 use Rattle.std.proofs.lemmas.List.{append-nil}
 use Rattle.wire_fields.specs.Numbers.{unsigned, signed}
@@ -10,13 +10,13 @@ use Rattle.wire_records.specs.CommandRecords.{entry_spelling, request_spelling, 
 use Rattle.wire_records.specs.Private.{FitNumbers, numbers_and}
 use Rattle.wire_records.proofs.CodeLaws.{counted_unique, counted_size}
 
--- an entry from its parts
+-- legs with the same parts are the same
 pub same_entry : (e f : Entry) → e.asset ≡ f.asset → e.weight ≡ f.weight → e ≡ f
 same_entry e f a b =
     let made : ℕ → ℤ → Entry = λ asset weight. record { asset = asset; weight = weight } in
     ap (λ asset. made asset e.weight) a ∙ ap (λ weight. made f.asset weight) b
 
--- bytes that begin with two entries begin with one
+-- bytes that begin with two legs begin with one
 entry_unique : (e f : Entry) (x y : List ℕ) → IsEntry e → IsEntry f → entry_spelling e ++ x ≡ entry_spelling f ++ y → (e ≡ f) × (x ≡ y)
 unfolding entry_spelling
 entry_unique e f x y h k same =
@@ -25,7 +25,7 @@ entry_unique e f x y h k same =
     let weights = signed_unique 4 e.weight f.weight x y (omega arith) h.1 k.1 assets.1 in
     (same_entry e f assets.0 weights.0, weights.1)
 
--- a request from its parts
+-- requests with the same parts are the same
 same_request : (r s : Request) → r.account ≡ s.account → r.low ≡ s.low → r.high ≡ s.high → r.rate ≡ s.rate → r.cap ≡ s.cap → r.row ≡ s.row → r ≡ s
 same_request r s account low high rate cap row =
     let made : ℕ → ℤ → ℤ → ℕ → ℕ → List Entry → Request = λ a l h q c x. record { account = a; low = l; high = h; rate = q; cap = c; row = x } in
@@ -33,11 +33,11 @@ same_request r s account low high rate cap row =
     ∙ ap (λ h. made s.account s.low h r.rate r.cap r.row) high ∙ ap (λ q. made s.account s.low s.high q r.cap r.row) rate
     ∙ ap (λ c. made s.account s.low s.high s.rate c r.row) cap ∙ ap (λ x. made s.account s.low s.high s.rate s.cap x) row
 
--- the numbers of a request, and how many entries it has
+-- the numbers of a request, and how many legs it has
 abbrev pub numbers_of : Request → Numbers
 numbers_of r = record { account = r.account; low = r.low; high = r.high; rate = r.rate; cap = r.cap; count = length r.row }
 
--- they fit
+-- the numbers of a request are in the ranges of their fields
 pub fit_numbers : (r : Request) → IsRequest r → FitNumbers (numbers_of r)
 fit_numbers r fits = record { account = fits.account; low = fits.low; high = fits.high; rate = fits.rate; cap = fits.cap; count = fits.count }
 
@@ -61,7 +61,7 @@ numbers_unique m n x y h k same =
     let counts = unsigned_unique 1 m.count n.count x y h.count k.count caps.1 in
     (record { account = accounts.0; low = lows.0; high = highs.0; rate = rates.0; cap = caps.0; count = counts.0 }, counts.1)
 
--- two requests of one spelling are one
+-- two requests of one encoding are one
 pub request_unique : (r s : Request) → IsRequest r → IsRequest s → request_spelling r ≡ request_spelling s → r ≡ s
 unfolding request_spelling
 request_unique r s h k same =
@@ -70,12 +70,12 @@ request_unique r s h k same =
     let rows = counted_unique IsEntry entry_spelling entry_unique r.row s.row [] [] h.row k.row numbers.count (append-nil _ ∙ found.1 ∙ sym (append-nil _)) in
     same_request r s numbers.account numbers.low numbers.high numbers.rate numbers.cap rows.0
 
--- six bytes an entry
+-- a leg takes six bytes
 pub entry_size : (e : Entry) → length (entry_spelling e) ≡ 6
 unfolding entry_spelling
 entry_size e = simp (length-append, length-unsigned, length-signed)
 
--- 33 bytes, and six an entry
+-- a request takes 33 bytes, and six for each leg
 pub request_size : (r : Request) → length (request_spelling r) ≡ 33 + 6 * length r.row
 unfolding request_spelling
 request_size r = simp (length-append, length-unsigned, length-signed) (omega (arith, counted_size entry_spelling 6 entry_size r.row))

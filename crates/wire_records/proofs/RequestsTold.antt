@@ -1,4 +1,4 @@
--- Which bytes spell a request.
+-- Which bytes encode a request.
 use Rattle.std.proofs.Common.{◌≡◌, ◌≢◌, ◌+◌, ◌-◌, ◌*◌, ◌<◌, ℕ, List, ◌++◌, inl, inr, ◌⊎◌, length, length-append, lit<, refl, sym, ap, ◌∙◌, arith}
 use Rattle.std.proofs.lemmas.Bool.{cases_lt, cases_eq}
 use Rattle.wire_fields.specs.Numbers.{unsigned, signed, IsUnsigned}
@@ -14,7 +14,7 @@ use Rattle.wire_records.proofs.Fields.{front_number, front_signed}
 use Rattle.wire_records.proofs.Requests.{numbers_of, fit_numbers, numbers_unique, entry_size, request_size}
 use Rattle.wire_records.proofs.Entries.{entries_spelled, length-entries}
 
--- the request of these numbers and entries
+-- the request of these numbers and legs
 abbrev pub request_of : Numbers → List Entry → Request
 request_of n row = record { account = n.account; low = n.low; high = n.high; rate = n.rate; cap = n.cap; row = row }
 
@@ -22,14 +22,14 @@ request_of n row = record { account = n.account; low = n.low; high = n.high; rat
 pub none-from_few : (body : List ℕ) → length body < 33 → SpellsNoRequest body
 none-from_few body few r is = omega (arith, few, ap length is.spelled, request_size r)
 
--- behind the numbers there aren't six bytes for each entry
+-- after the numbers there aren't exactly six bytes for each leg
 pub none-from_other : (n : Numbers) (rest body : List ℕ) → FitNumbers n → body ≡ numbers_and n rest → length rest ≢ 6 * n.count → SpellsNoRequest body
 unfolding request_spelling
 none-from_other n rest body fit whole other r is =
     let found = numbers_unique n (numbers_of r) rest _ fit (fit_numbers r is.fits) (sym whole ∙ is.spelled) in
     other (ap length found.1 ∙ counted_size entry_spelling 6 entry_size r.row ∙ ap (λ k. 6 * k) (sym found.0.count))
 
--- behind the numbers there are: the request is that of these numbers and of the entries that the bytes have
+-- after the numbers there are six bytes for each leg: the request is that of the numbers and of the legs that the bytes encode
 pub request_found : (n : Numbers) (bytes body : List ℕ) → FitNumbers n → body ≡ numbers_and n bytes → length bytes ≡ 6 * n.count → SpellEntries bytes (entries_in bytes) → SpellsRequest body (request_of n (entries_in bytes))
 unfolding request_spelling
 request_found n bytes body fit whole size spells =
@@ -40,11 +40,11 @@ request_found n bytes body fit whole size spells =
       spelled = whole ∙ ap (λ xs. unsigned 4 n.account ++ (signed 8 n.low ++ (signed 8 n.high ++ (unsigned 4 n.rate ++ (unsigned 8 n.cap ++ xs))))) behind;
     }
 
--- a length, apart into the next number's bytes and what stands behind them
+-- a length, split into the next number's bytes and what follows them
 apart : (len a b c n : ℕ) → len ≡ a + n → a ≡ b + c → len ≡ b + (c + n)
 apart len a b c n whole parts = omega (arith, whole, parts)
 
--- The numbers at the front of bytes, and so many bytes behind them.
+-- The numbers at the beginning of bytes, and so many bytes after them.
 record HasNumbers (body : List ℕ) (more : ℕ) : Type 0 where
   numbers : Numbers
   rest : List ℕ
@@ -58,7 +58,7 @@ joined : (n : Numbers) (body a b c d e rest : List ℕ) → body ≡ unsigned 4 
 joined n body a b c d e rest of_body of_a of_b of_c of_d of_e =
     rw (of_body, of_a, of_b, of_c, of_d, of_e) refl
 
--- bytes have them, if they are enough
+-- bytes begin with the numbers, if they are enough
 has_numbers : (body : List ℕ) (more : ℕ) → length body ≡ 33 + more → AreBytes body → HasNumbers body more
 has_numbers body more len small =
     let account = front_number 4 (29 + more) body (apart (length body) 33 4 29 more len refl) small in
@@ -77,7 +77,7 @@ has_numbers body more len small =
       whole = joined n body account.1 low.1 high.1 rate.1 cap.1 count.1 account.5 low.5 high.5 rate.5 cap.5 count.5;
     }
 
--- whether bytes with enough for the numbers spell a request
+-- whether bytes with enough for the numbers encode a request
 numbers_told : (body : List ℕ) (more : ℕ) → HasNumbers body more → ((request : Request) × SpellsRequest body request) ⊎ SpellsNoRequest body
 numbers_told body more found =
     let n = found.numbers in
@@ -86,7 +86,7 @@ numbers_told body more found =
       | inr other ↦ inr (none-from_other n found.rest body found.fit found.whole other)
     ]
 
--- whether bytes spell a request
+-- whether bytes encode a request
 pub request_told : (body : List ℕ) → AreBytes body → ((request : Request) × SpellsRequest body request) ⊎ SpellsNoRequest body
 request_told body small =
     elim (cases_lt (length body) 33) [
@@ -94,7 +94,7 @@ request_told body small =
       | inr enough ↦ let more = length body - 33 in numbers_told body more (has_numbers body more (omega arith) small)
     ]
 
--- four bytes are a last batch, and what stands behind them is a request or isn't
+-- four bytes are a last batch, and what follows them is a request or isn't
 pub until_from : (last : ℕ) (rest body : List ℕ) (request : Request) → IsUnsigned 4 last → body ≡ unsigned 4 last ++ rest → SpellsRequest rest request → SpellsUntil body last request
 until_from last rest body request fits whole spells = record { fits = (fits, spells.fits); spelled = whole ∙ ap (λ xs. unsigned 4 last ++ xs) spells.spelled }
 
@@ -107,7 +107,7 @@ pub none_until-from_few : (body : List ℕ) → length body < 4 → SpellsNoUnti
 none_until-from_few body few last request spells =
     omega (arith, few, ap length spells.spelled, length-append (unsigned 4 last) (request_spelling request), length-unsigned 4 last)
 
--- whether bytes spell a last batch with a request behind it
+-- whether bytes encode a last batch with a request after it
 pub until_told : (body : List ℕ) → AreBytes body → ((last : ℕ) × (request : Request) × SpellsUntil body last request) ⊎ SpellsNoUntil body
 until_told body small =
     elim (cases_lt (length body) 4) [

@@ -1,16 +1,16 @@
--- How the spelling of a record is made up.
+-- The parts of a record's encoding.
 use Rattle.std.proofs.Common.{◌≡◌, ◌+◌, ◌<◌, ◌^◌, ℕ, List, ◌++◌, length, length-append, append_assoc, refl, sym, ap, ◌∙◌, take, drop, arith}
 use Rattle.std.proofs.lemmas.List.{take_at, drop_at}
 use Rattle.wire_fields.specs.Numbers.{unsigned}
 use Rattle.wire_fields.proofs.Spelling.{length-unsigned, unsigned_unique}
 use Rattle.wire_records.specs.Records.{Record, IsRecord, head, spelling}
 
--- five bytes
+-- a head takes five bytes
 pub length-head : (tag n : ℕ) → length (head tag n) ≡ 5
 unfolding head
 length-head tag n = simp (length-append, length-unsigned)
 
--- five bytes, and the body
+-- a record takes five bytes, and those of its body
 pub length-spelling : (r : Record) → length (spelling r) ≡ 5 + length r.body
 unfolding spelling
 length-spelling r = length-append (head r.tag (length r.body)) r.body ∙ ap (λ n. n + length r.body) (length-head r.tag (length r.body))
@@ -43,7 +43,7 @@ head_unique tag n other m x y a b c d e =
     let lengths = unsigned_unique 4 n m x y b d tags.1 in
     (tags.0, lengths.0, lengths.1)
 
--- the same record, from its parts
+-- records with the same parts are the same
 same_record : (r s : Record) → r.tag ≡ s.tag → r.body ≡ s.body → r ≡ s
 same_record r s a b =
     let made : ℕ → List ℕ → Record = λ tag body. record { tag = tag; body = body } in

@@ -1,4 +1,4 @@
--- The record that each command is spelled as, and what a record is read as.
+-- The record that encodes each command, and what a record is read as.
 use Rattle.std.specs.Prelude.{◌≡◌, ◌≤◌, ℕ, List, [], ◌++◌, length, All, Result, Ok, Err, None, Some}
 use Rattle.std.specs.List.{flat_map}
 use Rattle.wire_fields.specs.Numbers.{unsigned, signed, IsUnsigned, IsSigned}
@@ -23,17 +23,17 @@ tag_of (Place (Some last) request) = 10
 tag_of (SetMoneyCredit account ticks) = 11
 tag_of (SetUnitCredit account asset units) = 12
 
--- the bytes of an entry: its asset, and its weight
+-- the encoding of a leg: its asset in 2 bytes, and its weight in 4
 unfoldable pub entry_spelling : Entry → List ℕ
 entry_spelling e = unsigned 2 e.asset ++ signed 4 e.weight
 
--- the bytes of a request: its numbers, how many entries there are, and the entries
+-- the encoding of a request: its numbers, how many legs it has, and the legs
 unfoldable pub request_spelling : Request → List ℕ
 request_spelling r =
     unsigned 4 r.account ++ (signed 8 r.low ++ (signed 8 r.high ++ (unsigned 4 r.rate ++ (unsigned 8 r.cap
     ++ (unsigned 1 (length r.row) ++ flat_map entry_spelling r.row)))))
 
--- the body of each command
+-- the body of each command's record
 unfoldable pub body_of : Command → List ℕ
 body_of (AddAsset ticker) = ticker
 body_of OpenAccount = []
@@ -48,15 +48,15 @@ body_of (Place (Some last) request) = unsigned 4 last ++ request_spelling reques
 body_of (SetMoneyCredit account ticks) = unsigned 4 account ++ unsigned 8 ticks
 body_of (SetUnitCredit account asset units) = unsigned 4 account ++ (unsigned 2 asset ++ unsigned 8 units)
 
--- the record of each command
+-- the record that encodes each command
 abbrev pub record_of : Command → Record
 record_of command = record { tag = tag_of command; body = body_of command }
 
--- an entry whose asset and weight fit their widths
+-- a leg whose asset and weight are in the ranges of their fields
 abbrev pub IsEntry : Entry → Type 0
 IsEntry e = IsUnsigned 2 e.asset × IsSigned 4 e.weight
 
--- a request whose numbers and entries fit their widths
+-- a request whose numbers and legs are in the ranges of their fields
 pub record IsRequest (r : Request) : Type 0 where
   pub account : IsUnsigned 4 r.account
   pub low : IsSigned 8 r.low
@@ -66,7 +66,7 @@ pub record IsRequest (r : Request) : Type 0 where
   pub count : IsUnsigned 1 (length r.row)
   pub row : All IsEntry r.row
 
--- each field of a command fits its width
+-- each field of a command is in its range
 abbrev pub IsCommand : Command → Type 0
 IsCommand (AddAsset ticker) = (length ticker ≡ 8) × AreBytes ticker
 IsCommand OpenAccount = Unit {0}
@@ -81,15 +81,15 @@ IsCommand (Place (Some last) request) = IsUnsigned 4 last × IsRequest request
 IsCommand (SetMoneyCredit account ticks) = IsUnsigned 4 account × IsUnsigned 8 ticks
 IsCommand (SetUnitCredit account asset units) = IsUnsigned 4 account × IsUnsigned 2 asset × IsUnsigned 8 units
 
--- the most entries of a row in a record within the limit of command records
+-- the most legs of an order whose record is within the limit of command records
 abbrev pub most_row : ℕ
 most_row = 165
 
--- and of one that also names the last batch of its order
+-- the most legs of an order whose record is within that limit and also names its last batch
 abbrev pub most_row_until : ℕ
 most_row_until = 164
 
--- the row of a command, if it has one, has at most so many entries
+-- the legs of a command, if it has any, are few enough for a record within the limit of command records
 abbrev pub HasShortRow : Command → Type 0
 HasShortRow (AddAsset ticker) = Unit {0}
 HasShortRow OpenAccount = Unit {0}
@@ -104,20 +104,20 @@ HasShortRow (Place (Some last) request) = length request.row ≤ most_row_until
 HasShortRow (SetMoneyCredit account ticks) = Unit {0}
 HasShortRow (SetUnitCredit account asset units) = Unit {0}
 
--- the record is this command's
+-- the record encodes this command
 pub record Spells (command : Command) (r : Record) : Type 0 where
   pub fits : IsCommand command
   pub spelled : r ≡ record_of command
 
--- a tag of a command, 1 to 12
+-- the tag of some command, 1 to 12
 abbrev pub IsTag : ℕ → Type 0
 IsTag tag = (1 ≤ tag) × (tag ≤ 12)
 
--- no command of any tag has this record
+-- the record encodes no command
 abbrev pub SpellsNone : Record → Type 0
 SpellsNone r = (command : Command) → ¬ Spells command r
 
--- What a record is read as in whatever version: the command that it spells, or why there is none. Each record of bytes has
+-- What a record is read as, whatever the version: the command that it encodes, or why there is none. Each record of bytes has
 -- exactly one such reading, by the laws.
 abbrev pub IsRead : Record → Result Command BodyFault → Type 0
 IsRead r (Ok command) = Spells command r

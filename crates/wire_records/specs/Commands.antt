@@ -1,9 +1,9 @@
--- Commands and their answers as plain values.
+-- Commands and their replies as plain values.
 use Rattle.std.specs.Prelude.{ℕ, ℤ, List, Option}
 use Rattle.weight_rows.specs.declared.entries.Entry.{Entry}
 use Rattle.wire_records.specs.declared.reply.Reply.{Reply}
 
--- the order that a command asks for, with its limits in whole ticks
+-- the order that a command asks for, with its limits in whole ticks, its rate and its cap in whole units
 pub record Request : Type 0 where
   pub account : ℕ
   pub low : ℤ
@@ -12,7 +12,7 @@ pub record Request : Type 0 where
   pub cap : ℕ
   pub row : List Entry
 
--- What a command asks for. Accounts, orders and batches are numbered from 1, assets from 0; money is in ticks.
+-- A command. Accounts, orders and batches are numbered from 1, assets from 0; money is in ticks.
 pub data Command : Type 0 where
   AddAsset : (ticker : List ℕ) → Command
   OpenAccount : Command
@@ -26,12 +26,12 @@ pub data Command : Type 0 where
   SetMoneyCredit : (account ticks : ℕ) → Command
   SetUnitCredit : (account asset units : ℕ) → Command
 
--- any answer: a plain reply, or the number of a batch and its outcome, whatever outcomes are
+-- the reply to a command: a plain reply, or the number of a batch and its outcome, of any type
 pub data Answer (O : Type 0) : Type 0 where
   Plain : (reply : Reply) → Answer O
   Batch : (number : ℕ) (outcome : O) → Answer O
 
--- what was asked, and its answer
+-- an entry: a command, of any type, and its reply
 pub record Pair (R O : Type 0) : Type 0 where
   pub asked : R
   pub answer : Answer O

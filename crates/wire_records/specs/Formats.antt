@@ -1,4 +1,4 @@
--- Records as units of a file, and command files.
+-- Records as the units of a file, and command files.
 use Rattle.std.specs.Prelude.{◌<◌, ℕ, List, ◌⊎◌}
 use Rattle.wire_records.specs.Records.{Record, IsRecord, StatesLength, spelling, command_magic, command_magic_2, command_magic_3, most_body}
 use Rattle.wire_records.specs.Grammars.{Grammar, BeginsWith}
@@ -6,11 +6,11 @@ use Rattle.wire_records.specs.Reading.{Format}
 use Rattle.wire_records.specs.declared.version.Version.{Version}
 use Rattle.wire_records.specs.declared.version.Version.TheVariants.{One, Two, Three}
 
--- a magic for each version
+-- the encoding of versions: a magic for each
 abbrev pub magics : (Version → List ℕ) → Grammar Version
 magics magic_of = record { IsLawful = λ version. Unit {0}; spell = magic_of }
 
--- records whose bodies have at most so many bytes
+-- the encoding of records whose bodies have at most so many bytes
 abbrev pub records : ℕ → Grammar Record
 records limit = record { IsLawful = IsRecord limit; spell = spelling }
 
@@ -18,7 +18,7 @@ records limit = record { IsLawful = IsRecord limit; spell = spelling }
 abbrev pub StatesOver : ℕ → List ℕ → Type 0
 StatesOver limit bytes = (n : ℕ) × StatesLength n bytes × (limit < n)
 
--- the same of two records in a row, each with its limit: the first that isn't whole states too long a body
+-- of two records in a row, each with its limit, the first one states a body above its limit, or it is complete and the next one does
 abbrev pub EitherStatesOver : ℕ → ℕ → List ℕ → Type 0
 EitherStatesOver limit next bytes =
     StatesOver limit bytes ⊎ ((first : Record) × (rest : List ℕ) × BeginsWith (records limit) bytes first rest × StatesOver next rest)
@@ -29,6 +29,6 @@ command_magic_of One = command_magic
 command_magic_of Two = command_magic_2
 command_magic_of Three = command_magic_3
 
--- command files: records whose bodies are within the limit
+-- the format of command files: a magic, and records whose bodies are within the limit
 abbrev pub commands : Format Version Record
 commands = record { magics = magics command_magic_of; units = records most_body; IsOverlong = StatesOver most_body }

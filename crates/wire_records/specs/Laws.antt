@@ -1,4 +1,4 @@
--- What holds of the grammar, whatever reads or writes it.
+-- Laws of the grammar, whatever reads or writes it.
 use Rattle.std.specs.Prelude.{◌≡◌, ◌≢◌, ◌<◌, ◌≤◌, ◌^◌, ℕ, List, ◌++◌, ◌↔◌, length, All, Result, Ok}
 use Rattle.wire_records.specs.Records.{Record, AreBytes, IsRecord, spelling, most_body}
 use Rattle.wire_records.specs.Framing.{IsFront}
@@ -16,24 +16,24 @@ use Rattle.wire_records.specs.Grammars.{spell_all}
 use Rattle.wire_records.specs.Reading.{Reading, File, Ending, End, Reads, StartsWith}
 use Rattle.wire_records.specs.Formats.{commands}
 
--- No record's spelling is a proper front of another's: bytes that begin with two records begin with one.
+-- No record's encoding is a proper prefix of another's: bytes begin with the encoding of at most one record.
 abbrev pub OneRecord : Type 0
 OneRecord =
     (limit : ℕ) (r s : Record) (x y : List ℕ) → limit < 2 ^ 32 → IsRecord limit r → IsRecord limit s → spelling r ++ x ≡ spelling s ++ y → (r ≡ s) × (x ≡ y)
 
--- a record spells at most one command
+-- a record encodes at most one command
 abbrev pub OneCommand : Type 0
 OneCommand = (c d : Command) (r : Record) → Spells c r → Spells d r → c ≡ d
 
--- a code is of one refusal
+-- no two refusals have the same code
 abbrev pub OneRefusal : Type 0
 OneRefusal = (a b : Refusal) → code_of a ≡ code_of b → a ≡ b
 
--- under a limit that four bytes can state, two fronts of the same bytes are one answer
+-- under a limit below 2^32, it is unique what bytes begin with
 abbrev pub OneFront : Type 0
 OneFront = (a b : Framed) (limit : ℕ) (bytes : List ℕ) → limit < 2 ^ 32 → IsFront a limit bytes → IsFront b limit bytes → a ≡ b
 
--- the front of a record's spelling is that record, whatever follows it
+-- bytes that begin with a record's encoding are framed as that record, whatever follows it
 abbrev pub WrittenIsFramed : Type 0
 WrittenIsFramed =
     (limit : ℕ) (r : Record) (rest : List ℕ) (front : Framed) → limit < 2 ^ 32 → IsRecord limit r → IsFront front limit (spelling r ++ rest) → front ≡ Whole r (length (spelling r))
@@ -51,15 +51,15 @@ abbrev pub CommandIsRead : Type 0
 CommandIsRead = (version : Version) (c : Command) (r : Record) (read : Result Command BodyFault)
     → IsOfVersion version c → Spells c r → IsReadAs version r read → read ≡ Ok c
 
--- what a record is read as in whatever version is its reading in each version but the first, which have all commands
+-- what a record is read as whatever the version is its reading in each version after the first, as these have all commands
 abbrev pub ReadInLater : Type 0
 ReadInLater = (version : Version) (r : Record) (read : Result Command BodyFault) → version ≢ One → IsRead r read ↔ IsReadAs version r read
 
--- a command that is read in a version is one of the version
+-- a command that is read in a version is a command of that version
 abbrev pub ReadsItsOwn : Type 0
 ReadsItsOwn = (version : Version) (r : Record) (c : Command) → IsReadAs version r (Ok c) → IsOfVersion version c
 
--- the record of a command whose row is short enough, if it has one, is within the limit of command records
+-- the record of a command with few enough legs, if it has any, is within the limit of command records
 abbrev pub CommandIsShort : Type 0
 CommandIsShort = (c : Command) → IsCommand c → HasShortRow c → IsRecord most_body (record_of c)
 

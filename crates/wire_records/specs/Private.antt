@@ -1,4 +1,4 @@
--- What the views of requests and rows are made of.
+-- What the views of requests and of their legs are made of.
 use Rattle.std.specs.Prelude.{◌≡◌, ℕ, ◌+◌, ◌*◌, ◌++◌, List, [], ◌∷◌, length, All, None, Some}
 use Rattle.std.specs.List.{flat_map}
 use Rattle.std.specs.Int.{cast_signed, w32}
@@ -8,21 +8,21 @@ use Rattle.wire_records.specs.declared.place.Numbers.{Numbers}
 use Rattle.wire_records.specs.Commands.{Request, Command, Place}
 use Rattle.wire_records.specs.CommandRecords.{entry_spelling, request_spelling, IsEntry, IsRequest}
 
--- the entry of these six bytes
+-- the leg that these six bytes encode
 abbrev pub entry_in : ℕ → ℕ → ℕ → ℕ → ℕ → ℕ → Entry
 entry_in a b c d e f = record { asset = a * 256 + b; weight = cast_signed w32 (((c * 256 + d) * 256 + e) * 256 + f) }
 
--- the entries of bytes, six each; fewer than six have none
+-- the legs that bytes encode, six bytes each; fewer than six bytes encode none
 unfoldable pub entries_in : List ℕ → List Entry
 entries_in (a ∷ b ∷ c ∷ d ∷ e ∷ f ∷ rest) = entry_in a b c d e f ∷ entries_in rest
 entries_in _ = []
 
--- these bytes spell these entries
+-- these bytes are the encodings of these legs
 pub record SpellEntries (bytes : List ℕ) (row : List Entry) : Type 0 where
   pub fit : All IsEntry row
   pub spelled : bytes ≡ flat_map entry_spelling row
 
--- the numbers of a request, and how many entries it has, fit their widths
+-- the numbers of a request, and how many legs it has, are in the ranges of their fields
 pub record FitNumbers (n : Numbers) : Type 0 where
   pub account : IsUnsigned 4 n.account
   pub low : IsSigned 8 n.low
@@ -31,30 +31,30 @@ pub record FitNumbers (n : Numbers) : Type 0 where
   pub cap : IsUnsigned 8 n.cap
   pub count : IsUnsigned 1 n.count
 
--- their bytes, and what stands behind them
+-- the encoding of the numbers of a request, and the bytes after it
 abbrev pub numbers_and : Numbers → List ℕ → List ℕ
 numbers_and n rest =
     unsigned 4 n.account ++ (signed 8 n.low ++ (signed 8 n.high ++ (unsigned 4 n.rate ++ (unsigned 8 n.cap ++ (unsigned 1 n.count ++ rest)))))
 
--- this body spells this request
+-- this body encodes this request
 pub record SpellsRequest (body : List ℕ) (request : Request) : Type 0 where
   pub fits : IsRequest request
   pub spelled : body ≡ request_spelling request
 
--- this body spells no request
+-- this body encodes no request
 abbrev pub SpellsNoRequest : List ℕ → Type 0
 SpellsNoRequest body = (request : Request) → ¬ SpellsRequest body request
 
--- this body spells this last batch, and behind it this request
+-- this body encodes this last batch and, after it, this request
 pub record SpellsUntil (body : List ℕ) (last : ℕ) (request : Request) : Type 0 where
   pub fits : IsUnsigned 4 last × IsRequest request
   pub spelled : body ≡ unsigned 4 last ++ request_spelling request
 
--- this body spells no last batch with a request behind it
+-- this body encodes no last batch with a request after it
 abbrev pub SpellsNoUntil : List ℕ → Type 0
 SpellsNoUntil body = (last : ℕ) (request : Request) → ¬ SpellsUntil body last request
 
--- the most bytes that the record of a command with a row of such a length takes, or of one without a row
+-- the most bytes of the record of a command: exact for an order with this many legs, and 19 for any other command
 abbrev pub room_of : Command → ℕ
 room_of (Place None request) = 38 + 6 * length request.row
 room_of (Place (Some last) request) = 42 + 6 * length request.row

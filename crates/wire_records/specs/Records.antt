@@ -1,12 +1,12 @@
--- What a record is, and how it is spelled in bytes.
+-- What a record is, and how it is encoded in bytes.
 use Rattle.std.specs.Prelude.{◌≡◌, ◌≢◌, ◌<◌, ◌≤◌, ◌^◌, ℕ, List, ◌++◌, length, codes, All}
 use Rattle.wire_fields.specs.Numbers.{unsigned}
 
--- numbers that are bytes
+-- numbers below 256, which are bytes
 abbrev pub AreBytes : List ℕ → Type 0
 AreBytes bytes = All (λ b. b < 256) bytes
 
--- a tag, and a body
+-- a record: a tag and a body
 pub record Record : Type 0 where
   pub tag : ℕ
   pub body : List ℕ
@@ -16,19 +16,19 @@ pub record IsRecord (limit : ℕ) (r : Record) : Type 0 where
   pub tag : r.tag < 256
   pub body : length r.body ≤ limit
 
--- how a record begins: the tag, and the length of the body in four bytes
+-- the head of a record: the tag in one byte, and the length of the body in four
 unfoldable pub head : ℕ → ℕ → List ℕ
 head tag n = unsigned 1 tag ++ unsigned 4 n
 
--- its bytes: the tag and the length of the body, and then the body
+-- the encoding of a record: the tag and the length of the body, and then the body
 unfoldable pub spelling : Record → List ℕ
 spelling r = head r.tag (length r.body) ++ r.body
 
--- five bytes are there, a tag and this length of a body
+-- the bytes begin with a head that states this length of a body, whether or not the body follows
 abbrev pub StatesLength : ℕ → List ℕ → Type 0
 StatesLength n bytes = (n < 2 ^ 32) × (tag : ℕ) × (tag < 256) × (rest : List ℕ) × (bytes ≡ head tag n ++ rest)
 
--- the bytes don't begin with a whole record
+-- the bytes don't begin with a complete record
 abbrev pub HasNoFront : ℕ → List ℕ → Type 0
 HasNoFront limit bytes = (r : Record) (rest : List ℕ) → IsRecord limit r → bytes ≢ spelling r ++ rest
 
@@ -36,11 +36,11 @@ HasNoFront limit bytes = (r : Record) (rest : List ℕ) → IsRecord limit r →
 abbrev pub command_magic : List ℕ
 command_magic = codes "FLOWCMD1"
 
--- of one of version Two
+-- the magic of a command file of version Two
 abbrev pub command_magic_2 : List ℕ
 command_magic_2 = codes "FLOWCMD2"
 
--- and of one of version Three
+-- the magic of a command file of version Three
 abbrev pub command_magic_3 : List ℕ
 command_magic_3 = codes "FLOWCMD3"
 
@@ -48,6 +48,6 @@ command_magic_3 = codes "FLOWCMD3"
 abbrev pub most_body : ℕ
 most_body = 1024
 
--- the longest command record has as many bytes: 5 of its head, and a body at its limit
+-- the length of the longest command record, in bytes: 5 of its head, and a body at its limit
 abbrev pub longest_record : ℕ
 longest_record = 1029

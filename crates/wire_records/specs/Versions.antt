@@ -36,7 +36,7 @@ HasLastBatches version = 10 ≤ most_tag version
 abbrev pub HasCredit : Version → Type 0
 HasCredit version = 11 ≤ most_tag version
 
--- What a record is read as in a version: the command that it spells, or why there is none; a tag that the version doesn't
+-- What a record is read as in a version: the command that it encodes, or why there is none; a tag that the version doesn't
 -- have is unknown, whatever the body is. Each record of bytes has exactly one reading in each version, by the laws.
 abbrev pub IsReadAs : Version → Record → Result Command BodyFault → Type 0
 IsReadAs version r (Ok command) = IsTagOf version r.tag × Spells command r

@@ -1,4 +1,4 @@
--- What contracts see of the program's own commands and of views of borrowed bytes.
+-- What contracts see of commands that the program owns and of views of borrowed bytes.
 use Rattle.std.specs.Prelude.{Result, Ok, Err, None, Some}
 use Rattle.wire_records.specs.Commands.{Command, AddAsset, OpenAccount, DepositMoney, DepositAsset, WithdrawMoney, WithdrawAsset, Place, CancelOrder, RunBatch, SetMoneyCredit, SetUnitCredit}
 use Rattle.wire_records.specs.declared.command.Command as owned
@@ -7,7 +7,7 @@ use Rattle.wire_records.specs.declared.command.CommandView.{CommandView}
 use Rattle.wire_records.specs.declared.command.CommandView.TheVariants as view
 use Rattle.wire_records.specs.declared.command.BodyFault.{BodyFault}
 
--- the command that a value of the program asks for
+-- the command that an owned value is
 abbrev pub command_in : owned.Command → Command
 command_in (own.AddAsset ticker) = AddAsset ticker
 command_in own.OpenAccount = OpenAccount
@@ -37,7 +37,7 @@ command_of (view.PlaceUntil last place) = Place (Some last) place
 command_of (view.SetMoneyCredit account ticks) = SetMoneyCredit account ticks
 command_of (view.SetUnitCredit account asset units) = SetUnitCredit account asset units
 
--- what was read, with the command in place of its view
+-- what a record was read as, with the command in place of its view
 abbrev pub reading : Result CommandView BodyFault → Result Command BodyFault
 reading (Ok seen) = Ok (command_of seen)
 reading (Err why) = Err why

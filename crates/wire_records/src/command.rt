@@ -1,4 +1,4 @@
-//! Commands, and which of them a record spells.
+//! Commands, and which of them a record encodes.
 ghost use Rattle.std.specs.Prelude.{◌≡◌, ◌≢◌, ◌<◌, ◌^◌, ◌++◌, length, IfSome, IfNone};
 ghost use Rattle.wire_fields.specs.Numbers.{unsigned};
 
@@ -11,37 +11,37 @@ use wire_fields::Cursor;
 /// ticks of 2^32 grains. Each number may be any of its width: the market says which it accepts.
 #[derive(Drop)]
 pub enum Command {
-    /// A new asset under this ticker: one to eight characters, padded with spaces to eight bytes.
+    /// Adds an asset under this ticker: one to eight characters, padded with spaces to eight bytes.
     AddAsset {
         ticker: [u8; 8],
     },
-    /// A new account.
+    /// Opens an account.
     OpenAccount,
-    /// Ticks into an account.
+    /// Deposits ticks into an account.
     DepositMoney {
         account: u32,
         ticks: u64,
     },
-    /// Whole units of an asset into an account.
+    /// Deposits whole units of an asset into an account.
     DepositAsset {
         account: u32,
         asset: u16,
         units: u64,
     },
-    /// Ticks out of an account.
+    /// Withdraws ticks from an account.
     WithdrawMoney {
         account: u32,
         ticks: u64,
     },
-    /// Whole units of an asset out of an account.
+    /// Withdraws whole units of an asset from an account.
     WithdrawAsset {
         account: u32,
         asset: u16,
         units: u64,
     },
-    /// An order of an account for a portfolio (Budish, Cramton, Kyle, Lee and Malec, "Flow Trading", 2023). It buys
+    /// Places an order of an account for a portfolio (Budish, Cramton, Kyle, Lee and Malec, "Flow Trading", 2023). It buys
     /// `rate` units a batch at portfolio prices up to `low`, fewer above that and none from `high` on, both in
-    /// ticks, and at most `cap` units in all. The row says which assets one unit has, with what weights.
+    /// ticks, and at most `cap` units in all. `row` says which assets one unit has, with what weights.
     PlaceOrder {
         account: u32,
         low: i64,
@@ -50,17 +50,17 @@ pub enum Command {
         cap: u64,
         row: EntryList,
     },
-    /// The order of this number, from 1, leaves the book. It is to be the account's own.
+    /// Cancels the order of this number, from 1, which leaves the book. It has to be the account's own.
     CancelOrder {
         account: u32,
         order: u64,
     },
-    /// A batch, whose prices are looked for with at most `budget` steps.
+    /// Runs a batch, which searches its prices with at most `budget` moves.
     RunBatch {
         budget: u32,
     },
-    /// The same as [`Command::PlaceOrder`], but the order trades for the last time in the batch of number `last`,
-    /// and leaves the book after it. Of version Two.
+    /// Places an order as [`Command::PlaceOrder`] does, but it trades for the last time in the batch of number `last`,
+    /// and leaves the book after it. From version Two on.
     PlaceUntil {
         last: u32,
         account: u32,
@@ -70,12 +70,12 @@ pub enum Command {
         cap: u64,
         row: EntryList,
     },
-    /// An account's credit in money, in ticks: how far its balance may fall below 0 for its orders. Of version Two.
+    /// Sets an account's credit in money, in ticks: how far its balance may fall below 0 for its orders. From version Two on.
     SetMoneyCredit {
         account: u32,
         ticks: u64,
     },
-    /// An account's credit in an asset, in whole units. Of version Two.
+    /// Sets an account's credit in an asset, in whole units. From version Two on.
     SetUnitCredit {
         account: u32,
         asset: u16,
@@ -86,54 +86,54 @@ pub enum Command {
 /// A command in borrowed bytes: the fields are those of [`Command`], in the same units.
 #[derive(Drop)]
 pub enum CommandView<'a> {
-    /// A new asset under this ticker. It has 8 bytes, of any value: a record gives no other length.
+    /// Adds an asset under this ticker. It has 8 bytes, of any value: a record gives no other length.
     AddAsset(&'a [u8]),
-    /// A new account.
+    /// Opens an account.
     OpenAccount,
-    /// Ticks into an account.
+    /// Deposits ticks into an account.
     DepositMoney {
         account: u32,
         ticks: u64,
     },
-    /// Whole units of an asset into an account.
+    /// Deposits whole units of an asset into an account.
     DepositAsset {
         account: u32,
         asset: u16,
         units: u64,
     },
-    /// Ticks out of an account.
+    /// Withdraws ticks from an account.
     WithdrawMoney {
         account: u32,
         ticks: u64,
     },
-    /// Whole units of an asset out of an account.
+    /// Withdraws whole units of an asset from an account.
     WithdrawAsset {
         account: u32,
         asset: u16,
         units: u64,
     },
-    /// An order of an account for a portfolio.
+    /// Places an order of an account for a portfolio.
     PlaceOrder(PlaceView<'a>),
-    /// The order of this number, from 1, leaves the book.
+    /// Cancels the order of this number, from 1.
     CancelOrder {
         account: u32,
         order: u64,
     },
-    /// A batch, whose prices are looked for with at most `budget` steps.
+    /// Runs a batch, which searches its prices with at most `budget` moves.
     RunBatch {
         budget: u32,
     },
-    /// An order of an account for a portfolio, which trades for the last time in the batch of this number.
+    /// Places an order of an account for a portfolio, which trades for the last time in the batch of this number.
     PlaceUntil {
         last: u32,
         place: PlaceView<'a>,
     },
-    /// An account's credit in money, in ticks.
+    /// Sets an account's credit in money, in ticks.
     SetMoneyCredit {
         account: u32,
         ticks: u64,
     },
-    /// An account's credit in an asset, in whole units.
+    /// Sets an account's credit in an asset, in whole units.
     SetUnitCredit {
         account: u32,
         asset: u16,
@@ -141,16 +141,16 @@ pub enum CommandView<'a> {
     },
 }
 
-/// Why a record spells no command.
+/// Why a record encodes no command.
 #[derive(Clone, Copy, PartialEq, Eq)]
 pub enum BodyFault {
-    /// The tag is no command's.
+    /// No command has the tag.
     UnknownTag,
-    /// The body isn't that of the tag.
+    /// No command of the tag has this body.
     BadBody,
 }
 
-// An account and an amount, or an order, which take all of a body of 12 bytes.
+// An account and an amount, or an account and an order, if the body has exactly their 12 bytes.
 fn money_fields(body: &[u8]) -> Option<(u32, u64)>
     ensures spelled { IfSome result (λ fields. body.now ≡ unsigned 4 fields.0 ++ unsigned 8 fields.1) }
     ensures fits { IfSome result (λ fields. (fields.0 < 2 ^ 32) × (fields.1 < 2 ^ 64)) }
@@ -165,7 +165,7 @@ fn money_fields(body: &[u8]) -> Option<(u32, u64)>
     Some((account, ticks))
 }
 
-// An account, an asset and an amount, which take all of a body of 14 bytes.
+// An account, an asset and an amount, if the body has exactly their 14 bytes.
 fn asset_fields(body: &[u8]) -> Option<(u32, u16, u64)>
     ensures spelled { IfSome result (λ fields. body.now
         ≡ unsigned 4 fields.0 ++ (unsigned 2 fields.1 ++ unsigned 8 fields.2)) }
@@ -182,7 +182,7 @@ fn asset_fields(body: &[u8]) -> Option<(u32, u16, u64)>
     Some((account, asset, units))
 }
 
-// A budget, which takes all of a body of 4 bytes.
+// A budget, if the body has exactly its 4 bytes.
 fn batch_field(body: &[u8]) -> Option<u32>
     ensures spelled { IfSome result (λ budget. body.now ≡ unsigned 4 budget) }
     ensures fits { IfSome result (λ budget. budget < 2 ^ 32) }
@@ -200,11 +200,11 @@ impl<'a> RecordView<'a> {
     ghost use Rattle.wire_records.specs.CommandRecords.{IsRead};
     ghost use Rattle.wire_records.specs.Views.{reading};
 
-    /// The command of whatever version that the record spells, with its fields in the borrowed bytes. Constant cost.
+    /// Returns the command that the record encodes, of any version, with its fields in the borrowed bytes. Constant cost.
     ///
-    /// `UnknownTag` exactly where the tag is outside 1 to 12, `BadBody` exactly where it is 1 to 12 and no command of
-    /// the tag has this body: a byte more or fewer than the fields take. The entries of an order aren't looked at,
-    /// beyond how many bytes they take.
+    /// `UnknownTag` exactly if the tag is outside 1 to 12; `BadBody` exactly if it is 1 to 12 and no command of
+    /// the tag has this body: it has a byte more or fewer than the fields take. The legs of an order aren't looked at,
+    /// except for how many bytes they take.
     pub fn command(&self) -> Result<CommandView<'a>, BodyFault>
         ensures { IsRead self.now (reading result) }
     {

@@ -22,13 +22,13 @@ pub const MOST_BODY: u32 = 1024;
 /// The longest command record, in bytes: the 5 of its head, and the longest body.
 pub const MOST_RECORD: usize = 5 + MOST_BODY as usize;
 
-/// The most entries of a row whose record has no longer body.
+/// The most legs of an order whose record has no longer body.
 pub const MOST_ROW: usize = 165;
 
-/// The most entries of such a row where the record also names the last batch of its order.
+/// The most legs of an order whose record has no longer body and also names its last batch.
 pub const MOST_ROW_UNTIL: usize = 164;
 
-/// The first 8 bytes of a command file of a version.
+/// Returns the first 8 bytes of a command file of a version.
 pub fn command_magic(version: Version) -> [u8; 8]
     ensures { result ≡ command_magic_of version }
 {
@@ -39,15 +39,15 @@ pub fn command_magic(version: Version) -> [u8; 8]
     }
 }
 
-/// Whether the bytes begin as a command file of version One, so that records stand behind the first 8. Constant cost.
+/// Returns whether the bytes begin as a command file of version One, so that records follow the first 8. Constant cost.
 pub fn is_command_file(bytes: &[u8]) -> bool
     ensures { IsTrue result ↔ ((body : List ℕ) × BeginsWith commands.magics bytes.now One body) }
 {
     bytes.starts_with(&COMMAND_MAGIC)
 }
 
-/// The version of which the bytes begin as a command file, so that its records stand behind the first 8; `None` exactly
-/// where they begin with no version's magic. Constant cost.
+/// Returns the version of which the bytes begin as a command file, so that its records follow the first 8; `None` exactly
+/// if they begin with no version's magic. Constant cost.
 pub fn command_version(bytes: &[u8]) -> Option<Version>
     ensures exact { (version : Version) → (result ≡ Some version)
         ↔ ((body : List ℕ) × BeginsWith commands.magics bytes.now version body) }

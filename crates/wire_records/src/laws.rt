@@ -1,4 +1,4 @@
-//! What holds of the grammar, whatever reads or writes it. Each law is the contract of a function that
+//! Laws of the grammar, whatever reads or writes it. Each law is the contract of a function that
 //! does nothing.
 ghost use Rattle.wire_records.specs.Laws.{OneRecord, OneCommand, OneRefusal, OneFront, WrittenIsFramed, OneReading, EachIsRead, CommandIsRead, ReadInLater, ReadsItsOwn, CommandIsShort, OneFile, FirstOfFile, FileIsRead};
 ghost use Rattle.std.specs.Prelude.{◌≡◌, ◌↔◌, IsTrue};
@@ -10,23 +10,23 @@ use crate::{
     MOST_ROW_UNTIL, Refusal, Reply, Version,
 };
 
-/// No record's spelling is a proper front of another's, so what was written is read again, whatever
+/// No record's encoding is a proper prefix of another's, so what was written is read again, whatever
 /// follows it.
 pub fn one_record()
     ensures { OneRecord }
 {}
 
-/// A record spells at most one command.
+/// A record encodes at most one command.
 pub fn one_command()
     ensures { OneCommand }
 {}
 
-/// A code is of one refusal.
+/// No two refusals have the same code.
 pub fn one_refusal()
     ensures { OneRefusal }
 {}
 
-/// Bytes have one front: what `next_record` answers is the only answer that its contract allows.
+/// What bytes begin with is unique: what `next_record` returns is the only result that its contract allows.
 pub fn one_front()
     ensures { OneFront }
 {}
@@ -51,8 +51,8 @@ pub fn command_is_read()
     ensures { CommandIsRead }
 {}
 
-/// What a record spells in whatever version is what it is read as in each version but the first, which have all commands. So
-/// what `RecordView::command` answers shows the only command, or is the only fault, that its contract allows.
+/// What a record is read as whatever the version is its reading in each version after the first, as these have all commands.
+/// So what `RecordView::command` returns is the only command, or the only fault, that its contract allows.
 pub fn read_in_later()
     ensures { ReadInLater }
 {}
@@ -62,7 +62,7 @@ pub fn reads_its_own()
     ensures { ReadsItsOwn }
 {}
 
-/// The record of a command whose row is short enough, if it has one, is within the limit of command records.
+/// The record of a command with few enough legs, if it has any, is within the limit of command records.
 pub fn command_is_short()
     ensures { CommandIsShort }
 {}
@@ -92,22 +92,22 @@ pub fn constants_are_named()
     ensures most_row_until { MOST_ROW_UNTIL ≡ most_row_until }
 {}
 
-/// Two versions are equal in a test exactly where they are the same.
+/// `==` is true of two versions exactly if they are the same.
 pub fn equal_versions()
     ensures { (a b : Version) → IsTrue (⟦<Version as PartialEq>⟧.eq a b) ↔ (a ≡ b) }
 {}
 
-/// Two replies are equal in a test exactly where they are the same.
+/// `==` is true of two replies exactly if they are the same.
 pub fn equal_replies()
     ensures { (a b : Reply) → IsTrue (⟦<Reply as PartialEq>⟧.eq a b) ↔ (a ≡ b) }
 {}
 
-/// Two refusals are equal in a test exactly where they are the same.
+/// `==` is true of two refusals exactly if they are the same.
 pub fn equal_refusals()
     ensures { (a b : Refusal) → IsTrue (⟦<Refusal as PartialEq>⟧.eq a b) ↔ (a ≡ b) }
 {}
 
-/// Two faults are equal in a test exactly where they are the same.
+/// `==` is true of two faults exactly if they are the same.
 pub fn equal_faults()
     ensures { (a b : BodyFault) → IsTrue (⟦<BodyFault as PartialEq>⟧.eq a b) ↔ (a ≡ b) }
 {}

@@ -2,7 +2,7 @@
 ghost use Rattle.std.specs.Prelude.{◌≡◌, ◌+◌, ◌<◌, ◌≤◌, ◌^◌, ◌↔◌, ◌++◌, ℕ, List, length, slice_get, IfSome, IfNone, IfOk, IsNone, Option, Some};
 ghost use Rattle.weight_rows.specs.declared.entries.Entry.{Entry};
 ghost use Rattle.weight_rows.specs.declared.faults.RowFault.{RowFault};
-ghost use Rattle.weight_rows.specs.Rows.{IsLawfulRow, most_entries};
+ghost use Rattle.weight_rows.specs.Rows.{IsWeightVector, most_entries};
 ghost use Rattle.weight_rows.specs.Faults.{IsFaultOf};
 ghost use Rattle.wire_records.specs.CommandRecords.{entry_spelling, IsEntry};
 ghost use Rattle.wire_records.specs.Private.{FitNumbers, numbers_and, SpellsRequest, SpellsNoRequest, SpellsUntil, SpellsNoUntil};
@@ -14,11 +14,11 @@ use std::marker::Model;
 use weight_rows::{Entry, EntryList, MOST_ENTRIES, RowFault, place_fault};
 use wire_fields::Cursor;
 
-// An entry takes as many bytes.
+// The bytes of a leg.
 const ENTRY: usize = 6;
 
-/// Entries in borrowed bytes, in the order in which they stand there, lawful as a row or not. Contracts see them as
-/// the list of the entries. A record has at most 255 of them.
+/// Legs in borrowed bytes, in the order in which they are there. They may be a weight vector or not. Contracts see them as
+/// the list of the legs. A record has at most 255 of them.
 #[derive(Drop)]
 pub struct RowView<'a> {
     bytes: &'a [u8],
@@ -36,7 +36,7 @@ impl<'a> Model for RowView<'a> {
     ghost invariant = { λ row. SpellEntries row.bytes.now (entries_in row.bytes.now) };
 }
 
-// The entry at the front of bytes.
+// The leg at the beginning of the bytes.
 fn entry_of(bytes: &[u8]) -> Option<Entry>
     ensures { (e : Entry) (rest : List ℕ) → IsEntry e → bytes.now ≡ entry_spelling e ++ rest → result ≡ Some e }
 {
@@ -47,14 +47,14 @@ fn entry_of(bytes: &[u8]) -> Option<Entry>
 }
 
 impl<'a> RowView<'a> {
-    /// How many entries there are. Constant cost.
+    /// Returns how many legs there are. Constant cost.
     pub fn len(&self) -> usize
         ensures { result ≡ length self.now }
     {
         self.bytes.len() / ENTRY
     }
 
-    /// The entry at a place, counted from 0; `None` exactly where there are `k` or fewer. The cost is the same at
+    /// Returns the leg at a place, counted from 0; `None` exactly if there are `k` or fewer. The cost is the same at
     /// every place.
     pub fn entry(&self, k: usize) -> Option<Entry>
         ensures value { result ≡ slice_get self.now k }
@@ -66,11 +66,11 @@ impl<'a> RowView<'a> {
         entry_of(&self.bytes[ENTRY * k..])
     }
 
-    /// Why the entries are no row: what [`row_fault`](weight_rows::row_fault) answers for the list of them, `None`
-    /// exactly for a lawful row. It costs one pass over the entries, and none where there are more than 16.
+    /// Returns why the legs are no weight vector, as [`row_fault`](weight_rows::row_fault) does for the list of them; `None`
+    /// exactly for a weight vector. It costs one pass over the legs, and none if there are more than 16.
     pub fn fault(&self) -> Option<RowFault>
         ensures exact { (fault : Option RowFault) → (result ≡ fault) ↔ IsFaultOf self.now fault }
-        ensures lawful { IsNone result ↔ IsLawfulRow self.now }
+        ensures lawful { IsNone result ↔ IsWeightVector self.now }
     {
         let len = self.len();
         if len == 0 {
@@ -99,7 +99,7 @@ impl<'a> RowView<'a> {
         None
     }
 
-    /// The entries as a list of their own; `Memory` where there is none for them. It costs one pass over the entries.
+    /// Copies the legs to a list; `Memory` if memory runs out for it. It costs one pass over the legs.
     pub fn to_list(&self, alloc: Global) -> Result<EntryList, Memory>
         ensures { IfOk result (λ list. list ≡ self.now) }
     {
@@ -111,9 +111,9 @@ impl<'a> RowView<'a> {
     }
 }
 
-/// The order that a command asks for, with its entries in borrowed bytes. The limits are in whole ticks per unit of
+/// The order that a command asks for, with its legs in borrowed bytes. The limits are in whole ticks per unit of
 /// the portfolio, rate and cap in whole units of it, each any number of its width. Contracts see it as these numbers
-/// and the list of the entries. Each of its calls is of constant cost.
+/// and the list of the legs. Each of its calls is of constant cost.
 #[derive(Drop)]
 pub struct PlaceView<'a> {
     account: u32,
@@ -133,42 +133,42 @@ impl<'a> Model for PlaceView<'a> {
 }
 
 impl<'a> PlaceView<'a> {
-    /// The account that asks, a number from 1.
+    /// Returns the account that asks, a number from 1.
     pub fn account(&self) -> u32
         ensures { result ≡ self.now.account }
     {
         self.account
     }
 
-    /// The limit up to which the order buys at its full rate, in ticks.
+    /// Returns the limit up to which the order buys at its full rate, in ticks.
     pub fn low(&self) -> i64
         ensures { result ≡ self.now.low }
     {
         self.low
     }
 
-    /// The limit from which on the order buys nothing, in ticks.
+    /// Returns the limit from which on the order buys nothing, in ticks.
     pub fn high(&self) -> i64
         ensures { result ≡ self.now.high }
     {
         self.high
     }
 
-    /// The most units of the portfolio that are bought in a batch.
+    /// Returns the most units of the portfolio that are bought in a batch.
     pub fn rate(&self) -> u32
         ensures { result ≡ self.now.rate }
     {
         self.rate
     }
 
-    /// The most units of the portfolio that are bought in all.
+    /// Returns the most units of the portfolio that are bought in all.
     pub fn cap(&self) -> u64
         ensures { result ≡ self.now.cap }
     {
         self.cap
     }
 
-    /// The entries: which assets one unit of the portfolio has, with what weights.
+    /// Returns the legs: which assets one unit of the portfolio has, with what weights.
     pub fn row(&self) -> RowView<'a>
         ensures { result ≡ self.now.row }
     {
@@ -177,7 +177,7 @@ impl<'a> PlaceView<'a> {
     }
 }
 
-// The numbers of a request, and how many entries follow.
+// The numbers of a request, and how many legs follow.
 #[derive(Drop)]
 struct Numbers {
     account: u32,
@@ -209,7 +209,7 @@ fn take_numbers(cursor: &mut Cursor<'_>) -> Option<Numbers>
     })
 }
 
-// The request that a body spells, or `None` where it spells none. Its entries aren't looked at, beyond how many bytes
+// The request that a body encodes, or `None` if it encodes none. Its legs aren't looked at, except for how many bytes
 // they take.
 pub(crate) fn place_in(body: &[u8]) -> Option<PlaceView<'_>>
     ensures found { IfSome result (λ place. SpellsRequest body.now place) }
@@ -231,7 +231,7 @@ pub(crate) fn place_in(body: &[u8]) -> Option<PlaceView<'_>>
     })
 }
 
-// The last batch and the request behind it that a body spells, or `None` where it spells none.
+// The last batch, and the request after it, that a body encodes, or `None` if it encodes none.
 pub(crate) fn until_in(body: &[u8]) -> Option<(u32, PlaceView<'_>)>
     ensures found { IfSome result (λ until. SpellsUntil body.now until.0 until.1) }
     ensures none { IfNone result (SpellsNoUntil body.now) }

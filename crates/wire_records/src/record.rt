@@ -1,4 +1,4 @@
-//! Records at the front of bytes.
+//! Records at the beginning of bytes.
 ghost use Rattle.std.specs.Prelude.{◌≡◌, ◌<◌, ◌^◌, ◌++◌, length, IfSome, IfNone};
 ghost use Rattle.wire_records.specs.Records.{AreBytes, head, spelling};
 ghost use Rattle.wire_records.specs.Framing.{IsFront};
@@ -6,7 +6,7 @@ ghost use Rattle.wire_records.specs.Framing.{IsFront};
 use std::marker::Model;
 use wire_fields::Cursor;
 
-// The same slice, with what its type says of its items as a clause.
+// Returns the same slice, with what its type says of its items as a clause.
 pub(crate) fn as_bytes(bytes: &[u8]) -> &[u8]
     ensures value { result.now ≡ bytes.now }
     ensures bytes { AreBytes bytes.now }
@@ -14,8 +14,8 @@ pub(crate) fn as_bytes(bytes: &[u8]) -> &[u8]
     bytes
 }
 
-/// A whole record in borrowed bytes. Contracts see it as its tag and its body. Each of its calls is of
-/// constant cost and allocates nothing; what it hands out lives as long as the borrowed bytes.
+/// A complete record in borrowed bytes. Contracts see it as its tag and its body. Each of its calls is of
+/// constant cost and allocates nothing; what it returns lives as long as the borrowed bytes.
 #[derive(Clone, Drop)]
 pub struct RecordView<'a> {
     tag: u8,
@@ -35,14 +35,14 @@ impl<'a> Model for RecordView<'a> {
 }
 
 impl<'a> RecordView<'a> {
-    /// The tag, a byte of any value.
+    /// Returns the tag, a byte of any value.
     pub fn tag(&self) -> u8
         ensures { result ≡ self.now.tag }
     {
         self.tag
     }
 
-    /// The body.
+    /// Returns the body.
     pub fn body(&self) -> &'a [u8]
         ensures value { result.now ≡ self.now.body }
         ensures bytes { AreBytes self.now.body }
@@ -50,7 +50,7 @@ impl<'a> RecordView<'a> {
         as_bytes(self.body)
     }
 
-    /// The whole record, as it stands in the borrowed bytes: tag, length and body.
+    /// Returns the bytes of the record, as they are in the borrowed bytes: tag, length and body.
     pub fn bytes(&self) -> &'a [u8]
         ensures { result.now ≡ spelling self.now }
     {
@@ -58,22 +58,22 @@ impl<'a> RecordView<'a> {
     }
 }
 
-/// What stands at the front of bytes.
+/// What bytes begin with.
 #[derive(Drop)]
 pub enum Framed<'a> {
-    /// A whole record, and the number of bytes that it takes.
+    /// A complete record, and the number of bytes that it takes.
     Whole(RecordView<'a>, usize),
     /// No bytes.
     End,
     /// Five bytes are there, and the length of a body that they state is above the limit; this is that
-    /// length, in bytes. Whether so many bytes follow makes no difference.
+    /// length, in bytes. It makes no difference whether so many bytes follow.
     TooLarge(u32),
-    /// Some bytes, but less than a whole record: fewer than five, or a body within the limit that isn't
+    /// Some bytes, but less than a complete record: fewer than five, or a body within the limit that isn't
     /// all there.
     Short,
 }
 
-// A tag and the length of a body.
+// Takes a tag and the length of a body.
 fn take_head(cursor: &mut Cursor<'_>) -> Option<(u8, u32)>
     ensures stated { IfSome result (λ found. cursor.old ≡ head found.0 found.1 ++ cursor.new) }
     ensures fits { IfSome result (λ found. (found.0 < 256) × (found.1 < 2 ^ 32)) }
@@ -84,8 +84,8 @@ fn take_head(cursor: &mut Cursor<'_>) -> Option<(u8, u32)>
     Some((tag, length))
 }
 
-/// What stands at the front of `bytes`, where a body may have at most `limit` bytes. What follows the
-/// front isn't looked at. Constant cost, and nothing is allocated.
+/// Returns what `bytes` begin with, if a body may have at most `limit` bytes. The bytes after that
+/// aren't looked at. Constant cost, and nothing is allocated.
 pub fn next_record<'a>(bytes: &'a [u8], limit: u32) -> Framed<'a>
     ensures { IsFront result limit bytes.now }
 {

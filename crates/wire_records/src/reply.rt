@@ -1,10 +1,10 @@
-//! What a command is answered.
+//! Replies and refusals.
 ghost use Rattle.std.specs.Prelude.{◌≡◌, ◌≢◌, IfSome, IfNone};
 
 /// The reply to a command other than a batch.
 #[derive(Clone, Copy, Debug, PartialEq, Eq)]
 pub enum Reply {
-    /// It was done.
+    /// The command was done.
     Done,
     /// The number of the new asset, from 0.
     Asset(u16),
@@ -20,17 +20,17 @@ pub enum Reply {
 /// command changes nothing.
 #[derive(Clone, Copy, Debug, PartialEq, Eq)]
 pub enum Refusal {
-    /// The tag is no command's of the version.
+    /// No command of the version has the tag.
     UnknownTag,
-    /// The body isn't that of the tag.
+    /// No command of the tag has this body.
     BadBody,
-    /// 64 assets are there.
+    /// There are 64 assets already.
     AssetLimit,
     /// An asset has this ticker.
     TickerTaken,
     /// The ticker isn't valid.
     BadTicker,
-    /// 65,536 accounts are there.
+    /// There are 65,536 accounts already.
     AccountLimit,
     /// The account isn't there.
     NoAccount,
@@ -48,7 +48,7 @@ pub enum Refusal {
     BadRate,
     /// The cap is outside 1 to 2^40.
     BadCap,
-    /// The entries are no row: there are none or more than 16, assets don't ascend, or an absolute weight is
+    /// The legs are no weight vector: there are none or more than 16, assets don't ascend, or an absolute weight is
     /// outside 1 to 4,096.
     BadRow,
     /// 16,384 orders are live.
@@ -59,11 +59,11 @@ pub enum Refusal {
     BadBudget,
     /// 2^24 batches were held.
     BatchLimit,
-    /// The last batch of the order was already held, or is 0.
+    /// The last batch of the order was held already, or is 0.
     BadLast,
     /// The balance and the credit asked for don't cover what the account's orders need.
     CreditInUse,
-    /// The credit is above 2^40.
+    /// The credit is above 2^40 ticks or units.
     CreditLimit,
 }
 
@@ -71,7 +71,7 @@ impl Refusal {
     ghost use Rattle.wire_records.specs.declared.reply.Refusal.{Refusal};
     ghost use Rattle.wire_records.specs.Refusals.{code_of};
 
-    /// The number of the refusal, as a reply spells it: 1 to 19, or 22 to 24. Each refusal has its own.
+    /// Returns the code of the refusal, as a reply encodes it: 1 to 19, or 22 to 24. Each refusal has its own.
     pub fn code(&self) -> u8
         ensures { result ≡ code_of self.now }
     {
@@ -101,8 +101,8 @@ impl Refusal {
         }
     }
 
-    /// The refusal of a number; `None` exactly where the number is neither 1 to 19 nor 22 to 24,
-    /// and so none's.
+    /// Returns the refusal with this code; `None` exactly if the code is neither 1 to 19 nor 22 to 24,
+    /// and so no refusal's.
     pub fn of_code(code: u8) -> Option<Refusal>
         ensures found { IfSome result (λ refusal. code_of refusal ≡ code) }
         ensures none { IfNone result ((refusal : Refusal) → code_of refusal ≢ code) }

@@ -8,7 +8,7 @@ pub enum Version {
     One,
     /// An order may name the last batch in which it trades, and an account may get credit for its orders.
     Two,
-    /// The same commands as version Two. A move of a price ends by 256 parts of a unit, and not by whole units.
+    /// The commands are those of version Two. A move of a price ends by demands in parts of 1/256 of a unit, and not by whole units.
     Three,
 }
 
@@ -16,7 +16,7 @@ impl Version {
     ghost use Rattle.std.specs.Prelude.{◌≡◌};
     ghost use Rattle.wire_records.specs.Versions.{number_of, most_tag, HasLastBatches, HasCredit};
 
-    /// Its number, from 1.
+    /// Returns the number of the version, from 1.
     pub fn number(self) -> u8
         ensures { result ≡ number_of self }
     {
@@ -27,7 +27,7 @@ impl Version {
         }
     }
 
-    /// The version of a number; `None` exactly where no version has it.
+    /// Returns the version with this number; `None` exactly if no version has it.
     pub fn of_number(number: u8) -> Option<Version>
         ensures { MatchOption result ((version : Version) → number ≢ number_of version) (λ version. number ≡ number_of version) }
     {
@@ -39,8 +39,8 @@ impl Version {
         }
     }
 
-    /// The version whose number is the digit that ends the eight bytes of a magic; `None` exactly where none of its numbers
-    /// stands there. Constant cost.
+    /// Returns the version whose number is the digit that ends the eight bytes of a magic; `None` exactly if that byte is no
+    /// version's digit. Constant cost.
     pub fn of_magic(bytes: &[u8]) -> Option<Version>
         ensures { MatchOption result ((version : Version) → get_or bytes.now 7 0 ≢ 48 + number_of version)
             (λ version. get_or bytes.now 7 0 ≡ 48 + number_of version) }
@@ -49,7 +49,7 @@ impl Version {
         Version::of_number(digit.checked_sub(b'0')?)
     }
 
-    /// The highest tag of one of its commands.
+    /// Returns the highest tag of the version's commands.
     pub fn most_tag(self) -> u8
         ensures { result ≡ most_tag self }
     {
@@ -60,14 +60,14 @@ impl Version {
         }
     }
 
-    /// Whether an order may name the last batch in which it trades.
+    /// Returns whether an order may name the last batch in which it trades.
     pub fn has_last_batches(self) -> bool
         ensures { IsTrue result ↔ HasLastBatches self }
     {
         self.most_tag() >= 10
     }
 
-    /// Whether an account may get credit for its orders.
+    /// Returns whether an account may get credit for its orders.
     pub fn has_credit(self) -> bool
         ensures { IsTrue result ↔ HasCredit self }
     {

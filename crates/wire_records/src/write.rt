@@ -12,11 +12,11 @@ use out_of_memory::Memory;
 use weight_rows::Entry;
 use wire_fields::{put_bytes, put_i32, put_i64, put_u8, put_u16, put_u32, put_u64};
 
-// The longest record of a command without a row takes as many bytes.
+// The length of the longest record of a command without legs, in bytes.
 const LONGEST: usize = 19;
 
-/// Appends how a record begins: the tag, and the length in bytes of the body, which the caller appends
-/// next. `out` has room for the 5 bytes, so nothing is allocated.
+/// Appends the head of a record: the tag, and the length in bytes of the body, which the caller appends
+/// next. `out` has the capacity for the 5 bytes, so nothing is allocated.
 pub fn put_head(out: &mut Vec<u8>, tag: u8, length: u32)
     requires { vec_len out.old + 5 ≤ vec_capacity out.old }
     ensures written { out.new.items ≡ out.old.items ++ head tag length }
@@ -27,7 +27,7 @@ pub fn put_head(out: &mut Vec<u8>, tag: u8, length: u32)
     put_u32(out, length);
 }
 
-// A record of a ticker.
+// Appends a record of a ticker.
 fn put_ticker(out: &mut Vec<u8>, tag: u8, ticker: [u8; 8])
     requires { vec_len out.old + 13 ≤ vec_capacity out.old }
     ensures written { out.new.items ≡ out.old.items ++ spelling (record { tag = tag; body = ticker }) }
@@ -37,7 +37,7 @@ fn put_ticker(out: &mut Vec<u8>, tag: u8, ticker: [u8; 8])
     put_bytes(out, &ticker);
 }
 
-// A record without a body.
+// Appends a record without a body.
 fn put_bare(out: &mut Vec<u8>, tag: u8)
     requires { vec_len out.old + 5 ≤ vec_capacity out.old }
     ensures { out.new.items ≡ out.old.items ++ spelling (record { tag = tag; body = [] }) }
@@ -45,7 +45,7 @@ fn put_bare(out: &mut Vec<u8>, tag: u8)
     put_head(out, tag, 0);
 }
 
-// A record of an account and an amount of money, or an order.
+// Appends a record of an account and an amount of money, or of an account and an order.
 fn put_money(out: &mut Vec<u8>, tag: u8, account: u32, ticks: u64)
     requires { vec_len out.old + 17 ≤ vec_capacity out.old }
     ensures { out.new.items ≡ out.old.items
@@ -56,7 +56,7 @@ fn put_money(out: &mut Vec<u8>, tag: u8, account: u32, ticks: u64)
     put_u64(out, ticks);
 }
 
-// A record of an account and units of an asset.
+// Appends a record of an account and units of an asset.
 fn put_units(out: &mut Vec<u8>, tag: u8, account: u32, asset: u16, units: u64)
     requires { vec_len out.old + 19 ≤ vec_capacity out.old }
     ensures { out.new.items ≡ out.old.items
@@ -68,7 +68,7 @@ fn put_units(out: &mut Vec<u8>, tag: u8, account: u32, asset: u16, units: u64)
     put_u64(out, units);
 }
 
-// The entries of a row.
+// Appends the legs of an order.
 fn put_entries(out: &mut Vec<u8>, entries: &[Entry])
     requires { vec_len out.old + 6 * length entries.now ≤ vec_capacity out.old }
     ensures written { out.new.items ≡ out.old.items ++ flat_map entry_spelling entries.now }
@@ -80,7 +80,7 @@ fn put_entries(out: &mut Vec<u8>, entries: &[Entry])
     }
 }
 
-// The fields of an order that is asked for.
+// Appends the fields of an order that is asked for.
 fn put_request(
     out: &mut Vec<u8>,
     account: u32,
@@ -106,7 +106,7 @@ fn put_request(
     put_entries(out, row);
 }
 
-// A record of an order that is asked for.
+// Appends a record of an order that is asked for.
 fn put_order(
     out: &mut Vec<u8>,
     account: u32,
@@ -130,7 +130,7 @@ fn put_order(
     put_request(out, account, low, high, rate, cap, row);
 }
 
-// A record of an order that is asked for up to a last batch.
+// Appends a record of an order that is asked for up to a last batch.
 fn put_until(
     out: &mut Vec<u8>,
     last: u32,
@@ -156,7 +156,7 @@ fn put_until(
     put_request(out, account, low, high, rate, cap, row);
 }
 
-// A record of a batch.
+// Appends a record of a batch.
 fn put_batch(out: &mut Vec<u8>, budget: u32)
     requires { vec_len out.old + 9 ≤ vec_capacity out.old }
     ensures { out.new.items ≡ out.old.items ++ spelling (record { tag = 9; body = unsigned 4 budget }) }
@@ -178,16 +178,16 @@ fn room_for(command: &Command) -> usize
 }
 
 #[tactic(auto, unfolding(crate::specs::CommandRecords::body_of))]
-/// Appends the record of a command, whose row has at most [`MOST_ROW`](crate::MOST_ROW) entries, if it has one, and at
-/// most [`MOST_ROW_UNTIL`](crate::MOST_ROW_UNTIL) where the command names a last batch: at most 19 bytes, or 42 and 6
-/// for each entry. After `Memory` the bytes are as before. The cost is that of the bytes,
-/// and of a move of `out` where it has to grow.
+/// Appends the record of a command: at most 19 bytes, or 42 and 6 for each leg. The command has at most
+/// [`MOST_ROW`](crate::MOST_ROW) legs, if it has any, and at most [`MOST_ROW_UNTIL`](crate::MOST_ROW_UNTIL) if it
+/// names a last batch. After `Memory` the bytes are as before. The cost is that of the bytes,
+/// and of a move of `out` if it has to grow.
 pub fn write_command(command: &Command, out: &mut Vec<u8>) -> Result<(), Memory>
     requires { HasShortRow (command_in command.now) }
     ensures written { OnOk result (out.new.items ≡ out.old.items ++ spelling (record_of (command_in command.now))) }
     ensures stays { OnErr result (out.new.items ≡ out.old.items) }
 
-    // So the record is this command's, and by the laws it is framed and read as it, whatever follows it.
+    // So the record encodes this command, and by the laws it is framed and read as it, whatever follows it.
     ensures fits { OnOk result (IsCommand (command_in command.now)) }
 {
     out.reserve(room_for(command))?;

@@ -1,4 +1,4 @@
-//! Spellings from outside, as Python's `int.to_bytes` gives them.
+//! Encodings from outside, as Python's `int.to_bytes` gives them.
 use std::process::Abort;
 use std::test::Fail;
 use wire_fields::{
@@ -131,21 +131,21 @@ fn takes_signed(rt: HostRuntime) {
     assert!(rt; cursor.is_empty());
 }
 
-// The first two fields, and how many bytes are left.
+// Takes the first two fields, and compares how many bytes are left.
 fn takes_first(rt: &impl Abort, cursor: &mut Cursor<'_>) {
     assert_eq!(rt; cursor.take_u16(), Some(0x0102));
     assert_eq!(rt; cursor.take(4).unwrap_or(b""), b"flow".as_slice());
     assert_eq!(rt; cursor.left(), 3);
 }
 
-// Too few bytes are left: the cursor stays.
+// Too few bytes are left: the cursor stays where it is.
 fn stays(rt: &impl Abort, cursor: &mut Cursor<'_>) {
     assert_eq!(rt; cursor.take_i32(), None);
     assert!(rt; cursor.take(4).is_none());
     assert_eq!(rt; cursor.left(), 3);
 }
 
-// The last two fields, behind which there is nothing.
+// Takes the last two fields, which nothing follows.
 fn takes_last(rt: &impl Abort, cursor: &mut Cursor<'_>) {
     assert_eq!(rt; cursor.take_u8(), Some(7));
     assert_eq!(rt; cursor.take_u16(), Some(0xfffe));

@@ -1,4 +1,4 @@
-//! Rows of weights: their faults, their weights and their prices.
+//! Weight vectors: their faults, their weights and their prices.
 ghost use Rattle.std.specs.Prelude.{All};
 ghost use Rattle.weight_rows.specs.Rows.{IsPrice, IsPricedBy};
 
@@ -18,7 +18,7 @@ fn list(alloc: Global, pairs: &[(u16, i32)]) -> Result<EntryList, AllocError> {
     Ok(EntryList::new(entries))
 }
 
-/// Entries for the assets from 0 on, all of one weight.
+/// Legs for the assets from 0 on, all of one weight.
 const fn wide(weight: i32) -> [(u16, i32); 16] {
     [
         (0, weight),
@@ -100,7 +100,7 @@ fn lawful(rt: &impl Abort, entries: EntryList) -> WeightRow {
     WeightRow::new(entries)
 }
 
-/// Sees to it that these prices may price the row.
+/// Aborts unless these prices may price the weight vector.
 fn may_price(rt: &impl Abort, row: &WeightRow, prices: &[i64])
     ensures priced { IsPricedBy row.now prices.now }
     ensures range { All IsPrice prices.now }
@@ -113,13 +113,13 @@ fn may_price(rt: &impl Abort, row: &WeightRow, prices: &[i64])
     assert!(rt; prices.iter().all(|price| price.unsigned_abs() <= 1 << 62));
 }
 
-/// The furthest price.
+/// The price farthest from 0.
 const FAR: i64 = 1 << 62;
 
-// A row, prices, and what the row costs at them.
+// The legs of a weight vector, prices, and what the portfolio costs at them.
 type Priced<'a> = (&'a [(u16, i32)], &'a [i64], i128);
 
-// Makes the row, and compares its price, whether it names one asset, and its weights.
+// Makes the weight vector, and compares its price, whether it names one asset, and its weights.
 fn is_priced_so(rt: &impl Abort, alloc: Global, case: Priced<'_>) -> Result<(), AllocError> {
     let (pairs, prices, expected) = case;
     let row = lawful(rt, list(alloc, pairs)?);
@@ -170,7 +170,7 @@ fn weighs_and_prices_rows(rt: HostRuntime) -> Result<(), Fail> {
     Ok(())
 }
 
-// Makes the row, and compares its price where one asset's price is another one.
+// Makes the weight vector, and compares its price if one asset has another price.
 fn is_priced_with(
     rt: &impl Abort,
     alloc: Global,

@@ -1,4 +1,4 @@
-//! Sources and sinks: what is read and held, and where they fail.
+//! Sources and sinks: what is read and held, and when they fail.
 use flow_io::{
     Filled, ReadAllFault, ReadFailed, Sink, Source, StdSink, StdSource, Window, read_all,
 };
@@ -9,7 +9,7 @@ use std::io::{ErrorKind, Read, Write};
 use std::process::Abort;
 use std::test::Fail;
 
-// Whether all up to a limit is this, and whether there is more.
+// Returns whether all up to a limit is `want`, and `more` says whether there is more.
 fn reads<S: Source>(alloc: Global, source: &mut S, limit: u64, want: &[u8], more: bool) -> bool {
     match read_all(alloc, source, limit) {
         Ok(input) => input.bytes.as_slice() == want && input.more == more,
@@ -34,7 +34,7 @@ fn reads_both<S: Source>(
     );
 }
 
-// Ten bytes: the limit, how many come, whether there are more, and how many are then left.
+// Ten bytes: the limit, how many are read, whether there are more, and how many are then left.
 #[test]
 fn reads_up_to_a_limit(rt: HostRuntime) -> Result<(), Fail> {
     let alloc = rt.alloc();
@@ -58,7 +58,7 @@ fn reads_up_to_a_limit(rt: HostRuntime) -> Result<(), Fail> {
     Ok(())
 }
 
-// Pieces of 4 of ten bytes, and calls 2, 3 and 5 fail: a fault takes nothing.
+// Ten bytes in pieces of 4, of which calls 2, 3 and 5 fail: a fault takes nothing.
 #[test]
 fn fails_at_stated_reads(rt: HostRuntime) -> Result<(), Fail> {
     let alloc = rt.alloc();
@@ -93,12 +93,12 @@ fn fails_at_stated_reads(rt: HostRuntime) -> Result<(), Fail> {
     Ok(())
 }
 
-// Writes, and compares the answer.
+// Writes, and compares whether it fails.
 fn writes<K: Sink>(rt: &impl Abort, sink: &mut K, bytes: &[u8], fails: bool) {
     assert_eq!(rt; sink.write(bytes).is_err(), fails, "{bytes:?}");
 }
 
-// A room of 5 bytes; in the fake calls 2 and 3 fail, and keep 2 of 5 bytes and 0 of 1.
+// A room of 5 bytes; calls 2 and 3 of the fake fail, and keep 2 of 5 bytes and 0 of 1.
 #[test]
 fn keeps_what_fits(rt: HostRuntime) -> Result<(), Fail> {
     let alloc = rt.alloc();
@@ -202,7 +202,7 @@ fn writes_a_writer(rt: HostRuntime) -> Result<(), Fail> {
     Ok(())
 }
 
-// Eight bytes: four are held at a time, and six are considered.
+// Eight bytes, of which four are held at a time, and six are considered.
 #[test]
 fn a_window_ends_at_its_limit(rt: HostRuntime) -> Result<(), Fail> {
     let alloc = rt.alloc();

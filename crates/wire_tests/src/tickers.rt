@@ -4,14 +4,14 @@ use std::process::Abort;
 use std::test::Fail;
 use ticker_table::{TickerFault, TickerTable};
 
-// A ticker that is valid becomes the first of a table.
+// A valid ticker becomes the first of a table.
 fn is_taken(rt: &impl Abort, alloc: Global, ticker: &[u8; 8]) {
     let mut table = TickerTable::new(alloc);
     assert_eq!(rt; table.add(*ticker), Ok(0), "{ticker:?}");
     assert_eq!(rt; table.ticker(0), Some(*ticker), "{ticker:?}");
 }
 
-// One that isn't leaves the table empty.
+// An invalid ticker leaves the table empty.
 fn is_refused(rt: &impl Abort, alloc: Global, ticker: &[u8; 8]) {
     let mut table = TickerTable::new(alloc);
     adds(rt, &mut table, ticker, Err(TickerFault::BadTicker));
@@ -63,7 +63,7 @@ fn valid_tickers(rt: HostRuntime) -> Result<(), Fail> {
     Ok(())
 }
 
-// The ticker A01 of 1, and so on.
+// Returns the ticker A01 for 1, and so on.
 fn ticker_of(number: u8) -> [u8; 8] {
     [
         b'A',
@@ -77,7 +77,7 @@ fn ticker_of(number: u8) -> [u8; 8] {
     ]
 }
 
-// What is found in a full table.
+// Compares what is found in a full table.
 fn finds(rt: &impl Abort, table: &TickerTable) {
     assert_eq!(rt; table.find(b"A40     "), Some(40));
     assert_eq!(rt; table.find(b"A64     "), None);

@@ -1,4 +1,4 @@
--- Two ways over the same units: one that can't go on is at least as far.
+-- Of two ways over the same units, one that can't continue is at least as far.
 use Rattle.std.proofs.Common.{◌≡◌, ℕ, List, [], ◌∷◌, ◌++◌, Some, Ok, Err, inl, inr, append_assoc, refl, sym, ap, ◌∙◌, subst}
 use Rattle.std.proofs.lemmas.List.Elements.{All-head, All-tail}
 use Rattle.wire_records.specs.Grammars.{BeginsWith, BeginsWithNone, spell_all}
@@ -8,11 +8,11 @@ use Rattle.word_driver.specs.Word.{Word, Goes, Passes, Halts}
 use Rattle.word_driver.specs.Laws.{IsExact}
 
 module _ {U S B : Type 0} (w : Word U S B) (exact : IsExact w) where
-  -- no unit at the front of the rest leads on
+  -- no unit at the beginning of the rest leads on
   abbrev pub IsStill : List ℕ → S → Type 0
   IsStill rest state = (u : U) (more : List ℕ) (t : S) (x : List ℕ) → BeginsWith w.format.units rest u more → w.Steps state u t x → ⊥
 
-  -- The second way goes on from where the first one is.
+  -- The second way continues from where the first one is.
   pub record IsAhead (rest : List ℕ) (state : S) (units all : List U) (x : List ℕ) (left : List ℕ) (end : S) (y : List ℕ) : Type 0 where
     pub more : List U
     pub between : List ℕ
@@ -20,7 +20,7 @@ module _ {U S B : Type 0} (w : Word U S B) (exact : IsExact w) where
     pub onward : Passes w rest state more left end between
     pub text : y ≡ x ++ between
 
-  -- what is passed behind a unit
+  -- what is passed after the first unit
   behind : (bytes : List ℕ) (s next : S) (u : U) (us : List U) (r : List ℕ) (m : S) (rest : List ℕ) → Passes w bytes s (u ∷ us) r m rest → (goes : Goes w s (u ∷ us) m rest)
       → Passes w (spell_all w.format.units us ++ r) goes.0 us r m goes.2
   behind bytes s next u us r m rest passes goes = record { whole = refl; each = All-tail w.format.units.IsLawful u us passes.each; goes = goes.4 }
@@ -62,7 +62,7 @@ module _ {U S B : Type 0} (w : Word U S B) (exact : IsExact w) where
         text = b.goes.5 ∙ ap (λ xs. xs ++ b.goes.2) (sym same.1) ∙ ap (λ xs. a.goes.1 ++ xs) on.text ∙ sym (append_assoc a.goes.1 a.goes.2 on.between) ∙ ap (λ xs. xs ++ on.between) (sym a.goes.5);
       }
 
-  -- where it halts, it is still
+  -- a way is still if no complete unit is left
   still_none : (rest : List ℕ) (state : S) → BeginsWithNone w.format.units rest → IsStill rest state
   still_none rest state none u more t x begins step = none u more begins.0 begins.1
 

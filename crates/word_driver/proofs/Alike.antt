@@ -1,4 +1,4 @@
--- Whether there is more may be said in another way.
+-- Whether the input has more bytes may be said in another way.
 use Rattle.std.proofs.Common.{◌+◌, ◌↔◌, ℕ, List, Ok, Err, length, inl, inr}
 use Rattle.wire_records.specs.Grammars.{spell_all}
 use Rattle.wire_records.specs.Reading.{Ending, End, EndsAs}
@@ -46,5 +46,5 @@ module _ {U S B : Type 0} (w : Word U S B) (P Q : Type 0) (same : P ↔ Q) where
     rest = on.rest;
     state = on.state;
     passes = on.passes;
-    wants = elim on.wants [ inl at ↦ inl at | inr (at, wants) ↦ inr (at_end_alike (place + length (spell_all w.format.units on.units)) on.rest End at, wants) ];
+    allocates = elim on.allocates [ inl at ↦ inl at | inr (at, allocates) ↦ inr (at_end_alike (place + length (spell_all w.format.units on.units)) on.rest End at, allocates) ];
   }

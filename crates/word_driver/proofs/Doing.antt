@@ -1,12 +1,12 @@
--- What a word comes to, from what its parts did.
+-- What a subcommand results in, from what its parts did.
 use Rattle.std.proofs.Common.{◌≡◌, ◌↔◌, ◌+◌, ◌-◌, ◌<◌, ◌≤◌, ℕ, List, [], ◌++◌, Option, Some, None, Ok, Err, length, take, drop, inl, inr, append-nil, append_assoc, length-append, refl, sym, ap, ◌∙◌, subst, arith}
 use Rattle.std.proofs.Math.Seq.{take-append-add}
 use Rattle.std.proofs.lemmas.List.{take_at, take-append-le, take-append-drop}
 use Rattle.std.proofs.lemmas.List.Elements.{All-nil}
 use Rattle.flow_io.specs.Changes.{Change}
-use Rattle.flow_io.specs.Streams.{Takes, Grows, GrowsByFront}
+use Rattle.flow_io.specs.Streams.{Takes, Grows, GrowsByPrefix}
 use Rattle.flow_io.specs.Windows.{WindowState}
-use Rattle.flow_io.proofs.Growth.{Grows-nothing, Grows-more, GrowsByFront-more}
+use Rattle.flow_io.proofs.Growth.{Grows-nothing, Grows-more, GrowsByPrefix-more}
 use Rattle.wire_records.specs.Grammars.{BeginsWith, BeginsWithNone, spell_all}
 use Rattle.wire_records.specs.declared.version.Version.{Version}
 use Rattle.wire_records.proofs.ReadingLaws.{none_in_none}
@@ -20,7 +20,7 @@ use Rattle.word_driver.specs.Private.{OpensAt, IsNear, Ends, GoesOn, IsNearAll, 
 use Rattle.word_driver.proofs.Alike.{comes_on_alike, lacks_on_alike}
 
 module _ {U S B : Type 0} (w : Word U S B) (start : Version → S) (exact : IsExact w) (kept : IsKept w start) where
-  -- behind the magic, from the start
+  -- what the bytes after the magic result in from the start is what all bytes result in
   opened : (version : Version) (bytes body behind : List ℕ) (More : Type 0) (s : S) (ended : Ended B) → BeginsWith w.format.magics bytes version body → s ≡ start version
       → ComesOn w More 8 body s ended behind → Comes w start bytes More ended (w.opens version ++ behind)
   opened version bytes body behind More s ended magic is on =
@@ -42,7 +42,7 @@ module _ {U S B : Type 0} (w : Word U S B) (start : Version → S) (exact : IsEx
   first_bytes version bytes body n magic =
       (magic.0, ap (take (length (w.format.magics.spell version) + n)) magic.1 ∙ take-append-add (w.format.magics.spell version) body n)
 
-  -- the bytes behind a magic of eight, as far as they are considered
+  -- the considered bytes after a magic of eight bytes
   module _ (limit : ℕ) (held : List ℕ) (version : Version) (magic : BeginsWith w.format.magics held version (drop 8 held)) (some : 8 ≤ length held) (within : length held ≤ limit) where
     considered_behind : (more : List ℕ) → BeginsWith w.format.magics (take limit (held ++ more)) version (take (limit - 8) (drop 8 held ++ more))
     considered_behind more =
@@ -67,7 +67,7 @@ module _ {U S B : Type 0} (w : Word U S B) (start : Version → S) (exact : IsEx
     abbrev pub behind : Change
     behind = record { before = middle; after = after; faults = between; faults_after = later }
 
-    -- the opening was written, and then it went on to its end
+    -- the opening was written, and then the units were gone through to an end
     module _ (begun : OpensAt w start held state IsReady opening) (written : Grows before middle opening) (taken : List ℕ) where
       abbrev Considered : Type 0
       Considered = limit < length (held ++ known taken source.after)
@@ -127,7 +127,7 @@ module _ {U S B : Type 0} (w : Word U S B) (start : Version → S) (exact : IsEx
           )
           | inr (ended, on) ↦ inr (ended, comes ended text on)
         ],
-        GrowsByFront-more before middle after (w.opens begun.version) text (rw begun.opening at written) onward,
+        GrowsByPrefix-more before middle after (w.opens begun.version) text (rw begun.opening at written) onward,
       )
       found (Err Read) (text, on, onward) =
           let n = length (drop 8 held ++ taken) in
@@ -147,7 +147,7 @@ module _ {U S B : Type 0} (w : Word U S B) (start : Version → S) (exact : IsEx
           finds = found begun written on.taken ended (rw (is, place, same) at on.ends);
         }
 
-  -- ---- nothing was read behind what a new window holds
+  -- ---- nothing was read past what a new window holds
 
   nothing_known : (told : Option (List ℕ)) → Takes told told []
   nothing_known None = tt
@@ -167,7 +167,7 @@ module _ {U S B : Type 0} (w : Word U S B) (start : Version → S) (exact : IsEx
     none_taken = omega (arith, within)
 
     -- the write of the opening was cut
-    pub over_cut : (state : S) (IsReady : ℕ → Type 0) (opening : List ℕ) (begun : OpensAt w start held state IsReady opening) → GrowsByFront before after opening → GoesOver w start limit held (Err Write) same_source changed_out
+    pub over_cut : (state : S) (IsReady : ℕ → Type 0) (opening : List ℕ) (begun : OpensAt w start held state IsReady opening) → GrowsByPrefix before after opening → GoesOver w start limit held (Err Write) same_source changed_out
     over_cut state IsReady opening begun written =
         let bytes = take limit (held ++ known [] told) in
         let body = take (limit - 8) (drop 8 held ++ known [] told) in
@@ -194,11 +194,11 @@ module _ {U S B : Type 0} (w : Word U S B) (start : Version → S) (exact : IsEx
               Err TooLong,
               opened begun.version (take (length (w.format.magics.spell begun.version) + 0) bytes) (take 0 body) [] (Unit {0}) state (Err TooLong) (first_bytes begun.version bytes body 0 magic) begun.starts none,
             ),
-            subst (λ (x : List ℕ). GrowsByFront before after x) (begun.opening ∙ sym (append-nil (w.opens begun.version))) written,
+            subst (λ (x : List ℕ). GrowsByPrefix before after x) (begun.opening ∙ sym (append-nil (w.opens begun.version))) written,
           );
         }
 
-    -- no magic stands there
+    -- the bytes begin with no magic
     no_magic : BeginsWithNone w.format.magics held → BeginsWithNone w.format.magics (take limit (held ++ known [] told))
     no_magic none version rest lawful e =
         let spelled = w.format.magics.spell version in

@@ -1,10 +1,10 @@
--- What going through the units of a file has written, to its end or to where it breaks off.
+-- What going through the units of a file writes, until it ends or breaks off.
 use Rattle.std.proofs.Common.{◌≡◌, ◌≢◌, ◌+◌, ◌<◌, ◌≤◌, ℕ, List, [], ◌∷◌, ◌++◌, Option, Some, None, IfSome, Result, Ok, Err, length, take, inl, inr, append-nil, append_assoc, length-append, refl, sym, ap, ◌∙◌, arith}
 use Rattle.std.proofs.lemmas.List.{flat_map_more, take_at, length-take}
 use Rattle.std.proofs.lemmas.List.Elements.{All-push}
 use Rattle.flow_io.specs.Faults.{Blames}
 use Rattle.flow_io.specs.Streams.{Grows}
-use Rattle.flow_io.proofs.Growth.{Grows-nothing, Grows-more, GrowsByFront-more}
+use Rattle.flow_io.proofs.Growth.{Grows-nothing, Grows-more, GrowsByPrefix-more}
 use Rattle.wire_records.specs.Grammars.{spell_all}
 use Rattle.wire_records.specs.Reading as reading
 use Rattle.wire_records.proofs.ReadingLaws.{none_in_none}
@@ -21,11 +21,11 @@ use Rattle.word_driver.specs.Laws.{IsExact}
 use Rattle.word_driver.specs.Private.{Closed, IsNear, Ends}
 use Rattle.word_driver.proofs.Pieces.{Writes, Breaks}
 
--- where the count is as before, and nothing failed, nothing is to be blamed
+-- no fault is blamed if the count is unchanged and nothing failed
 pub blames_nobody : {P : Type 0} (before now : ℕ) → ¬ P → now ≡ before → Blames P before now
 blames_nobody before now not same = record { later = omega (arith, same); rose = λ p. absurd (not p); quiet = λ _. same }
 
--- the count was as before at first
+-- the count was unchanged until the middle
 pub blames_later : {P Q : Type 0} (before middle now : ℕ) → middle ≡ before → (P → Q) → (Q → P) → Blames Q middle now → Blames P before now
 blames_later before middle now same to back cause = record {
   later = omega (arith, same, cause.later);
@@ -33,11 +33,11 @@ blames_later before middle now same to back cause = record {
   quiet = λ not. cause.quiet (λ q. not (back q)) ∙ same;
 }
 
--- errors are the same where their reasons are
+-- equal errors have equal reasons
 pub same_fault : (T F : Type 0) (a b : F) → ◌≡◌ {A = Result T F} (Err a) (Err b) → a ≡ b
 same_fault T F a b e = cc
 
--- a fault is to blame where the answer with it is
+-- a fault is blamed if the answer that carries it is
 pub err_alike : {T F : Type 0} (a why : F) (before now : ℕ) → Blames (a ≡ why) before now → Blames (◌≡◌ {A = Result T F} (Err a) (Err why)) before now
 err_alike {T} {F} a why before now cause = record {
   later = cause.later;
@@ -50,7 +50,7 @@ pub broken_is_no_read : {T F : Type 0} (fault : F) → ◌≡◌ {A = Result T (
 broken_is_no_read {T} {F} fault e = absurd (let same = same_fault T (TakeFault F) (Broken fault) taking.Read e in cc)
 
 module _ {U S B : Type 0} (w : Word U S B) where
-  -- units lead on by one more
+  -- one more unit leads on
   pub goes_more : (old middle new : S) (units : List U) (unit : U) (text last : List ℕ) → Goes w old units middle text → w.Steps middle unit new last → Goes w old (units ++ unit ∷ []) new (text ++ last)
   goes_more old middle new [] unit text last goes step =
       rw (← goes.0, goes.1) (new, last, [], step, (refl, refl), sym (append-nil last))
@@ -63,13 +63,13 @@ module _ {U S B : Type 0} (w : Word U S B) where
     ap (λ xs. xs ++ last) goes.5 ∙ append_assoc goes.1 goes.2 last,
   )
 
--- no fewer bytes are known than were taken
+-- at least as many bytes are known as were taken
 no_fewer : (taken : List ℕ) (after : Option (List ℕ)) → length taken ≤ length (known taken after)
 no_fewer taken None = omega arith
 no_fewer taken (Some left) = omega (arith, length-append taken left)
 
 module _ {U S B O : Type 0} (w : Word U S B) (held : O → Option (List ℕ)) (faults : O → ℕ) where
-  -- What units have written, and no fault came.
+  -- What units have written, without a fault.
   pub record HasWritten (start : S) (units : List U) (new : S) (before after : O) : Type 0 where
     pub text : List ℕ
     pub goes : Goes w start units new text
@@ -93,7 +93,7 @@ module _ {U S B O : Type 0} (w : Word U S B) (held : O → Option (List ℕ)) (f
         quiet = rest.quiet ∙ one.quiet;
       }
 
-  -- where the input ended, no more was seen than the units
+  -- at the end of the input, no more was seen than the units
   pub near_where_ended : (limit place : ℕ) (front taken : List ℕ) (after : Option (List ℕ)) (start new : S) (before middle : O)
       (goes : GoesToEnd w.format (Writes w held faults) place (limit < length (front ++ known taken after)) (take limit (front ++ known taken after)) reading.End start new before middle) (most : ℕ)
       → length (front ++ taken) ≤ length (spell_all w.format.units goes.units) + most
@@ -112,7 +112,7 @@ module _ {U S B O : Type 0} (w : Word U S B) (held : O → Option (List ℕ)) (f
       )
 
   module _ (More : Type 0) (place : ℕ) (bytes : List ℕ) (start new : S) (before middle after : O) (most : ℕ) (seen : List ℕ) (left : Option (List ℕ)) where
-    -- all units were taken, and no whole one is left
+    -- all units were taken, and no complete one is left
     abbrev pub ToEnd : reading.Ending → Type 0
     ToEnd ending = GoesToEnd w.format (Writes w held faults) place More bytes ending start new before middle
 
@@ -152,7 +152,7 @@ module _ {U S B O : Type 0} (w : Word U S B) (held : O → Option (List ℕ)) (f
           so.written,
         )
 
-    -- all units stand whole in out
+    -- the whole text of all units is in the output
     near_end : (goes : ToEnd reading.End) (so : HasWritten start goes.units new before middle) (more : List ℕ) → Grows (held middle) (held after) more → length seen ≤ length (spell_all w.format.units goes.units) + most → IsNear w most bytes start seen (held before) (held after)
     near_end goes so more written few =
         let reads = goes.reads in
@@ -167,7 +167,7 @@ module _ {U S B O : Type 0} (w : Word U S B) (held : O → Option (List ℕ)) (f
           near = few;
         }
 
-    -- it closed, and wrote this
+    -- the subcommand closed, and wrote this
     closed : (goes : ToEnd reading.End) (so : HasWritten start goes.units new before middle) (last : List ℕ) → w.Closes new last → ComesOn w More place bytes start (Ok tt) (so.text ++ last)
     closed goes so last closes =
         let reads = goes.reads in
@@ -182,7 +182,7 @@ module _ {U S B O : Type 0} (w : Word U S B) (held : O → Option (List ℕ)) (f
           writes = refl;
         }
 
-    -- it stopped at the end
+    -- the subcommand stopped at the end
     stopped : (goes : ToEnd reading.End) (so : HasWritten start goes.units new before middle) (why : B) (last : List ℕ) → w.Stops new None why last → ComesOn w More place bytes start (Err (Stopped why)) (so.text ++ last)
     stopped goes so why last stops =
         let reads = goes.reads in
@@ -209,7 +209,7 @@ module _ {U S B O : Type 0} (w : Word U S B) (held : O → Option (List ℕ)) (f
             | inl last ↦ inr (Ok tt, closed goes so closes.0 last)
             | inr stops ↦ inr (Err (Stopped stops.0), stopped goes so stops.0 closes.0 stops.1)
           ],
-          GrowsByFront-more (held before) (held middle) (held after) so.text closes.0 so.written closes.2,
+          GrowsByPrefix-more (held before) (held middle) (held after) so.text closes.0 so.written closes.2,
         )
     to_end (Err Memory) goes none few closes =
         let so = has_written start new before middle goes.units goes.leads in
@@ -221,7 +221,7 @@ module _ {U S B O : Type 0} (w : Word U S B) (held : O → Option (List ℕ)) (f
             rest = reads.rest;
             state = new;
             passes = record { whole = reads.whole; each = reads.each; goes = so.goes };
-            wants = inr ((reads.none, reads.ends), closes.0);
+            allocates = inr ((reads.none, reads.ends), closes.0);
           },
           rw closes.1 so.written,
         )
@@ -233,7 +233,7 @@ module _ {U S B O : Type 0} (w : Word U S B) (held : O → Option (List ℕ)) (f
     to_end (Err (Torn n)) goes none few closes = absurd closes
     to_end (Err TooLong) goes none few closes = absurd closes
 
-  -- a read failed behind all units that were seen
+  -- a read failed after all units that were seen
   pub to_unread : (More : Type 0) (place : ℕ) (bytes seen : List ℕ) (start new : S) (before after : O) (most : ℕ) (left : Option (List ℕ)) → GoesToEnd w.format (Writes w held faults) place (Unit {0}) (take (length seen) bytes) reading.TooLong start new before after
       → Ends w More place bytes start most seen left (Err Read) (held before) (held after)
   to_unread More place bytes seen start new before after most left goes = to_limit (Unit {0}) place (take (length seen) bytes) start new before after after most seen left goes
@@ -243,7 +243,7 @@ module _ {U S B O : Type 0} (w : Word U S B) (held : O → Option (List ℕ)) (f
     abbrev pub ToBreak : Fault B → Type 0
     ToBreak fault = GoesToBreak w.format (Writes w held faults) (Breaks w held faults) bytes fault start before after
 
-    -- one more unit is what some first bytes come to
+    -- the text of one more unit is what some first bytes result in
     one_more : {fault : Fault B} (goes : ToBreak fault) (so : HasWritten start goes.units goes.middle before goes.between) (new : S) (text : List ℕ) → w.Steps goes.middle goes.breaks.unit new text
         → (n : ℕ) × (ended : Ended B) × ComesOn w (Unit {0}) place (take n bytes) start ended (so.text ++ text)
     one_more goes so new text step =
@@ -272,7 +272,7 @@ module _ {U S B O : Type 0} (w : Word U S B) (held : O → Option (List ℕ)) (f
           },
         )
 
-    -- it stopped at the next unit
+    -- the subcommand stopped at the next unit
     stopped_at : {fault : Fault B} (goes : ToBreak fault) (so : HasWritten start goes.units goes.middle before goes.between) (why : B) (last : List ℕ) → w.Stops goes.middle (Some goes.breaks.unit) why last
         → ComesOn w More place bytes start (Err (Stopped why)) (so.text ++ last)
     stopped_at goes so why last stops =
@@ -288,7 +288,7 @@ module _ {U S B O : Type 0} (w : Word U S B) (held : O → Option (List ℕ)) (f
           writes = refl;
         }
 
-    -- the units before stand whole in out
+    -- the whole text of the units before is in the output
     near_break : {fault : Fault B} (goes : ToBreak fault) (so : HasWritten start goes.units goes.middle before goes.between) (more : List ℕ) → Grows (held goes.between) (held after) more → length seen ≤ length (spell_all w.format.units goes.units) + most
         → IsNear w most bytes start seen (held before) (held after)
     near_break goes so more written few = record {
@@ -312,7 +312,7 @@ module _ {U S B O : Type 0} (w : Word U S B) (held : O → Option (List ℕ)) (f
             | inl step ↦ inl (one_more goes so step.0 broke.0 step.1)
             | inr stops ↦ inr (Err (Stopped stops.0), stopped_at goes so stops.0 broke.0 stops.1)
           ],
-          GrowsByFront-more (held before) (held goes.between) (held after) so.text broke.0 so.written broke.2,
+          GrowsByPrefix-more (held before) (held goes.between) (held after) so.text broke.0 so.written broke.2,
         )
     to_break Memory goes few =
         let so = has_written start goes.middle before goes.between goes.units goes.leads in
@@ -324,7 +324,7 @@ module _ {U S B O : Type 0} (w : Word U S B) (held : O → Option (List ℕ)) (f
             rest = goes.left;
             state = goes.middle;
             passes = record { whole = goes.begins; each = goes.each; goes = so.goes };
-            wants = inl (off.unit, off.rest, (off.lawful, off.front), off.broken.faults.0);
+            allocates = inl (off.unit, off.rest, (off.lawful, off.front), off.broken.faults.0);
           },
           rw off.broken.faults.1 so.written,
         )
@@ -337,13 +337,13 @@ module _ {U S B O : Type 0} (w : Word U S B) (held : O → Option (List ℕ)) (f
     to_break (Torn n) goes few = absurd goes.breaks.broken.faults
     to_break TooLong goes few = absurd goes.breaks.broken.faults
 
-    -- the fault of out is to be blamed, or nothing
+    -- only a failed write is blamed
     pub break_blames : (fault : Fault B) → ToBreak fault → Blames (fault ≡ Write) (faults before) (faults after)
     break_blames fault goes =
         let so = has_written start goes.middle before goes.between goes.units goes.leads in
         blames_later (faults before) (faults goes.between) (faults after) so.quiet (λ e. e) (λ e. e) goes.breaks.broken.cause
 
-    -- and no fault of the source
+    -- going through units breaks off with no fault of the source
     pub not_read : (fault : Fault B) → ToBreak fault → fault ≢ Read
     not_read Write goes e = absurd cc
     not_read Memory goes e = absurd cc

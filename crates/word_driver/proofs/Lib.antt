@@ -6,6 +6,6 @@ pub mod OneEnds
 pub mod Alike
 mod Doing
 pub mod Tasks
-mod Whole
+pub mod Whole
 pub mod Denying
 pub mod SomeEnds

@@ -1,4 +1,4 @@
--- Bytes come to one end and one text, and what stands in out before is a front of it.
+-- Bytes result in at most one end and one text, and what the output holds earlier is a prefix of it.
 use Rattle.std.proofs.Common.{◌≡◌, ◌+◌, ◌<◌, ℕ, List, [], ◌∷◌, ◌++◌, Some, None, Ok, Err, inl, inr, length, take, drop, append-nil, append_assoc, refl, sym, ap, ◌∙◌, subst, arith}
 use Rattle.std.proofs.lemmas.List.{take-append-drop}
 use Rattle.std.proofs.lemmas.List.Elements.{All-head, All-nil}
@@ -10,10 +10,10 @@ use Rattle.wire_records.proofs.ReadingLaws.{reads_on_one}
 use Rattle.word_driver.specs.declared.fault.Fault.TheVariants.{Read, Write, Memory, NotFlow, Torn, TooLong, Stopped}
 use Rattle.word_driver.specs.Ended.{Ended}
 use Rattle.word_driver.specs.Word.{Word, Passes, AtEnd, Halts, ComesOn, Comes, Lacks}
-use Rattle.word_driver.specs.Laws.{IsExact, OneEnd, BegunIsAFront}
+use Rattle.word_driver.specs.Laws.{IsExact, OneEnd, BegunIsAPrefix}
 use Rattle.word_driver.proofs.Ahead.{IsStill, ahead, still_where_halts}
 
--- endings are told apart
+-- endings differ by their constructors
 end_torn : (n : ℕ) → End ≡ reading.Torn n → ⊥
 end_torn n e = absurd cc
 
@@ -27,7 +27,7 @@ same_place : (n m : ℕ) → reading.Torn n ≡ reading.Torn m → n ≡ m
 same_place n m e = cc
 
 module _ {U S B : Type 0} (w : Word U S B) (start : Version → S) (exact : IsExact w) where
-  -- no unit is read there
+  -- no unit is read at the end
   reads_none : (More : Type 0) (place : ℕ) (rest : List ℕ) (e : Ending) → AtEnd w More place rest e → ReadsOn w.format place More rest [] e
   reads_none More place rest e at = record {
     rest = rest;
@@ -37,7 +37,7 @@ module _ {U S B : Type 0} (w : Word U S B) (start : Version → S) (exact : IsEx
     ends = subst (λ (n : ℕ). EndsAs w.format More rest n e) (omega arith) at.1;
   }
 
-  -- two endings at one place are one
+  -- two endings at one place are equal
   one_ending : (More : Type 0) (place : ℕ) (rest : List ℕ) (e f : Ending) → AtEnd w More place rest e → AtEnd w More place rest f → e ≡ f
   one_ending More place rest e f a b = (reads_on_one w.format exact.readable place More rest [] [] e f (reads_none More place rest e a) (reads_none More place rest f b)).1
 
@@ -93,13 +93,13 @@ module _ {U S B : Type 0} (w : Word U S B) (start : Version → S) (exact : IsEx
   halts_one More place rest state (Err (Stopped why)) (Err Write) x y a b = absurd b
   halts_one More place rest state (Err (Stopped why)) (Err Memory) x y a b = absurd b
 
-  -- a way that is still, from where it is, goes nowhere
+  -- a way that is still leads nowhere from where it is
   nowhere : (rest : List ℕ) (state : S) (more : List U) (left : List ℕ) (end : S) (text : List ℕ) → IsStill w exact rest state → Passes w rest state more left end text → (more ≡ []) × (left ≡ rest) × (end ≡ state) × (text ≡ [])
   nowhere rest state [] left end text still passes = (refl, sym passes.whole, passes.goes.0, passes.goes.1)
   nowhere rest state (u ∷ more) left end text still passes =
       absurd (still u (spell_all w.format.units more ++ left) passes.goes.0 passes.goes.1 (All-head w.format.units.IsLawful u more passes.each, passes.whole ∙ append_assoc (w.format.units.spell u) (spell_all w.format.units more) left) passes.goes.3)
 
-  comes_on_one : (More : Type 0) (place : ℕ) (bytes : List ℕ) (s : S) (e f : Ended B) (x y : List ℕ) → ComesOn w More place bytes s e x → ComesOn w More place bytes s f y → (e ≡ f) × (x ≡ y)
+  pub comes_on_one : (More : Type 0) (place : ℕ) (bytes : List ℕ) (s : S) (e f : Ended B) (x y : List ℕ) → ComesOn w More place bytes s e x → ComesOn w More place bytes s f y → (e ≡ f) × (x ≡ y)
   comes_on_one More place bytes s e f x y a b =
       let first = still_where_halts w exact More _ a.rest a.state e a.last a.halts in
       let second = still_where_halts w exact More _ b.rest b.state f b.last b.halts in
@@ -109,7 +109,7 @@ module _ {U S B : Type 0} (w : Word U S B) (start : Version → S) (exact : IsEx
       let same = halts_one More (place + length (spell_all w.format.units a.units)) a.rest a.state e f a.last b.last a.halts (rw (units, none.1, none.2) at b.halts) in
       (same.0, a.writes ∙ ap (λ xs. xs ++ a.last) (sym (on.text ∙ ap (λ xs. a.so_far ++ xs) none.3 ∙ append-nil a.so_far)) ∙ ap (λ xs. b.so_far ++ xs) same.1 ∙ sym b.writes)
 
-  -- by the magic
+  -- all bytes, the magic included, result in one end and one text
   comes_one : (bytes : List ℕ) (More : Type 0) (e f : Ended B) (x y : List ℕ) → Comes w start bytes More e x → Comes w start bytes More f y → (e ≡ f) × (x ≡ y)
   comes_one bytes More e f x y (inl a) (inl b) = (a.0 ∙ sym b.0, a.2 ∙ sym b.2)
   comes_one bytes More e f x y (inl a) (inr (version, body, behind, magic, is, on)) = absurd (a.1 version body magic.0 magic.1)
@@ -126,12 +126,12 @@ module _ {U S B : Type 0} (w : Word U S B) (start : Version → S) (exact : IsEx
   pub one_end : OneEnd w start
   one_end limit bytes e f x y a b = comes_one (take limit bytes) (limit < length bytes) e f x y a b
 
--- what begins with something
+-- a text begins with another
 abbrev Begins : List ℕ → List ℕ → Type 0
 Begins text begun = (rest : List ℕ) × (text ≡ begun ++ rest)
 
 module _ {U S B : Type 0} (w : Word U S B) (start : Version → S) (exact : IsExact w) where
-  -- what stands before bytes are cut off is there with them too
+  -- units that are passed before bytes are cut off are passed with these bytes too
   passes_on : (bytes more : List ℕ) (s : S) (units : List U) (r : List ℕ) (m : S) (x : List ℕ) → Passes w bytes s units r m x → Passes w (bytes ++ more) s units (r ++ more) m x
   passes_on bytes more s units r m x a = record {
     whole = ap (λ xs. xs ++ more) a.whole ∙ append_assoc (spell_all w.format.units units) r more;
@@ -139,18 +139,18 @@ module _ {U S B : Type 0} (w : Word U S B) (start : Version → S) (exact : IsEx
     goes = a.goes;
   }
 
-  -- The text of units that were passed is a front of what the bytes come to.
-  passed_begins : (More : Type 0) (place : ℕ) (bytes : List ℕ) (s : S) (units : List U) (r : List ℕ) (m : S) (x : List ℕ) (f : Ended B) (text : List ℕ) → Passes w bytes s units r m x → ComesOn w More place bytes s f text → Begins text x
+  -- The text of units that were passed is a prefix of what the bytes result in.
+  pub passed_begins : (More : Type 0) (place : ℕ) (bytes : List ℕ) (s : S) (units : List U) (r : List ℕ) (m : S) (x : List ℕ) (f : Ended B) (text : List ℕ) → Passes w bytes s units r m x → ComesOn w More place bytes s f text → Begins text x
   passed_begins More place bytes s units r m x f text a b =
       let still = still_where_halts w exact More _ b.rest b.state f b.last b.halts in
       let on = ahead w exact units b.units bytes s r b.rest m b.state x b.so_far a b.passes still in
       (on.between ++ b.last, b.writes ∙ ap (λ xs. xs ++ b.last) on.text ∙ append_assoc x on.between b.last)
 
-  -- what some first bytes come to if more follow: it stopped at a unit, or wrote nothing at its end
+  -- the text of the units in some first bytes is a prefix of the text of all bytes
   begins_by : (More : Type 0) (place : ℕ) (bytes more : List ℕ) (s : S) (e f : Ended B) (begun text : List ℕ) (a : ComesOn w (Unit {0}) place bytes s e begun) → ComesOn w More place (bytes ++ more) s f text → Begins text a.so_far
   begins_by More place bytes more s e f begun text a b = passed_begins More place (bytes ++ more) s a.units (a.rest ++ more) a.state a.so_far f text (passes_on bytes more s a.units a.rest a.state a.so_far a.passes) b
 
-  -- where it stopped at a unit, all bytes come to the same
+  -- if the subcommand stopped at a unit of the first bytes, all bytes result in that stop
   stopped_begins : (More : Type 0) (place : ℕ) (bytes more : List ℕ) (s : S) (why : B) (f : Ended B) (begun text : List ℕ) (a : ComesOn w (Unit {0}) place bytes s (Err (Stopped why)) begun) → ComesOn w More place (bytes ++ more) s f text
       → Halts w (Unit {0}) (place + length (spell_all w.format.units a.units)) a.rest a.state (Err (Stopped why)) a.last → Begins text begun
   stopped_begins More place bytes more s why f begun text a b (inl (u, behind, front, stops)) =
@@ -171,7 +171,7 @@ module _ {U S B : Type 0} (w : Word U S B) (start : Version → S) (exact : IsEx
   nothing_more : (text begun so_far last : List ℕ) → begun ≡ so_far ++ last → last ≡ [] → Begins text so_far → Begins text begun
   nothing_more text begun so_far last is none begins = (begins.0, begins.1 ∙ ap (λ xs. xs ++ begins.0) (sym (is ∙ ap (λ xs. so_far ++ xs) none ∙ append-nil so_far)))
 
-  begins_on : (More : Type 0) (place : ℕ) (bytes more : List ℕ) (s : S) (e f : Ended B) (begun text : List ℕ) → ComesOn w (Unit {0}) place bytes s e begun → ComesOn w More place (bytes ++ more) s f text → Begins text begun
+  pub begins_on : (More : Type 0) (place : ℕ) (bytes more : List ℕ) (s : S) (e f : Ended B) (begun text : List ℕ) → ComesOn w (Unit {0}) place bytes s e begun → ComesOn w More place (bytes ++ more) s f text → Begins text begun
   begins_on More place bytes more s (Ok done) f begun text a b = absurd (a.halts.0.1.1 tt)
   begins_on More place bytes more s (Err (Torn n)) f begun text a b = nothing_more text begun a.so_far a.last a.writes a.halts.1 (begins_by More place bytes more s (Err (Torn n)) f begun text a b)
   begins_on More place bytes more s (Err TooLong) f begun text a b = nothing_more text begun a.so_far a.last a.writes a.halts.1 (begins_by More place bytes more s (Err TooLong) f begun text a b)
@@ -181,7 +181,7 @@ module _ {U S B : Type 0} (w : Word U S B) (start : Version → S) (exact : IsEx
   begins_on More place bytes more s (Err Write) f begun text a b = absurd a.halts
   begins_on More place bytes more s (Err Memory) f begun text a b = absurd a.halts
 
-  -- by the magic
+  -- with the opening before it, a prefix is a prefix
   text_begins : (version other : Version) (begun text behind later : List ℕ) → version ≡ other → begun ≡ w.opens version ++ behind → text ≡ w.opens other ++ later → Begins later behind → Begins text begun
   text_begins version other begun text behind later same is also begins = (
     begins.0,
@@ -211,6 +211,6 @@ module _ {U S B : Type 0} (w : Word U S B) (start : Version → S) (exact : IsEx
       in
       text_begins v u begun text behind later one.0 is also (passed_begins More (length (w.format.magics.spell v)) body (start v) on.0.units on.0.rest on.0.state behind f later on.0.passes moved)
 
-  pub begun_is_a_front : BegunIsAFront w start
-  begun_is_a_front limit bytes n e begun text (inl (ended, first)) comes = front_begins (take limit bytes) n (limit < length bytes) ended e begun text first comes
-  begun_is_a_front limit bytes n e begun text (inr lacks) comes = lack_begins (take limit bytes) (limit < length bytes) e begun text lacks comes
+  pub begun_is_a_prefix : BegunIsAPrefix w start
+  begun_is_a_prefix limit bytes n e begun text (inl (ended, first)) comes = front_begins (take limit bytes) n (limit < length bytes) ended e begun text first comes
+  begun_is_a_prefix limit bytes n e begun text (inr lacks) comes = lack_begins (take limit bytes) (limit < length bytes) e begun text lacks comes

@@ -1,7 +1,7 @@
--- What taking a unit has written, and where it breaks off.
+-- What taking a unit writes, and how it breaks off.
 use Rattle.std.proofs.Common.{◌≡◌, ◌≢◌, ℕ, List, [], Option, Some, drop, inl, inr, refl}
 use Rattle.flow_io.specs.Faults.{Blames}
-use Rattle.flow_io.specs.Streams.{Grows, GrowsByFront, HandsOver}
+use Rattle.flow_io.specs.Streams.{Grows, GrowsByPrefix, HandsOver}
 use Rattle.flow_io.specs.Changes.{change}
 use Rattle.file_units.specs.declared.units.Front.{Front}
 use Rattle.file_units.specs.declared.units.Front.TheVariants.{Taken, NoBytes, Overlong, Short}
@@ -17,7 +17,7 @@ module _ {U S B O : Type 0} (w : Word U S B) (held : O → Option (List ℕ)) (f
   abbrev pub Writes : S → U → S → O → O → Type 0
   Writes old unit new before after = WritesStep w old unit new (change held faults before after)
 
-  -- where it breaks off
+  -- how a step breaks off, and what it writes to the output
   abbrev pub Breaks : S → U → Fault B → O → O → Type 0
   Breaks old unit fault before after = BreaksStep w old unit fault (change held faults before after)
 
@@ -26,7 +26,7 @@ module _ {U S B O : Type 0} (w : Word U S B) (calls : O → Option (List (List �
   abbrev pub Puts : S → U → S → O → O → Type 0
   Puts old unit new before after = Writes w held faults old unit new before after × PutsStep w calls held old unit new before after
 
-  -- where it breaks off, and what it hands over there
+  -- how a step breaks off, and what it hands over there
   abbrev pub BreaksPut : S → U → Fault B → O → O → Type 0
   BreaksPut old unit fault before after = Breaks w held faults old unit fault before after × PutsLast w calls held old (Some unit) (fault ≡ Write) before after
 
@@ -45,8 +45,8 @@ module _ {U S B O : Type 0} (w : Word U S B) (calls : O → Option (List (List �
   taken Overlong bytes old new text before after is written none quiet hands = (record { none = is.0.none; state = is.0.state; output = none is.0.output }, is.1)
   taken Short bytes old new text before after is written none quiet hands = (record { none = is.0.none; state = is.0.state; output = none is.0.output }, is.1, is.2)
 
-  -- the write of its text was cut
-  pub cut : (front : Front) (bytes : List ℕ) (old new : S) (text : List ℕ) (before after : O) → IsTakenBy w front bytes old new text → GrowsByFront (held before) (held after) text → text ≢ [] → Blames (Unit {0}) (faults before) (faults after)
+  -- the write of the unit's text was cut
+  pub cut : (front : Front) (bytes : List ℕ) (old new : S) (text : List ℕ) (before after : O) → IsTakenBy w front bytes old new text → GrowsByPrefix (held before) (held after) text → text ≢ [] → Blames (Unit {0}) (faults before) (faults after)
       → HandsOver calls held before after (◌≡◌ {A = Fault B} Write Write) (piece text) → BreaksOff w.format BreaksPut bytes old Write before after
   cut (Taken n) bytes old new text before after is front some cause hands = record {
     unit = is.unit;
@@ -65,6 +65,6 @@ module _ {U S B O : Type 0} (w : Word U S B) (calls : O → Option (List (List �
   cut Overlong bytes old new text before after is front some cause hands = absurd (some is.0.output)
   cut Short bytes old new text before after is front some cause hands = absurd (some is.0.output)
 
--- what was done is to be blamed
+-- the fault of something that happened may be blamed on it
 pub blamed : {P : Type 0} (before now : ℕ) → P → Blames P before now → Blames (Unit {0}) before now
 blamed before now done cause = record { later = cause.later; rose = λ _. cause.rose done; quiet = λ not. absurd (not tt) }

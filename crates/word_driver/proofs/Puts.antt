@@ -25,7 +25,7 @@ module _ {O : Type 0} (calls : O → Option (List (List ℕ))) (held : O → Opt
   puts_some (Ok done) before after bytes some called written = rw (piece_some bytes some) (record { called = called; written = λ not. rw (append-nil bytes) written })
   puts_some (Err why) before after bytes some called written = rw (piece_some bytes some) (record { called = called; written = λ not. absurd (not refl) })
 
-  -- none was made for none
+  -- no call was made for an empty text
   pub puts_none : {Failed : Type 0} (out : O) (bytes : List ℕ) → bytes ≡ [] → HandsOver calls held out out Failed (piece bytes)
   puts_none out bytes none = rw none (hands_nothing calls held out)
 
@@ -59,7 +59,7 @@ module _ {U S B O : Type 0} (w : Word U S B) (calls : O → Option (List (List �
     };
   }
 
-  -- it breaks off behind the same units
+  -- with or without what was handed over, it breaks off after the same units
   pub break_few : (bytes : List ℕ) (fault : Fault B) (start : S) (before after : O) (goes : GoesToBreak w.format (Puts w calls held faults) (BreaksPut w calls held faults) bytes fault start before after) (seen : List ℕ) (room most : ℕ) → room ≡ most
       → length seen ≤ length (spell_all w.format.units goes.units) + (room + 1) → length seen ≤ length (spell_all w.format.units (break_writes bytes fault start before after goes).units) + (most + 1)
   unfolding break_writes
@@ -83,7 +83,7 @@ module _ {U S B O : Type 0} (w : Word U S B) (calls : O → Option (List (List �
         hands_alike calls held before after so.0 (λ not e. e) so.2,
       )
 
-  -- all units were taken, and it closed
+  -- all units were taken, and the subcommand closed
   pub on_closed : {Failed : Type 0} (place : ℕ) (More : Type 0) (bytes : List ℕ) (ending : reading.Ending) (start new : S) (before middle after : O) → GoesToEnd w.format (Puts w calls held faults) place More bytes ending start new before middle → PutsLast w calls held new None Failed middle after
       → PutsOn w calls held start Failed before after
   on_closed place More bytes ending start new before middle after goes last =
@@ -93,7 +93,7 @@ module _ {U S B O : Type 0} (w : Word U S B) (calls : O → Option (List (List �
         hands_more calls held before middle after so.0 (piece last.0) (λ e. e) so.2 last.2,
       )
 
-  -- it broke off at a unit
+  -- going broke off at a unit
   pub on_broken : (bytes : List ℕ) (fault : Fault B) (start : S) (before after : O) → GoesToBreak w.format (Puts w calls held faults) (BreaksPut w calls held faults) bytes fault start before after → PutsOn w calls held start (◌≡◌ {A = Ended B} (Err fault) (Err Write)) before after
   on_broken bytes fault start before after goes =
       let so = has_pieces start goes.middle before goes.between goes.units goes.leads in

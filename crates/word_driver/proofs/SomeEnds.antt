@@ -1,4 +1,4 @@
--- No bytes are without an end and a text. What isn't decided in the logic is told apart under a double negation.
+-- No bytes are without an end and a text. Cases that the logic doesn't decide are told apart under a double negation.
 use Rattle.std.proofs.Common.{◌≡◌, ◌+◌, ◌<◌, ℕ, List, [], ◌∷◌, ◌++◌, All, Ok, Err, ◌⊎◌, inl, inr, length, take, append-nil, append_assoc, refl, sym, ap, ◌∙◌, subst, arith}
 use Rattle.std.proofs.lemmas.Bool.{cases_lt}
 use Rattle.std.proofs.lemmas.List.{flat_map_more}
@@ -15,15 +15,15 @@ use Rattle.word_driver.specs.Laws.{IsExact, IsKept, IsNotDenied, HasNext, SomeEn
 use Rattle.word_driver.proofs.Going.{goes_more}
 use Rattle.word_driver.proofs.Denying.{not_denied, follows}
 
-module _ {U S B : Type 0} (w : Word U S B) (start : Version → S) (exact : IsExact w) (kept : IsKept w start) (next : HasNext w start) (version : Version) (More : Type 0) (place : ℕ) (body : List ℕ) where
+module _ {U S B : Type 0} (w : Word U S B) (start : Version → S) (exact : IsExact w) (next : HasNext w start) (version : Version) (More : Type 0) (place : ℕ) (body : List ℕ) where
   -- there is an end from the start on
-  abbrev HasEnd : Type 0
+  abbrev pub HasEnd : Type 0
   HasEnd = (ended : Ended B) × (text : List ℕ) × ComesOn w More place body (start version) ended text
 
   ends : (ended : Ended B) (units : List U) (rest : List ℕ) (s : S) (x last : List ℕ) → Passes w body (start version) units rest s x → Halts w More (place + length (spell_all w.format.units units)) rest s ended last → HasEnd
   ends ended units rest s x last passes halts = (ended, x ++ last, record { units = units; rest = rest; state = s; so_far = x; last = last; passes = passes; halts = halts; writes = refl })
 
-  -- behind all whole units
+  -- there is an end after all complete units
   ends_by : (ending : Ending) (units : List U) (rest : List ℕ) (s : S) (x : List ℕ) → Passes w body (start version) units rest s x → AtEnd w More (place + length (spell_all w.format.units units)) rest ending → IsNotDenied HasEnd
   ends_by (reading.Torn n) units rest s x passes at = not_denied (ends (Err (Torn n)) units rest s x [] passes (at, refl))
   ends_by reading.TooLong units rest s x passes at = not_denied (ends (Err TooLong) units rest s x [] passes (at, refl))
@@ -33,7 +33,7 @@ module _ {U S B : Type 0} (w : Word U S B) (start : Version → S) (exact : IsEx
         | inr (why, last, stops) ↦ not_denied (ends (Err (Stopped why)) units rest s x last passes (inr (at, stops)))
       ]) (next.some_close version units s x passes.goes)
 
-  -- unit after unit
+  -- there is an end, unit after unit
   goes_to_end : (ending : Ending) (units done todo : List U) (rest : List ℕ) (s : S) (x : List ℕ) → units ≡ done ++ todo → All w.format.units.IsLawful todo → AtEnd w More (place + length (spell_all w.format.units units)) rest ending
       → Passes w body (start version) done (spell_all w.format.units todo ++ rest) s x → IsNotDenied HasEnd
   goes_to_end ending units done [] rest s x parts lawful at passes =
@@ -52,7 +52,7 @@ module _ {U S B : Type 0} (w : Word U S B) (start : Version → S) (exact : IsEx
         | inr (why, last, stops) ↦ not_denied (ends (Err (Stopped why)) done (spell_all g (u ∷ todo) ++ rest) s x last passes (inl (u, spell_all g todo ++ rest, (first, front), stops)))
       ]) (next.some_step version done s x u passes.goes first)
 
-  comes_to_some : More ⊎ (¬ More) → IsNotDenied HasEnd
+  pub comes_to_some : More ⊎ (¬ More) → IsNotDenied HasEnd
   comes_to_some more =
       let found = reads_on_some w.format exact.readable place More more body in
       let reads = found.2 in
@@ -66,7 +66,7 @@ module _ {U S B : Type 0} (w : Word U S B) (start : Version → S) (exact : IsEx
   some_end limit bytes none =
       elim (exact.readable.magics.told (take limit bytes)) [
         | inl (version, body, magic) ↦
-            comes_to_some w start exact kept next version (limit < length bytes) (length (w.format.magics.spell version)) body (more_or_not limit (length bytes))
+            comes_to_some w start exact next version (limit < length bytes) (length (w.format.magics.spell version)) body (more_or_not limit (length bytes))
             (λ found. none found.0 (w.opens version ++ found.1) (inr (version, body, found.1, magic, refl, (found.2, kept version found.2.units found.2.state found.2.so_far found.2.passes.each found.2.passes.goes))))
         | inr not ↦ none (Err NotFlow) [] (inl (refl, not, refl))
       ]

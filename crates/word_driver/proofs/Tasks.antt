@@ -14,7 +14,7 @@ nothing_taken None = (tt, λ most. tt)
 nothing_taken (Some left) = (refl, λ most. omega arith)
 
 module _ {B : Type 0} (t : Task B) (limit : ℕ) where
-  -- where no count rose and memory was there, the bytes determine the end
+  -- if no count rose and memory didn't run out, the bytes determine the end
   completes : (bytes : List ℕ) (left : Option (List ℕ)) (ended : Ended B) (before after : Option (List ℕ)) → Meets t limit bytes left ended before after → ended ≢ Err Read → ended ≢ Err Write → ended ≢ Err Memory → Determines t limit bytes ended before after
   completes bytes left (Ok done) before after meets r v m = meets
   completes bytes left (Err NotFlow) before after meets r v m = meets
@@ -29,7 +29,7 @@ module _ {B : Type 0} (t : Task B) (limit : ℕ) where
   complete_told None left ended before after meets r v m = tt
   complete_told (Some bytes) left ended before after meets r v m = completes bytes left ended before after meets r v m
 
-  -- from what it came to
+  -- what the task does, from what it results in
   pub does : (ended : Ended B) (source out : Change) → IfSome source.before (λ bytes. Meets t limit bytes source.after ended out.before out.after)
       → ((ended ≡ Err Write) ⊎ (ended ≡ Err Memory) → IfSome source.before (λ bytes. KeepsUp t limit bytes source.after out.before out.after)) → TakesAtMost source.before source.after (t.most_taken limit)
       → OnOk ended (IfSome source.before (λ bytes. source.after ≡ Some (t.left bytes))) → Blames (ended ≡ Err Read) source.faults source.faults_after → Blames (ended ≡ Err Write) out.faults out.faults_after → Does t limit ended source out
@@ -43,17 +43,17 @@ module _ {B : Type 0} (t : Task B) (limit : ℕ) where
     writes = writes;
   }
 
-  -- so many bytes were taken, where the source tells them
+  -- this many bytes were taken, if the source's content is known
   count_taken : (bytes left taken : List ℕ) → bytes ≡ taken ++ left → IsTaken bytes (Some left) (length taken)
   count_taken bytes left taken whole = omega (arith, ap length whole, length-append taken left)
 
-  -- no more were taken than may be at once
+  -- at most as many bytes were taken as may be at once
   pub keeps_up_at_once : (told after : Option (List ℕ)) (taken : List ℕ) (before now : Option (List ℕ)) → Takes told after taken → length taken ≤ 8 + t.ahead limit → IfSome told (λ bytes. KeepsUp t limit bytes after before now)
   keeps_up_at_once None after taken before now takes few = tt
   keeps_up_at_once (Some bytes) None taken before now takes few = absurd takes
   keeps_up_at_once (Some bytes) (Some left) taken before now takes few = (8, length taken, count_taken bytes left taken takes, few, inl refl)
 
-  -- nor more than in all, where so many may be
+  -- at most as many bytes were taken as may be in all
   pub keeps_up_within : (told after : Option (List ℕ)) (taken : List ℕ) (before now : Option (List ℕ)) → Takes told after taken → TakesAtMost told after (t.most_taken limit) → t.most_taken limit ≤ 8 + t.ahead limit → IfSome told (λ bytes. KeepsUp t limit bytes after before now)
   keeps_up_within None after taken before now takes most few = tt
   keeps_up_within (Some bytes) None taken before now takes most few = absurd takes

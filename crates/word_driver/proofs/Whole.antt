@@ -1,4 +1,4 @@
--- What a word does to its source and its output.
+-- What a subcommand does to its source and its output.
 use Rattle.std.proofs.Common.{◌≡◌, ◌+◌, ◌<◌, ◌≤◌, ◌⊎◌, ℕ, List, [], ◌++◌, Option, Some, None, Ok, Err, IfSome, OnOk, length, take, inl, inr, append-nil, append_assoc, length-append, refl, sym, ap, ◌∙◌, subst, arith}
 use Rattle.std.proofs.lemmas.List.{length-take}
 use Rattle.flow_io.specs.Faults.{Blames}
@@ -22,14 +22,14 @@ use Rattle.word_driver.specs.Private.{IsNearAll, Finds, GoesOver}
 use Rattle.word_driver.proofs.OneEnds.{one_end}
 use Rattle.word_driver.proofs.Tasks as tasks
 
--- what was taken is no more than so many bytes
+-- what was taken is at most this many bytes
 pub took : (told after : Option (List ℕ)) (taken : List ℕ) (most : ℕ) → Takes told after taken → length taken ≤ most → TakesAtMost told after most
 took None after taken most takes few = tt
 took (Some bytes) None taken most takes few = absurd takes
 took (Some bytes) (Some left) taken most takes few = omega (arith, ap length takes, length-append taken left, few)
 
 module _ {U S B : Type 0} (w : Word U S B) (start : Version → S) (exact : IsExact w) (limit : ℕ) where
-  -- ---- what was found is what the source's bytes come to
+  -- ---- what was found is what the source's bytes result in
 
   module _ (bytes seen left : List ℕ) (whole : bytes ≡ seen ++ left) where
     determines : (ended : Ended B) (before after : Option (List ℕ)) → (text : List ℕ) × Comes w start (take limit bytes) (limit < length bytes) ended text × Grows before after text → Determines (task w start) limit bytes ended before after
@@ -65,7 +65,7 @@ module _ {U S B : Type 0} (w : Word U S B) (start : Version → S) (exact : IsEx
     none_left (Ok done) before after finds = ap (λ (xs : List ℕ). Some xs) finds.0
     none_left (Err why) before after finds = tt
 
-  -- over what the source told
+  -- for a source of known content
   abbrev FindsAll : (held taken : List ℕ) → Option (List ℕ) → Ended B → Change → Type 0
   FindsAll held taken after ended out = Finds w start (limit < length (held ++ known taken after)) (take limit (held ++ known taken after)) (w.longest + 1) (held ++ taken) after ended out.before out.after
 
@@ -96,7 +96,7 @@ module _ {U S B : Type 0} (w : Word U S B) (start : Version → S) (exact : IsEx
         left = told_left bytes left ended (none_left bytes (held ++ taken) left takes ended out.before out.after all);
       }
 
-  -- from what a window that was filled once held
+  -- from what a window holds after one fill
   module _ (before middle after : Option (List ℕ)) (room : ℕ) (window : WindowState) (fills : Fills (empty_window room limit) window before middle) where
     joined : window.held ≡ fills.joined
     joined = ap (λ (w : WindowState). w.held) fills.holds
@@ -146,7 +146,7 @@ module _ {U S B : Type 0} (w : Word U S B) (start : Version → S) (exact : IsEx
     quietly : Blames (◌≡◌ {A = Ended B} (Err NotFlow) (Err Write)) out_faults out_faults
     quietly = record { later = omega arith; rose = λ e. absurd cc; quiet = λ _. refl }
 
-    -- and no more are there, or within the limit
+    -- fewer than eight bytes are considered
     considered_few : (bytes left : List ℕ) → bytes ≡ (fills.joined ++ fills.past) ++ left → (over : InputEnd) → window.over ≡ Some over → (over ≡ Source → left ≡ []) → length (take limit bytes) < 8
     considered_few bytes left whole Source is ended =
         let none : fills.past ≡ [] = subst (λ (o : Option InputEnd). IsPast None o fills.past) is fills.beyond in

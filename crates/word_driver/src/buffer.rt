@@ -1,9 +1,9 @@
-//! What a line is made of, in a buffer that has room for it.
+//! Puts the parts of a line into a buffer that has room for them.
 ghost use Rattle.std.specs.Prelude.{◌≡◌, ◌≤◌, ◌++◌, ◌+◌, length, vec_len, vec_capacity};
 
 use itoa::{Buffer, Integer};
 
-/// Appends a text to a buffer that has room for it. Takes no memory.
+/// Appends a text to a buffer that has room for it. Allocates nothing.
 pub fn put_text(buffer: &mut Vec<u8>, text: &[u8])
     requires room { vec_len buffer.old + length text.now ≤ vec_capacity buffer.old }
     ensures put { buffer.new.items ≡ buffer.old.items ++ text.now }
@@ -14,7 +14,7 @@ pub fn put_text(buffer: &mut Vec<u8>, text: &[u8])
 }
 
 /// Appends a number in plain decimal between two texts to a buffer that has room for them and for the longest number of the
-/// type. Takes no memory.
+/// type. Allocates nothing.
 pub fn put_number<I: Integer>(buffer: &mut Vec<u8>, before: &[u8], number: I, after: &[u8])
     requires room { vec_len buffer.old + length before.now + I.MAX_STR_LEN + length after.now ≤ vec_capacity buffer.old }
     ensures put { buffer.new.items ≡ buffer.old.items ++ (before.now ++ I.text number ++ after.now) }

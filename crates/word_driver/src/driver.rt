@@ -1,4 +1,4 @@
-//! The driver.
+//! The driver: does a subcommand over the units of its input.
 ghost use Rattle.std.specs.Prelude.{◌≡◌, ◌-◌, ◌+◌, ◌≤◌, ◌<◌, ◌^◌, Err, None, [], ℕ, List, IsTrue, drop, length, vec_capacity};
 ghost use Rattle.flow_io.specs.Faults.{Blames};
 ghost use Rattle.flow_io.specs.Streams.{HandsOver};
@@ -15,10 +15,10 @@ use file_units::{Ending, TakeFault, take_from, take_units};
 use flow_io::{Filled, Sink, Source, Window};
 use std::alloc::Global;
 
-// As many bytes has the magic of each file.
+// The magic of each file has this many bytes.
 const MAGIC: usize = 8;
 
-// Ends with the input, and writes what the word writes there.
+// Closes the subcommand at the end of the input, and writes its last text.
 fn close<K: Sink, W: ServesWord + Drop>(
     writing: &mut Writing<W>,
     out: &mut K,
@@ -37,8 +37,10 @@ fn close<K: Sink, W: ServesWord + Drop>(
     }
 }
 
-// Hands the units from what the window holds on to the word, one after the other, to its end.
-fn go_on<S: Source, K: Sink, W: ServesWord + Drop>(
+/// Continues a subcommand from a window: hands it the units from what the window holds on, one after the other, to the end of the input.
+/// `go` does so after the magic; others do so after a longer beginning. The window has room for the longest unit, and the end of the
+/// input hasn't been seen.
+pub fn go_on<S: Source, K: Sink, W: ServesWord + Drop>(
     window: Window,
     source: &mut S,
     word: W,
@@ -67,11 +69,11 @@ fn go_on<S: Source, K: Sink, W: ServesWord + Drop>(
     }
 }
 
-/// Continues a word that has begun, over bytes that are in memory: hands the units in them from a place on to the word, one after
-/// the other, and writes what it puts into the buffer, which is emptied for each unit, by one call. `more` says whether the input
-/// has bytes after these. Nothing is read, and no memory is taken but what the word takes.
+/// Continues a subcommand that is open over bytes in memory: hands it the units in them from a place on, one after the other, and
+/// writes the text of each unit by one call. The buffer is emptied for each unit. `more` says whether the input has bytes after
+/// these. Reads nothing, and allocates only what the subcommand allocates.
 ///
-/// That the word is exact is a law of it, which the caller cites.
+/// That the subcommand is exact is a law of it, which the caller cites.
 pub fn go_over_bytes<K: Sink, W: ServesWord + Drop>(
     word: W,
     text: Vec<u8>,
@@ -86,7 +88,7 @@ pub fn go_over_bytes<K: Sink, W: ServesWord + Drop>(
     requires ready { W.is_ready word (length bytes.now - place) }
     ensures ends { Ends W.word (IsTrue more) place (drop place bytes.now) (W.state word) 0 [] None result
         (K.held out.old) (K.held out.new) }
-    // Nothing is read.
+    // No read is made, so none fails.
     ensures unread { result ≡ Err Fault.Read → ⊥ }
     ensures cause { Blames (result ≡ Err Fault.Write) (K.faults out.old) (K.faults out.new) }
 {
@@ -99,7 +101,7 @@ pub fn go_over_bytes<K: Sink, W: ServesWord + Drop>(
     }
 }
 
-// Opens the word at what a new window holds, and goes on from there.
+// Opens the subcommand at the magic that a new window holds, and continues after it.
 fn go_over<S: Source, K: Sink, W: ServesWord + Drop>(
     window: Window,
     source: &mut S,
@@ -136,15 +138,15 @@ fn go_over<S: Source, K: Sink, W: ServesWord + Drop>(
     }
 }
 
-/// Does a word: reads the source as the word takes it, to its end or the limit, and hands the units behind the magic to the
-/// word, one after the other. What the word puts into its buffer is written by one call, for the opening, for each unit, and
-/// at the end; nothing is written where there is nothing. A unit that has come is taken, and its text written, before the
-/// source is asked for more.
+/// Does a subcommand: reads the source as the subcommand takes it, to its end or the limit, and hands the units after the magic
+/// to the subcommand, one after the other. The text that it puts into its buffer is written by one call for the opening, one for
+/// each unit, and one at the end; an empty text is not written. A unit that is complete is taken, and its text written, before
+/// the source is asked for more.
 ///
-/// That the word is exact and keeps what it promises are laws of it, which the caller cites.
+/// That the subcommand is exact and keeps what it promises are laws of it, which the caller cites.
 ///
-/// A window of the bytes of the longest unit is held, and one buffer beside it; both are taken before the first read. Each
-/// read asks for as many bytes as there is room for.
+/// Holds a window of the bytes of the longest unit, and one buffer; both are allocated before the first read. Each read asks for
+/// as many bytes as the window has room for.
 pub fn go<S: Source, K: Sink, W: ServesWord + Drop>(
     alloc: Global,
     limit: u64,
@@ -158,7 +160,7 @@ pub fn go<S: Source, K: Sink, W: ServesWord + Drop>(
     requires new { W.is_new word }
     ensures does { Does (task W.word (W.start word)) limit result (change S.rest S.faults source.old source.new)
         (change K.held K.faults out.old out.new) }
-    // One call for the opening, one for the text of each unit, and one for what is written last; none for an empty text.
+    // One call for the opening, one for the text of each unit, and one for the last text; none for an empty text.
     ensures pieces { (pieces : List (List ℕ)) × IsByPieces W.word (W.start word) pieces
         × HandsOver K.calls K.held out.old out.new (result ≡ Err Fault.Write) pieces }
 {

@@ -1,4 +1,4 @@
-//! What a word is for the driver.
+//! What the driver asks of a subcommand.
 ghost use Rattle.std.specs.Prelude.{◌≡◌, ◌≤◌, ◌-◌, ℕ, [], IfOk, IfErr, length, vec_len, vec_capacity};
 ghost use Rattle.wire_records.specs.declared.version.Version.{Version};
 ghost use Rattle.file_units.specs.Units.{StaysReady};
@@ -8,17 +8,17 @@ ghost use Rattle.word_driver.specs.Private.{IsOpened, IsTakenBy, HaltsAt, IsClos
 use crate::fault::Halt;
 use file_units::Front;
 
-/// A word at work: it knows its state, and puts what is to be written into a buffer that the driver empties.
+/// A subcommand at work: it has its state, and puts what is to be written into a buffer that the driver empties.
 pub trait ServesWord {
-    /// Why it stops, if not with its input.
+    /// Why it stops, if not at the end of its input.
     type Stop: Copy;
 
-    /// As many bytes the buffer has room for, without more memory.
+    /// How many bytes the buffer has room for without a further allocation.
     const ROOM: usize;
 
     ghost ROOM: { ℕ };
 
-    /// As many bytes has its longest unit.
+    /// How many bytes its longest unit has.
     const LONGEST: usize;
 
     ghost LONGEST: { ℕ };
@@ -26,18 +26,18 @@ pub trait ServesWord {
     ghost Unit: { Type 0 };
 
     ghost State: { Type 0 };
-    // What it is.
+    // The subcommand as a value.
     ghost word: { Word Unit State Self.Stop };
-    // It wasn't opened yet, and where it starts.
+    // It hasn't been opened; `start` is where it starts in a file of each version.
     ghost is_new: { Self → Type 0 };
 
     ghost start: { Self → Version → State };
 
     ghost state: { Self → State };
-    // It can take units while no more than so many bytes are left.
+    // It can take units while at most this many bytes are left.
     ghost is_ready: { Self → ℕ → Type 0 };
 
-    /// Whether the bytes begin with a magic of the word. Then it is at its start, and the opening stands in the buffer.
+    /// Returns whether the bytes begin with a magic of the subcommand. If so, it is at its start, and the opening is in the buffer.
     fn open(&mut self, bytes: &[u8], text: &mut Vec<u8>) -> bool
         requires new { is_new self.old }
         requires empty { text.old.items ≡ [] }
@@ -45,7 +45,7 @@ pub trait ServesWord {
         ensures room { vec_capacity text.old ≤ vec_capacity text.new }
         ensures opened { IsOpened word (start self.old) bytes.now (state self.new) (is_ready self.new) text.new.items result };
 
-    /// Takes the unit at the front of the bytes, if a whole one stands there, and puts its text into the buffer.
+    /// Takes the unit at the beginning of the bytes, if it is complete, and puts its text into the buffer.
     fn take(&mut self, bytes: &[u8], text: &mut Vec<u8>) -> Result<Front, Halt<Self::Stop>>
         requires ready { (left : ℕ) × (length bytes.now ≤ left) × is_ready self.old left }
         requires empty { text.old.items ≡ [] }
@@ -58,7 +58,7 @@ pub trait ServesWord {
             (λ front. (left : ℕ) → length bytes.now ≤ left → is_ready self.old left → StaysReady (is_ready self.new) front left) }
         ensures halted { IfErr result (λ halt. HaltsAt word bytes.now (state self.old) halt text.new.items) };
 
-    /// Ends with the input, and puts what is to be written then into the buffer.
+    /// Closes it at the end of the input, and puts its last text into the buffer.
     fn close(&mut self, text: &mut Vec<u8>) -> Result<(), Halt<Self::Stop>>
         requires empty { text.old.items ≡ [] }
         requires room { ROOM ≤ vec_capacity text.old }

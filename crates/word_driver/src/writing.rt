@@ -1,7 +1,7 @@
-//! A word at work with the buffer of what it writes, as what takes the units of a file.
+//! A subcommand at work together with the buffer of its text, as a taker of the units of a file.
 ghost use Rattle.std.specs.Prelude.{◌≡◌, ◌≢◌, [], OnOk, OnErr, IsErr, Err, Some, ◌≤◌, vec_capacity};
 ghost use Rattle.flow_io.specs.Faults.{Blames};
-ghost use Rattle.flow_io.specs.Streams.{Grows, GrowsByFront, HandsOver};
+ghost use Rattle.flow_io.specs.Streams.{Grows, GrowsByPrefix, HandsOver};
 ghost use Rattle.flow_io.specs.Changes.{change};
 ghost use Rattle.word_driver.specs.Private.{WritesStep, BreaksStep, Halted, PutsStep, PutsLast, halted_text};
 ghost use Rattle.word_driver.specs.Pieces.{piece};
@@ -11,10 +11,10 @@ use crate::serves::ServesWord;
 use file_units::{Front, TakesUnits};
 use flow_io::{Sink, WriteFailed};
 
-// Writes the bytes by one call, and makes none where there are none.
+// Writes the bytes by one call, or makes no call if there are none.
 pub(crate) fn put<K: Sink>(out: &mut K, bytes: &[u8]) -> Result<(), WriteFailed>
     ensures written { OnOk result (Grows (K.held out.old) (K.held out.new) bytes.now) }
-    ensures cut { OnErr result (GrowsByFront (K.held out.old) (K.held out.new) bytes.now) }
+    ensures cut { OnErr result (GrowsByPrefix (K.held out.old) (K.held out.new) bytes.now) }
     ensures none { bytes.now ≡ [] → out.new ≡ out.old }
     ensures some { OnErr result (bytes.now ≢ []) }
     ensures cause { Blames (IsErr result) (K.faults out.old) (K.faults out.new) }
@@ -26,7 +26,7 @@ pub(crate) fn put<K: Sink>(out: &mut K, bytes: &[u8]) -> Result<(), WriteFailed>
     out.write(bytes)
 }
 
-// Why a word goes no further, once what it wrote there is written.
+// Writes the text of a subcommand that stops early, and returns the fault. Writes nothing if an allocation failed.
 pub(crate) fn halt_with<K: Sink, B: Copy>(halt: Halt<B>, out: &mut K, text: &[u8]) -> Fault<B>
     ensures halted { Halted halt text.now result (K.held out.old) (K.held out.new) }
     ensures cause { Blames (result ≡ Fault.Write) (K.faults out.old) (K.faults out.new) }
@@ -41,7 +41,7 @@ pub(crate) fn halt_with<K: Sink, B: Copy>(halt: Halt<B>, out: &mut K, text: &[u8
     }
 }
 
-// A word, and the buffer of its text.
+// A subcommand and the buffer of its text.
 #[derive(Drop)]
 pub(crate) struct Writing<W: ServesWord> {
     pub(crate) word: W,

@@ -1,6 +1,6 @@
 use Rattle.std.proofs.Common.{◌≡◌, ◌≤◌, length, take}
 use Rattle.std.specs.Prelude.{vec_len, vec_capacity}
-use Rattle.own_rule.specs.Own.{floor_rates}
+use Rattle.canonical_rule.specs.Canonical.{floor_rates}
 use Rattle.rate_rounding.proofs.floor_rates.Given as goal
 
 abbrev pub invariant-loop-order : goal.invariant-loop-order

@@ -2,7 +2,7 @@ use Rattle.std.proofs.Common.{◌∙◌, subst}
 use Rattle.std.specs.Prelude.{All}
 use Rattle.flow_orders.specs.Orders.{IsOrder}
 use Rattle.excess_bounds.specs.Workspace.{AreQuoted}
-use Rattle.batch_engine.proofs.OwnClearing.{single_is_own}
+use Rattle.batch_engine.proofs.CanonicalClearing.{single_is_own}
 use Rattle.batch_engine.proofs.batch.clear_single.Goals as goal
 
 pub clear_at-requires : goal.clear_at-requires

@@ -6,7 +6,7 @@ use Rattle.demand_curve.proofs.DualLaws.{dual_is_by_cases}
 use Rattle.demand_curve.proofs.Duals.{dual-on_line}
 use Rattle.demand_curve.proofs.Curve.dual_on_line.Goals as goal
 
--- what the square is, in the contract's words
+-- what is computed, as the contract states it
 value_is : (c : goal.After-floor_square_over) → c.floor_square_over.result ≡ dual_floor (terms c.args.self.now) c.args.price
 value_is c =
     let fits = c.ranges.price in

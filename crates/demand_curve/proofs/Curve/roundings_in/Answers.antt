@@ -16,7 +16,7 @@ returns-then-from-price-clause-floor c = c.of_whole.ensures.floor ∙ sym (none 
 pub returns-then-from-price-clause-ceil : goal.returns-then-from-price-clause-ceil
 returns-then-from-price-clause-ceil c = c.of_whole.ensures.ceil ∙ sym (none c).1
 
--- the whole room
+-- the batch maximum
 room : (c : goal.After-of_whole-then-price-from) → (floor_in c.args.parts (terms c.args.self.now) c.args.price ≡ c.args.parts * c.args.self.now.room) × (ceil_in c.args.parts (terms c.args.self.now) c.args.price ≡ c.args.parts * c.args.self.now.room)
 room c = parts_of_room c.args.parts (terms c.args.self.now) c.args.self.now.within_limits c.args.price (omega (arith, ints))
 

@@ -2,7 +2,7 @@ use Rattle.std.proofs.Common.{refl, ap, Some, Ok, Err}
 use Rattle.wire_records.specs.Commands.{RunBatch, Plain}
 use Rattle.wire_records.specs.declared.reply.Reply.TheVariants.{Refused}
 use Rattle.wire_records.specs.Views.{command_of}
-use Rattle.own_rule.specs.Own.{IsOwnOutcome}
+use Rattle.canonical_rule.specs.Canonical.{IsCanonicalOutcome}
 use Rattle.market_rules.proofs.LawProofs.{plain_by_any}
 use Rattle.exchange_session.proofs.session.reply_to.Goals as goal
 
@@ -15,7 +15,7 @@ returns-in-Err-batch_allowed-clause-step c = record {
 
 pub returns-in_ok-apply-in-Ok : goal.returns-in_ok-apply-in-Ok
 returns-in_ok-apply-in-Ok c = record {
-  step = record { read = Ok (command_of c.in-Ok.command); spelled = c.in-Ok.ensures.command; served = plain_by_any IsOwnOutcome _ (command_of c.in-Ok.command) _ _ c.in_ok-apply-in-Ok.ensures.served };
+  step = record { read = Ok (command_of c.in-Ok.command); spelled = c.in-Ok.ensures.command; served = plain_by_any IsCanonicalOutcome _ (command_of c.in-Ok.command) _ _ c.in_ok-apply-in-Ok.ensures.served };
   stays = tt;
   wanted = tt;
 }

@@ -4,7 +4,7 @@ use Rattle.std.specs.Str.{bytes_eq}
 use Rattle.std.proofs.lemmas.Slice.Eq.{bytes_eq-Decides}
 use Rattle.flow_exchange.proofs.form.are_two.Goals as goal
 
--- a list of two words
+-- a list of two arguments
 two_words : (words : List (String Global)) (a b : String Global) → length words ≡ 2 → a ≡ get_or words 0 a → b ≡ get_or words 1 b → map string_bytes words ≡ string_bytes a ∷ string_bytes b ∷ []
 two_words [] a b len is also = absurd (omega (arith, len))
 two_words (x ∷ []) a b len is also = absurd (omega (arith, len))
@@ -12,11 +12,11 @@ two_words (x ∷ y ∷ []) a b len is also =
     ap (λ (w : String Global). string_bytes w ∷ string_bytes y ∷ []) (sym is) ∙ ap (λ (w : String Global). string_bytes a ∷ string_bytes w ∷ []) (sym also)
 two_words (x ∷ y ∷ z ∷ more) a b len is also = absurd (omega (arith, len))
 
--- the second of two words
+-- the second of two arguments
 second_word : (a b x y : List ℕ) → a ∷ x ∷ [] ≡ b ∷ y ∷ [] → x ≡ y
 second_word a b x y e = cc
 
--- the first of words that are two
+-- the first of two arguments
 first_is : (words : List (String Global)) (a : String Global) (x y : List ℕ) → a ≡ get_or words 0 a → map string_bytes words ≡ x ∷ y ∷ [] → string_bytes a ≡ x
 first_is [] a x y is two = absurd cc
 first_is (w ∷ more) a x y is two = ap string_bytes is ∙ ap (λ (xs : List (List ℕ)). get_or xs 0 x) two

@@ -4,13 +4,13 @@ use Rattle.std.specs.Str.{bytes_eq}
 use Rattle.std.proofs.lemmas.Slice.Eq.{bytes_eq-Decides}
 use Rattle.flow_exchange.proofs.form.is_word.Goals as goal
 
--- a list of one word
+-- a list of one argument
 one_word : (words : List (String Global)) (word : String Global) → length words ≡ 1 → word ≡ get_or words 0 word → map string_bytes words ≡ string_bytes word ∷ []
 one_word [] word len is = absurd (omega (arith, len))
 one_word (x ∷ []) word len is = ap (λ (w : String Global). string_bytes w ∷ []) (sym is)
 one_word (x ∷ y ∷ more) word len is = absurd (omega (arith, len))
 
--- the first of one word
+-- the first of one argument
 first_word : (a b : List ℕ) → a ∷ [] ≡ b ∷ [] → a ≡ b
 first_word a b e = cc
 

@@ -6,7 +6,7 @@ use Rattle.std.proofs.lemmas.Slice.Eq.{bytes_eq-Decides}
 use Rattle.flow_exchange.specs.Private.{AreThree}
 use Rattle.flow_exchange.proofs.sample_form.behind.Goals as goal
 
--- a list of three words
+-- a list of three arguments
 three_words : (words : List (String Global)) (a b d : String Global) → length words ≡ 3 → a ≡ get_or words 0 a → b ≡ get_or words 1 b → d ≡ get_or words 2 d → map string_bytes words ≡ string_bytes a ∷ string_bytes b ∷ string_bytes d ∷ []
 three_words [] a b d len is also last = absurd (omega (arith, len))
 three_words (x ∷ []) a b d len is also last = absurd (omega (arith, len))
@@ -16,12 +16,12 @@ three_words (x ∷ y ∷ z ∷ []) a b d len is also last =
     ∙ ap (λ (w : String Global). string_bytes a ∷ string_bytes b ∷ string_bytes w ∷ []) (sym last)
 three_words (x ∷ y ∷ z ∷ v ∷ more) a b d len is also last = absurd (omega (arith, len))
 
--- the first of words that are three
+-- the first of three arguments
 first_is : (words : List (String Global)) (a : String Global) (first : List ℕ) → a ≡ get_or words 0 a → AreThree (map string_bytes words) first → string_bytes a ≡ first
 first_is [] a first is three = absurd (let e = three.2 in cc)
 first_is (w ∷ more) a first is three = ap string_bytes is ∙ ap (λ (xs : List (List ℕ)). get_or xs 0 first) three.2
 
--- what isn't other is the same
+-- what isn't unequal is equal
 not_other : (b : Bool) → not b ≡ false → b ≡ true
 not_other true e = refl
 not_other false e = absurd cc

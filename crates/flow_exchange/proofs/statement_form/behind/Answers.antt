@@ -6,7 +6,7 @@ use Rattle.std.proofs.lemmas.Slice.Eq.{bytes_eq-Decides}
 use Rattle.flow_exchange.specs.Private.{AreTwo}
 use Rattle.flow_exchange.proofs.statement_form.behind.Goals as goal
 
--- a list of two words
+-- a list of two arguments
 two_words : (words : List (String Global)) (a b : String Global) → length words ≡ 2 → a ≡ get_or words 0 a → b ≡ get_or words 1 b → map string_bytes words ≡ string_bytes a ∷ string_bytes b ∷ []
 two_words [] a b len is also = absurd (omega (arith, len))
 two_words (x ∷ []) a b len is also = absurd (omega (arith, len))
@@ -14,12 +14,12 @@ two_words (x ∷ y ∷ []) a b len is also =
     ap (λ (w : String Global). string_bytes w ∷ string_bytes y ∷ []) (sym is) ∙ ap (λ (w : String Global). string_bytes a ∷ string_bytes w ∷ []) (sym also)
 two_words (x ∷ y ∷ z ∷ more) a b len is also = absurd (omega (arith, len))
 
--- the first of words that are two
+-- the first of two arguments
 first_is : (words : List (String Global)) (a : String Global) (first : List ℕ) → a ≡ get_or words 0 a → AreTwo (map string_bytes words) first → string_bytes a ≡ first
 first_is [] a first is two = absurd (let e = two.1 in cc)
 first_is (w ∷ more) a first is two = ap string_bytes is ∙ ap (λ (xs : List (List ℕ)). get_or xs 0 first) two.1
 
--- what isn't other is the same
+-- what isn't unequal is equal
 not_other : (b : Bool) → not b ≡ false → b ≡ true
 not_other true e = refl
 not_other false e = absurd cc

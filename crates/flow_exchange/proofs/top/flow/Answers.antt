@@ -3,8 +3,8 @@ use Rattle.flow_exchange.proofs.top.flow.Goals as goal
 pub returns-clause-serves : goal.returns-clause-serves
 returns-clause-serves g c = c.flow_limited.ensures.serves
 
-pub returns-clause-wants : goal.returns-clause-wants
-returns-clause-wants g c = c.flow_limited.ensures.wants
+pub returns-clause-allocates : goal.returns-clause-allocates
+returns-clause-allocates g c = c.flow_limited.ensures.allocates
 
 pub returns-clause-promises : goal.returns-clause-promises
 returns-clause-promises g c = c.flow_limited.ensures.promises

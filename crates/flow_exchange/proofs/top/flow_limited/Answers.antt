@@ -1,24 +1,24 @@
 use Rattle.std.proofs.Common.{ℕ, List, Option, Result, Ok, Err, OnOk, OnErr, IsErr, refl}
 use Rattle.flow_io.specs.Faults.{Rose, Blames}
-use Rattle.flow_io.specs.Streams.{Grows, GrowsByFront}
+use Rattle.flow_io.specs.Streams.{Grows, GrowsByPrefix}
 use Rattle.flow_io.specs.Changes.{change}
 use Rattle.flow_io.specs.declared.sink.WriteFailed.{WriteFailed}
 use Rattle.flow_exchange.specs.Statuses.{line_of}
-use Rattle.flow_io.proofs.Growth.{GrowsByFront-whole}
+use Rattle.flow_io.proofs.Growth.{GrowsByPrefix-whole}
 use Rattle.flow_exchange.specs.declared.form.Form.TheVariants.{Run}
 use Rattle.flow_exchange.proofs.Outcomes.{one_form}
 use Rattle.flow_exchange.proofs.Dispatch.{serves_form, wants_form, paced_form, serves_none, promised}
 use Rattle.flow_exchange.proofs.top.flow_limited.Goals as goal
 use Rattle.flow_exchange.proofs.top.flow_limited.Goals.{in-Some, in-None}
 
--- a line that no write failed of was written
+-- a line was written if no write of it failed
 written : (result : Result (Unit {0}) WriteFailed) (before after : Option (List ℕ)) (line : List ℕ) (faults now : ℕ) → OnOk result (Grows before after line) → Blames (IsErr result) faults now → (Rose faults now → ⊥) → Grows before after line
 written (Ok x) before after line faults now grows cause still = grows
 written (Err e) before after line faults now grows cause still = absurd (still (cause.rose refl))
 
--- and a front of it in any case
-cut : (result : Result (Unit {0}) WriteFailed) (before after : Option (List ℕ)) (line : List ℕ) → OnOk result (Grows before after line) → OnErr result (GrowsByFront before after line) → GrowsByFront before after line
-cut (Ok x) before after line grows front = GrowsByFront-whole before after line grows
+-- a prefix of a line was written in any case
+cut : (result : Result (Unit {0}) WriteFailed) (before after : Option (List ℕ)) (line : List ℕ) → OnOk result (Grows before after line) → OnErr result (GrowsByPrefix before after line) → GrowsByPrefix before after line
+cut (Ok x) before after line grows front = GrowsByPrefix-whole before after line grows
 cut (Err e) before after line grows front = front
 
 pub returns-clause-serves : goal.returns-clause-serves
@@ -40,8 +40,8 @@ returns-clause-serves g c =
 pub returns-clause-idle : goal.returns-clause-idle
 returns-clause-idle g c = λ usage. elim c.match-form_of.branch [ in-Some w ↦ let form = w.do_form-status.ensures in absurd (form.asked (rw w.status-is at usage)) | in-None w ↦ (w.source-is, w.out-is) ]
 
-pub returns-clause-wants : goal.returns-clause-wants
-returns-clause-wants g c = elim c.match-form_of.branch [
+pub returns-clause-allocates : goal.returns-clause-allocates
+returns-clause-allocates g c = elim c.match-form_of.branch [
   | in-Some w ↦
       let form = w.do_form-status.ensures in
       rw (w.status-is, w.source-is, w.out-is) (wants_form c.args.limit _ w.in-Some.form w.do_form-status.result _ _ w.in-Some.ensures.form form.does)

@@ -42,8 +42,8 @@ returns-in-Err-clause-untouched g c =
 pub returns-in-Err-clause-paced : goal.returns-in-Err-clause-paced
 returns-in-Err-clause-paced g c = paced_unread c.args.limit (g.S.Source.rest c.args.source.now) (g.S.Source.rest c.begin.new.source) (g.K.Sink.held c.args.out.now) c.in-Err.fault c.in-Err.ensures.unread
 
-pub returns-in-Err-clause-wants : goal.returns-in-Err-clause-wants
-returns-in-Err-clause-wants g c = λ lacks.
+pub returns-in-Err-clause-allocates : goal.returns-in-Err-clause-allocates
+returns-in-Err-clause-allocates g c = λ lacks.
     if_some (g.D.Disk.state c.args.disk.now).content _ _
     (λ (held : List ℕ) why. unread_out c.args.limit held (g.S.Source.rest c.args.source.now) (g.S.Source.rest c.begin.new.source) (g.D.Disk.state c.begin.new.disk) (g.K.Sink.held c.args.out.now) c.in-Err.fault c.in-Err.ensures.unread (cc lacks))
     c.in-Err.ensures.refused
@@ -138,8 +138,8 @@ returns-in-Ok-clause-paced g c =
     let holds_out = g.K.Sink.held c.serve_on.new.out in
     paced_served c.args.limit content after left c.in-Ok.begun.window c.in-Ok.begun.version c.in-Ok.ensures.behind c.in-Ok.begun.keeper.session c.in-Ok.begun.keeper.appender mid end held holds_out c.serve_on.result c.serve_on.ensures.goes
 
-pub returns-in-Ok-clause-wants : goal.returns-in-Ok-clause-wants
-returns-in-Ok-clause-wants g c = λ lacks.
+pub returns-in-Ok-clause-allocates : goal.returns-in-Ok-clause-allocates
+returns-in-Ok-clause-allocates g c = λ lacks.
     let start = g.D.Disk.state c.args.disk.now in
     let mid = g.D.Disk.state c.begin.new.disk in
     let end = g.D.Disk.state c.serve_on.new.disk in

@@ -8,6 +8,7 @@ use Rattle.file_units.proofs.Gone.{HasGone}
 use Rattle.journal_keeping.specs.Private.{IsReady, Adds, SoFar}
 use Rattle.journal_keeping.proofs.Lengths.{StaysWithin}
 use Rattle.journal_keeping.proofs.taking.serve_on.Given as goal
+use Rattle.journal_records.specs.Pairs.{longest_plain_pair}
 
 abbrev pub invariant-units : goal.invariant-units
 invariant-units g l =
@@ -16,9 +17,9 @@ invariant-units g l =
     × SoFar (g.D.Disk.state l.fn.disk) (g.D.Disk.state l.disk) l.fn.keeper.session l.keeper.session l.fn.keeper.appender l.keeper.appender (g.K.Sink.held l.fn.out) (g.K.Sink.held l.out) new
     × ((g.D.Disk.state l.disk).faults ≡ (g.D.Disk.state l.fn.disk).faults)
     × (g.K.Sink.faults l.out ≡ g.K.Sink.faults l.fn.out)
-    × (1042 ≤ vec_capacity l.keeper.pair)
+    × (longest_plain_pair ≤ vec_capacity l.keeper.pair)
     × StaysWithin l.fn.window (g.S.Source.rest l.fn.source) l.window (g.S.Source.rest l.source) l.fn.keeper.appender l.keeper.appender (g.D.Disk.state l.fn.disk) (g.D.Disk.state l.disk)
 
--- the bytes that may be given up yet, and those that may be read
+-- the bytes that may still be given up, and those that may be read
 abbrev pub decreases-units : goal.decreases-units
 decreases-units g l = (l.window.limit - l.window.place) + (l.window.limit - (l.window.place + length l.window.held))

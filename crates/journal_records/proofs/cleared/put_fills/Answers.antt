@@ -11,7 +11,7 @@ use Rattle.journal_records.proofs.Fills.{one_more, all_written}
 use Rattle.journal_records.proofs.cleared.put_fills.Goals.{In-Some, In-None}
 use Rattle.journal_records.proofs.cleared.put_fills.Goals as goal
 
--- the order and the rate of a turn stand at one place of their lists
+-- the order and the rate of a round are at one place of their lists
 turn : (c : In-Some) → (length c.loop-order.yielded < length c.args.orders.now) × (length c.loop-order.yielded < length c.args.rates.now)
     × ((d : Order) → c.in-Some.order.now ≡ get_or c.args.orders.now (length c.loop-order.yielded) d)
     × ((d : ℕ) → c.in-Some.rate.now ≡ get_or c.args.rates.now (length c.loop-order.yielded) d)
@@ -22,7 +22,7 @@ turn c =
     (ap (λ z. iter_rest (zip_second z)) same ∙ c.zip-order-items.ensures.second.0)
     c.loop-order.yielded_by _ c.in-Some.is c.next.ensures.steps
 
--- at the end there was a turn for each order
+-- at the end there was a round for each order
 ended : (c : In-None) → length c.loop-order.yielded ≡ length c.args.orders.now
 ended c =
     let same = c.into_iter-order-iterator.ensures.into_iter_gives in

@@ -14,5 +14,5 @@ returns-clause-serves g c =
     (change g.K.Sink.held g.K.Sink.faults c.args.out.now c.keep-ended.new.out)
     (change g.N.Sink.held g.N.Sink.faults c.args.notes.now c.write_line.new.notes) c.write_line.result
     kept.keeps kept.again kept.lengths kept.comes kept.legal
-    (if_some (g.D.Disk.state c.args.disk.now).content _ _ (λ (held : List ℕ) looks. λ none. let it = looks none in (it.0, ap g.S.Source.rest it.1, ap g.K.Sink.held it.2)) kept.untouched) kept.made kept.taken kept.paced kept.wants
+    (if_some (g.D.Disk.state c.args.disk.now).content _ _ (λ (held : List ℕ) looks. λ none. let it = looks none in (it.0, ap g.S.Source.rest it.1, ap g.K.Sink.held it.2)) kept.untouched) kept.made kept.taken kept.paced kept.allocates
     kept.disk_cause kept.source_cause kept.out_cause line front c.write_line.ensures.cause)

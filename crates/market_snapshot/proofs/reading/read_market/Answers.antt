@@ -15,5 +15,5 @@ returns-in-Err-Unsound c =
 pub returns : goal.returns
 returns c =
     let p : Parts = c.in-Ok.view in
-    let read = found p c.in-Ok-restore.market c.args.bytes.now (drop (length (parts_spelling p)) c.args.bytes.now) c.in-Ok.ensures.fits c.in-Ok.ensures.begins c.in-Ok-restore.ensures.restored c.in-Ok-restore.ensures.sound in
+    let read = found p c.in-Ok-restore.market c.args.bytes.now (drop (length (parts_spelling p)) c.args.bytes.now) c.in-Ok.ensures.fits c.in-Ok.ensures.begins c.in-Ok-restore.ensures.restored c.in-Ok-restore.ensures.consistent in
     subst (λ n. IsCheckpoint c.in-Ok-restore.market (take n c.args.bytes.now) × (n ≤ length c.args.bytes.now)) (sym c.len.ensures) read

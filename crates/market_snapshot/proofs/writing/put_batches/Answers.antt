@@ -19,16 +19,16 @@ loop-asset-init c =
 
 pub put_i64-requires : goal.put_i64-requires
 put_i64-requires c =
-    let sound = c.next_number.ensures.sound in
-    let count : c.len-asset-end.result ≡ length c.args.market.now.last_prices = c.len-asset-end.ensures.count ∙ ap length c.tickers.ensures.value ∙ sound.one_each.tickers ∙ sym sound.one_each.prices in
+    let consistent = c.next_number.ensures.consistent in
+    let count : c.len-asset-end.result ≡ length c.args.market.now.last_prices = c.len-asset-end.ensures.count ∙ ap length c.tickers.ensures.value ∙ consistent.one_each.tickers ∙ sym consistent.one_each.prices in
     omega (arith, count, c.loop-asset-test.true, c.loop-asset.invariant.len, c.loop-asset.invariant.capacity, c.requires)
 
 pub loop-asset-preserved : goal.loop-asset-preserved
 loop-asset-preserved c =
     let m = c.args.market.now in
     let k = c.loop-asset.asset in
-    let sound = c.next_number.ensures.sound in
-    let count : c.len-asset-end.result ≡ length m.last_prices = c.len-asset-end.ensures.count ∙ ap length c.tickers.ensures.value ∙ sound.one_each.tickers ∙ sym sound.one_each.prices in
+    let consistent = c.next_number.ensures.consistent in
+    let count : c.len-asset-end.result ≡ length m.last_prices = c.len-asset-end.ensures.count ∙ ap length c.tickers.ensures.value ∙ consistent.one_each.tickers ∙ sym consistent.one_each.prices in
     let price = value_of _ _ _ _ c.last_price.ensures.value c.unwrap.ensures in
     let put = c.put_i64.ensures.written ∙ ap (λ z. c.loop-asset.out.items ++ signed 8 z) (to_z-of_z w64 c.unwrap.result (record { sfits = c.unwrap.type_inv })) in
     record {
@@ -40,13 +40,13 @@ loop-asset-preserved c =
 pub returns-clause-written : goal.returns-clause-written
 returns-clause-written c =
     let m = c.args.market.now in
-    let sound = c.next_number.ensures.sound in
-    let count : c.len-asset-end.result ≡ length m.last_prices = c.len-asset-end.ensures.count ∙ ap length c.tickers.ensures.value ∙ sound.one_each.tickers ∙ sym sound.one_each.prices in
+    let consistent = c.next_number.ensures.consistent in
+    let count : c.len-asset-end.result ≡ length m.last_prices = c.len-asset-end.ensures.count ∙ ap length c.tickers.ensures.value ∙ consistent.one_each.tickers ∙ sym consistent.one_each.prices in
     batches_written c.args.out.now.items c.loop-asset.out.items m.next_order m.batches m.last_prices
     (all_written (signed 8) m.last_prices c.loop-asset.asset ((c.args.out.now.items ++ unsigned 8 m.next_order) ++ unsigned 4 m.batches) c.loop-asset.out.items (omega (arith, c.loop-asset-test.false, count)) c.loop-asset.invariant.written)
 
 pub returns-clause-len : goal.returns-clause-len
 returns-clause-len c =
-    let sound = c.next_number.ensures.sound in
-    let count : c.len-asset-end.result ≡ length c.args.market.now.last_prices = c.len-asset-end.ensures.count ∙ ap length c.tickers.ensures.value ∙ sound.one_each.tickers ∙ sym sound.one_each.prices in
+    let consistent = c.next_number.ensures.consistent in
+    let count : c.len-asset-end.result ≡ length c.args.market.now.last_prices = c.len-asset-end.ensures.count ∙ ap length c.tickers.ensures.value ∙ consistent.one_each.tickers ∙ sym consistent.one_each.prices in
     omega (arith, count, c.loop-asset.invariant.len, c.loop-asset-test.false, c.loop-asset.auto.asset-end)

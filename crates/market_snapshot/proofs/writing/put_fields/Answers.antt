@@ -21,7 +21,7 @@ returns-clause-written c =
 pub returns-clause-len : goal.returns-clause-len
 returns-clause-len c =
     let m = c.args.market.now in
-    let each = c.version.ensures.sound.one_each in
+    let each = c.version.ensures.consistent.one_each in
     let n = length m.tickers in
     let tickers : length c.tickers.result.now ≡ n = ap length c.tickers.ensures.value in
     let product : account_size (asset_count c.accounts.result.now) * account_count c.accounts.result.now ≡ account_size n * account_count m.balances =

@@ -20,7 +20,7 @@ loop-asset-init c =
       capacity = c.put_u16.ensures.capacity ∙ c.put_u8.ensures.capacity ∙ c.put_bytes.ensures.capacity;
     }
 
--- the ticker of a turn
+-- the ticker of one round of the loop
 here : (c : goal.After-put_bytes-in-loop-asset) → get_or c.args.tickers.now c.loop-asset.asset c.unwrap.result ≡ c.unwrap.result
 here c = get_or_from_slice_get c.args.tickers.now c.loop-asset.asset c.unwrap.result c.unwrap.result (sym c.ticker.ensures.value ∙ c.unwrap.ensures)
 

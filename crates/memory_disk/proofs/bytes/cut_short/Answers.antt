@@ -2,7 +2,7 @@ use Rattle.std.proofs.Common.{◌≡◌, ◌+◌, ◌-◌, ◌≤◌, ◌++◌, 
 use Rattle.std.proofs.lemmas.List.{replicate_more}
 use Rattle.memory_disk.proofs.bytes.cut_short.Goals as goal
 
--- one byte more of the filling
+-- one more byte of the filling
 filled : (front now : List ℕ) (i whole fill : ℕ) → whole ≤ i → now ≡ (front ++ replicate (i - whole) fill) ++ fill ∷ [] → now ≡ front ++ replicate (i + 1 - whole) fill
 filled front now i whole fill le is =
     let next : i - whole + 1 ≡ i + 1 - whole = omega (arith, le) in

@@ -11,7 +11,7 @@ set_price-requires-clause-asset c = rw c.end_of_move-end.ensures.stays c.require
 pub returns-clause-orders : goal.returns-clause-orders
 returns-clause-orders c = rw c.end_of_move-end.ensures.stays at c.set_price.ensures.orders
 
--- the prices are those of the definition's move
+-- the prices are those after the move of the definitions
 moves : (c : goal.After-set_price) → c.set_price.new.self.prices ≡ moved c.args.parts c.args.work.now.orders (unsigned_abs c.args.reach) c.args.work.now.prices c.args.asset
 moves c =
     let range = c.end_of_move-end.ensures.range in

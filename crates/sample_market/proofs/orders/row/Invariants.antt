@@ -3,7 +3,7 @@ use Rattle.sample_market.specs.Draws.{state_after}
 use Rattle.sample_market.specs.Orders.{drawn_entries, drawn_row, behind_row}
 use Rattle.sample_market.proofs.orders.row.Given as goal
 
--- the entries so far, and those that are still drawn
+-- the legs so far, and those that are still to be drawn
 abbrev pub invariant-loop-asset : goal.invariant-loop-asset
 invariant-loop-asset l =
     let left = (l.first + l.count) - l.asset in

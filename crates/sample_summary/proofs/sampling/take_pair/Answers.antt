@@ -13,7 +13,7 @@ audit_legal-requires-clause-legal c =
     let is = framed_as c.args.audit.now c.args.bytes.now w c.in-Whole.pair (drop c.in-Whole.field-1 c.args.bytes.now) c.in-Whole.ensures.0 c.in-Whole.ensures.2 in
     (w.new, subst (λ (p : Record × Record). IsLegalPair c.args.audit.now p w.new) (sym is) (legal_of c.args.audit.now c.args.bytes.now w))
 
--- what was counted of the pair, as which the bytes were written
+-- the counts of the entry that the bytes encode
 counted : (c : goal.After-counts_of) (w : IsWritten c.args.audit.now c.args.bytes.now) → IsCounted w.pair.answer c.counts_of.result
 counted c w =
     let is = framed_as c.args.audit.now c.args.bytes.now w c.in-Whole.pair (drop c.in-Whole.field-1 c.args.bytes.now) c.in-Whole.ensures.0 c.in-Whole.ensures.2 in

@@ -10,7 +10,7 @@ pub returns-in-Ok-go_over_bytes-clause-ends : goal.returns-in-Ok-go_over_bytes-c
 returns-in-Ok-go_over_bytes-clause-ends g c =
     let rest = drop c.args.place c.args.bytes.now in
     let ends = rw c.over.ensures.state at c.in-Ok-go_over_bytes.ensures.ends in
-    (ends.1, to_end c.args.session c.market-sound.ensures.sound (IsTrue c.args.more) c.args.place rest ends.1 ends.2, ends.3)
+    (ends.1, to_end c.args.session (IsTrue c.args.more) c.args.place rest ends.1 ends.2, ends.3)
 
 pub returns-in-Err-Torn : goal.returns-in-Err-Torn
 returns-in-Err-Torn g c =
@@ -18,7 +18,7 @@ returns-in-Err-Torn g c =
     let ends = rw c.over.ensures.state at (rw c.in-Err-Torn.field-0-is at c.in-Err-Torn.ensures.ends) in
     let cause = rw c.in-Err-Torn.field-0-is at c.in-Err-Torn.ensures.cause in
     record {
-      ends = (ends.0, to_torn c.args.session c.market-sound.ensures.sound (IsTrue c.args.more) c.args.place rest c.in-Err-Torn.place ends.0 ends.1, ends.2);
+      ends = (ends.0, to_torn c.args.session (IsTrue c.args.more) c.args.place rest c.in-Err-Torn.place ends.0 ends.1, ends.2);
       cause = record { later = cause.later; rose = λ e. absurd cc; quiet = λ _. cause.quiet (λ e. cc) };
     }
 
@@ -28,7 +28,7 @@ returns-in-Err-TooLong g c =
     let ends = rw c.over.ensures.state at (rw c.in-Err-TooLong.field-0-is at c.in-Err-TooLong.ensures.ends) in
     let cause = rw c.in-Err-TooLong.field-0-is at c.in-Err-TooLong.ensures.cause in
     record {
-      ends = (ends.0, to_limit c.args.session c.market-sound.ensures.sound (IsTrue c.args.more) c.args.place rest ends.0 ends.1, ends.2);
+      ends = (ends.0, to_limit c.args.session (IsTrue c.args.more) c.args.place rest ends.0 ends.1, ends.2);
       cause = record { later = cause.later; rose = λ e. absurd cc; quiet = λ _. cause.quiet (λ e. cc) };
     }
 
@@ -38,7 +38,7 @@ returns-in-Err-Write g c =
     let ends = rw c.over.ensures.state at (rw c.in-Err-Write.field-0-is at c.in-Err-Write.ensures.ends) in
     let cause = rw c.in-Err-Write.field-0-is at c.in-Err-Write.ensures.cause in
     record {
-      ends = (ends.1, to_cut c.args.session c.market-sound.ensures.sound (IsTrue c.args.more) c.args.place rest ends.1 ends.2, ends.3);
+      ends = (ends.1, to_cut c.args.session (IsTrue c.args.more) c.args.place rest ends.1 ends.2, ends.3);
       cause = record { later = cause.later; rose = λ _. cause.rose refl; quiet = λ not. absurd (not refl) };
     }
 
@@ -48,6 +48,6 @@ returns-in-Err-Memory g c =
     let ends = rw c.over.ensures.state at (rw c.in-Err-Memory.field-0-is at c.in-Err-Memory.ensures.ends) in
     let cause = rw c.in-Err-Memory.field-0-is at c.in-Err-Memory.ensures.cause in
     record {
-      ends = (ends.1, inr (to_want c.args.session c.market-sound.ensures.sound (IsTrue c.args.more) c.args.place rest ends.1 ends.2), ends.3);
+      ends = (ends.1, inr (to_want c.args.session (IsTrue c.args.more) c.args.place rest ends.1 ends.2), ends.3);
       cause = record { later = cause.later; rose = λ e. absurd cc; quiet = λ _. cause.quiet (λ e. cc) };
     }

@@ -8,7 +8,7 @@ use Rattle.weight_rows.specs.declared.entries.Entry.{Entry}
 use Rattle.wire_records.specs.CommandRecords.{entry_spelling}
 use Rattle.wire_records.proofs.place.entry_of.Goals as goal
 
--- the asset stands before the weight
+-- the asset comes before the weight
 apart : (e : Entry) (bytes rest : List ℕ) → bytes ≡ entry_spelling e ++ rest → bytes ≡ unsigned 2 e.asset ++ (signed 4 e.weight ++ rest)
 unfolding entry_spelling
 apart e bytes rest same = same ∙ append_assoc (unsigned 2 e.asset) (signed 4 e.weight) rest

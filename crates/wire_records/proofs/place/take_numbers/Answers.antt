@@ -83,7 +83,7 @@ joined n body a b c d e rest low high of_body of_a of_b of_c of_d of_e =
     rw (to_z-of_z w64 n.low low, to_z-of_z w64 n.high high)
     (rw (of_body, of_a, of_b, of_c, of_d, of_e) refl)
 
--- each of them fits
+-- each number is in the range of its field
 fit : (n : Numbers) → FitsSigned w64 n.low → FitsSigned w64 n.high → IsUnsigned 4 n.account → IsUnsigned 4 n.rate → IsUnsigned 8 n.cap → IsUnsigned 1 n.count → FitNumbers (handed n)
 fit n low high account rate cap count =
     rw (to_z-of_z w64 n.low low, to_z-of_z w64 n.high high)

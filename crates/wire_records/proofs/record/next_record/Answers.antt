@@ -6,7 +6,7 @@ use Rattle.wire_records.proofs.Spelled.{length-spelling, read_whole}
 use Rattle.wire_records.proofs.Fronts.{no_front-from_few, states_none-from_few, no_front-from_stated, states_one}
 use Rattle.wire_records.proofs.record.next_record.Goals as goal
 
--- bytes that begin with a spelling are that spelling and what is left of them
+-- bytes that begin with an encoding are that encoding and the rest
 rest_of : (bytes rest : List ℕ) (r : Record) (n : ℕ) → n ≡ length (spelling r) → bytes ≡ spelling r ++ rest → bytes ≡ spelling r ++ drop n bytes
 rest_of bytes rest r n len e =
     e ∙ ap (λ xs. spelling r ++ xs) (sym (drop_at (spelling r) rest n (sym len)) ∙ ap (drop n) (sym e))

@@ -27,7 +27,7 @@ requote-requires-clause-can c =
     rw (c.deref_mut.ensures.value, c.cells.ensures.value ∙ at ∙ column, same)
     (can_requote _ _ _ _ c.self.invariant.0 c.args.asset there c.args.price c.amount-amount.result c.requires.price amount)
 
--- the quotes as they are written back
+-- the quotes after they are written back
 quotes_are : (c : goal.After-self-2-1) → take c.self.inside.quotes.len (c.requote.new.quotes ++ drop (length c.requote.new.quotes) c.self.inside.quotes.items) ≡ c.requote.new.quotes
 quotes_are c =
     let kept : length c.requote.new.quotes ≡ length c.deref_mut.result.now = c.requote.auto.quotes in

@@ -9,5 +9,5 @@ returns-in-Err-clause-halted c =
       rest = at.rest;
       lawful = at.lawful;
       front = at.front;
-      halts = elim at.wants [ inl short ↦ absurd (omega (arith, short, c.requires.room, c.requires.none)) | inr wants ↦ wants ];
+      halts = elim at.allocates [ inl short ↦ absurd (omega (arith, short, c.requires.room, c.requires.none)) | inr allocates ↦ allocates ];
     }

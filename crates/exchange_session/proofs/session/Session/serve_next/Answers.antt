@@ -1,5 +1,5 @@
 use Rattle.std.proofs.Common.{◌≡◌, List, ℕ, inl, inr, refl, sym, subst, drop, arith}
-use Rattle.own_journals.proofs.LawProofs.{steps_number_one}
+use Rattle.canonical_journals.proofs.LawProofs.{steps_number_one}
 use Rattle.exchange_session.specs.Serving.{AnswersOne}
 use Rattle.exchange_session.proofs.Frames.{few_room, record_within, no_front-from_none, not_overlong-from_none, no_front-from_large, not_overlong-from_stated}
 use Rattle.exchange_session.proofs.session.Session.serve_next.Goals as goal
@@ -34,7 +34,7 @@ returns-in-Err-clause-wanted c = record {
   rest = drop c.in-Whole.taken c.args.bytes.now;
   lawful = c.in-Whole.ensures.0;
   front = c.in-Whole.ensures.2;
-  wants = elim c.in-Err.ensures.wanted [ inl short ↦ inl (few_room c.in-Whole.asked _ _ c.in-Whole.ensures.0 short) | inr wants ↦ inr wants ];
+  allocates = elim c.in-Err.ensures.wanted [ inl short ↦ inl (few_room c.in-Whole.asked _ _ c.in-Whole.ensures.0 short) | inr allocates ↦ inr allocates ];
 }
 
 pub returns-in-End-clause-taken : goal.returns-in-End-clause-taken

@@ -2,7 +2,7 @@ use Rattle.std.proofs.Common.{Some, subst, arith}
 use Rattle.market_rules.specs.Market.{Market}
 use Rattle.batch_audit.specs.Legal.{IsLegalPair}
 use Rattle.batch_audit.proofs.LawProofs.{pairs_number_one}
-use Rattle.journal_words.specs.Watching.{WantsOne}
+use Rattle.journal_words.specs.Watching.{AllocatesOne}
 use Rattle.journal_words.proofs.pairs.Pairs.take_pair.Goals as goal
 
 pub illegal-requires-clause-illegal : goal.illegal-requires-clause-illegal
@@ -11,7 +11,7 @@ illegal-requires-clause-illegal g c = rw c.judge.ensures.stays (rw c.in-Ok-None.
 pub returns-in-Err-legal-clause-halted : goal.returns-in-Err-legal-clause-halted
 returns-in-Err-legal-clause-halted g c =
     let self = c.args.self.now in
-    subst (λ (m : Market). WantsOne g.P.OnPair.watch (record { market = m; pairs = self.pairs; seen = g.P.OnPair.seen self.on m }) (Some c.args.pair.now)) c.judge.ensures.stays c.in-Err-legal.ensures.wanted
+    subst (λ (m : Market). AllocatesOne g.P.OnPair.watch (record { market = m; pairs = self.pairs; seen = g.P.OnPair.seen self.on m }) (Some c.args.pair.now)) c.judge.ensures.stays c.in-Err-legal.ensures.wanted
 
 pub invariant_of-self-2 : goal.invariant_of-self-2
 invariant_of-self-2 g c =

@@ -5,7 +5,7 @@ use Rattle.market_rules.specs.Market.{Market}
 use Rattle.market_rules.specs.Step.{ServesPlain, NoOutcome}
 use Rattle.market_core.specs.Kept.{market_in}
 use Rattle.market_core.proofs.Adding.{serves-add_asset, refuses-ticker_fault}
-use Rattle.market_core.proofs.Fitting.{sound-served, of_each}
+use Rattle.market_core.proofs.Fitting.{consistent-served, of_each}
 use Rattle.market_core.proofs.market.Market.add_asset.Goals as goal
 
 -- the market that an added asset makes
@@ -25,7 +25,7 @@ served c =
 pub invariant_of-self : goal.invariant_of-self
 invariant_of-self c =
     let added = c.in-Ok.ensures.added in
-    rw added.1 (sound-served (market_in c.self.inside) _ _ _ (of_each c.self.inside.version (AddAsset c.copy_from_slice.new.self) (omega arith) (omega arith)) c.self.invariant (served c))
+    rw added.1 (consistent-served (market_in c.self.inside) _ _ _ (of_each c.self.inside.version (AddAsset c.copy_from_slice.new.self) (omega arith) (omega arith)) c.self.invariant (served c))
 
 pub returns-in-Ok-clause-served : goal.returns-in-Ok-clause-served
 returns-in-Ok-clause-served c =

@@ -6,7 +6,7 @@ use Rattle.wire_records.specs.declared.reply.Reply.TheVariants.{Order as OrderPl
 use Rattle.market_rules.specs.Step.{FirstRefusal, placed, ServesPlain, NoOutcome}
 use Rattle.market_rules.proofs.Accepted.{past_unless}
 use Rattle.market_core.specs.Kept.{market_in}
-use Rattle.market_core.proofs.Fitting.{sound-served}
+use Rattle.market_core.proofs.Fitting.{consistent-served}
 use Rattle.market_core.proofs.Placing.{accepted_is_few, serves-place}
 use Rattle.market_core.proofs.market.Market.add_order.Goals as goal
 
@@ -34,7 +34,7 @@ served c =
     serves-place NoOutcome m c.args.last c.args.place.now c.restore.result c.add.new.self.orders first is (c.add.ensures.orders ∙ ap (λ os. os ++ c.restore.result ∷ []) c.in_ok-reserve_one.ensures.orders)
 
 pub invariant_of-self-2 : goal.invariant_of-self-2
-invariant_of-self-2 c = sound-served (market_in c.self.inside) _ _ _ (rw (← c.self.view_is) at c.requires.version) c.self.invariant (served c)
+invariant_of-self-2 c = consistent-served (market_in c.self.inside) _ _ _ (rw (← c.self.view_is) at c.requires.version) c.self.invariant (served c)
 
 pub returns-clause-served : goal.returns-clause-served
 returns-clause-served c = rw (← c.self.view_is) (served c)

@@ -3,7 +3,7 @@ use Rattle.wire_records.specs.Commands.{CancelOrder, Plain}
 use Rattle.flow_accounts.specs.Balances.{IsAccount, money_of}
 use Rattle.market_rules.specs.Step.{ServesPlain, NoOutcome}
 use Rattle.market_core.specs.Kept.{market_in}
-use Rattle.market_core.proofs.Fitting.{sound-served, of_each}
+use Rattle.market_core.proofs.Fitting.{consistent-served, of_each}
 use Rattle.market_core.proofs.Reserving.{none_where, some_where}
 use Rattle.market_core.proofs.Placing.{refuses-no_account, serves-cancel}
 use Rattle.market_core.proofs.market.Market.cancel_order.Goals as goal
@@ -17,7 +17,7 @@ served c =
     (serves-cancel NoOutcome m c.args.account c.args.number c.cancel.result c.self.inside.book c.cancel.new.self there is.there is.stays is.orders)
 
 pub invariant_of-self : goal.invariant_of-self
-invariant_of-self c = sound-served (market_in c.self.inside) _ _ _ (of_each c.self.inside.version (CancelOrder c.args.account c.args.number) (omega arith) (omega arith)) c.self.invariant (served c)
+invariant_of-self c = consistent-served (market_in c.self.inside) _ _ _ (of_each c.self.inside.version (CancelOrder c.args.account c.args.number) (omega arith) (omega arith)) c.self.invariant (served c)
 
 pub returns-then-is_none : goal.returns-then-is_none
 returns-then-is_none c =

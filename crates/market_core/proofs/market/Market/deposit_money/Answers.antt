@@ -3,11 +3,11 @@ use Rattle.wire_records.specs.Commands.{DepositMoney, Plain}
 use Rattle.market_rules.specs.Step.{ServesPlain, NoOutcome}
 use Rattle.market_core.specs.Kept.{market_in}
 use Rattle.market_core.proofs.Answering.{serves-deposit_money}
-use Rattle.market_core.proofs.Fitting.{sound_changes_fit, sound-served, of_each}
+use Rattle.market_core.proofs.Fitting.{consistent_changes_fit, consistent-served, of_each}
 use Rattle.market_core.proofs.market.Market.deposit_money.Goals as goal
 
 pub deposit_money-requires : goal.deposit_money-requires
-deposit_money-requires c = record { fits = (sound_changes_fit (market_in c.self.inside) c.self.invariant).money_deposit c.args.account c.args.ticks }
+deposit_money-requires c = record { fits = (consistent_changes_fit (market_in c.self.inside) c.self.invariant).money_deposit c.args.account c.args.ticks }
 
 served : (c : goal.After-reply_to) → ServesPlain (market_in c.self.inside) (DepositMoney c.args.account c.args.ticks) (Plain c.reply_to.result) (record (market_in c.self.inside) { balances = c.deposit_money.new.self })
 served c =
@@ -16,7 +16,7 @@ served c =
     answers.accepted answers.refused answers.ok answers.err c.reply_to.ensures
 
 pub invariant_of-self : goal.invariant_of-self
-invariant_of-self c = sound-served (market_in c.self.inside) _ _ _ (of_each c.self.inside.version (DepositMoney c.args.account c.args.ticks) (omega arith) (omega arith)) c.self.invariant (served c)
+invariant_of-self c = consistent-served (market_in c.self.inside) _ _ _ (of_each c.self.inside.version (DepositMoney c.args.account c.args.ticks) (omega arith) (omega arith)) c.self.invariant (served c)
 
 pub returns : goal.returns
 returns c = rw (← c.self.view_is) (served c)

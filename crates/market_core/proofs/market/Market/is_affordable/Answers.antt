@@ -3,6 +3,6 @@ use Rattle.market_core.proofs.market.Market.is_affordable.Goals as goal
 
 pub returns-then-is_money_free : goal.returns-then-is_money_free
 returns-then-is_money_free c =
-    affordable_is c.args.self.now c.args.place.now c.are_units_free.result c.is_money_free.ensures.sound c.requires.account c.requires.row c.requires.assets
+    affordable_is c.args.self.now c.args.place.now c.are_units_free.result c.is_money_free.ensures.consistent c.requires.account c.requires.row c.requires.assets
     (c.is_money_free.ensures.value.0 c.if-is_money_free.true)
     (rw (c.row.ensures, c.cap.ensures, c.account.ensures) at c.are_units_free.ensures)

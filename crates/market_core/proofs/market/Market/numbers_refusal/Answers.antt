@@ -10,7 +10,7 @@ use Rattle.market_core.proofs.market.Market.numbers_refusal.Goals as goal
 passed : (x y : ℤ) → FitsSigned w64 x → x ≡ y → to_z w64 (of_z w64 x) ≡ y
 passed x y fits is = to_z-of_z w64 x fits ∙ is
 
--- the account is there where it has money
+-- the account is there exactly if it has a balance of money
 there : (money : Option ℤ) (b : Balances) (account asked : ℕ) (none : Bool) → SomeIff money (IsAccount b account) (money_of b account) → is_some money ≡ not none → none ≡ false → account ≡ asked → IsAccount b asked
 there money b account asked none is test has same =
     subst (IsAccount b) same (some_where money (IsAccount b account) (money_of b account) is (test ∙ ap not has))

@@ -1,14 +1,14 @@
 use Rattle.market_rules.specs.Step.{NoOutcome}
 use Rattle.std.proofs.Common.{ap}
 use Rattle.market_core.specs.Kept.{market_in}
-use Rattle.market_core.proofs.Adding.{serves-open_account, refuses-account_fault, sound-opened}
+use Rattle.market_core.proofs.Adding.{serves-open_account, refuses-account_fault, consistent-opened}
 use Rattle.market_core.proofs.market.Market.open_account.Goals as goal
 use Rattle.market_core.proofs.market.Market.open_account.Goals.{in-Ok, in-Err-Memory, in-Err}
 
 pub invariant_of-self : goal.invariant_of-self
 invariant_of-self c =
     let opened = c.add_account.ensures in
-    sound-opened (market_in c.self.inside) c.add_account.new.self c.add_account.result c.self.invariant opened.not_full opened.ok opened.err
+    consistent-opened (market_in c.self.inside) c.add_account.new.self c.add_account.result c.self.invariant opened.not_full opened.ok opened.err
 
 pub returns-clause-served : goal.returns-clause-served
 returns-clause-served c =

@@ -2,7 +2,7 @@ use Rattle.wire_records.specs.Commands.{SetUnitCredit, Plain}
 use Rattle.market_rules.specs.Step.{ServesPlain, NoOutcome}
 use Rattle.market_core.specs.Kept.{market_in}
 use Rattle.market_core.proofs.Answering.{serves-set_unit_credit}
-use Rattle.market_core.proofs.Fitting.{sound-served}
+use Rattle.market_core.proofs.Fitting.{consistent-served}
 use Rattle.market_core.proofs.Reserving.{same_number, needed_units_not_negative}
 use Rattle.market_core.proofs.market.Market.set_unit_credit.Goals as goal
 
@@ -23,7 +23,7 @@ served c =
     answers.accepted answers.refused answers.ok answers.err c.reply_to.ensures
 
 pub invariant_of-self : goal.invariant_of-self
-invariant_of-self c = sound-served (market_in c.self.inside) _ _ _ (rw (← c.self.view_is) at c.requires) c.self.invariant (served c)
+invariant_of-self c = consistent-served (market_in c.self.inside) _ _ _ (rw (← c.self.view_is) at c.requires) c.self.invariant (served c)
 
 pub returns : goal.returns
 returns c = rw (← c.self.view_is) (served c)

@@ -2,11 +2,11 @@ use Rattle.std.proofs.Common.{◌≡◌, ◌+◌, ap, subst, sym, ◌∙◌}
 use Rattle.batch_outcome.specs.Published.{clearing_of}
 use Rattle.flow_orders.specs.Outcomes as outcomes
 use Rattle.flow_orders.specs.Trades.{going_on}
-use Rattle.market_rules.specs.Market.{IsSound}
+use Rattle.market_rules.specs.Market.{IsConsistent}
 use Rattle.market_rules.specs.Step.{after_batch}
 use Rattle.market_rules.specs.Settling.{MaySettleAt}
 use Rattle.market_core.specs.Kept.{market_in}
-use Rattle.market_core.proofs.MarketSettled.{changed, roundings, within_rooms, settled_is, settled_is_sound}
+use Rattle.market_core.proofs.MarketSettled.{changed, roundings, within_rooms, settled_is, settled_is_consistent}
 use Rattle.market_core.proofs.market.Market.settle_cleared.Goals as goal
 
 pub settle-requires-clause-roundings : goal.settle-requires-clause-roundings
@@ -31,7 +31,7 @@ made c =
 pub invariant_of-self : goal.invariant_of-self
 invariant_of-self c =
     let may : MaySettleAt (market_in c.self.inside) c.args.cleared.now = rw (← c.self.view_is) at c.requires.right in
-    subst IsSound (sym (made c)) (settled_is_sound (market_in c.self.inside) c.args.cleared.now c.self.invariant may (rw (← c.self.view_is) at c.requires.more))
+    subst IsConsistent (sym (made c)) (settled_is_consistent (market_in c.self.inside) c.args.cleared.now c.self.invariant may (rw (← c.self.view_is) at c.requires.more))
 
 pub returns : goal.returns
 returns c = rw (← c.self.view_is) (made c)

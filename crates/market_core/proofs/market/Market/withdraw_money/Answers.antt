@@ -4,7 +4,7 @@ use Rattle.flow_orders.specs.Orders.{needed_money}
 use Rattle.market_rules.specs.Step.{ServesPlain, NoOutcome}
 use Rattle.market_core.specs.Kept.{market_in}
 use Rattle.market_core.proofs.Answering.{serves-withdraw_money}
-use Rattle.market_core.proofs.Fitting.{sound_changes_fit, sound-served, of_each}
+use Rattle.market_core.proofs.Fitting.{consistent_changes_fit, consistent-served, of_each}
 use Rattle.market_core.proofs.Reserving.{same_number, needed_money_not_negative}
 use Rattle.market_core.proofs.market.Market.withdraw_money.Goals as goal
 
@@ -21,7 +21,7 @@ withdraw_money-requires-clause-covered c =
 pub withdraw_money-requires-clause-fits : goal.withdraw_money-requires-clause-fits
 withdraw_money-requires-clause-fits c =
     rw (same_number c.money_needed-reserved.result (record { sfits = c.money_needed-reserved.type_inv }), c.money_needed-reserved.ensures.value)
-    ((sound_changes_fit (market_in c.self.inside) c.self.invariant).money_withdrawal c.args.account c.args.ticks
+    ((consistent_changes_fit (market_in c.self.inside) c.self.invariant).money_withdrawal c.args.account c.args.ticks
     (needed_money c.self.inside.book.orders c.args.account) (needed_money_not_negative c.self.inside.book.orders c.args.account))
 
 served : (c : goal.After-reply_to) → ServesPlain (market_in c.self.inside) (WithdrawMoney c.args.account c.args.ticks) (Plain c.reply_to.result) (record (market_in c.self.inside) { balances = c.withdraw_money.new.self })
@@ -31,7 +31,7 @@ served c =
     answers.accepted answers.refused answers.ok answers.err c.reply_to.ensures
 
 pub invariant_of-self : goal.invariant_of-self
-invariant_of-self c = sound-served (market_in c.self.inside) _ _ _ (of_each c.self.inside.version (WithdrawMoney c.args.account c.args.ticks) (omega arith) (omega arith)) c.self.invariant (served c)
+invariant_of-self c = consistent-served (market_in c.self.inside) _ _ _ (of_each c.self.inside.version (WithdrawMoney c.args.account c.args.ticks) (omega arith) (omega arith)) c.self.invariant (served c)
 
 pub returns : goal.returns
 returns c = rw (← c.self.view_is) (served c)

@@ -4,7 +4,7 @@ use Rattle.flow_orders.specs.Orders.{needed_units}
 use Rattle.market_rules.specs.Step.{ServesPlain, NoOutcome}
 use Rattle.market_core.specs.Kept.{market_in}
 use Rattle.market_core.proofs.Answering.{serves-withdraw_units}
-use Rattle.market_core.proofs.Fitting.{sound_changes_fit, sound-served, of_each}
+use Rattle.market_core.proofs.Fitting.{consistent_changes_fit, consistent-served, of_each}
 use Rattle.market_core.proofs.Reserving.{same_number, needed_units_not_negative}
 use Rattle.market_core.proofs.market.Market.withdraw_units.Goals as goal
 
@@ -21,7 +21,7 @@ withdraw_units-requires-clause-covered c =
 pub withdraw_units-requires-clause-fits : goal.withdraw_units-requires-clause-fits
 withdraw_units-requires-clause-fits c =
     rw (same_number c.units_needed-reserved.result (record { sfits = c.units_needed-reserved.type_inv }), c.units_needed-reserved.ensures.value)
-    ((sound_changes_fit (market_in c.self.inside) c.self.invariant).unit_withdrawal c.args.account c.args.asset c.args.units
+    ((consistent_changes_fit (market_in c.self.inside) c.self.invariant).unit_withdrawal c.args.account c.args.asset c.args.units
     (needed_units c.self.inside.book.orders c.args.account c.args.asset) (needed_units_not_negative c.self.inside.book.orders c.args.account c.args.asset))
 
 served : (c : goal.After-reply_to) → ServesPlain (market_in c.self.inside) (WithdrawAsset c.args.account c.args.asset c.args.units) (Plain c.reply_to.result) (record (market_in c.self.inside) { balances = c.withdraw_units.new.self })
@@ -31,7 +31,7 @@ served c =
     answers.accepted answers.refused answers.ok answers.err c.reply_to.ensures
 
 pub invariant_of-self : goal.invariant_of-self
-invariant_of-self c = sound-served (market_in c.self.inside) _ _ _ (of_each c.self.inside.version (WithdrawAsset c.args.account c.args.asset c.args.units) (omega arith) (omega arith)) c.self.invariant (served c)
+invariant_of-self c = consistent-served (market_in c.self.inside) _ _ _ (of_each c.self.inside.version (WithdrawAsset c.args.account c.args.asset c.args.units) (omega arith) (omega arith)) c.self.invariant (served c)
 
 pub returns : goal.returns
 returns c = rw (← c.self.view_is) (served c)

@@ -1,7 +1,7 @@
 use Rattle.std.proofs.Common.{◌/◌, Result, Ok, Err, IsOk, OnOk, length, refl, arith}
 use Rattle.memory_streams.proofs.memory_sink.MemorySinkSink.write.Goals as goal
 
--- what holds of an Ok holds where the answer is Ok
+-- what holds if the result is Ok, of a result that is Ok
 at_ok : {T E : Type 0} {P : Type 0} (result : Result T E) → IsOk result → OnOk result P → P
 at_ok (Ok _) ok p = p
 at_ok (Err _) ok p = cc

@@ -2,7 +2,7 @@ use Rattle.std.proofs.Common.{◌≡◌, ◌≤◌, ◌++◌, ℕ, List, length,
 use Rattle.std.proofs.lemmas.List.{drop-append-le, take-append-drop}
 use Rattle.memory_streams.proofs.memory_source.MemorySourceSource.read.Goals as goal
 
--- what stays behind in the front of a buffer stays behind in all of it
+-- the bytes after a read of the first part of a buffer are unchanged in the whole buffer
 behind : (into front : List ℕ) (most count : ℕ) → count ≤ length front → length front ≡ length (take most into) → drop count front ≡ drop count (take most into) → drop count (front ++ drop most into) ≡ drop count into
 behind into front most count short same e =
     drop-append-le count front (drop most into) short

@@ -3,7 +3,7 @@ use Rattle.std.proofs.lemmas.List.{take_at, take-append-drop, drop-drop, length-
 use Rattle.std.proofs.lemmas.Grind.{common_steps}
 use Rattle.memory_streams.proofs.steady.SteadySourceSource.read.Goals as goal
 
--- what was copied to the front of a buffer, and what is left behind it, are the rest
+-- what was copied into a buffer, and what is left after it, are the rest
 copied : (bytes into copy : List ℕ) (place n : ℕ) → n ≤ length (drop place bytes) → copy ≡ take n (drop place bytes) → drop place bytes ≡ take n (copy ++ drop n into) ++ drop (place + n) bytes
 copied bytes into copy place n short e =
     let len : length copy ≡ n = rw e (length-take-le n (drop place bytes) short) in

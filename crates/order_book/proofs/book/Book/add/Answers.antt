@@ -1,7 +1,7 @@
 use Rattle.std.proofs.Common.{◌≡◌, ◌-◌, ◌<◌, ◌≤◌, ◌∙◌, ◌++◌, ◌∷◌, [], ap, sym, subst, arith}
 use Rattle.std.specs.Prelude.{All, length}
 use Rattle.std.proofs.lemmas.List.{length_push}
-use Rattle.flow_orders.specs.Orders.{left_of, most_orders}
+use Rattle.flow_orders.specs.Orders.{remaining_quantity, most_orders}
 use Rattle.order_book.specs.Book.{Book, AreLive}
 use Rattle.order_book.specs.Gaps.{live_in}
 use Rattle.order_book.specs.Kept.{listed}
@@ -27,12 +27,12 @@ live c =
 
 pub raise_for-requires-clause-fits : goal.raise_for-requires-clause-fits
 raise_for-requires-clause-fits c need =
-    let left : c.cap.result - c.filled.result ≡ left_of c.args.order = omega (arith, c.cap.ensures.value, c.filled.ensures.value) in
+    let left : c.cap.result - c.filled.result ≡ remaining_quantity c.args.order = omega (arith, c.cap.ensures.value, c.filled.ensures.value) in
     one_more_fits c.self.inside.sums.table (listed c.self.inside) c.args.order _ need c.self.invariant.live c.self.invariant.sums c.cap.ensures.order left
 
 pub invariant_of-self : goal.invariant_of-self
 invariant_of-self c =
-    let left : c.cap.result - c.filled.result ≡ left_of c.args.order = omega (arith, c.cap.ensures.value, c.filled.ensures.value) in
+    let left : c.cap.result - c.filled.result ≡ remaining_quantity c.args.order = omega (arith, c.cap.ensures.value, c.filled.ensures.value) in
     record {
       gaps = rw c.push_reserved.ensures.items (AreGaps-push c.close_above.new.slots.items c.close_above.new.gaps c.args.order c.close_above.ensures.gaps (below c) c.cap.ensures.order);
       live = live c;

@@ -1,6 +1,6 @@
 use Rattle.std.proofs.Common.{◌≡◌, ◌+◌, ◌-◌, length, ap, arith}
 use Rattle.indexmap.specs.IndexMap.{spare}
-use Rattle.flow_orders.specs.Orders.{Order, left_of}
+use Rattle.flow_orders.specs.Orders.{Order, remaining_quantity}
 use Rattle.order_book.specs.Book.{Book, AreLive, without}
 use Rattle.order_book.specs.Kept.{listed}
 use Rattle.order_book.proofs.LiveOrders.{contains_at, number_at}
@@ -10,7 +10,7 @@ use Rattle.order_book.proofs.book.Book.cancel.Goals as goal
 
 pub lower_for-requires-clause-there : goal.lower_for-requires-clause-there
 lower_for-requires-clause-there c =
-    let left : c.cap.result - c.filled.result ≡ left_of c.index-order.result.now = omega (arith, c.cap.ensures.value, c.filled.ensures.value) in
+    let left : c.cap.result - c.filled.result ≡ remaining_quantity c.index-order.result.now = omega (arith, c.cap.ensures.value, c.filled.ensures.value) in
     let there = contains_at c.self.inside.gaps c.deref.result.now c.self.inside.slots.items c.in-Some.place c.index-order.result.now c.deref.ensures.value c.in-Some.ensures.live c.index-order.ensures in
     is_needed c.self.inside.sums.table (listed c.self.inside) c.index-order.result.now _ c.self.invariant.live c.self.invariant.sums there left
 
@@ -28,7 +28,7 @@ fewer c =
 
 pub invariant_of-self : goal.invariant_of-self
 invariant_of-self c =
-    let left : c.cap.result - c.filled.result ≡ left_of c.index-order.result.now = omega (arith, c.cap.ensures.value, c.filled.ensures.value) in
+    let left : c.cap.result - c.filled.result ≡ remaining_quantity c.index-order.result.now = omega (arith, c.cap.ensures.value, c.filled.ensures.value) in
     let there = contains_at c.self.inside.gaps c.deref.result.now c.self.inside.slots.items c.in-Some.place c.index-order.result.now c.deref.ensures.value c.in-Some.ensures.live c.index-order.ensures in
     let is = number_at c.deref.result.now c.self.inside.slots.items c.args.number c.in-Some.place c.index-order.result.now c.deref.ensures.value c.in-Some.ensures.place c.index-order.ensures in
     record {

@@ -13,7 +13,7 @@ take_pair-requires c =
     let one = rw c.in-Taken.is at c.in_ok-taken.ensures.taken in
     let ready = c.requires.ready.2 in
     let here = served_here self.audit self.session c.serve_next.new.self c.args.bytes.now c.serve_next.new.out.items c.deref.result.now c.in-Taken.taken c.requires.ready.0 one
-    ready.same c.deref.ensures.value c.market-sound.ensures.sound ready.next c.requires.ready.1
+    ready.same c.deref.ensures.value c.market-consistent.ensures.consistent ready.next c.requires.ready.1
     in
     record {
       written = here.written;
@@ -27,7 +27,7 @@ returns-in_ok-take_pair-in-Taken-clause-taken c =
     let one = rw c.in-Taken.is at c.in_ok-taken.ensures.taken in
     let ready = c.requires.ready.2 in
     let here = served_here self.audit self.session c.serve_next.new.self c.args.bytes.now c.serve_next.new.out.items c.deref.result.now c.in-Taken.taken c.requires.ready.0 one
-    ready.same c.deref.ensures.value c.market-sound.ensures.sound ready.next c.requires.ready.1
+    ready.same c.deref.ensures.value c.market-consistent.ensures.consistent ready.next c.requires.ready.1
     in
     record {
       unit = one.unit;
@@ -48,7 +48,7 @@ returns-in_ok-take_pair-in-Taken-clause-stays c = λ left inside ready.
     let self = c.args.self.now in
     let one = rw c.in-Taken.is at c.in_ok-taken.ensures.taken in
     let here = served_here self.audit self.session c.serve_next.new.self c.args.bytes.now c.serve_next.new.out.items c.deref.result.now c.in-Taken.taken left one
-    ready.same c.deref.ensures.value c.market-sound.ensures.sound ready.next inside
+    ready.same c.deref.ensures.value c.market-consistent.ensures.consistent ready.next inside
     in
     let made = c.in_ok-take_pair-in-Taken.ensures.taken here.written in
     let counts = subst (λ (a : Answer Outcome). CountsOne a self.counts c.take_pair.new.counts) here.answered made.1 in

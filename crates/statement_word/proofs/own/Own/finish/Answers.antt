@@ -8,7 +8,7 @@ returns-in-Ok-clause-closed c =
     let is = sym c.is_open.ensures ∙ c.if-is_open.true in
     λ pairs. (
       open_is_there c.args.self.now.number c.args.market.now c.in-Some.statement of is,
-      last_lines c.args.self.now.number c.args.market.now c.in-Some.statement c.args.text.now.items c.finish.new.out.items c.version-sound.ensures.sound of is c.requires.empty c.in-Ok.ensures.told,
+      last_lines c.args.self.now.number c.args.market.now c.in-Some.statement c.args.text.now.items c.finish.new.out.items c.version-consistent.ensures.consistent of is c.requires.empty c.in-Ok.ensures.told,
     )
 
 pub returns-in-Err-clause-closed : goal.returns-in-Err-clause-closed
@@ -22,4 +22,4 @@ returns-in-Some-2-clause-closed c =
     λ pairs. (shut_is_absent c.args.self.now.number c.args.market.now c.in-Some.statement of (sym c.is_open.ensures ∙ c.if-is_open.false), refl, c.requires.empty)
 
 pub returns-in-None-clause-closed : goal.returns-in-None-clause-closed
-returns-in-None-clause-closed c = λ pairs. (far_is_absent c.args.self.now.number c.args.market.now c.version-sound.ensures.sound ((rw c.in-None.is at c.requires.is_of).1 refl), refl, c.requires.empty)
+returns-in-None-clause-closed c = λ pairs. (far_is_absent c.args.self.now.number c.args.market.now c.version-consistent.ensures.consistent ((rw c.in-None.is at c.requires.is_of).1 refl), refl, c.requires.empty)

@@ -14,4 +14,4 @@ returns-in-Some-clause-told c = on_ok_weaker c.pair.result
 
 pub returns-in-None-clause-told : goal.returns-in-None-clause-told
 returns-in-None-clause-told c = λ next legal.
-    rw c.in-None.is (untold_pair c.args.self.now.number c.args.market.now c.args.pair.now c.args.text.now.items next legal c.version-sound.ensures.sound ((rw c.in-None.is at c.requires.is_of).1 refl) c.requires.empty)
+    rw c.in-None.is (untold_pair c.args.self.now.number c.args.market.now c.args.pair.now c.args.text.now.items next legal c.version-consistent.ensures.consistent ((rw c.in-None.is at c.requires.is_of).1 refl) c.requires.empty)

@@ -1,6 +1,6 @@
 use Rattle.std.proofs.Common.{sym, ◌∙◌, subst, to_z}
 use mir.Syntax.{w128}
-use Rattle.weight_rows.specs.Rows.{IsLawfulRow, IsPricedBy}
+use Rattle.weight_rows.specs.Rows.{IsWeightVector, IsPricedBy}
 use Rattle.weight_rows.proofs.RowLemmas.{IsPriceBefore-none, HasGrown, price_grows}
 use Rattle.weight_rows.proofs.rows.WeightRow.price.Goals as goal
 use Rattle.weight_rows.proofs.rows.WeightRow.price.Goals.{After-entry_price-sum}
@@ -16,7 +16,7 @@ entry_price-sum-requires c =
 
 grown : (c : After-entry_price-sum) → HasGrown c.as_slice-entry-items.result.now c.args.prices.now c.loop-entry.entry-index (to_z w128 c.loop-entry.sum-bits) c.entry_price-sum.result
 grown c =
-    let lawful = subst IsLawfulRow (sym c.as_slice-entry-items.ensures) c.self.invariant in
+    let lawful = subst IsWeightVector (sym c.as_slice-entry-items.ensures) c.self.invariant in
     price_grows _ _ _ _ _ _ lawful c.requires.range c.loop-entry-test.true (record { sfits = c.entry_price-sum.type_inv }) c.loop-entry.invariant c.entry_price-sum.ensures
 
 pub overflow_add-sum : goal.overflow_add-sum

@@ -8,7 +8,7 @@ use Rattle.wire_records.proofs.Readings.{order_spelled, until_spelled}
 use Rattle.wire_records.proofs.record.RecordView.command.Goals as goal
 use Rattle.wire_records.proofs.record.RecordView.command.Goals.{in-1+else-body-eq8, in-2+else-is_empty}
 
--- a body of another length than its tag's
+-- a body of another length than its tag's is no command's
 bad : (r : Record) (tag size : ℕ) → r.tag ≡ tag → IsTag tag → tag ≢ 7 → tag ≢ 10 → size ≡ size_of tag → (length r.body ≡ size → ⊥) → IsTag r.tag × SpellsNone r
 bad r tag size is named order until size_is other = (
   (omega arith, omega arith),

@@ -1,0 +1,7 @@
+pub mod LawProofs
+pub mod OneCanonicalJournal
+pub mod CanonicalIsLegal
+pub mod OwnPromises
+pub mod CanonicalServed
+mod VersionRows
+mod WorkedRows

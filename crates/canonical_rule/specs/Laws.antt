@@ -1,0 +1,62 @@
+-- What holds of canonical outcomes, of walks in turn and of chosen rates.
+use Rattle.std.specs.Prelude.{◌≡◌, ℕ, ℤ, ◌^◌, ◌≤◌, ◌↔◌, true, List, length, All}
+use Rattle.demand_curve.specs.Demand.{IsWithin}
+use Rattle.flow_orders.specs.Orders.{Order, IsOrder}
+use Rattle.flow_orders.specs.Excess.{low_excess, high_excess, low_excess_in, high_excess_in, is_above, is_below, is_above_in, is_below_in, is_unsettled}
+use Rattle.flow_orders.specs.Moves.{rise_of, fall_of, moved, amount_of}
+use Rattle.canonical_rule.specs.Turns.{IsInTurn}
+use Rattle.canonical_rule.specs.Choice.{absolute_sum}
+use Rattle.flow_orders.specs.Trades.{trades, residual}
+use Rattle.flow_orders.specs.Outcomes.{Outcome, step_of, IsLegalFrom, end_of, skipping_at, IsAdmissibleOutcome, most_budget, are_single, ClearsNear}
+use Rattle.flow_orders.specs.Duals.{movement_of}
+use Rattle.canonical_rule.specs.Canonical.{floor_rates, rates_by_choice, IsCanonicalOutcome}
+use Rattle.canonical_rule.specs.Units.{rise_by_units, fall_by_units, moved_by_units, amount_by_units, end_by_units, movement_by_units, IsLegalByUnits, skipping_by_units, IsAdmissibleByUnits, IsCanonicalByUnits}
+
+-- a batch has at most one canonical outcome
+abbrev pub OneCanonicalOutcome : Type 0
+OneCanonicalOutcome = (parts : ℕ) (orders : List Order) (start : List ℤ) (budget : ℕ) (o p : Outcome)
+    → IsCanonicalOutcome parts orders start budget o → IsCanonicalOutcome parts orders start budget p → o ≡ p
+
+-- every batch has a canonical outcome
+abbrev pub EveryBatchHasACanonicalOutcome : Type 0
+EveryBatchHasACanonicalOutcome = (parts : ℕ) (orders : List Order) (start : List ℤ) (budget : ℕ) → (o : Outcome) × IsCanonicalOutcome parts orders start budget o
+
+-- a canonical outcome is admissible
+abbrev pub CanonicalOutcomesAreAdmissible : Type 0
+CanonicalOutcomesAreAdmissible = (parts : ℕ) → 1 ≤ parts → (orders : List Order) (start : List ℤ) (budget : ℕ) (o : Outcome)
+    → All IsOrder orders → All (IsWithin (2 ^ 60)) start → budget ≤ most_budget
+    → IsCanonicalOutcome parts orders start budget o → IsAdmissibleOutcome parts orders start budget o
+
+-- if every order names one asset, a canonical outcome is a clearing at prices within 2^60 grains of 0, and an asset that was settled keeps
+-- its price
+abbrev pub OneAssetBooksClear : Type 0
+OneAssetBooksClear = (parts : ℕ) → 1 ≤ parts → (orders : List Order) (start : List ℤ) (budget : ℕ) (o : Outcome)
+    → All IsOrder orders → are_single orders ≡ true → All (IsWithin (2 ^ 60)) start → IsCanonicalOutcome parts orders start budget o → ClearsNear orders start o
+
+-- chosen rates have no larger sum of absolute imbalances than all demands rounded down
+abbrev pub ChosenRatesAreNoWorse : Type 0
+ChosenRatesAreNoWorse = (n : ℕ) (orders : List Order) (prices : List ℤ)
+    → absolute_sum n (residual (trades orders (rates_by_choice n orders prices))) ≤ absolute_sum n (residual (trades orders (floor_rates orders prices)))
+
+-- there is at most one walk in turn of each length
+abbrev pub OneWalkOfEachLength : Type 0
+OneWalkOfEachLength = (parts : ℕ) (orders : List Order) (start : List ℤ) (v w : List ℕ)
+    → IsInTurn (length start) (is_unsettled orders) (step_of parts orders) start v → IsInTurn (length start) (is_unsettled orders) (step_of parts orders) start w
+    → length v ≡ length w → v ≡ w
+
+-- with one part, moves, walks, skips and outcomes are those by whole units
+pub record OnePartIsWholeUnits : Type 0 where
+  pub low : (orders : List Order) (prices : List ℤ) (asset : ℕ) → low_excess_in 1 orders prices asset ≡ low_excess orders prices asset
+  pub high : (orders : List Order) (prices : List ℤ) (asset : ℕ) → high_excess_in 1 orders prices asset ≡ high_excess orders prices asset
+  pub above : (orders : List Order) (prices : List ℤ) (asset : ℕ) → is_above_in 1 orders prices asset ≡ is_above orders prices asset
+  pub below : (orders : List Order) (prices : List ℤ) (asset : ℕ) → is_below_in 1 orders prices asset ≡ is_below orders prices asset
+  pub rise : (orders : List Order) (reach : ℕ) (prices : List ℤ) (asset : ℕ) → rise_of 1 orders reach prices asset ≡ rise_by_units orders reach prices asset
+  pub fall : (orders : List Order) (reach : ℕ) (prices : List ℤ) (asset : ℕ) → fall_of 1 orders reach prices asset ≡ fall_by_units orders reach prices asset
+  pub prices : (orders : List Order) (reach : ℕ) (prices : List ℤ) (asset : ℕ) → moved 1 orders reach prices asset ≡ moved_by_units orders reach prices asset
+  pub amount : (orders : List Order) (reach : ℕ) (prices : List ℤ) (asset : ℕ) → amount_of 1 orders reach prices asset ≡ amount_by_units orders reach prices asset
+  pub end : (orders : List Order) (start : List ℤ) (walk : List ℕ) → end_of 1 orders start walk ≡ end_by_units orders start walk
+  pub movement : (orders : List Order) (start : List ℤ) (walk : List ℕ) → movement_of 1 orders start walk ≡ movement_by_units orders start walk
+  pub legal : (orders : List Order) (start : List ℤ) (walk : List ℕ) → IsLegalFrom 1 orders start walk ↔ IsLegalByUnits orders start walk
+  pub skip : (orders : List Order) (start : List ℤ) (walk : List ℕ) → skipping_at 1 orders start walk ≡ skipping_by_units orders start walk
+  pub right : (orders : List Order) (start : List ℤ) (budget : ℕ) (o : Outcome) → IsAdmissibleOutcome 1 orders start budget o ↔ IsAdmissibleByUnits orders start budget o
+  pub own : (orders : List Order) (start : List ℤ) (budget : ℕ) (o : Outcome) → IsCanonicalOutcome 1 orders start budget o ↔ IsCanonicalByUnits orders start budget o

@@ -1,0 +1,5 @@
+pub mod Turns
+pub mod Choice
+pub mod Canonical
+pub mod Units
+pub mod Laws

@@ -1,0 +1,5 @@
+mod Below
+mod Listing
+pub mod Making
+mod Consistency
+mod Summing

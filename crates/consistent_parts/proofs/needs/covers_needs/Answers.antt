@@ -1,0 +1,18 @@
+use Rattle.std.proofs.Common.{◌+◌, refl, arith}
+use Rattle.flow_accounts.specs.Balances.{IsAccount}
+use Rattle.consistent_parts.specs.Tests.{CoversAccount}
+use Rattle.consistent_parts.proofs.Below.{one_more, each_account, refuted}
+use Rattle.consistent_parts.proofs.needs.covers_needs.Goals as goal
+
+pub loop-place-preserved : goal.loop-place-preserved
+loop-place-preserved c = one_more (λ k. CoversAccount c.args.accounts.now c.args.book.now.orders (k + 1)) c.loop-place.place c.loop-place.invariant (c.covers_account.ensures.0 c.if-not-covers_account.false)
+
+pub returns-then-not-covers_account : goal.returns-then-not-covers_account
+returns-then-not-covers_account c =
+    let there : IsAccount c.args.accounts.now (c.loop-place.place + 1) = (omega arith, omega (arith, c.loop-place-test.true, c.count-place-end.ensures.count)) in
+    refuted c.covers_account.ensures c.if-not-covers_account.true (λ all. record { money = all.money (c.loop-place.place + 1) there; units = λ asset is_asset. all.units (c.loop-place.place + 1) asset there is_asset })
+
+pub returns : goal.returns
+returns c =
+    let each = each_account c.args.accounts.now (λ account. CoversAccount c.args.accounts.now c.args.book.now.orders account) (λ k inside. c.loop-place.invariant k (omega (arith, inside, c.loop-place-test.false, c.count-place-end.ensures.count))) in
+    (λ _. record { money = λ account there. (each account there).money; units = λ account asset there is_asset. (each account there).units asset is_asset }, λ _. refl)

@@ -1,0 +1,30 @@
+-- No line begins as a checkpoint does.
+use Rattle.std.proofs.Common.{◌≡◌, ℕ, List, ◌∷◌, inl, inr, None, Some, refl, sym, ◌∙◌, arith}
+use Rattle.std.proofs.lemmas.List.Elements.{All-head}
+use Rattle.json.specs.Lex.{lex, punctuate}
+use Rattle.json.specs.Word.{word, after_number}
+use Rattle.json.specs.Json.{value}
+use Rattle.serde_json.specs.Data.{Data}
+use Rattle.serde_json.specs.Read.{read}
+use Rattle.wire_records.specs.declared.version.Version.{Version}
+use Rattle.order_text.specs.Lines.{IsBlankByte, SaysNothing}
+
+-- a text that begins with F (70) is no value
+no_value : (rest : List ℕ) → read (70 ∷ rest) ≡ None
+unfolding lex punctuate word after_number value
+no_value rest = refl
+
+-- nor is F blank
+not_blank : IsBlankByte 70 → ⊥
+not_blank (inl is) = omega (arith, is)
+not_blank (inr (inl is)) = omega (arith, is)
+not_blank (inr (inr is)) = omega (arith, is)
+
+no_such : (d : Data) → Some d ≡ None → ⊥
+no_such d e = cc
+
+pub no_line : (version : Version) (known : List (List ℕ)) (rest : List ℕ) → SaysNothing version known (70 ∷ rest)
+no_line version known rest = record {
+  written = λ blank. not_blank (All-head IsBlankByte 70 rest blank);
+  no_command = λ asked asks. no_such asks.value (sym asks.reads ∙ no_value rest);
+}

@@ -1,0 +1,66 @@
+-- What is before the lines of an input: one thing alone.
+use Rattle.std.proofs.Common.{◌≡◌, ◌↔◌, ℕ, List, ◌++◌, map, length, take, drop, append_assoc, length-append, refl, sym, ap, ◌∙◌, arith}
+use Rattle.std.specs.List.{flat_map}
+use Rattle.std.proofs.lemmas.List.{take-append-drop}
+use Rattle.wire_fields.specs.Numbers.{unsigned}
+use Rattle.wire_records.specs.Versions.{number_of}
+use Rattle.wire_records.specs.declared.version.Version.{Version}
+use Rattle.market_rules.specs.Market.{Market}
+use Rattle.market_snapshot.specs.Checkpoints.{checkpoint_magic, checkpoint_bytes, parts_spelling, read_order, tickers_spelling, accounts_spelling, totals_spelling, exchange_spelling, batches_spelling, orders_spelling, IsCheckpoint, HasCheckpointMagic}
+use Rattle.market_snapshot.proofs.OneMarket.{one_market}
+use Rattle.encode_word.specs.Starts.{Start, Nothing, Kept, IsCut, BeginsKept, BeginsUnkept, IsBefore}
+
+-- a checkpoint begins with its magic
+made_magic : (market : Market) → (rest : List ℕ) × (checkpoint_bytes market ≡ checkpoint_magic ++ rest)
+unfolding checkpoint_bytes parts_spelling tickers_spelling
+made_magic market =
+    let mid = unsigned 1 (number_of market.version) ++ (unsigned 2 (length market.tickers) ++ flat_map (λ t. t) market.tickers) in
+    let more = accounts_spelling market.balances ++ (totals_spelling market.balances ++ (exchange_spelling market.exchange ++ (batches_spelling market.next_order market.batches market.last_prices ++ orders_spelling (map read_order market.orders)))) in
+    (mid ++ more, append_assoc checkpoint_magic mid more)
+
+-- so do bytes that begin with one
+pub kept_magic : (version : Version) (bytes : List ℕ) (market : Market) (after : List ℕ) → BeginsKept version bytes market after → HasCheckpointMagic bytes
+kept_magic version bytes market after kept =
+    let made = made_magic market in
+    (made.0 ++ after, kept.whole ∙ ap (λ xs. xs ++ after) (kept.is_one.spelled ∙ made.1) ∙ append_assoc checkpoint_magic made.0 after)
+
+-- bytes that begin with a magic aren't cut within it
+pub magic_uncut : (More : Type 0) (bytes : List ℕ) → HasCheckpointMagic bytes → IsCut More bytes → ⊥
+magic_uncut More bytes (rest, whole) cut = omega (arith, cut.1, ap length whole, length-append checkpoint_magic rest, eight)
+  where
+    eight : length checkpoint_magic ≡ 8
+    eight = refl
+
+module _ (version : Version) where
+  -- one thing is before the lines, and one list of bytes after it
+  pub one_start : (More : Type 0) (bytes : List ℕ) (start other : Start) (lines more : List ℕ) → IsBefore version More bytes start lines → IsBefore version More bytes other more → (start ≡ other) × (lines ≡ more)
+  one_start More bytes Nothing Nothing lines more a b = (refl, a.2 ∙ sym b.2)
+  one_start More bytes Nothing (Kept market) lines more a b = absurd (a.0 (kept_magic version bytes market more b))
+  one_start More bytes (Kept market) Nothing lines more a b = absurd (b.0 (kept_magic version bytes market lines a))
+  one_start More bytes (Kept market) (Kept other) lines more a b =
+      let one = one_market market other a.checkpoint b.checkpoint lines more a.is_one b.is_one (sym a.whole ∙ b.whole) in
+      (ap Kept one.0, one.1)
+
+  -- and no unkept checkpoint then, nor is the input cut
+  pub start_unkept : (More : Type 0) (bytes : List ℕ) (start : Start) (lines : List ℕ) → IsBefore version More bytes start lines → BeginsUnkept version bytes → ⊥
+  start_unkept More bytes Nothing lines before unkept = before.0 unkept.0
+  start_unkept More bytes (Kept market) lines before unkept = unkept.1 market lines before
+
+  pub start_uncut : (More : Type 0) (bytes : List ℕ) (start : Start) (lines : List ℕ) → IsBefore version More bytes start lines → IsCut More bytes → ⊥
+  start_uncut More bytes Nothing lines before cut = before.1 cut
+  start_uncut More bytes (Kept market) lines before cut = magic_uncut More bytes (kept_magic version bytes market lines before) cut
+
+  -- no market of the version begins where another does
+  pub other_version : (bytes : List ℕ) (market : Market) (place : ℕ) → IsCheckpoint market (take place bytes) → (market.version ≡ version → ⊥) → (other : Market) (after : List ℕ) → BeginsKept version bytes other after → ⊥
+  other_version bytes market place is_one not other after kept =
+      let one = one_market other market kept.checkpoint (take place bytes) after (drop place bytes) kept.is_one is_one (sym kept.whole ∙ sym (take-append-drop place bytes)) in
+      not (ap (λ (m : Market). m.version) (sym one.0) ∙ kept.of_version)
+
+  -- it depends only on whether the input has more
+  module _ (P Q : Type 0) (same : P ↔ Q) (bytes : List ℕ) where
+    pub cut_alike : IsCut P bytes → IsCut Q bytes
+    cut_alike cut = (same.0 cut.0, cut.1, cut.2)
+
+    pub before_alike : (start : Start) (lines : List ℕ) → IsBefore version P bytes start lines → IsBefore version Q bytes start lines
+    before_alike Nothing lines before = (before.0, λ cut. before.1 (same.1 cut.0, cut.1, cut.2), before.2)
+    before_alike (Kept market) lines before = before

@@ -1,0 +1,70 @@
+-- `flow encode`: what it makes of the bytes of its source.
+use Rattle.std.specs.Prelude.{◌≡◌, ◌⊎◌, ℕ, List, [], ◌++◌, Option, Some, None, Ok, Err}
+use Rattle.wire_records.specs.Formats.{command_magic_of}
+use Rattle.wire_records.specs.Commands.{Command}
+use Rattle.wire_records.specs.declared.version.Version.{Version}
+use Rattle.word_driver.specs.declared.fault.Fault.TheVariants.{TooLong, Stopped}
+use Rattle.word_driver.specs.Ended.{Ended}
+use Rattle.line_records.specs.Lines.{AreRead, AreFirst, HaveNext, spell_commands}
+use Rattle.encode_word.specs.declared.stop.EncodeStop.{EncodeStop}
+use Rattle.encode_word.specs.declared.stop.EncodeStop.TheVariants.{NoCommand, NoCheckpoint}
+use Rattle.encode_word.specs.Starts.{Start, known_after, IsCut, BeginsUnkept, IsBefore}
+
+-- how it ends: with the number of the first line that is no command, counted from 1, and else by whether the input has more
+abbrev pub EncodeEnds : Type 0 → Option ℕ → Ended EncodeStop → Type 0
+EncodeEnds More (Some number) ended = ended ≡ Err (Stopped (NoCommand number))
+EncodeEnds More None ended = ((¬ More) × (ended ≡ Ok tt)) ⊎ (More × (ended ≡ Err TooLong))
+
+-- In a version, from the tickers on that are known before the first line.
+module _ (version : Version) (known : List (List ℕ)) where
+  -- The lines of these bytes, up to the first that is no command, ask for these commands. The text is the command file of their records,
+  -- which is read as them, by the laws.
+  pub record LinesTo (More : Type 0) (bytes : List ℕ) (ended : Ended EncodeStop) (text : List ℕ) : Type 0 where
+    pub bad : Option ℕ
+    pub commands : List Command
+    pub reads : AreRead version known More bytes bad commands
+    pub ends : EncodeEnds More bad ended
+    pub writes : text ≡ command_magic_of version ++ spell_commands commands
+
+  -- The text is the command file of what the first lines ask for.
+  pub record LinesInto (More : Type 0) (bytes : List ℕ) (text : List ℕ) : Type 0 where
+    pub commands : List Command
+    pub first : AreFirst version known More bytes commands
+    pub writes : text ≡ command_magic_of version ++ spell_commands commands
+
+  -- The text is the command file of what the lines before one that isn't blank ask for.
+  pub record LinesShort (More : Type 0) (bytes : List ℕ) (text : List ℕ) : Type 0 where
+    pub commands : List Command
+    pub first : HaveNext version known More bytes commands
+    pub writes : text ≡ command_magic_of version ++ spell_commands commands
+
+-- The considered bytes of an input, after which it has more or not; in a version.
+module _ (version : Version) (More : Type 0) (bytes : List ℕ) where
+  -- The lines after what is before them result in this.
+  pub record EncodesLines (ended : Ended EncodeStop) (text : List ℕ) : Type 0 where
+    pub start : Start
+    pub lines : List ℕ
+    pub begins : IsBefore version More bytes start lines
+    pub comes : LinesTo version (known_after start) More lines ended text
+
+  -- what the bytes result in: what their lines do; and nothing is written if they begin as a checkpoint and with one of no market of the
+  -- version, or are cut within its magic
+  abbrev pub Encodes : Ended EncodeStop → List ℕ → Type 0
+  Encodes ended text =
+      EncodesLines ended text
+      ⊎ (BeginsUnkept version bytes × (ended ≡ Err (Stopped NoCheckpoint)) × (text ≡ []))
+      ⊎ (IsCut More bytes × (ended ≡ Err TooLong) × (text ≡ []))
+
+  -- The text is what the first lines result in.
+  pub record EncodesInto (text : List ℕ) : Type 0 where
+    pub start : Start
+    pub lines : List ℕ
+    pub begins : IsBefore version More bytes start lines
+    pub into : LinesInto version (known_after start) More lines text
+
+  -- The text is what the lines before one that isn't blank result in.
+  pub record EncodesShort (text : List ℕ) : Type 0 where
+    pub start : Start
+    pub lines : List ℕ
+    pub begins : IsBefore version More bytes start lines
+    pub short : LinesShort version (known_after start) More lines text

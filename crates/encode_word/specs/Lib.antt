@@ -1,0 +1,4 @@
+pub mod Starts
+pub mod Encoding
+pub mod Tasks
+pub mod Private

@@ -1,5 +1,0 @@
-use Rattle.flow_laws.proofs.Fronts.{begun_is_a_front}
-use Rattle.flow_laws.proofs.begun_is_a_front.Goals as goal
-
-pub returns : goal.returns
-returns c = begun_is_a_front

@@ -1,0 +1,13 @@
+use Rattle.std.proofs.Common.{◌≡◌, ◌-◌, [], length}
+use Rattle.market_history.specs.Private.{TakesOn, HasLeast}
+use Rattle.market_history.proofs.start.read_checkpoint.Given as goal
+
+abbrev pub invariant-sizes : goal.invariant-sizes
+invariant-sizes g l = record {
+  taken : TakesOn l.fn.window l.window [] l.front.items (g.S.Source.rest l.fn.source) (g.S.Source.rest l.source);
+  least : HasLeast l.front.items (length l.front.items);
+  quiet : g.S.Source.faults l.source ≡ g.S.Source.faults l.fn.source;
+}
+
+abbrev pub decreases-sizes : goal.decreases-sizes
+decreases-sizes g l = l.window.limit - l.window.place

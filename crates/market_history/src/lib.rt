@@ -1,0 +1,10 @@
+//! Histories: a journal, or a checkpoint followed by entries.
+//!
+//! A history begins with the magic of a journal or with the checkpoint of a consistent market, and entries follow. [`read_start`]
+//! reads that beginning from a source, through a window, and returns the market that the entries continue; the entries themselves
+//! are left in the window and the source.
+#![tactic(auto)]
+
+mod start;
+
+pub use start::{StartFault, read_start};

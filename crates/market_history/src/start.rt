@@ -1,0 +1,242 @@
+//! Reads the beginning of a history from a source.
+ghost use Rattle.std.specs.Prelude.{◌≡◌, ◌+◌, ◌≤◌, List, ℕ, Option, ◌<◌, ◌^◌, [], None, Err, length, IfOk, IfErr, OnErr, OnOk, IsErr, IsTrue, false};
+ghost use Rattle.flow_io.specs.Faults.{Blames};
+ghost use Rattle.flow_io.specs.Streams.{Takes};
+ghost use Rattle.flow_io.specs.Windows.{empty_window};
+ghost use Rattle.market_snapshot.specs.Checkpoints.{HasCheckpointMagic, BeginsWithNoCheckpoint};
+ghost use Rattle.market_history.specs.Reading.{FindsStart};
+ghost use Rattle.market_history.specs.Private.{IsJoined, TakesOn, TakesAll, IsWholeIfAny, FindsNone, FindsKept};
+
+use flow_io::{Filled, ReadAllFault, Source, Window};
+use journal_records::journal_version;
+use market_core::Market;
+use market_snapshot::{CHECKPOINT_MAGIC, SnapshotFault, checkpoint_size, read_market};
+use std::alloc::Global;
+
+// Each magic has this many bytes.
+const MAGIC: usize = 8;
+
+/// Why no history begins.
+#[derive(Clone, Copy, PartialEq, Eq)]
+pub enum StartFault {
+    /// A read failed.
+    Read,
+    /// An allocation failed, for the checkpoint or its market.
+    Memory,
+    /// The input begins neither as a journal nor as a checkpoint.
+    NotFlow,
+    /// The input begins with the magic of a checkpoint, but with no checkpoint of a consistent market.
+    NoCheckpoint,
+}
+
+// Reads some bytes into a window that holds none, and returns whether there are some.
+fn refill<S: Source>(
+    window: &mut Window,
+    source: &mut S,
+    front: &[u8],
+) -> Result<bool, ReadAllFault>
+    requires none { window.old.held ≡ [] }
+    requires room { 1 ≤ window.old.room }
+    requires open { window.old.over ≡ None }
+    requires placed { window.old.place ≡ length front.now }
+    ensures more { IfOk result (λ more. IsTrue more → TakesOn window.old window.new front.now front.now (S.rest source.old) (S.rest source.new)) }
+    ensures some { IfOk result (λ more. IsTrue more → 0 < length window.new.held) }
+    ensures all { IfOk result (λ more. more ≡ false → TakesAll window.old front.now front.now (S.rest source.old) (S.rest source.new)) }
+    ensures failed { OnErr result ((result ≡ Err ReadAllFault.Read) × TakesOn window.old window.new front.now front.now (S.rest source.old) (S.rest source.new)) }
+    ensures held { OnErr result (window.new.held ≡ []) }
+    ensures cause { Blames (IsErr result) (S.faults source.old) (S.faults source.new) }
+{
+    match window.fill(source, 1) {
+        Ok(Filled::Enough) => Ok(true),
+        Ok(Filled::Ended) => Ok(false),
+        Ok(Filled::Limited) => Ok(false),
+        Err(_) => Err(ReadAllFault::Read),
+    }
+}
+
+// Reads some bytes if the window holds none, and returns whether it holds some.
+fn holds_some<S: Source>(
+    window: &mut Window,
+    source: &mut S,
+    front: &[u8],
+) -> Result<bool, ReadAllFault>
+    requires room { 1 ≤ window.old.room }
+    requires open { window.old.over ≡ None }
+    requires within { window.old.place + length window.old.held ≤ window.old.limit }
+    requires placed { window.old.place ≡ length front.now }
+    ensures more { IfOk result (λ more. IsTrue more → TakesOn window.old window.new front.now front.now (S.rest source.old) (S.rest source.new)) }
+    ensures some { IfOk result (λ more. IsTrue more → 0 < length window.new.held) }
+    ensures all { IfOk result (λ more. more ≡ false → TakesAll window.old front.now front.now (S.rest source.old) (S.rest source.new)) }
+    ensures failed { OnErr result ((result ≡ Err ReadAllFault.Read) × TakesOn window.old window.new front.now front.now (S.rest source.old) (S.rest source.new)) }
+    ensures held { OnErr result (window.new.held ≡ []) }
+    ensures cause { Blames (IsErr result) (S.faults source.old) (S.faults source.new) }
+{
+    if !window.held().is_empty() {
+        return Ok(true);
+    }
+    refill(window, source, front)
+}
+
+// Moves bytes from the beginning of the window to the end of `front`, `most` of them at most. If an allocation fails, nothing moves.
+fn join(window: &mut Window, front: &mut Vec<u8>, most: usize) -> Result<(), ReadAllFault>
+    ensures joined { OnOk result (IsJoined window.old window.new front.old.items front.new.items most) }
+    ensures stays { OnErr result ((result ≡ Err ReadAllFault.Memory) × (window.new ≡ window.old) × (front.new.items ≡ front.old.items)) }
+{
+    let held = window.held();
+    let count = held.len().min(most);
+    match front.extend_from_slice(&held[..count]) {
+        Ok(()) => {}
+        Err(_) => return Err(ReadAllFault::Memory),
+    }
+    window.advance(count);
+    Ok(())
+}
+
+// Reads until `front` has `want` bytes, and returns whether it has.
+fn read_to<S: Source>(
+    window: &mut Window,
+    source: &mut S,
+    front: &mut Vec<u8>,
+    want: usize,
+) -> Result<bool, ReadAllFault>
+    requires room { 1 ≤ window.old.room }
+    requires within { window.old.place + length window.old.held ≤ window.old.limit }
+    requires open { window.old.over ≡ None }
+    requires placed { window.old.place ≡ length front.old.items }
+    requires fewer { length front.old.items ≤ want }
+    ensures there { IfOk result (λ there. IsTrue there → length front.new.items ≡ want) }
+    ensures taken { IfOk result (λ there. IsTrue there → TakesOn window.old window.new front.old.items front.new.items (S.rest source.old) (S.rest source.new)) }
+    ensures all { IfOk result (λ there. there ≡ false → TakesAll window.old front.old.items front.new.items (S.rest source.old) (S.rest source.new)) }
+    ensures fewer { IfOk result (λ there. there ≡ false → length front.new.items < want) }
+    ensures failed { OnErr result (TakesOn window.old window.new front.old.items front.new.items (S.rest source.old) (S.rest source.new)) }
+    ensures unread { result ≡ Err ReadAllFault.Read → (window.new.held ≡ []) × (length front.new.items < want) }
+    ensures cause { Blames (result ≡ Err ReadAllFault.Read) (S.faults source.old) (S.faults source.new) }
+{
+    while front.len() < want {
+        match holds_some(window, source, front) {
+            Ok(true) => {}
+            Ok(false) => return Ok(false),
+            Err(fault) => return Err(fault),
+        }
+        let most = want - front.len();
+        match join(window, front, most) {
+            Ok(()) => {}
+            Err(fault) => return Err(fault),
+        }
+    }
+    Ok(true)
+}
+
+// Reads a checkpoint to its length into `front`, if one begins.
+fn read_checkpoint<S: Source>(
+    window: &mut Window,
+    source: &mut S,
+    front: &mut Vec<u8>,
+) -> Result<(), StartFault>
+    requires room { 1 ≤ window.old.room }
+    requires within { window.old.place + length window.old.held ≤ window.old.limit }
+    requires open { window.old.over ≡ None }
+    requires first { window.old.place ≡ 0 }
+    requires none { front.old.items ≡ [] }
+    ensures whole { OnOk result (IsWholeIfAny front.new.items) }
+    ensures taken { OnOk result (TakesOn window.old window.new [] front.new.items (S.rest source.old) (S.rest source.new)) }
+    ensures none { IfErr result (FindsNone window.old (S.rest source.old) (S.rest source.new)) }
+    ensures cause { Blames (result ≡ Err StartFault.Read) (S.faults source.old) (S.faults source.new) }
+{
+    'sizes: loop {
+        let size = match checkpoint_size(front) {
+            Some(size) => size,
+            None => return Err(StartFault::NoCheckpoint),
+        };
+        if size <= front.len() {
+            return Ok(());
+        }
+        match read_to(window, source, front, size) {
+            Ok(true) => {}
+            Ok(false) => return Err(StartFault::NoCheckpoint),
+            Err(ReadAllFault::Read) => return Err(StartFault::Read),
+            Err(ReadAllFault::Memory) => return Err(StartFault::Memory),
+        }
+    }
+}
+
+// Returns the market of the checkpoint whose magic the window holds.
+fn kept_market<S: Source>(
+    alloc: Global,
+    window: &mut Window,
+    source: &mut S,
+) -> Result<Market, StartFault>
+    requires room { 1 ≤ window.old.room }
+    requires within { window.old.place + length window.old.held ≤ window.old.limit }
+    requires open { window.old.over ≡ None }
+    requires first { window.old.place ≡ 0 }
+    ensures kept { IfOk result (FindsKept window.old window.new (S.rest source.old) (S.rest source.new)) }
+    ensures none { IfErr result (FindsNone window.old (S.rest source.old) (S.rest source.new)) }
+    ensures cause { Blames (result ≡ Err StartFault.Read) (S.faults source.old) (S.faults source.new) }
+{
+    let mut front = Vec::new(alloc);
+    match read_checkpoint(window, source, &mut front) {
+        Ok(()) => {}
+        Err(fault) => return Err(fault),
+    }
+    match read_market(alloc, &front) {
+        Ok((market, _)) => Ok(market),
+        Err(SnapshotFault::NotSound) => Err(StartFault::NoCheckpoint),
+        Err(SnapshotFault::Memory) => Err(StartFault::Memory),
+    }
+}
+
+// Returns the market that a history begins in, of which the window holds at least the first eight bytes.
+fn market_at<S: Source>(
+    alloc: Global,
+    window: &mut Window,
+    source: &mut S,
+) -> Result<Market, StartFault>
+    requires some { 8 ≤ length window.old.held }
+    requires room { 1 ≤ window.old.room }
+    requires within { window.old.place + length window.old.held ≤ window.old.limit }
+    requires open { window.old.over ≡ None }
+    requires first { window.old.place ≡ 0 }
+    ensures finds { (before : Option (List ℕ)) → Takes before (S.rest source.old) window.old.held
+        → FindsStart window.old.limit before (S.rest source.new) window.new result }
+    ensures same { IfOk result (λ market. (window.new.limit ≡ window.old.limit) × (window.new.room ≡ window.old.room)) }
+    ensures numbers { IfOk result (λ market. market.next_order < 2 ^ 63) }
+    ensures cause { Blames (result ≡ Err StartFault.Read) (S.faults source.old) (S.faults source.new) }
+{
+    if let Some(version) = journal_version(window.held()) {
+        window.advance(MAGIC);
+        return Ok(Market::new_in(alloc, version));
+    }
+    if !window.held().starts_with(&CHECKPOINT_MAGIC) {
+        return Err(StartFault::NotFlow);
+    }
+    kept_market(alloc, window, source)
+}
+
+/// Reads the beginning of a history from a source, through a new window, and returns the market that its entries continue: the empty
+/// one of a journal's version, or that of a checkpoint. The window then holds what was read after the beginning.
+///
+/// `NotFlow`: the input begins with neither magic, within the window's limit. `NoCheckpoint`: it begins with a checkpoint's magic, but
+/// with no checkpoint of a consistent market within the limit. `Read`: only if the source's count of faults rose.
+///
+/// A checkpoint is read to its length, which its counts say, into memory of its own, which is freed before returning; counts above those
+/// of any consistent market are refused. Costs the checkpoint's bytes, once, and what [`read_market`] costs.
+pub fn read_start<S: Source>(
+    alloc: Global,
+    window: &mut Window,
+    source: &mut S,
+) -> Result<Market, StartFault>
+    requires new { window.old ≡ empty_window window.old.room window.old.limit }
+    requires room { 8 ≤ window.old.room }
+    ensures finds { FindsStart window.old.limit (S.rest source.old) (S.rest source.new) window.new result }
+    ensures same { IfOk result (λ market. (window.new.limit ≡ window.old.limit) × (window.new.room ≡ window.old.room)) }
+    ensures numbers { IfOk result (λ market. market.next_order < 2 ^ 63) }
+    ensures cause { Blames (result ≡ Err StartFault.Read) (S.faults source.old) (S.faults source.new) }
+{
+    match window.fill(source, MAGIC) {
+        Ok(Filled::Enough) => market_at(alloc, window, source),
+        Ok(Filled::Ended) => Err(StartFault::NotFlow),
+        Ok(Filled::Limited) => Err(StartFault::NotFlow),
+        Err(_) => Err(StartFault::Read),
+    }
+}

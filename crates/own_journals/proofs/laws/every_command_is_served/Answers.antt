@@ -1,5 +1,0 @@
-use Rattle.own_journals.proofs.LawProofs.{every_command_is_served}
-use Rattle.own_journals.proofs.laws.every_command_is_served.Goals as goal
-
-pub returns : goal.returns
-returns c = every_command_is_served

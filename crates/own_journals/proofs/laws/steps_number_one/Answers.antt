@@ -1,5 +1,0 @@
-use Rattle.own_journals.proofs.LawProofs.{steps_number_one}
-use Rattle.own_journals.proofs.laws.steps_number_one.Goals as goal
-
-pub returns : goal.returns
-returns c = steps_number_one

@@ -1,5 +1,0 @@
-use Rattle.own_rule.proofs.OnePart.{one_part_is_whole_units}
-use Rattle.own_rule.proofs.laws.one_part_is_whole_units.Goals as goal
-
-pub returns : goal.returns
-returns c = one_part_is_whole_units

@@ -1,5 +1,0 @@
-use Rattle.own_rule.proofs.OwnLaws.{one_walk_of_each_length}
-use Rattle.own_rule.proofs.laws.one_walk_of_each_length.Goals as goal
-
-pub returns : goal.returns
-returns c = one_walk_of_each_length

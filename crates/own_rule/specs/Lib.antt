@@ -1,5 +1,0 @@
-pub mod Turns
-pub mod Choice
-pub mod Own
-pub mod Units
-pub mod Laws

@@ -1,5 +1,0 @@
-mod Below
-mod Listing
-pub mod Making
-mod Soundness
-mod Summing
