@@ -14,6 +14,7 @@ mod ResumeCuts
 mod Fronts
 mod CheckpointLaws
 mod CutHistories
+mod DaysTogether
 mod ResumeEnds
 mod Resumed
 mod GoneOnAlike

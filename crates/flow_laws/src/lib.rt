@@ -5,6 +5,7 @@
 #![tactic(auto)]
 
 ghost use Rattle.flow_laws.specs.Laws.{DoneIsForHistories, DoneForLegalJournals, RejectedIsFirstIllegal, FirstIllegalOfJournals, BadIsUnsound, TornAtMagics, ExplainIsAudit, RejectedIsExplained, EncodedIsRead, EncodedIsServed, EncodedIsResumed, BadBeforeLines, RunsAreAudited, NoneIsWithoutEnd, SamplesAreRun, BegunIsAPrefix, TickersAgree, SessionsGoOn, StatementsOfHistories, StatementsOfLegalJournals, OneViewOneStatement, StatementsGoOn, CheckpointsOfHistories, HistoriesHaveCheckpoints, HistoriesGoOn, LegalJournalsHaveCheckpoints, CommandFilesBeginNoPair, ResumptionsEnd, ResumptionsKeepPromises, ResumptionsGoOn, GoOnAlike};
+ghost use Rattle.flow_laws.specs.Days.{DaysAreOneHistory};
 
 /// `audit` is done exactly for a history whose entries are all valid, with nothing past the limit, whoever wrote it, and the line that it
 /// writes counts the history's entries, and the batches that cleared and that were skipped.
@@ -154,6 +155,13 @@ pub fn histories_have_checkpoints()
 /// the same bytes after both, `checkpoint` is done for both or for neither, and writes the same.
 pub fn histories_go_on()
     ensures { HistoriesGoOn }
+{}
+
+/// The days of a market, of which each is checked alone from the checkpoint of the day before, are together one history whose entries are all
+/// valid, however long it is: what is promised of the totals, of each batch and of the caps of orders holds across all of them. It is stated
+/// for days of fewer than 2^63 bytes together.
+pub fn days_are_one_history()
+    ensures { DaysAreOneHistory }
 {}
 
 /// The market of each valid journal whose length is below 2^64 has a checkpoint, which is what `checkpoint` writes.
