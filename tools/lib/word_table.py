@@ -270,7 +270,7 @@ def with_words(name, text):
 END = r".\" (what tools/words wrote ends here)"
 MARKS = {
     "README.md": {"<!-- words: readme -->": readme_table},
-    "docs/FORMATS.md": {"<!-- words: lines -->": command_lines, "<!-- words: formats -->": formats_table},
+    "docs/FORMATS.md": {"<!-- words: formats -->": formats_table},
     "docs/flow.1": {r".\" (tools/words writes what follows: synopsis)": synopsis,
                     r".\" (tools/words writes what follows: statuses)": exit_statuses},
 }
