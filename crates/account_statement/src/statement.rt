@@ -1,10 +1,10 @@
 //! A statement, and its public calls.
-ghost use Rattle.std.specs.Prelude.{◌≡◌, ◌≤◌, ◌<◌, ◌++◌, length, true, IfOk, OnOk, OnErr, vec_capacity};
+ghost use Rattle.std.specs.Prelude.{◌≡◌, ◌≤◌, ◌<◌, ◌++◌, length, true, Some, None, IfOk, OnOk, OnErr, vec_capacity};
 ghost use Rattle.wire_records.specs.declared.version.Version.{Version};
 ghost use Rattle.market_rules.specs.Market.{Market as market_value, empty_market};
 ghost use Rattle.batch_audit.specs.Legal.{IsLegalPair};
 ghost use Rattle.statement_rules.specs.Holdings.{nothing};
-ghost use Rattle.statement_rules.specs.Statements.{money_reserved, units_reserved, end_lines, asset_line};
+ghost use Rattle.statement_rules.specs.Statements.{reserved_balance, end_lines, asset_line};
 ghost use Rattle.account_statement.specs.Telling.{holding_of, Agrees, AllocatesCopy, IsTold};
 
 use crate::carried::{all_units, copied_tickers, has_account, money_in, own_book};
@@ -208,14 +208,14 @@ impl Statement {
 
     // Returns the money that the live orders need, in grains.
     fn money_reserved(&self) -> u128
-        ensures { result ≡ money_reserved (holding_of self.now) }
+        ensures { result ≡ reserved_balance (holding_of self.now) None }
     {
         self.book.money_needed(self.account).unsigned_abs()
     }
 
     // Returns the units of an asset that the live orders need.
     fn units_reserved(&self, asset: u16) -> u128
-        ensures { result ≡ units_reserved (holding_of self.now) asset }
+        ensures { result ≡ reserved_balance (holding_of self.now) (Some asset) }
     {
         self.book.units_needed(self.account, asset).unsigned_abs()
     }

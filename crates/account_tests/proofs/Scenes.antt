@@ -12,6 +12,7 @@ use Rattle.flow_orders.specs.Orders.{Order, price_of_ticks, terms_of, needed_mon
 use Rattle.flow_orders.specs.Excess.{price_for}
 use Rattle.flow_orders.specs.Trades.{Trade, trades}
 use Rattle.fill_caps.specs.Covers.{CoversNeeds}
+use Rattle.fill_caps.proofs.Needs.{covers_both}
 
 abbrev entry : ℕ → ℤ → Entry
 entry asset weight = record { asset = asset; weight = weight }
@@ -27,7 +28,7 @@ basket = record { number = 1; account = 1; low = price_of_ticks (pos 100); high 
 
 -- ---- a buyer and a seller
 abbrev pub one_asset : Balances
-one_asset = record { accounts = record { money = pos 4724464025600000; units = pos 0 ∷ [] } ∷ record { money = pos 0; units = pos 10000 ∷ [] } ∷ []; credits = no_credit 1 ∷ no_credit 1 ∷ []; total_money = pos 4724464025600000; total_units = pos 10000 ∷ [] }
+one_asset = record { accounts = record { money = pos 4724464025600000; units = pos 0 ∷ [] } ∷ record { money = pos 0; units = pos 10000 ∷ [] } ∷ []; credits = no_credit 1 ∷ no_credit 1 ∷ []; totals = record { money = pos 4724464025600000; units = pos 10000 ∷ [] } }
 
 abbrev pair : List Order
 pair = buyer ∷ seller 2 0 ∷ []
@@ -60,11 +61,11 @@ pair_units (suc (suc zero)) zero there is_asset = omega (arith, ints)
 pair_units (suc (suc (suc n))) zero there is_asset = absurd (omega (arith, there.1))
 
 pub pair_covered : (held : Balances) (one other : Order) → held ≡ one_asset → one ≡ buyer → other ≡ seller 2 0 → CoversNeeds held (one ∷ other ∷ [])
-pair_covered held one other held_is one_is other_is = rw (held_is, one_is, other_is) (record { money = pair_money; units = pair_units })
+pair_covered held one other held_is one_is other_is = rw (held_is, one_is, other_is) (covers_both one_asset pair pair_money pair_units)
 
 -- ---- a basket and two sellers
 abbrev pub two_assets : Balances
-two_assets = record { accounts = record { money = pos 2147483648000000; units = pos 0 ∷ pos 0 ∷ [] } ∷ record { money = pos 0; units = pos 10000 ∷ pos 10000 ∷ [] } ∷ []; credits = no_credit 2 ∷ no_credit 2 ∷ []; total_money = pos 2147483648000000; total_units = pos 10000 ∷ pos 10000 ∷ [] }
+two_assets = record { accounts = record { money = pos 2147483648000000; units = pos 0 ∷ pos 0 ∷ [] } ∷ record { money = pos 0; units = pos 10000 ∷ pos 10000 ∷ [] } ∷ []; credits = no_credit 2 ∷ no_credit 2 ∷ []; totals = record { money = pos 2147483648000000; units = pos 10000 ∷ pos 10000 ∷ [] } }
 
 abbrev three : List Order
 three = basket ∷ seller 2 0 ∷ seller 3 1 ∷ []
@@ -106,4 +107,4 @@ module _ (one two other : Order) (one_is : one ≡ basket) (two_is : two ≡ sel
   three_there held held_is = rw (held_is, one_is, two_is, other_is) (All-from_recursion (λ (o : Order). IsAccount two_assets o.account) three ((omega arith, omega arith), ((omega arith, omega arith), ((omega arith, omega arith), tt))))
 
   pub three_covered : (held : Balances) → held ≡ two_assets → CoversNeeds held (one ∷ two ∷ other ∷ [])
-  three_covered held held_is = rw (held_is, one_is, two_is, other_is) (record { money = three_money; units = three_units })
+  three_covered held held_is = rw (held_is, one_is, two_is, other_is) (covers_both two_assets three three_money three_units)

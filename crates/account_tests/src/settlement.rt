@@ -115,8 +115,7 @@ fn one_asset(alloc: Global) -> Result<Accounts, AccountFault>
       accounts = record { money = pos 4724464025600000; units = pos 0 ∷ [] }
           ∷ record { money = pos 0; units = pos 10000 ∷ [] } ∷ [];
       credits = no_credit 1 ∷ no_credit 1 ∷ [];
-      total_money = pos 4724464025600000;
-      total_units = pos 10000 ∷ [];
+      totals = record { money = pos 4724464025600000; units = pos 10000 ∷ [] };
     }) }
 {
     let mut accounts = Accounts::new(alloc);
@@ -134,8 +133,7 @@ fn two_assets(alloc: Global) -> Result<Accounts, AccountFault>
       accounts = record { money = pos 2147483648000000; units = pos 0 ∷ pos 0 ∷ [] }
           ∷ record { money = pos 0; units = pos 10000 ∷ pos 10000 ∷ [] } ∷ [];
       credits = no_credit 2 ∷ no_credit 2 ∷ [];
-      total_money = pos 2147483648000000;
-      total_units = pos 10000 ∷ pos 10000 ∷ [];
+      totals = record { money = pos 2147483648000000; units = pos 10000 ∷ pos 10000 ∷ [] };
     }) }
 {
     let mut accounts = Accounts::new(alloc);

@@ -16,6 +16,7 @@ use Rattle.flow_orders.specs.Outcomes.{most_budget, dual_of, step_of, end_of, tr
 use Rattle.canonical_rule.specs.Canonical.{moved_once, ArePricesOf, rates_by_choice, IsCanonicalOutcome}
 use Rattle.canonical_rule.proofs.CanonicalIsAdmissible.{canonical_prices_count, canonical_is_admissible, single_each}
 use Rattle.canonical_rule.proofs.CanonicalLaws.{one_asset_books_clear}
+use Rattle.canonical_rule.proofs.CanonicalWalks.{skip_of_trace}
 use Rattle.flow_orders.proofs.WalkLaws.{walks_lower_the_dual, admissible_skips_lower_the_dual}
 use Rattle.coordinate_search.proofs.Settling.{single_all}
 use Rattle.batch_outcome.specs.declared.outcome.Cleared.{Cleared}
@@ -75,12 +76,10 @@ skipped_is_canonical parts orders start end budget walk trace a b each wide own 
     to_z-of_z w128 b (fits_signed_from_abs w128 b (omega (arith, ints, b_is, b_most))) ∙ b_is ∙ ap (λ p. pos (dual_of orders p)) (ends ∙ ap (end_of parts orders start) (sym trace_is)) in
     record {
       each = each;
-      own = (
-        wide,
-        subst (IsCanonicalTrace (length start) (is_unsettled orders) (step_of parts orders) start budget) (sym trace_is) own,
-        ap (λ d. record { trace = trace; start_dual = d; end_dual = to_z w128 (of_z w128 b) }) start_is
-            ∙ ap (λ d. record { trace = trace; start_dual = pos (dual_of orders start); end_dual = d }) end_is,
-      );
+      own = skip_of_trace parts orders start budget (record { trace = trace; start_dual = to_z w128 (of_z w128 a); end_dual = to_z w128 (of_z w128 b) }) wide
+          (subst (IsCanonicalTrace (length start) (is_unsettled orders) (step_of parts orders) start budget) (sym trace_is) own)
+          (ap (λ d. record { trace = trace; start_dual = d; end_dual = to_z w128 (of_z w128 b) }) start_is
+          ∙ ap (λ d. record { trace = trace; start_dual = pos (dual_of orders start); end_dual = d }) end_is);
     }
 
 -- the imbalances of an admissible clearing are within their tolerances

@@ -20,6 +20,7 @@ use Rattle.flow_orders.specs.Excess.{price_for, residual_bound, steepness, is_un
 use Rattle.flow_orders.specs.Moves.{moved, walk_reach, single_reach}
 use Rattle.canonical_rule.specs.Canonical.{IsCanonicalOutcome}
 use Rattle.canonical_rule.specs.Turns.{visits, IsInTurnFrom, Settles}
+use Rattle.canonical_rule.proofs.CanonicalWalks.{skip_of_trace}
 use Rattle.flow_orders.specs.Walks.{first_that}
 use Rattle.flow_orders.specs.Trades.{Trade, residual}
 use Rattle.flow_orders.specs.Outcomes.{Clearing, Skipping, Cleared, Skipped, trades_of, dual_of, step_of, IsUnnamed, IsAdmissibleClearing, IsAdmissibleOutcome}
@@ -27,7 +28,8 @@ use Rattle.flow_orders.proofs.Book.{IsConsistent as IsConsistentOrder}
 use Rattle.flow_orders.proofs.Exactly.{rises_to, falls_to}
 use Rattle.fill_caps.specs.Settlement.{settled_account}
 use Rattle.order_book.specs.Book.{HasOrder}
-use Rattle.market_rules.specs.Market.{Market, usable_units}
+use Rattle.market_rules.specs.Market.{Market, usable_balance}
+use Rattle.market_rules.proofs.ByKind.{affords}
 use Rattle.market_rules.specs.Step.{FirstRefusal, RefusesRow, Serves, IsAffordable, placed}
 
 abbrev entry : ℕ → ℤ → Entry
@@ -54,7 +56,7 @@ abbrev two_accounts : Account → Account → Credit → Credit → ℤ → ℤ 
 two_accounts one other credit_one credit_other money units = record {
   version = Two;
   tickers = aapl ∷ [];
-  balances = record { accounts = one ∷ other ∷ []; credits = credit_one ∷ credit_other ∷ []; total_money = money; total_units = units ∷ [] };
+  balances = record { accounts = one ∷ other ∷ []; credits = credit_one ∷ credit_other ∷ []; totals = record { money = money; units = units ∷ [] } };
   exchange = holds (pos 0) (pos 0);
   orders = [];
   next_order = 1;
@@ -90,7 +92,7 @@ row_of_one asset weight lawful = record {
   weights = All-from_recursion (λ (e : Entry). IsLawfulWeight e.weight) (entry asset weight ∷ []) (lawful, tt);
 }
 
-first_asset : (b : Balances) (weight : ℤ) → 0 < length b.total_units → All (λ e. IsAsset b e.asset) (entry 0 weight ∷ [])
+first_asset : (b : Balances) (weight : ℤ) → 0 < length b.totals.units → All (λ e. IsAsset b e.asset) (entry 0 weight ∷ [])
 first_asset b weight there = All-from_recursion (λ (e : Entry). IsAsset b e.asset) (entry 0 weight ∷ []) (there, tt)
 
 buy_limits : AreLimits (pos 90) (pos 110)
@@ -115,11 +117,11 @@ unfolding weight_in
 serves_buyer = record {
   first = None;
   refused = place_until enough 1 buys None (omega arith, omega arith) buy_limits (omega arith, omega arith) (omega arith, omega arith) (omega arith)
-      (row_accepts enough (placed enough (Some 1) buys) (row_of_one 0 (pos 1) (omega arith, omega arith)) (first_asset enough.balances (pos 1) (omega arith)) (omega arith) (record { money = omega (arith, ints); units = units }));
+      (row_accepts enough (placed enough (Some 1) buys) (row_of_one 0 (pos 1) (omega arith, omega arith)) (first_asset enough.balances (pos 1) (omega arith)) (omega arith) (affords enough (placed enough (Some 1) buys) (omega (arith, ints)) units));
   answered = (refl, refl);
 }
   where
-    units : (asset : ℕ) → asset < 1 → pos (unit_need asset (placed enough (Some 1) buys)) ≤ℤ usable_units enough 1 asset
+    units : (asset : ℕ) → asset < 1 → pos (unit_need asset (placed enough (Some 1) buys)) ≤ℤ usable_balance enough 1 (Some asset)
     units zero inside = omega (arith, ints)
     units (suc asset) inside = absurd (omega (arith, inside))
 
@@ -128,11 +130,11 @@ unfolding weight_in
 serves_seller = record {
   first = None;
   refused = place with_buyer sells None (omega arith, omega arith) sell_limits (omega arith, omega arith) (omega arith, omega arith)
-      (row_accepts with_buyer (placed with_buyer None sells) (row_of_one 0 (neg_ℤ (pos 1)) (omega arith, omega arith)) (first_asset with_buyer.balances (neg_ℤ (pos 1)) (omega arith)) (omega arith) (record { money = omega (arith, ints); units = units }));
+      (row_accepts with_buyer (placed with_buyer None sells) (row_of_one 0 (neg_ℤ (pos 1)) (omega arith, omega arith)) (first_asset with_buyer.balances (neg_ℤ (pos 1)) (omega arith)) (omega arith) (affords with_buyer (placed with_buyer None sells) (omega (arith, ints)) units));
   answered = (refl, refl);
 }
   where
-    units : (asset : ℕ) → asset < 1 → pos (unit_need asset (placed with_buyer None sells)) ≤ℤ usable_units with_buyer 2 asset
+    units : (asset : ℕ) → asset < 1 → pos (unit_need asset (placed with_buyer None sells)) ≤ℤ usable_balance with_buyer 2 (Some asset)
     units zero inside = omega (arith, ints)
     units (suc asset) inside = absurd (omega (arith, inside))
 
@@ -186,7 +188,7 @@ unfolding steepness weight_in portfolio_price floor_rate ceil_rate floor_in ceil
 pair_moves last = (rises_to 1 (pair_until last) single_reach (pos 0 ∷ []) 0 429410830254 (pair_is_consistent last) (omega arith) (omega arith) refl refl refl).0
 
 pair_is_own : (last : ℕ) → IsCanonicalOutcome 1 (pair_until last) (pos 0 ∷ []) 10 (Cleared even_clearing)
-unfolding is_unsettled steepness weight_in portfolio_price floor_rate ceil_rate scaled_demand loss line span distance
+unfolding is_unsettled steepness weight_in portfolio_price floor_rate ceil_rate floor_in ceil_in scaled_demand loss line span distance
 pair_is_own last = (sym (pair_moves last), refl)
 
 -- after the batch the buyer's order has left, and the seller's stays
@@ -197,8 +199,7 @@ after_first = record {
   balances = record {
     accounts = holds (pos 4509758610472500) (pos 500) ∷ holds (pos 214705415127500) (pos 9500) ∷ [];
     credits = credit 0 0 ∷ credit 0 0 ∷ [];
-    total_money = pos 4724464025600000;
-    total_units = pos 10000 ∷ [];
+    totals = record { money = pos 4724464025600000; units = pos 10000 ∷ [] };
   };
   exchange = holds (pos 0) (pos 0);
   orders = record (placed with_buyer None sells) { filled = 500 } ∷ [];
@@ -269,7 +270,7 @@ unfolding steepness weight_in portfolio_price floor_rate ceil_rate floor_in ceil
 seller_moves = (falls_to 1 (seller_left ∷ []) single_reach (pos 429410830255 ∷ []) 0 42691974923 seller_is_consistent (omega arith) (omega arith) refl refl refl refl).0
 
 seller_is_own : IsCanonicalOutcome 1 (seller_left ∷ []) (pos 429410830255 ∷ []) 10 (Cleared lone_clearing)
-unfolding is_unsettled steepness weight_in portfolio_price floor_rate ceil_rate scaled_demand loss line span distance
+unfolding is_unsettled steepness weight_in portfolio_price floor_rate ceil_rate floor_in ceil_in scaled_demand loss line span distance
 seller_is_own = (sym seller_moves, refl)
 
 abbrev after_second : Market
@@ -277,8 +278,7 @@ after_second = record after_first {
   balances = record {
     accounts = holds (pos 4509758610472500) (pos 500) ∷ holds (pos 215092133982831) (pos 9499) ∷ [];
     credits = credit 0 0 ∷ credit 0 0 ∷ [];
-    total_money = pos 4724464025600000;
-    total_units = pos 10000 ∷ [];
+    totals = record { money = pos 4724464025600000; units = pos 10000 ∷ [] };
   };
   exchange = holds (neg_ℤ (pos 386718855331)) (pos 1);
   orders = record (placed with_buyer None sells) { filled = 501 } ∷ [];
@@ -305,18 +305,18 @@ too_dear : FirstRefusal after_second (Place (Some 3) buys) (Some NotFree)
 unfolding weight_in
 too_dear =
     place_until after_second 3 buys (Some NotFree) (omega arith, omega arith) buy_limits (omega arith, omega arith) (omega arith, omega arith) (omega arith)
-    (row_is_too_dear after_second (placed after_second (Some 3) buys) (row_of_one 0 (pos 1) (omega arith, omega arith)) (first_asset after_second.balances (pos 1) (omega arith)) (omega arith) (λ affordable. let money = affordable.money in omega (arith, ints, money)))
+    (row_is_too_dear after_second (placed after_second (Some 3) buys) (row_of_one 0 (pos 1) (omega arith, omega arith)) (first_asset after_second.balances (pos 1) (omega arith)) (omega arith) (λ affordable. let money = affordable None tt in omega (arith, ints, money)))
 
 serves_third : Serves IsAdmissibleOutcome after_second (Place (Some 3) buys_less) (Plain (reply.Order 3)) (record after_second { orders = record (placed with_buyer None sells) { filled = 501 } ∷ placed after_second (Some 3) buys_less ∷ []; next_order = 4 })
 unfolding weight_in
 serves_third = record {
   first = None;
   refused = place_until after_second 3 buys_less None (omega arith, omega arith) buy_limits (omega arith, omega arith) (omega arith, omega arith) (omega arith)
-      (row_accepts after_second (placed after_second (Some 3) buys_less) (row_of_one 0 (pos 1) (omega arith, omega arith)) (first_asset after_second.balances (pos 1) (omega arith)) (omega arith) (record { money = omega (arith, ints); units = units }));
+      (row_accepts after_second (placed after_second (Some 3) buys_less) (row_of_one 0 (pos 1) (omega arith, omega arith)) (first_asset after_second.balances (pos 1) (omega arith)) (omega arith) (affords after_second (placed after_second (Some 3) buys_less) (omega (arith, ints)) units));
   answered = (refl, refl);
 }
   where
-    units : (asset : ℕ) → asset < 1 → pos (unit_need asset (placed after_second (Some 3) buys_less)) ≤ℤ usable_units after_second 1 asset
+    units : (asset : ℕ) → asset < 1 → pos (unit_need asset (placed after_second (Some 3) buys_less)) ≤ℤ usable_balance after_second 1 (Some asset)
     units zero inside = omega (arith, ints)
     units (suc asset) inside = absurd (omega (arith, inside))
 
@@ -334,7 +334,7 @@ money_lent = two_accounts (holds (pos 0) (pos 0)) (holds (pos 0) (pos 0)) (credi
 serves_money_credit : Serves IsAdmissibleOutcome nothing_held (SetMoneyCredit 1 1100000) (Plain reply.Done) money_lent
 serves_money_credit = record {
   first = None;
-  refused = inr ((omega arith, omega arith), inr ((λ above. omega (arith, above)), inr ((λ short. omega (arith, ints, short)), refl)));
+  refused = inr ((omega arith, omega arith), inr (tt, inr ((λ above. omega (arith, above)), inr ((λ short. omega (arith, ints, short)), refl))));
   answered = (refl, refl);
 }
 
@@ -356,11 +356,11 @@ unfolding weight_in
 serves_lent_buyer = record {
   first = None;
   refused = place on_credit buys None (omega arith, omega arith) buy_limits (omega arith, omega arith) (omega arith, omega arith)
-      (row_accepts on_credit (placed on_credit None buys) (row_of_one 0 (pos 1) (omega arith, omega arith)) (first_asset on_credit.balances (pos 1) (omega arith)) (omega arith) (record { money = omega (arith, ints); units = units }));
+      (row_accepts on_credit (placed on_credit None buys) (row_of_one 0 (pos 1) (omega arith, omega arith)) (first_asset on_credit.balances (pos 1) (omega arith)) (omega arith) (affords on_credit (placed on_credit None buys) (omega (arith, ints)) units));
   answered = (refl, refl);
 }
   where
-    units : (asset : ℕ) → asset < 1 → pos (unit_need asset (placed on_credit None buys)) ≤ℤ usable_units on_credit 1 asset
+    units : (asset : ℕ) → asset < 1 → pos (unit_need asset (placed on_credit None buys)) ≤ℤ usable_balance on_credit 1 (Some asset)
     units zero inside = omega (arith, ints)
     units (suc asset) inside = absurd (omega (arith, inside))
 
@@ -369,11 +369,11 @@ unfolding weight_in
 serves_lent_seller = record {
   first = None;
   refused = place lent_buyer sells None (omega arith, omega arith) sell_limits (omega arith, omega arith) (omega arith, omega arith)
-      (row_accepts lent_buyer (placed lent_buyer None sells) (row_of_one 0 (neg_ℤ (pos 1)) (omega arith, omega arith)) (first_asset lent_buyer.balances (neg_ℤ (pos 1)) (omega arith)) (omega arith) (record { money = omega (arith, ints); units = units }));
+      (row_accepts lent_buyer (placed lent_buyer None sells) (row_of_one 0 (neg_ℤ (pos 1)) (omega arith, omega arith)) (first_asset lent_buyer.balances (neg_ℤ (pos 1)) (omega arith)) (omega arith) (affords lent_buyer (placed lent_buyer None sells) (omega (arith, ints)) units));
   answered = (refl, refl);
 }
   where
-    units : (asset : ℕ) → asset < 1 → pos (unit_need asset (placed lent_buyer None sells)) ≤ℤ usable_units lent_buyer 2 asset
+    units : (asset : ℕ) → asset < 1 → pos (unit_need asset (placed lent_buyer None sells)) ≤ℤ usable_balance lent_buyer 2 (Some asset)
     units zero inside = omega (arith, ints)
     units (suc asset) inside = absurd (omega (arith, inside))
 
@@ -383,8 +383,7 @@ owing = record lent_pair {
   balances = record {
     accounts = holds (neg_ℤ (pos 214705415127500)) (pos 500) ∷ holds (pos 214705415127500) (neg_ℤ (pos 500)) ∷ [];
     credits = credit 1100000 0 ∷ credit 0 10000 ∷ [];
-    total_money = pos 0;
-    total_units = pos 0 ∷ [];
+    totals = record { money = pos 0; units = pos 0 ∷ [] };
   };
   exchange = holds (pos 0) (pos 0);
   orders = record (placed on_credit None buys) { filled = 500 } ∷ record (placed lent_buyer None sells) { filled = 500 } ∷ [];
@@ -403,23 +402,23 @@ serves_lent_batch = record {
 -- what is in use of a credit can't be taken back, to a tick
 less_credit : FirstRefusal owing (SetMoneyCredit 1 1094990) (Some CreditInUse)
 unfolding weight_in
-less_credit = inr ((omega arith, omega arith), inr ((λ above. omega (arith, above)), inl (omega (arith, ints), refl)))
+less_credit = inr ((omega arith, omega arith), inr (tt, inr ((λ above. omega (arith, above)), inl (omega (arith, ints), refl))))
 
 least_credit : FirstRefusal owing (SetMoneyCredit 1 1094991) None
 unfolding weight_in
-least_credit = inr ((omega arith, omega arith), inr ((λ above. omega (arith, above)), inr ((λ short. omega (arith, ints, short)), refl)))
+least_credit = inr ((omega arith, omega arith), inr (tt, inr ((λ above. omega (arith, above)), inr ((λ short. omega (arith, ints, short)), refl))))
 
 most_is_less : FirstRefusal owing (SetMoneyCredit 1 (2 ^ 40 + 1)) (Some CreditLimit)
-most_is_less = inr ((omega arith, omega arith), inl (omega arith, refl))
+most_is_less = inr ((omega arith, omega arith), inr (tt, inl (omega arith, refl)))
 
 -- a withdrawal never uses credit
 nothing_to_withdraw : FirstRefusal owing (WithdrawMoney 1 1) (Some NotFree)
 unfolding weight_in
-nothing_to_withdraw = inr ((omega arith, omega arith), inr ((λ nothing. omega (arith, nothing)), inl (omega (arith, ints), refl)))
+nothing_to_withdraw = inr ((omega arith, omega arith), inr (tt, inr ((λ nothing. omega (arith, nothing)), inl (omega (arith, ints), refl))))
 
 proceeds_to_withdraw : FirstRefusal owing (WithdrawMoney 2 49990) None
 unfolding weight_in
-proceeds_to_withdraw = inr ((omega arith, omega arith), inr ((λ nothing. omega (arith, nothing)), inr ((λ over. omega (arith, ints, over)), refl)))
+proceeds_to_withdraw = inr ((omega arith, omega arith), inr (tt, inr ((λ nothing. omega (arith, nothing)), inr ((λ over. omega (arith, ints, over)), refl))))
 
 -- ---- a portfolio of two assets and a seller of each; the first seller's order has the last batch 1, and the batch is skipped
 
@@ -442,8 +441,7 @@ nobody = record {
   balances = record {
     accounts = holds_two (pos 2147483648000000) (pos 0) (pos 0) ∷ holds_two (pos 0) (pos 10000) (pos 10000) ∷ [];
     credits = no_credit_of_two ∷ no_credit_of_two ∷ [];
-    total_money = pos 2147483648000000;
-    total_units = pos 10000 ∷ pos 10000 ∷ [];
+    totals = record { money = pos 2147483648000000; units = pos 10000 ∷ pos 10000 ∷ [] };
   };
   exchange = holds_two (pos 0) (pos 0) (pos 0);
   orders = [];
@@ -491,7 +489,7 @@ unfolding steepness weight_in portfolio_price floor_rate ceil_rate floor_in ceil
 move = (rises_to 1 wide_until walk_reach (pos 0 ∷ pos 0 ∷ []) 0 394965192540 wide_is_consistent (omega arith) (omega arith) refl refl refl).0
 
 unsettled_facts : (is_unsettled wide_until (pos 0 ∷ pos 0 ∷ []) 0 ≡ true) × (is_unsettled wide_until (pos 394965192541 ∷ pos 0 ∷ []) 1 ≡ true)
-unfolding is_unsettled steepness weight_in portfolio_price floor_rate ceil_rate scaled_demand line span distance
+unfolding is_unsettled steepness weight_in portfolio_price floor_rate ceil_rate floor_in ceil_in scaled_demand line span distance
 unsettled_facts = (refl, refl)
 
 abbrev skipped : Skipping
@@ -512,22 +510,20 @@ skip_is_admissible = record {
 
 -- the trace is the canonical one: the first asset is moved first, and no trace in turn of one move settles both
 first_turn : first_that (is_unsettled wide_until (pos 0 ∷ pos 0 ∷ [])) (visits 2 0) ≡ Some 0
-unfolding is_unsettled steepness weight_in portfolio_price floor_rate ceil_rate scaled_demand line span distance
+unfolding is_unsettled steepness weight_in portfolio_price floor_rate ceil_rate floor_in ceil_in scaled_demand line span distance
 first_turn = refl
 
 same_asset : (a c : ℕ) → Some a ≡ Some c → a ≡ c
 same_asset a c e = cc
 
 skip_is_canonical : IsCanonicalOutcome 1 wide_until (pos 0 ∷ pos 0 ∷ []) 1 (Skipped skipped)
-skip_is_canonical = (
-  refl,
-  record {
-    in_turn = (first_turn, tt);
-    whole = refl;
-    none = λ end own. unsettled_within own.0 own.1.in_turn own.1.settles own.1.within;
-  },
-  skip_is_admissible.duals,
-)
+skip_is_canonical = skip_of_trace 1 wide_until (pos 0 ∷ pos 0 ∷ []) 1 skipped refl
+    (record {
+      in_turn = (first_turn, tt);
+      whole = refl;
+      none = λ end own. unsettled_within own.0 own.1.in_turn own.1.settles own.1.within;
+    })
+    skip_is_admissible.duals
   where
     unsettled_within : (walk : List ℕ) → IsInTurnFrom 2 (is_unsettled wide_until) (step_of 1 wide_until) 0 (pos 0 ∷ pos 0 ∷ []) walk → Settles 2 (is_unsettled wide_until) (step_of 1 wide_until) (pos 0 ∷ pos 0 ∷ []) walk → length walk ≤ 1 → ⊥
     unsettled_within [] in_turn settles few = false≢true (sym (settles 0 (omega arith)) ∙ unsettled_facts.0)

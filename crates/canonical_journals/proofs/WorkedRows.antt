@@ -19,11 +19,13 @@ use Rattle.flow_orders.specs.Outcomes.{Outcome, Cleared}
 use Rattle.flow_orders.specs.Trades.{trades}
 use Rattle.canonical_rule.specs.Canonical.{IsCanonicalOutcome}
 use Rattle.canonical_rule.proofs.WorkedRows as batches
-use Rattle.market_rules.specs.Market.{Market, empty_market, start_prices, held_money, held_units, free_money, usable_units}
+use Rattle.market_rules.specs.Market.{Market, empty_market, start_prices, usable_balance, free_balance, held_balance}
 use Rattle.fill_caps.specs.Settlement.{settled_account, settled_balances, settled_exchange}
 use Rattle.market_rules.specs.Step.{FirstRefusal, Accepts, Answers, Serves, IsAffordable, placed}
 use Rattle.order_book.specs.Book.{HasOrder}
-use Rattle.market_rules.specs.Journal.{Step, IsJournal, money_added, AddTogether, Places, fills_of}
+use Rattle.market_rules.specs.Journal.{Step, IsJournal, Places, fills_of}
+use Rattle.market_rules.specs.Deposits.{AddTogether}
+use Rattle.market_rules.proofs.ByKind.{affords}
 
 abbrev aapl : List ℕ
 aapl = codes "AAPL    "
@@ -52,7 +54,7 @@ abbrev two_accounts : ℤ → Market
 two_accounts money = record {
   version = One;
   tickers = aapl ∷ [];
-  balances = record { accounts = holds money (pos 0) ∷ holds (pos 0) (pos 10000) ∷ []; credits = no_credit ∷ no_credit ∷ []; total_money = money; total_units = pos 10000 ∷ [] };
+  balances = record { accounts = holds money (pos 0) ∷ holds (pos 0) (pos 10000) ∷ []; credits = no_credit ∷ no_credit ∷ []; totals = record { money = money; units = pos 10000 ∷ [] } };
   exchange = holds (pos 0) (pos 0);
   orders = [];
   next_order = 1;
@@ -76,15 +78,15 @@ row_of_one asset weight lawful = record {
   weights = All-from_recursion (λ (e : Entry). IsLawfulWeight e.weight) (entry asset weight ∷ []) (lawful, tt);
 }
 
-first_asset : (b : Balances) (weight : ℤ) → 0 < length b.total_units → All (λ e. IsAsset b e.asset) (entry 0 weight ∷ [])
+first_asset : (b : Balances) (weight : ℤ) → 0 < length b.totals.units → All (λ e. IsAsset b e.asset) (entry 0 weight ∷ [])
 first_asset b weight there = All-from_recursion (λ (e : Entry). IsAsset b e.asset) (entry 0 weight ∷ []) (there, tt)
 
 -- what the buyer needs is what there is
 buyer_affords : IsAffordable enough (placed enough None buys)
 unfolding weight_in
-buyer_affords = record { money = omega (arith, ints); units = units }
+buyer_affords = affords enough (placed enough None buys) (omega (arith, ints)) units
   where
-    units : (asset : ℕ) → asset < 1 → pos (unit_need asset (placed enough None buys)) ≤ℤ usable_units enough 1 asset
+    units : (asset : ℕ) → asset < 1 → pos (unit_need asset (placed enough None buys)) ≤ℤ usable_balance enough 1 (Some asset)
     units zero inside = omega (arith, ints)
     units (suc asset) inside = absurd (omega (arith, inside))
 
@@ -134,7 +136,7 @@ buyer_is_refused =
                   first_asset a_tick_less.balances (pos 1) (omega arith),
                   inr (
                     (λ full. omega (arith, full)),
-                    inl ((λ affordable. let money = affordable.money in omega (arith, ints, money)), refl),
+                    inl ((λ affordable. let money = affordable None tt in omega (arith, ints, money)), refl),
                   ),
                 ),
               ),
@@ -172,16 +174,16 @@ traded =
 
 -- the markets in between
 abbrev with_asset_0 : Market
-with_asset_0 = record { version = One; tickers = aapl ∷ []; balances = record { accounts = []; credits = []; total_money = pos 0; total_units = pos 0 ∷ [] }; exchange = holds (pos 0) (pos 0); orders = []; next_order = 1; batches = 0; last_prices = pos 0 ∷ [] }
+with_asset_0 = record { version = One; tickers = aapl ∷ []; balances = record { accounts = []; credits = []; totals = record { money = pos 0; units = pos 0 ∷ [] } }; exchange = holds (pos 0) (pos 0); orders = []; next_order = 1; batches = 0; last_prices = pos 0 ∷ [] }
 
 abbrev with_account_1 : Market
-with_account_1 = record with_asset_0 { balances = record { accounts = holds (pos 0) (pos 0) ∷ []; credits = no_credit ∷ []; total_money = pos 0; total_units = pos 0 ∷ [] } }
+with_account_1 = record with_asset_0 { balances = record { accounts = holds (pos 0) (pos 0) ∷ []; credits = no_credit ∷ []; totals = record { money = pos 0; units = pos 0 ∷ [] } } }
 
 abbrev with_account_2 : Market
-with_account_2 = record with_asset_0 { balances = record { accounts = holds (pos 0) (pos 0) ∷ holds (pos 0) (pos 0) ∷ []; credits = no_credit ∷ no_credit ∷ []; total_money = pos 0; total_units = pos 0 ∷ [] } }
+with_account_2 = record with_asset_0 { balances = record { accounts = holds (pos 0) (pos 0) ∷ holds (pos 0) (pos 0) ∷ []; credits = no_credit ∷ no_credit ∷ []; totals = record { money = pos 0; units = pos 0 ∷ [] } } }
 
 abbrev with_money : Market
-with_money = record with_asset_0 { balances = record { accounts = holds (pos 4724464025600000) (pos 0) ∷ holds (pos 0) (pos 0) ∷ []; credits = no_credit ∷ no_credit ∷ []; total_money = pos 4724464025600000; total_units = pos 0 ∷ [] } }
+with_money = record with_asset_0 { balances = record { accounts = holds (pos 4724464025600000) (pos 0) ∷ holds (pos 0) (pos 0) ∷ []; credits = no_credit ∷ no_credit ∷ []; totals = record { money = pos 4724464025600000; units = pos 0 ∷ [] } } }
 
 abbrev with_buyer : Market
 with_buyer = record enough { orders = placed enough None buys ∷ []; next_order = 2 }
@@ -194,7 +196,7 @@ abbrev after_trade : Market
 after_trade = record {
   version = One;
   tickers = aapl ∷ [];
-  balances = record { accounts = holds (pos 4509758610472500) (pos 500) ∷ holds (pos 214705415127500) (pos 9500) ∷ []; credits = no_credit ∷ no_credit ∷ []; total_money = pos 4724464025600000; total_units = pos 10000 ∷ [] };
+  balances = record { accounts = holds (pos 4509758610472500) (pos 500) ∷ holds (pos 214705415127500) (pos 9500) ∷ []; credits = no_credit ∷ no_credit ∷ []; totals = record { money = pos 4724464025600000; units = pos 10000 ∷ [] } };
   exchange = holds (pos 0) (pos 0);
   orders = record (placed enough None buys) { filled = 500 } ∷ record (placed with_buyer None sells) { filled = 500 } ∷ [];
   next_order = 3;
@@ -228,7 +230,7 @@ serves_account_2 = record { first = None; refused = inr ((λ full. omega (arith,
 serves_money : Serves IsCanonicalOutcome with_account_2 (DepositMoney 1 1100000) (Plain reply.Done) with_money
 serves_money = record {
   first = None;
-  refused = inr ((omega arith, omega arith), inr ((λ nothing. omega (arith, nothing)), inr ((λ over. omega (arith, ints, over)), refl)));
+  refused = inr ((omega arith, omega arith), inr (tt, inr ((λ nothing. omega (arith, nothing)), inr ((λ over. omega (arith, ints, over)), refl))));
   answered = (refl, refl);
 }
 
@@ -245,9 +247,9 @@ serves_buyer = record { first = None; refused = buyer_is_accepted; answered = (r
 -- what the seller needs is what there is, and no money
 seller_affords : IsAffordable with_buyer (placed with_buyer None sells)
 unfolding weight_in
-seller_affords = record { money = omega (arith, ints); units = units }
+seller_affords = affords with_buyer (placed with_buyer None sells) (omega (arith, ints)) units
   where
-    units : (asset : ℕ) → asset < 1 → pos (unit_need asset (placed with_buyer None sells)) ≤ℤ usable_units with_buyer 2 asset
+    units : (asset : ℕ) → asset < 1 → pos (unit_need asset (placed with_buyer None sells)) ≤ℤ usable_balance with_buyer 2 (Some asset)
     units zero inside = omega (arith, ints)
     units (suc asset) inside = absurd (omega (arith, inside))
 
@@ -327,11 +329,11 @@ the_journal = record {
 fills_are : (fills_of 1 (opened ++ traded) ≡ 500) × (fills_of 2 (opened ++ traded) ≡ 500) × (fills_of 3 (opened ++ traded) ≡ 0)
 fills_are = (refl, refl, refl)
 
-held_is : (held_money after_trade ≡ pos 4724464025600000) × (held_units after_trade 0 ≡ pos 10000)
+held_is : (held_balance after_trade None ≡ pos 4724464025600000) × (held_balance after_trade (Some 0) ≡ pos 10000)
 held_is = (refl, refl)
 
 -- what was deposited is what is held
-deposited : AddTogether (Itself One) money_added (opened ++ traded) (held_money after_trade)
+deposited : AddTogether (Itself One) None (opened ++ traded) (held_balance after_trade None)
 deposited = (
   Ok (AddAsset aapl),
   pos 4724464025600000,
@@ -364,15 +366,15 @@ places_is = record { request = buys; asks = (None, refl); answered = refl; cap_i
 
 -- ---- money is refused that a live order needs
 
-free_is : free_money after_trade 1 ≡ pos 21517786152500
+free_is : free_balance after_trade 1 None ≡ pos 21517786152500
 unfolding weight_in
 free_is = refl
 
 too_much : FirstRefusal after_trade (WithdrawMoney 1 5010) (Some NotFree)
-too_much = inr ((omega arith, omega arith), inr ((λ nothing. omega (arith, nothing)), inl (omega (arith, ints), refl)))
+too_much = inr ((omega arith, omega arith), inr (tt, inr ((λ nothing. omega (arith, nothing)), inl (omega (arith, ints), refl))))
 
 not_too_much : FirstRefusal after_trade (WithdrawMoney 1 5009) None
-not_too_much = inr ((omega arith, omega arith), inr ((λ nothing. omega (arith, nothing)), inr ((λ over. omega (arith, ints, over)), refl)))
+not_too_much = inr ((omega arith, omega arith), inr (tt, inr ((λ nothing. omega (arith, nothing)), inr ((λ over. omega (arith, ints, over)), refl))))
 
 -- ---- an order that sells needs no money, but all units that it may sell
 
@@ -410,7 +412,7 @@ seller_alone = record {
                     first_asset a_tick_less.balances (neg_ℤ (pos 1)) (omega arith),
                     inr (
                       (λ full. omega (arith, full)),
-                      inr (record { money = omega (arith, ints); units = units }, refl),
+                      inr (affords a_tick_less (placed a_tick_less None sells) (omega (arith, ints)) units, refl),
                     ),
                   ),
                 ),
@@ -422,7 +424,7 @@ seller_alone = record {
   answered = (refl, refl);
 }
   where
-    units : (asset : ℕ) → asset < 1 → pos (unit_need asset (placed a_tick_less None sells)) ≤ℤ usable_units a_tick_less 2 asset
+    units : (asset : ℕ) → asset < 1 → pos (unit_need asset (placed a_tick_less None sells)) ≤ℤ usable_balance a_tick_less 2 (Some asset)
     units zero inside = omega (arith, ints)
     units (suc asset) inside = absurd (omega (arith, inside))
 
@@ -539,21 +541,21 @@ no_batch_more = inr ((omega arith, omega arith), inl (omega arith, refl))
 all_units : FirstRefusal with_account_2 (DepositAsset 2 0 1152921504606846976) None
 all_units = inr ((omega arith, omega arith), inr (omega arith, inr ((λ nothing. omega (arith, nothing)), inr ((λ over. omega (arith, ints, over)), refl))))
 
-a_unit_more : FirstRefusal (record with_account_2 { balances = record with_account_2.balances { total_units = pos 1152921504606846976 ∷ [] } }) (DepositAsset 2 0 1) (Some TotalLimit)
+a_unit_more : FirstRefusal (record with_account_2 { balances = record with_account_2.balances { totals = record { money = pos 0; units = pos 1152921504606846976 ∷ [] } } }) (DepositAsset 2 0 1) (Some TotalLimit)
 a_unit_more = inr ((omega arith, omega arith), inr (omega arith, inr ((λ nothing. omega (arith, nothing)), inl (omega (arith, ints), refl))))
 
 -- sixteen deposits of 2^64 - 1 ticks leave 16 ticks
 abbrev nearly_full : Market
-nearly_full = record with_account_2 { balances = record with_account_2.balances { total_money = pos (16 * (2 ^ 32 * 18446744073709551615)) } }
+nearly_full = record with_account_2 { balances = record with_account_2.balances { totals = record { money = pos (16 * (2 ^ 32 * 18446744073709551615)); units = pos 0 ∷ [] } } }
 
 ticks_17 : FirstRefusal nearly_full (DepositMoney 1 17) (Some TotalLimit)
-ticks_17 = inr ((omega arith, omega arith), inr ((λ nothing. omega (arith, nothing)), inl (omega (arith, ints), refl)))
+ticks_17 = inr ((omega arith, omega arith), inr (tt, inr ((λ nothing. omega (arith, nothing)), inl (omega (arith, ints), refl))))
 
 ticks_16 : FirstRefusal nearly_full (DepositMoney 1 16) None
-ticks_16 = inr ((omega arith, omega arith), inr ((λ nothing. omega (arith, nothing)), inr ((λ over. omega (arith, ints, over)), refl)))
+ticks_16 = inr ((omega arith, omega arith), inr (tt, inr ((λ nothing. omega (arith, nothing)), inr ((λ over. omega (arith, ints, over)), refl))))
 
 deposit_0 : FirstRefusal nearly_full (DepositMoney 1 0) (Some ZeroAmount)
-deposit_0 = inr ((omega arith, omega arith), inl (refl, refl))
+deposit_0 = inr ((omega arith, omega arith), inr (tt, inl (refl, refl)))
 
 account_0 : FirstRefusal nearly_full (DepositMoney 0 0) (Some NoAccount)
 account_0 = inl ((λ there. omega (arith, there.0)), refl)
@@ -626,7 +628,7 @@ abbrev with_msft : Market
 with_msft = record {
   version = One;
   tickers = aapl ∷ codes "MSFT    " ∷ [];
-  balances = record { accounts = record { money = pos 4509758610472500; units = pos 500 ∷ pos 0 ∷ [] } ∷ record { money = pos 214705415127500; units = pos 9500 ∷ pos 0 ∷ [] } ∷ []; credits = no_credit_of_two ∷ no_credit_of_two ∷ []; total_money = pos 4724464025600000; total_units = pos 10000 ∷ pos 0 ∷ [] };
+  balances = record { accounts = record { money = pos 4509758610472500; units = pos 500 ∷ pos 0 ∷ [] } ∷ record { money = pos 214705415127500; units = pos 9500 ∷ pos 0 ∷ [] } ∷ []; credits = no_credit_of_two ∷ no_credit_of_two ∷ []; totals = record { money = pos 4724464025600000; units = pos 10000 ∷ pos 0 ∷ [] } };
   exchange = record { money = pos 0; units = pos 0 ∷ pos 0 ∷ [] };
   orders = after_trade.orders;
   next_order = 3;
@@ -640,10 +642,10 @@ adds_msft = (refl, refl)
 -- ---- a batch of two assets, whose imbalances the exchange takes with the other sign
 
 abbrev before_wide : Balances
-before_wide = record { accounts = record { money = pos (500000 * 2 ^ 32); units = pos 0 ∷ pos 0 ∷ [] } ∷ record { money = pos 0; units = pos 10000 ∷ pos 10000 ∷ [] } ∷ []; credits = no_credit_of_two ∷ no_credit_of_two ∷ []; total_money = pos (500000 * 2 ^ 32); total_units = pos 10000 ∷ pos 10000 ∷ [] }
+before_wide = record { accounts = record { money = pos (500000 * 2 ^ 32); units = pos 0 ∷ pos 0 ∷ [] } ∷ record { money = pos 0; units = pos 10000 ∷ pos 10000 ∷ [] } ∷ []; credits = no_credit_of_two ∷ no_credit_of_two ∷ []; totals = record { money = pos (500000 * 2 ^ 32); units = pos 10000 ∷ pos 10000 ∷ [] } }
 
 wide_balances : settled_balances batches.at_3 (trades batches.wide_book (79 ∷ 81 ∷ 78 ∷ [])) before_wide
-    ≡ record { accounts = record { money = pos (500000 * 2 ^ 32 - 62153416633199); units = pos 79 ∷ pos 79 ∷ [] } ∷ record { money = pos 62547436932933; units = pos 9919 ∷ pos 9922 ∷ [] } ∷ []; credits = no_credit_of_two ∷ no_credit_of_two ∷ []; total_money = pos (500000 * 2 ^ 32); total_units = pos 10000 ∷ pos 10000 ∷ [] }
+    ≡ record { accounts = record { money = pos (500000 * 2 ^ 32 - 62153416633199); units = pos 79 ∷ pos 79 ∷ [] } ∷ record { money = pos 62547436932933; units = pos 9919 ∷ pos 9922 ∷ [] } ∷ []; credits = no_credit_of_two ∷ no_credit_of_two ∷ []; totals = record { money = pos (500000 * 2 ^ 32); units = pos 10000 ∷ pos 10000 ∷ [] } }
 unfolding settled_account weight_in portfolio_price
 wide_balances = refl
 

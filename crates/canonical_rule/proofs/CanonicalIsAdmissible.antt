@@ -14,13 +14,13 @@ use Rattle.canonical_rule.specs.Turns.{visits}
 use Rattle.flow_orders.specs.Moves.{moved, single_reach}
 use Rattle.canonical_rule.specs.Choice.{left_by}
 use Rattle.flow_orders.specs.Trades.{Trade, trades, residual}
-use Rattle.flow_orders.specs.Outcomes.{most_budget, IsUnnamed, IsWide, Fill, Outcome, Cleared, Skipped, trades_of, fill_of, step_of, end_of, IsAdmissibleOutcome, IsAdmissibleClearing, are_single, clearing_at}
-use Rattle.canonical_rule.specs.Canonical.{moved_once, ArePricesOf, floor_at, is_fraction_at, floor_rates, rates_by_choice, IsCanonicalOutcome}
+use Rattle.flow_orders.specs.Outcomes.{most_budget, IsUnnamed, IsWide, Fill, Outcome, Cleared, Skipped, trades_of, fill_of, step_of, end_of, IsAdmissibleOutcome, IsAdmissibleClearing, IsAdmissibleSkip, are_single, clearing_at}
+use Rattle.canonical_rule.specs.Canonical.{canonical_walk, moved_once, ArePricesOf, floor_at, is_fraction_at, floor_rates, rates_by_choice, IsCanonicalOutcome}
 use Rattle.flow_orders.proofs.Book.{IsConsistent as IsConsistentOrder, IsSettled}
 use Rattle.canonical_rule.proofs.Choice.{chosen_are_roundings}
 use Rattle.canonical_rule.proofs.ChoiceByEntries.{choice_is_rounding}
 use Rattle.flow_orders.proofs.Residuals.{residual_within_bound}
-use Rattle.canonical_rule.proofs.Walks.{in_turn-legal, canonical_walk}
+use Rattle.canonical_rule.proofs.Walks.{in_turn-legal, shortest_where, trace_where}
 use Rattle.flow_orders.proofs.Singles.{IsSingle}
 use Rattle.flow_orders.proofs.DualWalks.{length-move}
 use Rattle.flow_orders.proofs.SettleSingle.{IsVisit, AreVisited, IsSettledOnce, settles_single}
@@ -184,16 +184,17 @@ prices_are_right parts whole true orders start budget end is each range few own 
       settled = once.settled;
     }
 prices_are_right parts whole false orders start budget end is each range few own =
-    let walk = own.0 in
+    let walk = canonical_walk parts orders start budget in
     let n = length start in
-    let legal = in_turn-legal n (is_unsettled orders) (step_of parts orders) 0 start walk (omega arith) own.1.in_turn in
+    let short = shortest_where n (is_unsettled orders) (step_of parts orders) budget start own.0 in
+    let legal = in_turn-legal n (is_unsettled orders) (step_of parts orders) 0 start walk (omega arith) short.in_turn in
     let walked = has_walked parts orders n start walk refl legal in
     let at_start : AreWithin (2 ^ 60) start = λ k d inside. let one = range k d inside in near (slice_index_or start k d) one in
-    rw own.2 (record {
+    rw own.1 (record {
       count = walked.count;
-      small = λ k d inside. let one = walked.range (2 ^ 60) at_start k d inside in let length_most = own.1.within in omega (arith, one, length_most, few);
+      small = λ k d inside. let one = walked.range (2 ^ 60) at_start k d inside in let length_most = short.within in omega (arith, one, length_most, few);
       unnamed = walked.unnamed;
-      settled = λ asset inside. settled_is orders (end_of parts orders start walk) asset (own.1.settles asset inside);
+      settled = λ asset inside. settled_is orders (end_of parts orders start walk) asset (own.0 asset inside);
     })
   where
     near : (p : ℤ) → IsWithin (2 ^ 60) p → unsigned_abs p ≤ 2 ^ 60
@@ -211,11 +212,12 @@ canonical_is_admissible parts whole orders start budget (Cleared c) each range f
     subst (IsAdmissibleClearing orders start) (sym own.1) (right_at orders start c.prices (rates_by_choice (length start) orders c.prices) each (choices_are_roundings orders each (length start) c.prices) prices.count prices.small prices.unnamed prices.settled)
 canonical_is_admissible parts whole orders start budget (Skipped s) each range few own =
     let n = length start in
-    let trace = own.1 in
-    record {
+    let walk = canonical_walk parts orders start budget in
+    let trace = trace_where n (is_unsettled orders) (step_of parts orders) budget start own.1 in
+    subst (IsAdmissibleSkip parts orders start budget) (sym own.2) (record {
       wide = wide_is orders each own.0;
-      legal = in_turn-legal n (is_unsettled orders) (step_of parts orders) 0 start s.trace (omega arith) trace.in_turn;
+      legal = in_turn-legal n (is_unsettled orders) (step_of parts orders) 0 start walk (omega arith) trace.in_turn;
       whole = trace.whole;
-      unsettled = λ settled. trace.none (end_of parts orders start s.trace) (s.trace, canonical_walk n (is_unsettled orders) (step_of parts orders) start budget s.trace trace.in_turn settled (omega (arith, trace.whole)), refl);
-      duals = own.2;
-    }
+      unsettled = own.1;
+      duals = refl;
+    })

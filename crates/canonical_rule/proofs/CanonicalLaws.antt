@@ -9,9 +9,9 @@ use Rattle.canonical_rule.specs.Choice.{left_by}
 use Rattle.flow_orders.specs.Trades.{trades, residual}
 use Rattle.flow_orders.specs.Outcomes.{Cleared, Skipped, step_of}
 use Rattle.canonical_rule.specs.Canonical.{ArePricesOf, floor_at, is_fraction_at, floor_rates, rates_by_choice}
-use Rattle.canonical_rule.specs.Laws.{OneCanonicalOutcome, EveryBatchHasACanonicalOutcome, CanonicalOutcomesAreAdmissible, OneAssetBooksClear, ChosenRatesAreNoWorse, OneWalkOfEachLength}
+use Rattle.canonical_rule.specs.Laws.{OneCanonicalOutcome, EveryBatchHasACanonicalOutcome, CanonicalOutcomesAreAdmissible, OneAssetBooksClear, ChosenRatesAreNoWorse, OneWalkOfEachLength, CanonicalWalksAreShortest}
 use Rattle.canonical_rule.proofs.Choice.{absolute_sum-same, chosen_is_no_worse}
-use Rattle.canonical_rule.proofs.Walks.{one_of_each_length}
+use Rattle.canonical_rule.proofs.Walks.{one_of_each_length, shortest_is, trace_is, trace_leaves, shortest_where, trace_where}
 use Rattle.flow_orders.proofs.Moving.{settled_is}
 use Rattle.canonical_rule.proofs.CanonicalIsAdmissible.{settles_once, canonical_is_admissible}
 use Rattle.canonical_rule.proofs.OneCanonical.{one_own, own_is_there}
@@ -49,3 +49,14 @@ chosen_rates_are_no_worse n orders prices =
 
 pub one_walk_of_each_length : OneWalkOfEachLength
 one_walk_of_each_length parts orders start v w one other same = one_of_each_length (length start) (is_unsettled orders) (step_of parts orders) 0 start v w one other same
+
+pub canonical_walks_are_shortest : CanonicalWalksAreShortest
+canonical_walks_are_shortest = record {
+  settles = λ parts orders start budget settled. shortest_where (length start) (is_unsettled orders) (step_of parts orders) budget start settled;
+  only = λ parts orders start budget walk own. (shortest_is (length start) (is_unsettled orders) (step_of parts orders) budget start walk own, own.settles);
+  leaves = λ parts orders start budget left. trace_where (length start) (is_unsettled orders) (step_of parts orders) budget start left;
+  trace = λ parts orders start budget walk own. (
+    trace_is (length start) (is_unsettled orders) (step_of parts orders) budget start walk own,
+    trace_leaves (length start) (is_unsettled orders) (step_of parts orders) budget start walk own,
+  );
+}

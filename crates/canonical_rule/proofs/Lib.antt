@@ -5,6 +5,7 @@ pub mod OneCanonical
 mod OnePart
 pub mod CanonicalIsAdmissible
 pub mod CanonicalLaws
+pub mod CanonicalWalks
 pub mod Raised
 mod Rows
 pub mod Walks

@@ -1,65 +1,36 @@
 -- With one part the rule of moves is that by whole units.
 use Rattle.std.proofs.Common.{◌≡◌, ℕ, ◌*◌, Bool, true, false, not, cond, ℤ, pos, negsuc, List, [], ◌∷◌, length, refl, ap, sym, subst, ◌∙◌, ◌↔◌, arith}
-use Rattle.std.specs.Prelude.{neg_ℤ, suc, int_lt}
 use Rattle.std.proofs.Math.Path.{fun_ext}
-use Rattle.weight_rows.specs.Rows.{weight_in}
-use Rattle.demand_curve.specs.Demand.{Terms}
-use Rattle.demand_curve.proofs.Parts.{one_part_is_a_unit}
-use Rattle.list_sums.proofs.SumLemmas.{int_sum_by-same_all}
-use Rattle.flow_orders.specs.Orders.{Order, terms_of}
-use Rattle.flow_orders.specs.Excess.{price_for, low_part, high_part, low_part_in, high_part_in, low_excess, high_excess, low_excess_in, high_excess_in, steepness, is_above, is_below, is_above_in, is_below_in, is_unsettled}
+use Rattle.flow_orders.specs.Orders.{Order}
+use Rattle.flow_orders.specs.Excess.{is_below_in, is_unsettled}
+use Rattle.flow_orders.specs.WholeUnits.{is_above, is_below}
+use Rattle.flow_orders.proofs.WholeUnits.{low_one, high_one, above_one, below_one, unsettled_one}
 use Rattle.flow_orders.specs.Walks.{walk_end, IsLegal, AreSettled}
-use Rattle.canonical_rule.specs.Turns.{visits, AreCanonicalPrices, IsCanonicalTrace}
+use Rattle.canonical_rule.specs.Turns.{visits, walk_in_turn}
 use Rattle.flow_orders.specs.Moves.{least_amount, risen, fallen, rise_of, fall_of, moved, amount_of, walk_reach, single_reach}
 use Rattle.flow_orders.specs.Outcomes.{Outcome, Cleared, Skipped, dual_of, step_of, end_of, IsLegalFrom, IsAdmissibleOutcome, skipping_at, are_single}
-use Rattle.canonical_rule.specs.Canonical.{moved_once, ArePricesOf, IsCanonicalOutcome}
+use Rattle.canonical_rule.specs.Canonical.{canonical_walk, moved_once, ArePricesOf, IsCanonicalOutcome}
 use Rattle.flow_orders.specs.Duals.{movement_of}
-use Rattle.canonical_rule.specs.Units.{rise_by_units, fall_by_units, moved_by_units, amount_by_units, step_by_units, IsLegalByUnits, end_by_units, movement_by_units, skipping_by_units, IsAdmissibleByUnits, moved_once_by_units, ArePricesByUnits, IsCanonicalByUnits}
+use Rattle.canonical_rule.specs.Units.{rise_by_units, fall_by_units, moved_by_units, amount_by_units, step_by_units, IsLegalByUnits, end_by_units, movement_by_units, skipping_by_units, IsAdmissibleByUnits, moved_once_by_units, walk_by_units, ArePricesByUnits, IsCanonicalByUnits}
 use Rattle.canonical_rule.specs.Laws.{OnePartIsWholeUnits}
-
--- ---- excess
-
-low_part_is : (w : ℤ) (t : Terms) (c : ℤ) → low_part_in 1 w t c ≡ low_part w t c
-low_part_is (pos n) t c = ap (λ x. pos (n * x)) (one_part_is_a_unit t c).0
-low_part_is (negsuc n) t c = ap (λ x. neg_ℤ (pos (suc n * x))) (one_part_is_a_unit t c).1
-
-high_part_is : (w : ℤ) (t : Terms) (c : ℤ) → high_part_in 1 w t c ≡ high_part w t c
-high_part_is (pos n) t c = ap (λ x. pos (n * x)) (one_part_is_a_unit t c).1
-high_part_is (negsuc n) t c = ap (λ x. neg_ℤ (pos (suc n * x))) (one_part_is_a_unit t c).0
-
-module _ (orders : List Order) (prices : List ℤ) (asset : ℕ) where
-  low_is : low_excess_in 1 orders prices asset ≡ low_excess orders prices asset
-  low_is = int_sum_by-same_all (λ (o : Order). low_part_in 1 (weight_in o.row asset) (terms_of o) (price_for prices o)) (λ o. low_part (weight_in o.row asset) (terms_of o) (price_for prices o)) orders
-      (λ k d inside. low_part_is _ _ _)
-
-  high_is : high_excess_in 1 orders prices asset ≡ high_excess orders prices asset
-  high_is = int_sum_by-same_all (λ (o : Order). high_part_in 1 (weight_in o.row asset) (terms_of o) (price_for prices o)) (λ o. high_part (weight_in o.row asset) (terms_of o) (price_for prices o)) orders
-      (λ k d inside. high_part_is _ _ _)
-
-  one : 1 * steepness orders asset ≡ steepness orders asset
-  one = omega arith
-
-  above_is : is_above_in 1 orders prices asset ≡ is_above orders prices asset
-  above_is = ap (λ n. int_lt (pos n) (low_excess_in 1 orders prices asset)) one ∙ ap (λ z. int_lt (pos (steepness orders asset)) z) low_is
-
-  below_is : is_below_in 1 orders prices asset ≡ is_below orders prices asset
-  below_is = ap (λ n. int_lt (high_excess_in 1 orders prices asset) (neg_ℤ (pos n))) one ∙ ap (λ z. int_lt z (neg_ℤ (pos (steepness orders asset)))) high_is
 
 -- ---- moves
 
 module _ (orders : List Order) (reach : ℕ) (prices : List ℤ) (asset : ℕ) where
   rise_is : rise_of 1 orders reach prices asset ≡ rise_by_units orders reach prices asset
-  rise_is = ap (least_amount reach) (fun_ext (λ d. ap not (above_is orders (risen prices asset d) asset)))
+  rise_is = ap (least_amount reach) (fun_ext (λ d. ap not (above_one orders (risen prices asset d) asset)))
 
   fall_is : fall_of 1 orders reach prices asset ≡ fall_by_units orders reach prices asset
-  fall_is = ap (least_amount reach) (fun_ext (λ d. ap not (below_is orders (fallen prices asset d) asset)))
+  fall_is = ap (least_amount reach) (fun_ext (λ d. ap not (below_one orders (fallen prices asset d) asset)))
 
   moved_is : moved 1 orders reach prices asset ≡ moved_by_units orders reach prices asset
   unfolding moved moved_by_units
   moved_is =
       let above = is_above orders prices asset in
       let below = is_below orders prices asset in
-      ap (λ d. cond above (risen prices asset d) (cond below (fallen prices asset (fall_of 1 orders reach prices asset)) prices)) rise_is
+      ap (λ b. cond b (risen prices asset (rise_of 1 orders reach prices asset)) (cond (is_below_in 1 orders prices asset) (fallen prices asset (fall_of 1 orders reach prices asset)) prices)) (above_one orders prices asset)
+      ∙ ap (λ b. cond above (risen prices asset (rise_of 1 orders reach prices asset)) (cond b (fallen prices asset (fall_of 1 orders reach prices asset)) prices)) (below_one orders prices asset)
+      ∙ ap (λ d. cond above (risen prices asset d) (cond below (fallen prices asset (fall_of 1 orders reach prices asset)) prices)) rise_is
       ∙ ap (λ d. cond above (risen prices asset (rise_by_units orders reach prices asset)) (cond below (fallen prices asset d) prices)) fall_is
 
   amount_is : amount_of 1 orders reach prices asset ≡ amount_by_units orders reach prices asset
@@ -67,7 +38,9 @@ module _ (orders : List Order) (reach : ℕ) (prices : List ℤ) (asset : ℕ) w
   amount_is =
       let above = is_above orders prices asset in
       let below = is_below orders prices asset in
-      ap (λ d. cond above d (cond below (fall_of 1 orders reach prices asset) 0)) rise_is
+      ap (λ b. cond b (rise_of 1 orders reach prices asset) (cond (is_below_in 1 orders prices asset) (fall_of 1 orders reach prices asset) 0)) (above_one orders prices asset)
+      ∙ ap (λ b. cond above (rise_of 1 orders reach prices asset) (cond b (fall_of 1 orders reach prices asset) 0)) (below_one orders prices asset)
+      ∙ ap (λ d. cond above d (cond below (fall_of 1 orders reach prices asset) 0)) rise_is
       ∙ ap (λ d. cond above (rise_by_units orders reach prices asset) (cond below d 0)) fall_is
 
 -- ---- walks
@@ -120,28 +93,38 @@ right_is orders start budget (Skipped s) = (
   }),
 )
 
+walk_is : (orders : List Order) (start : List ℤ) (budget : ℕ) → canonical_walk 1 orders start budget ≡ walk_by_units orders start budget
+walk_is orders start budget = ap (λ step. walk_in_turn (length start) (is_unsettled orders) step budget 0 start) (step_is orders)
+
+end_of_walk : (orders : List Order) (start : List ℤ) (budget : ℕ) → end_of 1 orders start (canonical_walk 1 orders start budget) ≡ end_by_units orders start (walk_by_units orders start budget)
+end_of_walk orders start budget = ap (end_of 1 orders start) (walk_is orders start budget) ∙ end_is orders start (walk_by_units orders start budget)
+
 prices_are : (single : Bool) (orders : List Order) (start : List ℤ) (budget : ℕ) (end : List ℤ) → ArePricesOf 1 single orders start budget end ↔ ArePricesByUnits single orders start budget end
 prices_are true orders start budget end = ((λ own. own ∙ once_is orders (visits (length start) 0) start), (λ own. own ∙ sym (once_is orders (visits (length start) 0) start)))
 prices_are false orders start budget end =
-    let family = λ (step : List ℤ → ℕ → List ℤ). AreCanonicalPrices (length start) (is_unsettled orders) step start budget end in
-    (subst family (step_is orders), subst family (sym (step_is orders)))
+    let same = end_of_walk orders start budget in
+    let settled = AreSettled (length start) (is_unsettled orders) in
+    ((λ own. (subst settled same own.0, own.1 ∙ same)), (λ own. (subst settled (sym same) own.0, own.1 ∙ sym same)))
 
 own_is : (orders : List Order) (start : List ℤ) (budget : ℕ) (o : Outcome) → IsCanonicalOutcome 1 orders start budget o ↔ IsCanonicalByUnits orders start budget o
 own_is orders start budget (Cleared c) =
     let prices = prices_are (are_single orders) orders start budget c.prices in
     ((λ own. (prices.0 own.0, own.1)), (λ own. (prices.1 own.0, own.1)))
 own_is orders start budget (Skipped s) =
-    let family = λ (step : List ℤ → ℕ → List ℤ). IsCanonicalTrace (length start) (is_unsettled orders) step start budget s.trace in (
-      (λ own. (own.0, subst family (step_is orders) own.1, own.2 ∙ skipping_is orders start s.trace)),
-      (λ own. (own.0, subst family (sym (step_is orders)) own.1, own.2 ∙ sym (skipping_is orders start s.trace))),
+    let same = end_of_walk orders start budget in
+    let settled = AreSettled (length start) (is_unsettled orders) in
+    let skip = ap (skipping_at 1 orders start) (walk_is orders start budget) ∙ skipping_is orders start (walk_by_units orders start budget) in (
+      (λ own. (own.0, (λ ends. own.1 (subst settled (sym same) ends)), own.2 ∙ skip)),
+      (λ own. (own.0, (λ ends. own.1 (subst settled same ends)), own.2 ∙ sym skip)),
     )
 
 pub one_part_is_whole_units : OnePartIsWholeUnits
 one_part_is_whole_units = record {
-  low = low_is;
-  high = high_is;
-  above = above_is;
-  below = below_is;
+  low = low_one;
+  high = high_one;
+  above = above_one;
+  below = below_one;
+  unsettled = unsettled_one;
   rise = rise_is;
   fall = fall_is;
   prices = moved_is;

@@ -2,10 +2,11 @@
 use Rattle.std.proofs.Common.{◌≡◌, true, false, ℤ, pos, List, [], ◌∷◌, refl}
 use Rattle.std.specs.Prelude.{neg_ℤ}
 use Rattle.weight_rows.specs.Rows.{weight_in, portfolio_price}
-use Rattle.demand_curve.specs.Demand.{span, line, scaled_demand, floor_rate, ceil_rate, loss, scaled_dual, dual_floor}
+use Rattle.demand_curve.specs.Demand.{span, line, scaled_demand, floor_rate, ceil_rate, floor_in, ceil_in, loss, scaled_dual, dual_floor}
 use Rattle.demand_curve.specs.Numbers.{distance}
 use Rattle.flow_orders.specs.Orders.{Order}
-use Rattle.flow_orders.specs.Excess.{steepness, residual_bound, low_excess, is_above, is_unsettled}
+use Rattle.flow_orders.specs.Excess.{steepness, residual_bound, is_unsettled}
+use Rattle.flow_orders.specs.WholeUnits.{low_excess, is_above}
 use Rattle.flow_orders.specs.Trades.{trades}
 use Rattle.flow_orders.specs.Outcomes.{dual_of, clearing_at}
 use Rattle.canonical_rule.specs.Canonical.{floor_rates, rates_by_choice}
@@ -90,5 +91,5 @@ unfolding portfolio_book steepness weight_in portfolio_price floor_rate ceil_rat
 not_before = refl
 
 all_settled : (is_unsettled portfolio_book two_prices 0 ≡ false) × (is_unsettled portfolio_book two_prices 1 ≡ false)
-unfolding portfolio_book two_prices is_unsettled steepness weight_in portfolio_price floor_rate ceil_rate scaled_demand line span distance
+unfolding portfolio_book two_prices is_unsettled steepness weight_in portfolio_price floor_rate ceil_rate floor_in ceil_in scaled_demand line span distance
 all_settled = (refl, refl)

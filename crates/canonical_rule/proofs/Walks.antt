@@ -1,4 +1,4 @@
--- A walk in turn is determined by its start and its length, and the loop finds it.
+-- A walk in turn is determined by its start and its length, and the function of the budget is the shortest that settles all.
 use Rattle.std.proofs.Common.{◌≡◌, ℕ, zero, suc, ◌+◌, ◌-◌, ◌<◌, ◌≤◌, Bool, true, false, List, [], ◌∷◌, ◌++◌, length, get_or, Option, Some, None, ◌⊎◌, inl, inr, ⊎_elim, refl, sym, ap, subst, ◌∙◌, arith}
 use Rattle.std.specs.List.{range_with_len}
 use Rattle.std.proofs.lemmas.Bool.{cases_Bool, cases_lt, false≢true}
@@ -6,8 +6,8 @@ use Rattle.std.proofs.lemmas.List.{length-append, get_or_append_left, get_or-app
 use Rattle.std.proofs.lemmas.Option.{same_Some, none-some}
 use Rattle.std.proofs.lemmas.List.FromFn.{length-range_with_len, get_or-range_with_len}
 use Rattle.flow_orders.specs.Walks.{first_that, walk_end, IsLegal, AreSettled}
-use Rattle.canonical_rule.specs.Turns.{visits, IsInTurnFrom, IsInTurn, IsCanonicalWalk, AreCanonicalPrices, IsCanonicalTrace}
-use Rattle.canonical_rule.proofs.Loops.{go_on, loop_walk, next_after}
+use Rattle.canonical_rule.specs.Turns.{visits, walk_in_turn, IsInTurnFrom, IsInTurn, IsCanonicalWalk, AreCanonicalPrices, IsCanonicalTrace}
+use Rattle.canonical_rule.proofs.Loops.{go_on, next_after}
 
 no_some : {A : Type 0} {x : A} → None ≡ Some x → ⊥
 no_some {x = x} e = none-some x e
@@ -215,36 +215,36 @@ module _ {P : Type 0} (n : ℕ) (unsettled : P → ℕ → Bool) (move : P → �
         open_left (subst (λ l. AreSettled n unsettled (walk_end move p l)) same own.settles);
   }
 
-  -- the loop's walk is in turn
-  pub loop-in_turn : (budget next : ℕ) (p : P) → IsInTurnFrom n unsettled move next p (loop_walk n unsettled move budget next p)
+  -- the walk of a budget is in turn
+  pub loop-in_turn : (budget next : ℕ) (p : P) → IsInTurnFrom n unsettled move next p (walk_in_turn n unsettled move budget next p)
   loop-in_turn zero next p = tt
   loop-in_turn (suc budget) next p = by_first (first_that (unsettled p) (visits n next)) refl (λ a. loop-in_turn budget (a + 1) (move p a))
     where
-      by_first : (found : Option ℕ) → first_that (unsettled p) (visits n next) ≡ found → ((a : ℕ) → IsInTurnFrom n unsettled move (a + 1) (move p a) (loop_walk n unsettled move budget (a + 1) (move p a))) → IsInTurnFrom n unsettled move next p (go_on found (λ a. loop_walk n unsettled move budget (a + 1) (move p a)))
+      by_first : (found : Option ℕ) → first_that (unsettled p) (visits n next) ≡ found → ((a : ℕ) → IsInTurnFrom n unsettled move (a + 1) (move p a) (walk_in_turn n unsettled move budget (a + 1) (move p a))) → IsInTurnFrom n unsettled move next p (go_on found (λ a. walk_in_turn n unsettled move budget (a + 1) (move p a)))
       by_first None e rest = tt
       by_first (Some a) e rest = (e, rest a)
 
-  -- the loop keeps its budget
-  pub loop-within : (budget next : ℕ) (p : P) → length (loop_walk n unsettled move budget next p) ≤ budget
+  -- it keeps its budget
+  pub loop-within : (budget next : ℕ) (p : P) → length (walk_in_turn n unsettled move budget next p) ≤ budget
   loop-within zero next p = omega arith
   loop-within (suc budget) next p = by_first (first_that (unsettled p) (visits n next)) (λ a. loop-within budget (a + 1) (move p a))
     where
-      by_first : (found : Option ℕ) → ((a : ℕ) → length (loop_walk n unsettled move budget (a + 1) (move p a)) ≤ budget) → length (go_on found (λ a. loop_walk n unsettled move budget (a + 1) (move p a))) ≤ suc budget
+      by_first : (found : Option ℕ) → ((a : ℕ) → length (walk_in_turn n unsettled move budget (a + 1) (move p a)) ≤ budget) → length (go_on found (λ a. walk_in_turn n unsettled move budget (a + 1) (move p a))) ≤ suc budget
       by_first None rest = omega arith
       by_first (Some a) rest = omega (arith, rest a)
 
-  -- the loop ends with all settled, or with its budget used
+  -- it ends with all settled, or with its budget used
   pub loop-ends : (budget next : ℕ) (p : P) → next ≤ n
-      → AreSettled n unsettled (walk_end move p (loop_walk n unsettled move budget next p)) ⊎ (length (loop_walk n unsettled move budget next p) ≡ budget)
+      → AreSettled n unsettled (walk_end move p (walk_in_turn n unsettled move budget next p)) ⊎ (length (walk_in_turn n unsettled move budget next p) ≡ budget)
   loop-ends zero next p there_next = inr refl
   loop-ends (suc budget) next p there_next = by_first (first_that (unsettled p) (visits n next)) refl (λ a there. loop-ends budget (a + 1) (move p a) (omega (arith, there)))
     where
       later : ℕ → List ℕ
-      later a = loop_walk n unsettled move budget (a + 1) (move p a)
+      later a = walk_in_turn n unsettled move budget (a + 1) (move p a)
 
       by_first : (found : Option ℕ) → first_that (unsettled p) (visits n next) ≡ found
-          → ((a : ℕ) → a < n → AreSettled n unsettled (walk_end move (move p a) (loop_walk n unsettled move budget (a + 1) (move p a))) ⊎ (length (loop_walk n unsettled move budget (a + 1) (move p a)) ≡ budget))
-          → AreSettled n unsettled (walk_end move p (go_on found (λ a. loop_walk n unsettled move budget (a + 1) (move p a)))) ⊎ (length (go_on found (λ a. loop_walk n unsettled move budget (a + 1) (move p a))) ≡ suc budget)
+          → ((a : ℕ) → a < n → AreSettled n unsettled (walk_end move (move p a) (walk_in_turn n unsettled move budget (a + 1) (move p a))) ⊎ (length (walk_in_turn n unsettled move budget (a + 1) (move p a)) ≡ budget))
+          → AreSettled n unsettled (walk_end move p (go_on found (λ a. walk_in_turn n unsettled move budget (a + 1) (move p a)))) ⊎ (length (go_on found (λ a. walk_in_turn n unsettled move budget (a + 1) (move p a))) ≡ suc budget)
       by_first None e rest = inl (λ a there. (visits-order n next there_next).covers (unsettled p) e a there)
       by_first (Some a) e rest = ⊎_elim (λ settled. inl settled) (λ whole. inr (omega (arith, whole))) (rest a ((visits-order n next there_next).within (unsettled p) a e))
 
@@ -256,10 +256,10 @@ module _ {P : Type 0} (n : ℕ) (unsettled : P → ℕ → Bool) (move : P → �
       by_first None e = inl ((visits-order n 0 (omega arith)).covers (unsettled p) e)
       by_first (Some a) e = inr (λ settled. false≢true (sym (settled a ((visits-order n 0 (omega arith)).within (unsettled p) a e)) ∙ first_that-passes (unsettled p) (visits n 0) a e))
 
-  -- the loop's walk is the canonical walk, or the trace of a skip
-  pub loop-own : (budget : ℕ) (p : P) → IsCanonicalWalk n unsettled move p budget (loop_walk n unsettled move budget 0 p) ⊎ IsCanonicalTrace n unsettled move p budget (loop_walk n unsettled move budget 0 p)
+  -- the walk of a budget is the shortest that settles all assets, or the trace of a skip
+  pub loop-own : (budget : ℕ) (p : P) → IsCanonicalWalk n unsettled move p budget (walk_in_turn n unsettled move budget 0 p) ⊎ IsCanonicalTrace n unsettled move p budget (walk_in_turn n unsettled move budget 0 p)
   loop-own budget p =
-      let walk = loop_walk n unsettled move budget 0 p in
+      let walk = walk_in_turn n unsettled move budget 0 p in
       let in_turn = loop-in_turn budget 0 p in
       ⊎_elim
       (λ settled. inl (canonical_walk p budget walk in_turn settled (loop-within budget 0 p)))
@@ -267,6 +267,34 @@ module _ {P : Type 0} (n : ℕ) (unsettled : P → ℕ → Bool) (move : P → �
       (⊎_elim (λ settled. absurd (not_settled settled)) (λ whole. whole) (loop-ends budget 0 p (omega arith)))
       not_settled))
       (settled_or_not (walk_end move p walk))
+
+  -- the shortest walk that settles all is the walk of the budget
+  pub shortest_is : (budget : ℕ) (p : P) (w : List ℕ) → IsCanonicalWalk n unsettled move p budget w → w ≡ walk_in_turn n unsettled move budget 0 p
+  shortest_is budget p w own =
+      ⊎_elim
+      (λ walk. one_settled_walk p w (walk_in_turn n unsettled move budget 0 p) own.in_turn own.settles walk.in_turn walk.settles)
+      (λ trace. absurd (trace.none (walk_end move p w) (w, own, refl)))
+      (loop-own budget p)
+
+  -- the trace of a skip is the walk of the budget
+  pub trace_is : (budget : ℕ) (p : P) (w : List ℕ) → IsCanonicalTrace n unsettled move p budget w → w ≡ walk_in_turn n unsettled move budget 0 p
+  trace_is budget p w own =
+      ⊎_elim
+      (λ walk. absurd (own.none (walk_end move p (walk_in_turn n unsettled move budget 0 p)) (walk_in_turn n unsettled move budget 0 p, walk, refl)))
+      (λ trace. canonical_trace_unique p budget w (walk_in_turn n unsettled move budget 0 p) own trace)
+      (loop-own budget p)
+
+  -- the trace of a skip leaves some asset unsettled
+  pub trace_leaves : (budget : ℕ) (p : P) (w : List ℕ) → IsCanonicalTrace n unsettled move p budget w → ¬ AreSettled n unsettled (walk_end move p w)
+  trace_leaves budget p w own settled = own.none (walk_end move p w) (w, canonical_walk p budget w own.in_turn settled (omega (arith, own.whole)), refl)
+
+  -- where the walk of the budget settles all assets it is the shortest that does, and else the trace of a skip
+  pub shortest_where : (budget : ℕ) (p : P) → AreSettled n unsettled (walk_end move p (walk_in_turn n unsettled move budget 0 p)) → IsCanonicalWalk n unsettled move p budget (walk_in_turn n unsettled move budget 0 p)
+  shortest_where budget p settled = canonical_walk p budget (walk_in_turn n unsettled move budget 0 p) (loop-in_turn budget 0 p) settled (loop-within budget 0 p)
+
+  pub trace_where : (budget : ℕ) (p : P) → ¬ AreSettled n unsettled (walk_end move p (walk_in_turn n unsettled move budget 0 p)) → IsCanonicalTrace n unsettled move p budget (walk_in_turn n unsettled move budget 0 p)
+  trace_where budget p left =
+      ⊎_elim (λ walk. absurd (left walk.settles)) (λ trace. trace) (loop-own budget p)
 
   -- the first asset that is unsettled, if those visited before it are settled
   pub next_found : (next : ℕ) (p : P) (k d : ℕ) → next ≤ n → k < n → ((j : ℕ) → j < k → unsettled p (get_or (visits n next) j d) ≡ false) → unsettled p (get_or (visits n next) k d) ≡ true → first_that (unsettled p) (visits n next) ≡ Some (get_or (visits n next) k d)

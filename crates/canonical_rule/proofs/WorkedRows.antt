@@ -10,10 +10,11 @@ use Rattle.demand_curve.specs.Demand.{Terms, IsWithin, span, line, scaled_demand
 use Rattle.demand_curve.specs.Numbers.{distance}
 use Rattle.demand_curve.specs.Welfare.{scaled_welfare}
 use Rattle.flow_orders.specs.Orders.{Order, IsOrder, terms_of, price_of_ticks}
-use Rattle.flow_orders.specs.Excess.{price_for, steepness, spread, residual_bound, high_excess, is_above, is_below, is_unsettled}
+use Rattle.flow_orders.specs.Excess.{price_for, steepness, spread, residual_bound, is_unsettled}
+use Rattle.flow_orders.specs.WholeUnits.{high_excess, is_above, is_below}
 use Rattle.flow_orders.specs.Trades.{Trade, trades, residual, staying}
 use Rattle.flow_orders.specs.Outcomes.{trades_of, Clearing, Cleared, Skipping, Skipped, IsUnnamed, IsAdmissibleClearing, IsAdmissibleOutcome, dual_of, step_of, clearing_at}
-use Rattle.canonical_rule.specs.Canonical.{floor_rates, rates_by_choice, IsCanonicalOutcome}
+use Rattle.canonical_rule.specs.Canonical.{canonical_walk, floor_rates, rates_by_choice, IsCanonicalOutcome}
 use Rattle.canonical_rule.specs.Turns.{visits, IsInTurnFrom, Settles}
 use Rattle.flow_orders.specs.Walks.{first_that, walk_end}
 use Rattle.flow_orders.specs.Duals.{movement_of}
@@ -21,7 +22,8 @@ use Rattle.flow_orders.specs.Welfare.{IsCommon, IsBalanced, welfare}
 use Rattle.flow_orders.specs.Moves.{moved, amount_of, walk_reach, single_reach}
 use Rattle.flow_orders.proofs.Book.{IsConsistent}
 use Rattle.flow_orders.proofs.Exactly.{rises_to, falls_to}
-use Rattle.canonical_rule.proofs.CanonicalLaws.{canonical_outcomes_are_admissible}
+use Rattle.canonical_rule.proofs.CanonicalLaws.{canonical_outcomes_are_admissible, canonical_walks_are_shortest}
+use Rattle.canonical_rule.proofs.CanonicalWalks.{prices_of_walk, skip_of_trace}
 use Rattle.flow_orders.proofs.WalkLaws.{admissible_clearings_are_optimal}
 
 -- an order that was just placed, with its limits in ticks
@@ -192,7 +194,7 @@ chosen_published =
     record { prices = pos 429410830255 ∷ []; fills = record { order = 1; rate = 500 } ∷ record { order = 2; rate = 500 } ∷ []; residuals = pos 0 ∷ []; gap = pos 85899346 }
 
 pub own : IsCanonicalOutcome 1 pair (pos 0 ∷ []) 10 (Cleared chosen_published)
-unfolding is_unsettled steepness weight_in portfolio_price floor_rate ceil_rate scaled_demand loss line span distance
+unfolding is_unsettled steepness weight_in portfolio_price floor_rate ceil_rate floor_in ceil_in scaled_demand loss line span distance
 own = (sym pair_move.0, refl)
 
 chosen_are_right : IsAdmissibleClearing pair (pos 0 ∷ []) chosen_published
@@ -336,7 +338,7 @@ unfolding steepness weight_in portfolio_price floor_rate ceil_rate floor_in ceil
 fine_move_3 = (falls_to 256 wide_book walk_reach (pos 395050756342 ∷ pos 393256600863 ∷ []) 0 1613297090 (consistent wide_book wide_is_lawful) (omega arith) (omega arith) refl refl refl refl).0
 
 fine_settled : (is_unsettled wide_book (pos 393437459251 ∷ pos 393256600863 ∷ []) 0 ≡ false) × (is_unsettled wide_book (pos 393437459251 ∷ pos 393256600863 ∷ []) 1 ≡ false)
-unfolding is_unsettled steepness weight_in portfolio_price floor_rate ceil_rate scaled_demand line span distance
+unfolding is_unsettled steepness weight_in portfolio_price floor_rate ceil_rate floor_in ceil_in scaled_demand line span distance
 fine_settled = (refl, refl)
 
 -- the prices after each move of the walk
@@ -360,23 +362,23 @@ SettlesFrom prices walk = Settles 2 (is_unsettled wide_book) (step_of 1 wide_boo
 
 -- which asset is moved next
 first_turn : first_that (is_unsettled wide_book at_0) (visits 2 0) ≡ Some 0
-unfolding is_unsettled steepness weight_in portfolio_price floor_rate ceil_rate scaled_demand line span distance
+unfolding is_unsettled steepness weight_in portfolio_price floor_rate ceil_rate floor_in ceil_in scaled_demand line span distance
 first_turn = refl
 
 second_turn : first_that (is_unsettled wide_book at_1) (visits 2 1) ≡ Some 1
-unfolding is_unsettled steepness weight_in portfolio_price floor_rate ceil_rate scaled_demand line span distance
+unfolding is_unsettled steepness weight_in portfolio_price floor_rate ceil_rate floor_in ceil_in scaled_demand line span distance
 second_turn = refl
 
 third_turn : first_that (is_unsettled wide_book at_2) (visits 2 2) ≡ Some 0
-unfolding is_unsettled steepness weight_in portfolio_price floor_rate ceil_rate scaled_demand line span distance
+unfolding is_unsettled steepness weight_in portfolio_price floor_rate ceil_rate floor_in ceil_in scaled_demand line span distance
 third_turn = refl
 
 no_turn : (is_unsettled wide_book at_3 0 ≡ false) × (is_unsettled wide_book at_3 1 ≡ false)
-unfolding is_unsettled steepness weight_in portfolio_price floor_rate ceil_rate scaled_demand line span distance
+unfolding is_unsettled steepness weight_in portfolio_price floor_rate ceil_rate floor_in ceil_in scaled_demand line span distance
 no_turn = (refl, refl)
 
 still_unsettled : (is_unsettled wide_book at_0 0 ≡ true) × (is_unsettled wide_book at_1 1 ≡ true) × (is_unsettled wide_book at_2 0 ≡ true)
-unfolding is_unsettled steepness weight_in portfolio_price floor_rate ceil_rate scaled_demand line span distance
+unfolding is_unsettled steepness weight_in portfolio_price floor_rate ceil_rate floor_in ceil_in scaled_demand line span distance
 still_unsettled = (refl, refl, refl)
 
 turn : (walk : List ℕ) (next a : ℕ) (p q : List ℤ) → step_of 1 wide_book p a ≡ q → first_that (is_unsettled wide_book p) (visits 2 next) ≡ Some a → InTurn (a + 1) q walk → InTurn next p (a ∷ walk)
@@ -417,16 +419,14 @@ wide_clears : IsCanonicalOutcome 1 wide_book at_0 3 (Cleared (record {
 }))
 unfolding weight_in portfolio_price floor_rate ceil_rate scaled_demand loss line span distance
 wide_clears = (
-  (
-    0 ∷ 1 ∷ 0 ∷ [],
-    record {
-      in_turn = turn (1 ∷ 0 ∷ []) 0 0 at_0 at_1 move_1.0 first_turn (turn (0 ∷ []) 1 1 at_1 at_2 move_2 second_turn (turn [] 2 0 at_2 at_3 move_3 third_turn tt));
-      settles = λ a inside. subst (λ p. is_unsettled wide_book p a ≡ false) (sym walk_of_3) (settled a inside);
-      shortest = at_least_3;
-      within = omega arith;
-    },
-    sym walk_of_3,
-  ),
+  prices_of_walk 1 wide_book at_0 3 (0 ∷ 1 ∷ 0 ∷ []) at_3
+      (record {
+        in_turn = turn (1 ∷ 0 ∷ []) 0 0 at_0 at_1 move_1.0 first_turn (turn (0 ∷ []) 1 1 at_1 at_2 move_2 second_turn (turn [] 2 0 at_2 at_3 move_3 third_turn tt));
+        settles = λ a inside. subst (λ p. is_unsettled wide_book p a ≡ false) (sym walk_of_3) (settled a inside);
+        shortest = at_least_3;
+        within = omega arith;
+      })
+      (sym walk_of_3),
   refl,
 )
   where
@@ -444,15 +444,14 @@ unfolding portfolio_price dual_floor scaled_dual scaled_demand line span distanc
 duals_of_1 = refl
 
 wide_is_skipped : IsCanonicalOutcome 1 wide_book at_0 1 (Skipped skipped_after_1)
-wide_is_skipped = (
-  refl,
-  record {
-    in_turn = turn [] 0 0 at_0 at_1 move_1.0 first_turn tt;
-    whole = refl;
-    none = λ end own. omega (arith, own.1.within, at_least_3 own.0 own.1.in_turn own.1.settles);
-  },
-  duals_of_1 ∙ ap (λ p. record { trace = 0 ∷ []; start_dual = pos (dual_of wide_book at_0); end_dual = pos (dual_of wide_book p) }) (sym move_1.0),
-)
+wide_is_skipped =
+    skip_of_trace 1 wide_book at_0 1 skipped_after_1 refl
+    (record {
+      in_turn = turn [] 0 0 at_0 at_1 move_1.0 first_turn tt;
+      whole = refl;
+      none = λ end own. omega (arith, own.1.within, at_least_3 own.0 own.1.in_turn own.1.settles);
+    })
+    (duals_of_1 ∙ ap (λ p. record { trace = 0 ∷ []; start_dual = pos (dual_of wide_book at_0); end_dual = pos (dual_of wide_book p) }) (sym move_1.0))
 
 -- these outcomes are admissible
 wide_start : All (IsWithin (2 ^ 60)) at_0
@@ -471,7 +470,7 @@ unfolding steepness weight_in portfolio_price floor_rate ceil_rate floor_in ceil
 other_move = (rises_to 1 wide_book walk_reach at_0 1 394965192540 (consistent wide_book wide_is_lawful) (omega arith) (omega arith) refl refl refl).0
 
 other_facts : (is_unsettled wide_book at_0 1 ≡ true) × (is_unsettled wide_book (pos 0 ∷ pos 394965192541 ∷ []) 0 ≡ true)
-unfolding is_unsettled steepness weight_in portfolio_price floor_rate ceil_rate scaled_demand line span distance
+unfolding is_unsettled steepness weight_in portfolio_price floor_rate ceil_rate floor_in ceil_in scaled_demand line span distance
 other_facts = (refl, refl)
 
 abbrev skipped_after_other : Skipping
@@ -491,7 +490,10 @@ other_is_right = record {
 }
 
 other_is_not_own : ¬ IsCanonicalOutcome 1 wide_book at_0 1 (Skipped skipped_after_other)
-other_is_not_own own = omega (arith, same_asset 1 0 (sym own.1.in_turn.0 ∙ first_turn))
+other_is_not_own own =
+    let trace = (canonical_walks_are_shortest.leaves 1 wide_book at_0 1 own.1).in_turn in
+    let walk : 1 ∷ [] ≡ canonical_walk 1 wide_book at_0 1 = ap (λ (s : Skipping). s.trace) own.2 in
+    omega (arith, same_asset 1 0 (sym (subst (InTurn 0 at_0) (sym walk) trace).0 ∙ first_turn))
 
 -- a clearing that leaves out an order, even one that trades nothing, isn't admissible
 not_without : (prices residuals : List ℤ) (gap : ℤ) (x y : ℕ)
@@ -586,7 +588,7 @@ second_own : IsCanonicalOutcome 1 second_book (pos 429410830255 ∷ []) 10 (Clea
   residuals = neg_ℤ (pos 1) ∷ [];
   gap = pos 386847704350;
 }))
-unfolding is_unsettled steepness weight_in portfolio_price floor_rate ceil_rate scaled_demand loss line span distance
+unfolding is_unsettled steepness weight_in portfolio_price floor_rate ceil_rate floor_in ceil_in scaled_demand loss line span distance
 second_own = (sym second_falls, refl)
 
 -- ---- balanced rates

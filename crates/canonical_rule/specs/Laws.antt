@@ -1,15 +1,16 @@
 -- What holds of canonical outcomes, of walks in turn and of chosen rates.
-use Rattle.std.specs.Prelude.{◌≡◌, ℕ, ℤ, ◌^◌, ◌≤◌, ◌↔◌, true, List, length, All}
+use Rattle.std.specs.Prelude.{◌≡◌, ℕ, ℤ, ◌^◌, ◌≤◌, ◌↔◌, true, ◌||◌, List, length, All}
 use Rattle.demand_curve.specs.Demand.{IsWithin}
 use Rattle.flow_orders.specs.Orders.{Order, IsOrder}
-use Rattle.flow_orders.specs.Excess.{low_excess, high_excess, low_excess_in, high_excess_in, is_above, is_below, is_above_in, is_below_in, is_unsettled}
+use Rattle.flow_orders.specs.Excess.{low_excess_in, high_excess_in, is_above_in, is_below_in, is_unsettled}
+use Rattle.flow_orders.specs.WholeUnits.{low_excess, high_excess, is_above, is_below}
 use Rattle.flow_orders.specs.Moves.{rise_of, fall_of, moved, amount_of}
-use Rattle.canonical_rule.specs.Turns.{IsInTurn}
+use Rattle.canonical_rule.specs.Turns.{IsInTurn, IsCanonicalWalk, IsCanonicalTrace}
 use Rattle.canonical_rule.specs.Choice.{absolute_sum}
 use Rattle.flow_orders.specs.Trades.{trades, residual}
-use Rattle.flow_orders.specs.Outcomes.{Outcome, step_of, IsLegalFrom, end_of, skipping_at, IsAdmissibleOutcome, most_budget, are_single, ClearsNear}
+use Rattle.flow_orders.specs.Outcomes.{Outcome, step_of, IsLegalFrom, end_of, EndsSettled, skipping_at, IsAdmissibleOutcome, most_budget, are_single, ClearsNear}
 use Rattle.flow_orders.specs.Duals.{movement_of}
-use Rattle.canonical_rule.specs.Canonical.{floor_rates, rates_by_choice, IsCanonicalOutcome}
+use Rattle.canonical_rule.specs.Canonical.{canonical_walk, floor_rates, rates_by_choice, IsCanonicalOutcome}
 use Rattle.canonical_rule.specs.Units.{rise_by_units, fall_by_units, moved_by_units, amount_by_units, end_by_units, movement_by_units, IsLegalByUnits, skipping_by_units, IsAdmissibleByUnits, IsCanonicalByUnits}
 
 -- a batch has at most one canonical outcome
@@ -44,12 +45,25 @@ OneWalkOfEachLength = (parts : ℕ) (orders : List Order) (start : List ℤ) (v 
     → IsInTurn (length start) (is_unsettled orders) (step_of parts orders) start v → IsInTurn (length start) (is_unsettled orders) (step_of parts orders) start w
     → length v ≡ length w → v ≡ w
 
--- with one part, moves, walks, skips and outcomes are those by whole units
+-- If all assets are settled at the end of the canonical walk, it is the shortest walk in turn of which that holds, and the only shortest one.
+-- If not, it is the walk in turn of exactly `budget` moves, and no shortest walk in turn that settles all assets has at most so many.
+pub record CanonicalWalksAreShortest : Type 0 where
+  pub settles : (parts : ℕ) (orders : List Order) (start : List ℤ) (budget : ℕ) → EndsSettled parts orders start (canonical_walk parts orders start budget)
+      → IsCanonicalWalk (length start) (is_unsettled orders) (step_of parts orders) start budget (canonical_walk parts orders start budget)
+  pub only : (parts : ℕ) (orders : List Order) (start : List ℤ) (budget : ℕ) (walk : List ℕ) → IsCanonicalWalk (length start) (is_unsettled orders) (step_of parts orders) start budget walk
+      → (walk ≡ canonical_walk parts orders start budget) × EndsSettled parts orders start walk
+  pub leaves : (parts : ℕ) (orders : List Order) (start : List ℤ) (budget : ℕ) → ¬ EndsSettled parts orders start (canonical_walk parts orders start budget)
+      → IsCanonicalTrace (length start) (is_unsettled orders) (step_of parts orders) start budget (canonical_walk parts orders start budget)
+  pub trace : (parts : ℕ) (orders : List Order) (start : List ℤ) (budget : ℕ) (walk : List ℕ) → IsCanonicalTrace (length start) (is_unsettled orders) (step_of parts orders) start budget walk
+      → (walk ≡ canonical_walk parts orders start budget) × (¬ EndsSettled parts orders start walk)
+
+-- with one part, excess, moves, walks, skips and outcomes are those by whole units
 pub record OnePartIsWholeUnits : Type 0 where
   pub low : (orders : List Order) (prices : List ℤ) (asset : ℕ) → low_excess_in 1 orders prices asset ≡ low_excess orders prices asset
   pub high : (orders : List Order) (prices : List ℤ) (asset : ℕ) → high_excess_in 1 orders prices asset ≡ high_excess orders prices asset
   pub above : (orders : List Order) (prices : List ℤ) (asset : ℕ) → is_above_in 1 orders prices asset ≡ is_above orders prices asset
   pub below : (orders : List Order) (prices : List ℤ) (asset : ℕ) → is_below_in 1 orders prices asset ≡ is_below orders prices asset
+  pub unsettled : (orders : List Order) (prices : List ℤ) (asset : ℕ) → is_unsettled orders prices asset ≡ is_above orders prices asset || is_below orders prices asset
   pub rise : (orders : List Order) (reach : ℕ) (prices : List ℤ) (asset : ℕ) → rise_of 1 orders reach prices asset ≡ rise_by_units orders reach prices asset
   pub fall : (orders : List Order) (reach : ℕ) (prices : List ℤ) (asset : ℕ) → fall_of 1 orders reach prices asset ≡ fall_by_units orders reach prices asset
   pub prices : (orders : List Order) (reach : ℕ) (prices : List ℤ) (asset : ℕ) → moved 1 orders reach prices asset ≡ moved_by_units orders reach prices asset

@@ -1,9 +1,10 @@
 -- The rule with moves that end by whole units, defined without parts. With one part, the rule with parts is this one.
 use Rattle.std.specs.Prelude.{◌≡◌, ℕ, ◌+◌, Bool, true, false, not, if◌then◌else◌, ℤ, pos, List, [], ◌∷◌, length}
 use Rattle.flow_orders.specs.Orders.{Order}
-use Rattle.flow_orders.specs.Excess.{is_above, is_below, is_unsettled}
+use Rattle.flow_orders.specs.Excess.{is_unsettled}
+use Rattle.flow_orders.specs.WholeUnits.{is_above, is_below}
 use Rattle.flow_orders.specs.Walks.{walk_end, IsLegal, AreSettled}
-use Rattle.canonical_rule.specs.Turns.{visits, AreCanonicalPrices, IsCanonicalTrace}
+use Rattle.canonical_rule.specs.Turns.{visits, walk_in_turn}
 use Rattle.flow_orders.specs.Moves.{least_amount, risen, fallen, walk_reach, single_reach}
 use Rattle.flow_orders.specs.Trades.{trades}
 use Rattle.flow_orders.specs.Outcomes.{Skipping, Outcome, Cleared, Skipped, dual_of, IsWide, IsAdmissibleClearing, are_single, clearing_at}
@@ -68,10 +69,18 @@ abbrev pub moved_once_by_units : List Order → List ℕ → List ℤ → List �
 moved_once_by_units orders [] prices = prices
 moved_once_by_units orders (a ∷ rest) prices = moved_once_by_units orders rest (if is_unsettled orders prices a then moved_by_units orders single_reach prices a else prices)
 
+-- the canonical walk
+abbrev pub walk_by_units : List Order → List ℤ → ℕ → List ℕ
+walk_by_units orders start budget = walk_in_turn (length start) (is_unsettled orders) (step_by_units orders) budget 0 start
+
+-- all assets are settled at the end of a walk
+abbrev pub EndsSettledByUnits : List Order → List ℤ → List ℕ → Type 0
+EndsSettledByUnits orders start walk = AreSettled (length start) (is_unsettled orders) (end_by_units orders start walk)
+
 -- the prices that the canonical rule reaches
 abbrev pub ArePricesByUnits : Bool → List Order → List ℤ → ℕ → List ℤ → Type 0
 ArePricesByUnits true orders start budget end = end ≡ moved_once_by_units orders (visits (length start) 0) start
-ArePricesByUnits false orders start budget end = AreCanonicalPrices (length start) (is_unsettled orders) (step_by_units orders) start budget end
+ArePricesByUnits false orders start budget end = EndsSettledByUnits orders start (walk_by_units orders start budget) × (end ≡ end_by_units orders start (walk_by_units orders start budget))
 
 -- the canonical outcome
 abbrev pub IsCanonicalByUnits : List Order → List ℤ → ℕ → Outcome → Type 0
@@ -80,5 +89,5 @@ IsCanonicalByUnits orders start budget (Cleared c) =
     × (c ≡ clearing_at (length start) c.prices (trades orders (rates_by_choice (length start) orders c.prices)))
 IsCanonicalByUnits orders start budget (Skipped s) =
     (are_single orders ≡ false)
-    × IsCanonicalTrace (length start) (is_unsettled orders) (step_by_units orders) start budget s.trace
-    × (s ≡ skipping_by_units orders start s.trace)
+    × (¬ EndsSettledByUnits orders start (walk_by_units orders start budget))
+    × (s ≡ skipping_by_units orders start (walk_by_units orders start budget))

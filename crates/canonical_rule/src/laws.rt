@@ -1,5 +1,5 @@
 //! What holds of the canonical rule. Each law is the contract of a function that does nothing.
-ghost use Rattle.canonical_rule.specs.Laws.{OneCanonicalOutcome, EveryBatchHasACanonicalOutcome, CanonicalOutcomesAreAdmissible, OneAssetBooksClear, ChosenRatesAreNoWorse, OneWalkOfEachLength, OnePartIsWholeUnits};
+ghost use Rattle.canonical_rule.specs.Laws.{OneCanonicalOutcome, EveryBatchHasACanonicalOutcome, CanonicalOutcomesAreAdmissible, OneAssetBooksClear, ChosenRatesAreNoWorse, OneWalkOfEachLength, CanonicalWalksAreShortest, OnePartIsWholeUnits};
 
 /// A batch has at most one canonical outcome.
 pub fn one_canonical_outcome()
@@ -32,7 +32,13 @@ pub fn one_walk_of_each_length()
     ensures { OneWalkOfEachLength }
 {}
 
-/// With one part, moves, walks, skips and outcomes are those by whole units, as versions 1 and 2 have them.
+/// The canonical walk is the shortest walk in turn that settles all assets, if one of at most `budget` moves does, and else the
+/// walk in turn of exactly `budget` moves.
+pub fn canonical_walks_are_shortest()
+    ensures { CanonicalWalksAreShortest }
+{}
+
+/// With one part, excess, moves, walks, skips and outcomes are those by whole units, as versions 1 and 2 have them.
 pub fn one_part_is_whole_units()
     ensures { OnePartIsWholeUnits }
 {}

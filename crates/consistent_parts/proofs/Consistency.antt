@@ -1,5 +1,5 @@
 -- What is tested of parts is that they are consistent.
-use Rattle.std.proofs.Common.{◌≡◌, ℕ, ◌+◌, ◌-◌, ◌*◌, ◌^◌, ◌<◌, ◌≤◌, pos, ◌≤ℤ◌, length, map, get_or, refl, ap, sym, subst, ◌∙◌, arith}
+use Rattle.std.proofs.Common.{◌≡◌, ℕ, ◌+◌, ◌-◌, ◌*◌, ◌^◌, ◌<◌, ◌≤◌, pos, ◌≤ℤ◌, length, map, get_or, refl, ap, sym, subst, ◌∙◌, arith, Some, None}
 use Rattle.std.specs.Prelude.{All, unsigned_abs}
 use Rattle.std.proofs.lemmas.Int.{ints}
 use Rattle.std.proofs.lemmas.List.{length-map, get_or-map, get_or_default}
@@ -12,6 +12,7 @@ use Rattle.flow_accounts.specs.Balances.{Account, Credit, Balances, IsAccount, a
 use Rattle.flow_accounts.specs.Lawful.{most_credit, AreLawful, IsLawfulAccount, IsLawfulCredit, IsUnitBalance, IsUnitTotal}
 use Rattle.flow_orders.specs.Orders.{Order, IsOrder}
 use Rattle.fill_caps.specs.Covers.{CoversNeeds}
+use Rattle.market_rules.proofs.ByKind.{holds_totals, within_limits}
 use Rattle.market_rules.specs.Market.{IsConsistent, IsLiveOrder, IsNoCredit}
 use Rattle.market_rules.proofs.Lawful.{account_at, consistent_is_lawful, money_of_each, units_of_each, credit_line}
 use Rattle.wire_records.specs.Versions.{number_of}
@@ -72,11 +73,11 @@ module _ (v : Version) (p : Parts) (consistent : IsConsistent (market_of v p)) w
     balances = consistent_balances;
     sums = record {
       exchange = consistent.widths.exchange_money;
-      held = consistent.totals.money;
+      held = consistent.totals None tt;
       assets = λ asset there. record {
         price = consistent.prices asset (pos 0) (omega (arith, there, consistent.one_each.prices));
         exchange = consistent.widths.exchange_units asset (pos 0) (omega (arith, there, consistent.one_each.exchange));
-        held = consistent.totals.units asset there;
+        held = consistent.totals (Some asset) there;
       };
     };
   }
@@ -151,7 +152,7 @@ lawful_balances most b few consistent = record {
     units = λ account asset there is_asset. ((consistent.accounts account there).units asset is_asset).covered;
   };
   total_money = consistent.total_money;
-  total_units = λ k d inside. subst IsUnitTotal (get_or_default b.total_units k (pos 0) d inside) (consistent.total_units k inside);
+  total_units = λ k d inside. subst IsUnitTotal (get_or_default b.totals.units k (pos 0) d inside) (consistent.total_units k inside);
 }
 
 -- an order whose terms and weight vector pass the test is within its limits
@@ -216,10 +217,9 @@ module _ (v : Version) (p : Parts) (shape : IsInShape p.balances p) (numbers : A
             omega (arith, one, other, orders.ascending i j no_order below later);
         covered = covered;
         credit = record { lawful = lawful.credits; none = no_credits };
-        totals = record { money = numbers.sums.held; units = λ asset there. (numbers.sums.assets asset there).held };
+        totals = holds_totals (market_of v p) numbers.sums.held (λ asset there. (numbers.sums.assets asset there).held);
         widths = record {
-          total_money = numbers.balances.total_money.1;
-          total_units = λ k d inside. subst (λ units. units ≤ℤ pos (2 ^ 60)) (get_or_default p.balances.total_units k (pos 0) d inside) (numbers.balances.total_units k inside).1;
+          totals = within_limits p.balances numbers.balances.total_money.1 (λ asset there. (numbers.balances.total_units asset there).1);
           exchange_money = numbers.sums.exchange;
           exchange_units = λ k d inside. subst (λ units. unsigned_abs units ≤ p.batches * 2 ^ 31) (get_or_default p.exchange.units k (pos 0) d inside) (numbers.sums.assets k (omega (arith, inside, shape.exchange))).exchange;
         };

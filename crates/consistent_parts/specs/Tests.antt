@@ -48,13 +48,13 @@ pub record AreConsistentBalances (most : ℕ) (b : Balances) : Type 0 where
   pub one_each : HasOneOfEach b
   pub few_accounts : account_count b ≤ most_accounts
   pub few_assets : asset_count b ≤ most_assets
-  pub total_money : IsMoneyTotal b.total_money
+  pub total_money : IsMoneyTotal b.totals.money
   pub total_units : (asset : ℕ) → IsAsset b asset → IsUnitTotal (total_units_of b asset)
   pub accounts : (account : ℕ) → IsAccount b account → IsConsistentAccount most b account
 
 -- accounts and the exchange's money hold the total of money
 abbrev pub IsMoneyHeld : Balances → ℤ → Type 0
-IsMoneyHeld b exchange = (money_of_all b +ℤ exchange) ≡ b.total_money
+IsMoneyHeld b exchange = (money_of_all b +ℤ exchange) ≡ b.totals.money
 
 -- accounts and the exchange's units of an asset hold the asset's total
 abbrev pub AreUnitsHeld : Balances → ℕ → ℤ → Type 0

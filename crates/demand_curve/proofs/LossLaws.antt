@@ -5,7 +5,8 @@ use Rattle.std.proofs.Math.Nat.{mul-le-mul_left, mul-le-mul, lt_of_mul-lt-mul_ri
 use Rattle.std.proofs.lemmas.Bool.{cases_lt}
 use Rattle.std.proofs.lemmas.Int.{ints}
 use borrow.Author.Differences.{up, down}
-use Rattle.demand_curve.specs.Numbers.{distance, rounded_up}
+use Rattle.demand_curve.specs.Numbers.{distance}
+use Rattle.std.specs.Int.{div_ceil}
 use Rattle.demand_curve.specs.Demand.{Terms, IsWithinLimits, span, line, scaled_demand, IsRounding, loss}
 use Rattle.demand_curve.specs.Welfare.{scaled_welfare, scaled_cost, scaled_gain}
 use Rattle.demand_curve.specs.Laws.{LossIsZeroAtDemand, LossIsSmall, LossCoversBestRate, LossCoversBestRateInParts}
@@ -69,7 +70,7 @@ loss_is_small t h price x rounding =
     let little : loss t x price * (2 * t.rate) < span t + 2 * t.rate =
     small_from (loss t x price) (apart_of t x price) (span t) (2 * t.rate) positive (apart_most t x price rounding) (loss_times t x price (divisor_least t h)).1 in
     let rounded = up_times (span t) (2 * t.rate) (omega (arith, twice)) in (
-      at_most_from_times (loss t x price) (rounded_up (span t) (2 * t.rate)) (2 * t.rate) (omega (arith, little, rounded)),
+      at_most_from_times (loss t x price) (div_ceil (span t) (2 * t.rate)) (2 * t.rate) (omega (arith, little, rounded)),
       at_most_from_times (loss t x price) (2 ^ 60) (2 * t.rate) (omega (arith, little, span_most t h, twice)),
     )
 

@@ -1,8 +1,9 @@
 -- The laws of the roundings in parts of a unit.
-use Rattle.std.proofs.Common.{◌≡◌, ℕ, ◌+◌, ◌*◌, ◌^◌, ◌≤◌, ◌<◌, min, ℤ, pos, ◌+ℤ◌, ◌≤ℤ◌, refl, ap, ◌∙◌, arith}
+use Rattle.std.proofs.Common.{◌≡◌, ℕ, ◌+◌, ◌*◌, ◌/◌, ◌^◌, ◌≤◌, ◌<◌, min, ℤ, pos, ◌+ℤ◌, ◌≤ℤ◌, refl, ap, ◌∙◌, arith}
 use Rattle.std.proofs.Math.Nat.{mul-le-mul_left, le_antisymm, mul-div_cancel}
 use Rattle.std.proofs.lemmas.Nat.{mul-le}
-use Rattle.demand_curve.specs.Numbers.{distance, rounded_down, rounded_up}
+use Rattle.demand_curve.specs.Numbers.{distance}
+use Rattle.std.specs.Int.{div_ceil}
 use Rattle.demand_curve.specs.Demand.{Terms, IsWithinLimits, span, line, scaled_demand, floor_rate, ceil_rate, floor_in, ceil_in}
 use Rattle.demand_curve.specs.Laws.{PartsEncloseDemand, PartsNeverRise, PartsMoveLittle, OnePartIsAUnit}
 use Rattle.demand_curve.proofs.Demands.{scaled_demand_is}
@@ -60,7 +61,7 @@ pub one_part_is_a_unit : OnePartIsAUnit
 unfolding floor_in ceil_in floor_rate ceil_rate
 one_part_is_a_unit t price =
     let one : 1 * scaled_demand t price ≡ scaled_demand t price = omega arith in
-    (ap (λ n. rounded_down n (span t)) one, ap (λ n. rounded_up n (span t)) one)
+    (ap (λ n. n / span t) one, ap (λ n. div_ceil n (span t)) one)
 
 -- ---- for the code that tests if the demand is cut
 
@@ -86,13 +87,13 @@ pub parts_of_room : (parts : ℕ) (t : Terms) → IsWithinLimits t → (price : 
 parts_of_room parts t h price below = roundings_of_whole parts t h price t.room ((demand_is_cut_at_limits t h price).whole_below below)
 
 -- both roundings at a price that is so many grains below the high limit
-pub parts_of_line : (parts : ℕ) (t : Terms) (price : ℤ) (below : ℕ) → below ≡ distance t.high price → (floor_in parts t price ≡ rounded_down (parts * min (t.rate * below) (t.room * span t)) (span t)) × (ceil_in parts t price ≡ rounded_up (parts * min (t.rate * below) (t.room * span t)) (span t))
+pub parts_of_line : (parts : ℕ) (t : Terms) (price : ℤ) (below : ℕ) → below ≡ distance t.high price → (floor_in parts t price ≡ parts * min (t.rate * below) (t.room * span t) / span t) × (ceil_in parts t price ≡ div_ceil (parts * min (t.rate * below) (t.room * span t)) (span t))
 unfolding floor_in ceil_in line
 parts_of_line parts t price below same =
     rw (same, scaled_demand_is t price) (refl, refl)
 
 -- a fraction that is no less than the batch maximum, in parts
-pub parts_cut : (parts n room d : ℕ) → 0 < d → room * d ≤ n → (rounded_down (parts * min n (room * d)) d ≡ parts * room) × (rounded_up (parts * min n (room * d)) d ≡ parts * room)
+pub parts_cut : (parts n room d : ℕ) → 0 < d → room * d ≤ n → (parts * min n (room * d) / d ≡ parts * room) × (div_ceil (parts * min n (room * d)) d ≡ parts * room)
 parts_cut parts n room d h cut =
     let least : min n (room * d) ≡ room * d = omega (arith, cut) in
     let same : parts * (room * d) ≡ parts * room * d = omega arith in

@@ -4,33 +4,33 @@ use Rattle.std.proofs.Math.Nat.{div-eq_of_lt-le, add-mul-div_left, div-div-eq-di
 use Rattle.std.proofs.lemmas.Int.{to_z-of_z, to_z_pos}
 use Rattle.std.proofs.lemmas.Grind.{div_ceil_times}
 use Rattle.std.proofs.lemmas.Nat.{mul-le}
-use Rattle.demand_curve.specs.Numbers.{rounded_down, rounded_up}
+use Rattle.std.specs.Int.{div_ceil}
 
 -- n / d times d is at most n, and less than d below it
-pub down_times : (n d : ℕ) → 0 < d → (rounded_down n d * d ≤ n) × (n < rounded_down n d * d + d)
+pub down_times : (n d : ℕ) → 0 < d → (n / d * d ≤ n) × (n < n / d * d + d)
 down_times n d h = omega (arith, div-add-mod n d, mod-lt n h)
 
 -- n / d rounded up, times d, is at least n, and less than d above it
-pub up_times : (n d : ℕ) → 0 < d → (n ≤ rounded_up n d * d) × (rounded_up n d * d < n + d)
+pub up_times : (n d : ℕ) → 0 < d → (n ≤ div_ceil n d * d) × (div_ceil n d * d < n + d)
 up_times n d h = div_ceil_times n d h
 
 -- a fraction rounded up is at most its numerator
-up_most : (n d m : ℕ) → 0 < d → n ≤ m → rounded_up n d ≤ m
+up_most : (n d m : ℕ) → 0 < d → n ≤ m → div_ceil n d ≤ m
 up_most n d m h most = omega (arith, most, div-add-mod n d, mod-lt n h, mul-le-mul_left (n / d) h)
 
 -- a fraction of at most m, rounded up
-pub up_within : (n d m : ℕ) → 0 < d → n ≤ m * d → rounded_up n d ≤ m
+pub up_within : (n d m : ℕ) → 0 < d → n ≤ m * d → div_ceil n d ≤ m
 up_within n d m h most =
-    let below : rounded_up n d < m + 1 = lt_of_mul-lt-mul_right d (omega (arith, div_ceil_times n d h)) in
+    let below : div_ceil n d < m + 1 = lt_of_mul-lt-mul_right d (omega (arith, div_ceil_times n d h)) in
     omega (arith, below)
 
 -- a square over twice what is squared or more, rounded up, is at most half of that
-pub square_small : (n d S : ℕ) → 0 < S → n ≤ S → S ≤ 2 ^ 61 → 2 ≤ d → rounded_up (n * n) (d * S) ≤ 2 ^ 60
+pub square_small : (n d S : ℕ) → 0 < S → n ≤ S → S ≤ 2 ^ 61 → 2 ≤ d → div_ceil (n * n) (d * S) ≤ 2 ^ 60
 square_small n d S positive near small twice =
     up_within (n * n) (d * S) (2 ^ 60) (omega (arith, mul-le-mul_left d positive, twice)) (omega (arith, mul-le n n S (2 ^ 61) near (omega (arith, near, small)), mul-le-mul_left S twice))
 
 -- a square over a number, rounded up, fits 128 bits with a sign if what is squared is small
-pub square_fits : (n d : ℕ) → n ≤ 2 ^ 61 → 0 < d → rounded_up (n * n) d < 2 ^ 127
+pub square_fits : (n d : ℕ) → n ≤ 2 ^ 61 → 0 < d → div_ceil (n * n) d < 2 ^ 127
 square_fits n d small positive = omega (arith, up_most (n * n) d (2 ^ 122) positive (mul-le n n (2 ^ 61) (2 ^ 61) small small))
 
 -- the square of e = x * S + r over k * S, from the parts x and r
@@ -59,22 +59,22 @@ difference_from : (a g y b k : ℕ) → 0 < k → a ≡ g + y → b ≤ g * k �
 difference_from a g y b k h e p q = rw e (div-eq_of_lt-le k (omega arith) (omega arith))
 
 -- a difference over k, if its second part is rounded up first
-pub difference_over : (a b k : ℕ) → 0 < k → b ≤ a * k → (rounded_up b k ≤ a) × ((a * k - b) / k ≡ a - rounded_up b k)
+pub difference_over : (a b k : ℕ) → 0 < k → b ≤ a * k → (div_ceil b k ≤ a) × ((a * k - b) / k ≡ a - div_ceil b k)
 difference_over a b k h below =
     let up = div_ceil_times b k h in
-    let fits : rounded_up b k < a + 1 = lt_of_mul-lt-mul_right k (omega (arith, up)) in
-    (omega (arith, fits), difference_from a (rounded_up b k) (a - rounded_up b k) b k h (omega (arith, fits)) up.0 up.1)
+    let fits : div_ceil b k < a + 1 = lt_of_mul-lt-mul_right k (omega (arith, up)) in
+    (omega (arith, fits), difference_from a (div_ceil b k) (a - div_ceil b k) b k h (omega (arith, fits)) up.0 up.1)
 
 -- n / d, if n is a multiple of d, is also n / d rounded up
-pub up_exact : (n d : ℕ) → n / d * d ≡ n → n / d ≡ rounded_up n d
+pub up_exact : (n d : ℕ) → n / d * d ≡ n → n / d ≡ div_ceil n d
 up_exact n d exact = omega (arith, exact, div-add-mod n d)
 
 -- n / d rounded up is one more than rounded down, if n is not a multiple of d
-pub up_inexact : (n d : ℕ) → n / d * d ≢ n → n / d + 1 ≡ rounded_up n d
+pub up_inexact : (n d : ℕ) → n / d * d ≢ n → n / d + 1 ≡ div_ceil n d
 up_inexact n d inexact = omega (arith, inexact, div-add-mod n d)
 
 -- a multiple of d, over d, rounded up
-pub up_multiple : (n d : ℕ) → 0 < d → rounded_up (n * d) d ≡ n
+pub up_multiple : (n d : ℕ) → 0 < d → div_ceil (n * d) d ≡ n
 up_multiple n d h =
     let down : n * d / d ≡ n = mul-div_cancel n h in
     sym (up_exact (n * d) d (ap (λ y. y * d) down)) ∙ down

@@ -1,8 +1,9 @@
 -- The laws of the roundings.
-use Rattle.std.proofs.Common.{◌≡◌, ℕ, ◌+◌, ◌*◌, ◌≤◌, ◌<◌, min, ℤ, pos, ◌+ℤ◌, ◌≤ℤ◌, refl, ◌⊎◌, inl, inr, sym, ap, ◌∙◌, arith}
+use Rattle.std.proofs.Common.{◌≡◌, ℕ, ◌+◌, ◌*◌, ◌/◌, ◌≤◌, ◌<◌, min, ℤ, pos, ◌+ℤ◌, ◌≤ℤ◌, refl, ◌⊎◌, inl, inr, sym, ap, ◌∙◌, arith}
 use Rattle.std.proofs.Math.Nat.{lt_of_mul-lt-mul_right, le_antisymm}
 use Rattle.std.proofs.lemmas.Bool.{cases_eq}
-use Rattle.demand_curve.specs.Numbers.{distance, rounded_down, rounded_up}
+use Rattle.demand_curve.specs.Numbers.{distance}
+use Rattle.std.specs.Int.{div_ceil}
 use Rattle.demand_curve.specs.Demand.{Terms, IsWithinLimits, span, line, scaled_demand, floor_rate, ceil_rate}
 use Rattle.demand_curve.specs.Laws.{DemandNeverRises, RoundingsEncloseDemand, IsDemand, WholeDemandIsRoundedOnce, RoundingsAreFloorAndCeil, RoundingIsWithinRoom, RoundingIsExactAtCuts, RoundingsMoveLittle}
 use Rattle.demand_curve.proofs.Demands.{scaled_demand_is}
@@ -119,7 +120,7 @@ roundings_of_room t h price below =
     (whole_demand_is_rounded_once t h price).both_are_demand t.room (sym ((demand_is_cut_at_limits t h price).whole_below below))
 
 -- both roundings at a price that is so many grains below the high limit
-pub roundings_of_line : (t : Terms) (price : ℤ) (below : ℕ) → below ≡ distance t.high price → (floor_rate t price ≡ rounded_down (min (t.rate * below) (t.room * span t)) (span t)) × (ceil_rate t price ≡ rounded_up (min (t.rate * below) (t.room * span t)) (span t))
+pub roundings_of_line : (t : Terms) (price : ℤ) (below : ℕ) → below ≡ distance t.high price → (floor_rate t price ≡ min (t.rate * below) (t.room * span t) / span t) × (ceil_rate t price ≡ div_ceil (min (t.rate * below) (t.room * span t)) (span t))
 unfolding floor_rate ceil_rate line
 roundings_of_line t price below same =
     rw (same, scaled_demand_is t price) (refl, refl)

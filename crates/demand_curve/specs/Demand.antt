@@ -1,9 +1,9 @@
 -- What an order asks for at each price (its demand), what a rate in whole units loses against it, and what it is worth.
 --     Prices, losses and values are in grains, rates in whole units per batch. A demand is a fraction over the span:
 --     the line and the demand are counted in parts of 1/span of a unit, so they are integers, and never below 0.
-use Rattle.std.specs.Prelude.{ℕ, ◌+◌, ◌-◌, ◌*◌, ◌^◌, ◌<◌, ◌≤◌, ℤ, pos, neg_ℤ, ◌+ℤ◌, ◌-ℤ◌, ◌*ℤ◌, ◌≤ℤ◌, int_le, nat_le, if◌then◌else◌}
-use Rattle.std.specs.Int.{abs_diff}
-use Rattle.demand_curve.specs.Numbers.{distance, rounded_down, rounded_up}
+use Rattle.std.specs.Prelude.{ℕ, ◌+◌, ◌-◌, ◌*◌, ◌/◌, ◌^◌, ◌<◌, ◌≤◌, ℤ, pos, neg_ℤ, ◌+ℤ◌, ◌-ℤ◌, ◌*ℤ◌, ◌≤ℤ◌, int_le, nat_le, if◌then◌else◌}
+use Rattle.std.specs.Int.{abs_diff, div_ceil}
+use Rattle.demand_curve.specs.Numbers.{distance}
 
 -- the terms of an order: its two limit prices, its rate, and its batch maximum in this batch
 pub record Terms : Type 0 where
@@ -49,19 +49,19 @@ scaled_demand t price =
 
 -- the demand in whole units, rounded down
 unfoldable pub floor_rate : Terms → ℤ → ℕ
-floor_rate t price = rounded_down (scaled_demand t price) (span t)
+floor_rate t price = scaled_demand t price / span t
 
 -- the demand in whole units, rounded up
 unfoldable pub ceil_rate : Terms → ℤ → ℕ
-ceil_rate t price = rounded_up (scaled_demand t price) (span t)
+ceil_rate t price = div_ceil (scaled_demand t price) (span t)
 
 -- the demand in parts of a unit, rounded down
 unfoldable pub floor_in : ℕ → Terms → ℤ → ℕ
-floor_in parts t price = rounded_down (parts * scaled_demand t price) (span t)
+floor_in parts t price = (parts * scaled_demand t price) / span t
 
 -- the demand in parts of a unit, rounded up
 unfoldable pub ceil_in : ℕ → Terms → ℤ → ℕ
-ceil_in parts t price = rounded_up (parts * scaled_demand t price) (span t)
+ceil_in parts t price = div_ceil (parts * scaled_demand t price) (span t)
 
 -- a rate in whole units that is less than 1 above the demand and less than 1 below it
 pub record IsRounding (t : Terms) (x : ℕ) (price : ℤ) : Type 0 where
@@ -72,7 +72,7 @@ pub record IsRounding (t : Terms) (x : ℕ) (price : ℤ) : Type 0 where
 unfoldable pub loss : Terms → ℕ → ℤ → ℕ
 loss t x price =
     let apart = abs_diff (x * span t) (scaled_demand t price) in
-    rounded_up (apart * apart) (2 * t.rate * span t)
+    div_ceil (apart * apart) (2 * t.rate * span t)
 
 -- what an order gains by trading its demand e, with e0 the line: e * (2 * e0 - e), in parts of 1/(2 * rate * span) of a grain
 unfoldable pub scaled_dual : Terms → ℤ → ℕ
@@ -80,4 +80,4 @@ scaled_dual t price = scaled_demand t price * (2 * line t price - scaled_demand 
 
 -- the dual value: what an order gains by trading its demand, in grains, rounded down
 unfoldable pub dual_floor : Terms → ℤ → ℕ
-dual_floor t price = rounded_down (scaled_dual t price) (2 * t.rate * span t)
+dual_floor t price = scaled_dual t price / (2 * t.rate * span t)

@@ -1,6 +1,7 @@
 -- Laws of every demand curve. The functions of the module `laws` ensure these facts.
-use Rattle.std.specs.Prelude.{◌≡◌, ℕ, ◌+◌, ◌-◌, ◌*◌, ◌^◌, ◌<◌, ◌≤◌, ◌⊎◌, ◌↔◌, ℤ, pos, ◌+ℤ◌, ◌-ℤ◌, ◌*ℤ◌, ◌≤ℤ◌}
-use Rattle.demand_curve.specs.Numbers.{distance, rounded_down, rounded_up}
+use Rattle.std.specs.Prelude.{◌≡◌, ℕ, ◌+◌, ◌-◌, ◌*◌, ◌/◌, ◌^◌, ◌<◌, ◌≤◌, ◌⊎◌, ◌↔◌, ℤ, pos, ◌+ℤ◌, ◌-ℤ◌, ◌*ℤ◌, ◌≤ℤ◌}
+use Rattle.demand_curve.specs.Numbers.{distance}
+use Rattle.std.specs.Int.{div_ceil}
 use Rattle.demand_curve.specs.Demand.{Terms, IsWithin, IsWithinLimits, span, line, signed_line, scaled_demand, floor_rate, ceil_rate, floor_in, ceil_in, IsRounding, loss, scaled_dual, dual_floor}
 use Rattle.demand_curve.specs.Welfare.{scaled_welfare, scaled_gain}
 
@@ -140,7 +141,7 @@ LossIsZeroAtDemand =
 abbrev pub LossIsSmall : Type 0
 LossIsSmall =
     (t : Terms) → IsWithinLimits t → (price : ℤ) (x : ℕ) → IsRounding t x price
-    → (loss t x price ≤ rounded_up (span t) (2 * t.rate)) × (loss t x price ≤ 2 ^ 60)
+    → (loss t x price ≤ div_ceil (span t) (2 * t.rate)) × (loss t x price ≤ 2 ^ 60)
 
 -- ---- welfare
 
@@ -175,9 +176,9 @@ LossCoversBestRateInParts =
 pub record HasDualValue (t : Terms) (price : ℤ) : Type 0 where
   pub none : t.high ≤ℤ price → dual_floor t price ≡ 0
   pub on_line : line t price ≤ t.room * span t
-      → dual_floor t price ≡ rounded_down (line t price * line t price) (2 * t.rate * span t)
+      → dual_floor t price ≡ (line t price * line t price) / (2 * t.rate * span t)
   pub at_room : t.room * span t < line t price
-      → dual_floor t price ≡ t.room * distance t.high price - rounded_up (t.room * t.room * span t) (2 * t.rate)
+      → dual_floor t price ≡ t.room * distance t.high price - div_ceil (t.room * t.room * span t) (2 * t.rate)
   pub formula : pos (scaled_dual t price)
       ≡ pos (scaled_demand t price) *ℤ (pos 2 *ℤ signed_line t price -ℤ pos (scaled_demand t price))
   pub most : dual_floor t price ≤ t.room * distance t.high price

@@ -1,7 +1,7 @@
 //! Distances and squares, in numbers of at most 128 bits.
 
-ghost use Rattle.std.specs.Prelude.{◌≡◌, ◌<◌, ◌≤◌, ◌*◌, ◌^◌};
-ghost use Rattle.demand_curve.specs.Numbers.{distance, rounded_down};
+ghost use Rattle.std.specs.Prelude.{◌≡◌, ◌<◌, ◌≤◌, ◌*◌, ◌/◌, ◌^◌};
+ghost use Rattle.demand_curve.specs.Numbers.{distance};
 
 // Returns how far the upper price is above the lower one, or 0 if it is not above.
 #[tactic(auto, unfolding(crate::specs::Numbers::distance), using(crate::proofs::Distances::distance_steps))]
@@ -23,7 +23,7 @@ pub(crate) fn floor_square_over(n: u128, span: u128, divisor: u128) -> u128
     requires span_most { span ≤ 2 ^ 61 }
     requires divisor_least { 0 < divisor }
     requires quotient_most { n ≤ 2 ^ 24 * span }
-    ensures value { result ≡ rounded_down (n * n) (divisor * span) }
+    ensures value { result ≡ n * n / (divisor * span) }
     ensures most { result < 2 ^ 127 }
 {
     let quotient = n / span;

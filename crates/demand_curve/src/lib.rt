@@ -41,8 +41,9 @@ pub struct Curve {
 }
 
 impl Curve {
-    ghost use Rattle.std.specs.Prelude.{◌≡◌, ◌≤◌, ◌<◌, ◌*◌, ◌^◌, pos, ◌≤ℤ◌, ◌↔◌, IsTrue, min};
-    ghost use Rattle.demand_curve.specs.Numbers.{distance, rounded_down, rounded_up};
+    ghost use Rattle.std.specs.Prelude.{◌≡◌, ◌≤◌, ◌<◌, ◌*◌, ◌/◌, ◌^◌, pos, ◌≤ℤ◌, ◌↔◌, IsTrue, min};
+    ghost use Rattle.demand_curve.specs.Numbers.{distance};
+    ghost use Rattle.std.specs.Int.{div_ceil};
     ghost use Rattle.demand_curve.specs.Demand.{IsWithin, span, line, scaled_demand, floor_rate, ceil_rate, floor_in, ceil_in, IsRounding, loss, dual_floor};
     ghost use Rattle.demand_curve.specs.Curve.{terms};
 
@@ -179,9 +180,9 @@ impl Curve {
     #[tactic(auto, using(crate::proofs::Quotients::up_multiple))]
     fn roundings_between(&self, below_high: u64) -> Roundings
         ensures floor { let t = terms self.now in
-            result.floor ≡ rounded_down (min (t.rate * below_high) (t.room * span t)) (span t) }
+            result.floor ≡ min (t.rate * below_high) (t.room * span t) / span t }
         ensures ceil { let t = terms self.now in
-            result.ceil ≡ rounded_up (min (t.rate * below_high) (t.room * span t)) (span t) }
+            result.ceil ≡ div_ceil (min (t.rate * below_high) (t.room * span t)) (span t) }
         ensures within_room { result.ceil ≤ self.now.room }
     {
         let span = self.span() as u64;
@@ -197,9 +198,9 @@ impl Curve {
     fn parts_between(&self, parts: u16, below_high: u64) -> PartRoundings
         requires some { 1 ≤ parts }
         ensures floor { let t = terms self.now in
-            result.floor ≡ rounded_down (parts * min (t.rate * below_high) (t.room * span t)) (span t) }
+            result.floor ≡ parts * min (t.rate * below_high) (t.room * span t) / span t }
         ensures ceil { let t = terms self.now in
-            result.ceil ≡ rounded_up (parts * min (t.rate * below_high) (t.room * span t)) (span t) }
+            result.ceil ≡ div_ceil (parts * min (t.rate * below_high) (t.room * span t)) (span t) }
         ensures floor_within_room { result.floor ≤ parts * self.now.room }
         ensures ceil_within_room { result.ceil ≤ parts * self.now.room }
     {

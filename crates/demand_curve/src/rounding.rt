@@ -1,7 +1,7 @@
 //! A demand rounded to whole units, or to parts of a unit, both ways by one division.
 
 ghost use Rattle.std.specs.Prelude.{◌≡◌, ◌<◌, ◌≤◌, ◌*◌, ◌/◌, min};
-ghost use Rattle.demand_curve.specs.Numbers.{rounded_down, rounded_up};
+ghost use Rattle.std.specs.Int.{div_ceil};
 
 /// Both roundings of one demand, in whole units per batch. They differ by at most 1, and are equal exactly if
 /// the demand is a whole number.
@@ -30,8 +30,8 @@ impl Roundings {
     pub(crate) fn of_fraction(n: u128, d: u64, most: u32) -> Roundings
         requires positive { 0 < d }
         requires below { n < most * d }
-        ensures floor { result.floor ≡ rounded_down n d }
-        ensures ceil { result.ceil ≡ rounded_up n d }
+        ensures floor { result.floor ≡ n / d }
+        ensures ceil { result.ceil ≡ div_ceil n d }
         ensures within { result.ceil ≤ most }
     {
         let floor = quotient(n, d) as u32;
@@ -55,8 +55,8 @@ impl PartRoundings {
     pub(crate) fn of_least(parts: u16, n: u128, d: u64, room: u32) -> PartRoundings
         requires some { 1 ≤ parts }
         requires positive { 0 < d }
-        ensures floor { result.floor ≡ rounded_down (parts * min n (room * d)) d }
-        ensures ceil { result.ceil ≡ rounded_up (parts * min n (room * d)) d }
+        ensures floor { result.floor ≡ parts * min n (room * d) / d }
+        ensures ceil { result.ceil ≡ div_ceil (parts * min n (room * d)) d }
         ensures floor_within_room { result.floor ≤ parts * room }
         ensures ceil_within_room { result.ceil ≤ parts * room }
     {
@@ -84,8 +84,8 @@ impl PartRoundings {
     fn of_fraction(n: u128, d: u64, most: u64) -> PartRoundings
         requires positive { 0 < d }
         requires below { n < most * d }
-        ensures floor { result.floor ≡ rounded_down n d }
-        ensures ceil { result.ceil ≡ rounded_up n d }
+        ensures floor { result.floor ≡ n / d }
+        ensures ceil { result.ceil ≡ div_ceil n d }
         ensures floor_within { result.floor ≤ most }
         ensures ceil_within { result.ceil ≤ most }
     {

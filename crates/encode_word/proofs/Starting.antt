@@ -1,22 +1,16 @@
 -- What is before the lines of an input: one thing alone.
-use Rattle.std.proofs.Common.{◌≡◌, ◌↔◌, ℕ, List, ◌++◌, map, length, take, drop, append_assoc, length-append, refl, sym, ap, ◌∙◌, arith}
-use Rattle.std.specs.List.{flat_map}
+use Rattle.std.proofs.Common.{◌≡◌, ◌↔◌, ℕ, List, ◌++◌, length, take, drop, append_assoc, length-append, refl, sym, ap, ◌∙◌, arith}
 use Rattle.std.proofs.lemmas.List.{take-append-drop}
-use Rattle.wire_fields.specs.Numbers.{unsigned}
-use Rattle.wire_records.specs.Versions.{number_of}
 use Rattle.wire_records.specs.declared.version.Version.{Version}
 use Rattle.market_rules.specs.Market.{Market}
-use Rattle.market_snapshot.specs.Checkpoints.{checkpoint_magic, checkpoint_bytes, parts_spelling, read_order, tickers_spelling, accounts_spelling, totals_spelling, exchange_spelling, batches_spelling, orders_spelling, IsCheckpoint, HasCheckpointMagic}
+use Rattle.market_snapshot.specs.Checkpoints.{checkpoint_magic, checkpoint_bytes, IsCheckpoint, HasCheckpointMagic}
 use Rattle.market_snapshot.proofs.OneMarket.{one_market}
 use Rattle.encode_word.specs.Starts.{Start, Nothing, Kept, IsCut, BeginsKept, BeginsUnkept, IsBefore}
 
 -- a checkpoint begins with its magic
 made_magic : (market : Market) → (rest : List ℕ) × (checkpoint_bytes market ≡ checkpoint_magic ++ rest)
-unfolding checkpoint_bytes parts_spelling tickers_spelling
-made_magic market =
-    let mid = unsigned 1 (number_of market.version) ++ (unsigned 2 (length market.tickers) ++ flat_map (λ t. t) market.tickers) in
-    let more = accounts_spelling market.balances ++ (totals_spelling market.balances ++ (exchange_spelling market.exchange ++ (batches_spelling market.next_order market.batches market.last_prices ++ orders_spelling (map read_order market.orders)))) in
-    (mid ++ more, append_assoc checkpoint_magic mid more)
+unfolding checkpoint_bytes
+made_magic market = (_, refl)
 
 -- so do bytes that begin with one
 pub kept_magic : (version : Version) (bytes : List ℕ) (market : Market) (after : List ℕ) → BeginsKept version bytes market after → HasCheckpointMagic bytes

@@ -10,7 +10,8 @@ use Rattle.weight_rows.proofs.RowLawProofs.{price_follows_one_price, weights_are
 use Rattle.weight_rows.proofs.RowLemmas.{price_is_bounded}
 use Rattle.demand_curve.specs.Demand.{Terms, floor_rate, ceil_rate, floor_in, ceil_in}
 use Rattle.flow_orders.specs.Orders.{Order, terms_of}
-use Rattle.flow_orders.specs.Excess.{price_for, low_part, high_part, low_part_in, high_part_in, low_excess, high_excess, low_excess_in, high_excess_in}
+use Rattle.flow_orders.specs.Excess.{price_for, low_part_in, high_part_in, low_excess_in, high_excess_in}
+use Rattle.flow_orders.specs.WholeUnits.{low_part, high_part, low_excess, high_excess}
 use Rattle.excess_bounds.specs.declared.columns.Cell.{Cell}
 use Rattle.excess_bounds.specs.Columns.{column_of}
 use Rattle.excess_bounds.specs.Quotes.{Quote, quote_at}

@@ -2,7 +2,8 @@
 use Rattle.std.proofs.Common.{◌≡◌, ◌↔◌, ℕ, ℤ, pos, ◌≤ℤ◌, Bool, false, IsTrue, List}
 use Rattle.std.specs.Prelude.{neg_ℤ}
 use Rattle.flow_orders.specs.Orders.{Order}
-use Rattle.flow_orders.specs.Excess.{low_excess, high_excess, steepness, is_unsettled}
+use Rattle.flow_orders.specs.Excess.{steepness, is_unsettled}
+use Rattle.flow_orders.specs.WholeUnits.{low_excess, high_excess}
 use Rattle.flow_orders.proofs.Moving.{settled_is, is_settled}
 
 -- a test of both bounds decides whether the asset is settled

@@ -5,7 +5,8 @@ use Rattle.list_sums.specs.Sums.{int_sum_by}
 use Rattle.weight_rows.specs.Rows.{weight_in, price_of}
 use Rattle.demand_curve.specs.Demand.{scaled_demand}
 use Rattle.flow_orders.specs.Orders.{Order, IsOrder, terms_of}
-use Rattle.flow_orders.specs.Excess.{price_for, low_excess, high_excess, low_excess_in, high_excess_in, steepness, is_unsettled}
+use Rattle.flow_orders.specs.Excess.{price_for, low_excess_in, high_excess_in, steepness, is_unsettled}
+use Rattle.flow_orders.specs.WholeUnits.{low_excess, high_excess}
 use Rattle.flow_orders.specs.Moves.{moved}
 use Rattle.flow_orders.specs.Duals.{share, IsCommonPart}
 use Rattle.excess_bounds.specs.declared.columns.Cell.{Cell}

@@ -5,7 +5,8 @@ use Rattle.std.specs.Int.{div_ceil}
 use Rattle.weight_rows.specs.declared.entries.Entry.{Entry}
 use Rattle.weight_rows.specs.Rows.{most_weight}
 use Rattle.flow_orders.specs.Orders.{Order, most_orders}
-use Rattle.flow_orders.specs.Excess.{low_part, high_part, low_part_in, high_part_in}
+use Rattle.flow_orders.specs.Excess.{low_part_in, high_part_in}
+use Rattle.flow_orders.specs.WholeUnits.{low_part, high_part}
 use Rattle.excess_bounds.specs.declared.columns.Cell.{Cell}
 use Rattle.excess_bounds.specs.Workspace.{ArePriced}
 use Rattle.excess_bounds.specs.Quotes.{Quote, quote_at}

@@ -3,7 +3,8 @@ ghost use Rattle.std.specs.Prelude.{◌≡◌, ◌*◌, ◌^◌, ◌<◌, ◌≤
 ghost use Rattle.std.specs.List.{range_with_len};
 ghost use Rattle.weight_rows.specs.Rows.{IsPrice, IsPricedBy, price_of};
 ghost use Rattle.flow_orders.specs.Orders.{IsOrder, most_orders};
-ghost use Rattle.flow_orders.specs.Excess.{low_excess, high_excess, low_excess_in, high_excess_in, spread, steepness, is_unsettled};
+ghost use Rattle.flow_orders.specs.Excess.{low_excess_in, high_excess_in, spread, steepness, is_unsettled};
+ghost use Rattle.flow_orders.specs.WholeUnits.{low_excess, high_excess};
 ghost use Rattle.flow_orders.specs.Residuals.{most_prices};
 ghost use Rattle.flow_orders.specs.Moves.{risen, fallen};
 ghost use Rattle.excess_bounds.specs.Brackets.{IsBracket};

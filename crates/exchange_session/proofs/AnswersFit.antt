@@ -14,7 +14,9 @@ use Rattle.weight_rows.specs.Rows.{IsPrice}
 use Rattle.demand_curve.specs.Demand.{IsWithin}
 use Rattle.flow_orders.specs.Outcomes.{Outcome, Cleared, Skipped, IsAdmissibleOutcome}
 use Rattle.canonical_rule.specs.Canonical.{IsCanonicalOutcome}
-use Rattle.journal_records.specs.Replies.{answer_record, IsReply, IsAnswer, most_reply_body}
+use Rattle.journal_records.specs.Replies.{answer_record, IsAnswer, most_reply_body}
+use Rattle.journal_records.specs.Bodies.{IsReply}
+use Rattle.journal_records.proofs.FieldForms.{reply_fits}
 use Rattle.journal_records.specs.Pairs.{IsPair}
 use Rattle.journal_records.proofs.Spelled.{plain_short, batch_short}
 use Rattle.journal_records.proofs.OutcomesFit.{admissible_outcomes_fit}
@@ -35,7 +37,7 @@ pub record Fits (answer : Answer Outcome) : Type 0 where
 
 -- a plain reply
 plain_fits : (r : Reply) → IsReply r → Fits (Plain r)
-plain_fits r fits = record { widths = fits; short = plain_short r }
+plain_fits r fits = record { widths = reply_fits r fits; short = plain_short r }
 
 -- a price in the range of a search
 is_price : (z : ℤ) → IsWithin (2 ^ 60) z → IsPrice z

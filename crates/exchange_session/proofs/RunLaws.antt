@@ -23,7 +23,7 @@ use Rattle.market_rules.specs.Market.{Market, IsConsistent, empty_market}
 use Rattle.market_rules.specs.Journal.{IsAnswered}
 use Rattle.canonical_journals.proofs.OneCanonicalJournal.{own_step}
 use Rattle.canonical_journals.proofs.CanonicalServed.{step_is_there}
-use Rattle.market_rules.proofs.LawProofs.{journals_hold_deposits, steps_keep_consistency}
+use Rattle.market_rules.proofs.LawProofs.{steps_keep_consistency, journals_stay_consistent}
 use Rattle.canonical_journals.proofs.LawProofs.{canonical_journals_are_legal}
 use Rattle.market_rules.proofs.Versions.{follows_version}
 use Rattle.word_driver.specs.Word.{Goes}
@@ -97,7 +97,7 @@ run_version start market records text goes =
 run_is_consistent : (version : Version) (records : List Record) (market : Market) (text : List ℕ) → Goes run (empty_market version) records market text → IsConsistent market
 run_is_consistent version records market text goes =
     let so = answers (empty_market version) market records text goes in
-    (journals_hold_deposits (empty_market version) so.pairs market (steps_keep_consistency.0 version) (canonical_journals_are_legal version records so.pairs market so.answered).steps).consistent
+    (journals_stay_consistent (empty_market version) so.pairs market (steps_keep_consistency.0 version) (canonical_journals_are_legal version records so.pairs market so.answered).steps)
 
 -- the records of entries are as short as those that they answer
 each_short : (pairs : List (Pair Record Outcome)) → All (IsRecord 1024) (map (λ (p : Pair Record Outcome). p.asked) pairs) → All (λ (p : Pair Record Outcome). IsRecord 1024 p.asked) pairs

@@ -1,5 +1,5 @@
 -- Settling trades one after the other settles them all, and every step stays within the limits of balances.
-use Rattle.std.proofs.Common.{◌≡◌, ℕ, suc, zero, ◌+◌, ◌*◌, ◌^◌, ◌≤◌, ◌<◌, ℤ, pos, ◌+ℤ◌, ◌-ℤ◌, ◌*ℤ◌, ◌≤ℤ◌, List, [], ◌∷◌, ◌++◌, length, cond, eqb, ◌≢◌, ap, refl, sym, subst, ⊎_elim, ◌∙◌, arith}
+use Rattle.std.proofs.Common.{◌≡◌, ℕ, suc, zero, ◌+◌, ◌*◌, ◌^◌, ◌≤◌, ◌<◌, ℤ, pos, ◌+ℤ◌, ◌-ℤ◌, ◌*ℤ◌, ◌≤ℤ◌, List, [], ◌∷◌, ◌++◌, length, cond, eqb, ◌≢◌, ap, refl, sym, subst, ⊎_elim, ◌∙◌, arith, Some, None}
 use Rattle.std.specs.Prelude.{All, slice_index_or, unsigned_abs, neg_ℤ}
 use Rattle.std.specs.List.{range_with_len, zip}
 use Rattle.std.proofs.lemmas.Int.{ints}
@@ -46,8 +46,7 @@ pub settles_none : (prices : List ℤ) (b : Balances) (exchange : Account) → S
 settles_none prices b exchange = record {
   accounts = refl;
   credits = refl;
-  total_money = refl;
-  total_units = refl;
+  totals = refl;
   money = λ account there. omega (arith, ints);
   units = λ account asset there is_asset. omega (arith, ints);
   exchange_money = let none = int_sum_by-zeros (λ a. price_of prices a *ℤ pos 0) (range_with_len 0 (length prices)) (λ k d inside. *ℤ-zero (price_of prices (slice_index_or (range_with_len 0 (length prices)) k d))) in omega (arith, ints, none);
@@ -59,7 +58,7 @@ own_of_one whose f account x = omega (arith, ints)
 
 -- one trade: its account pays and receives, no other account changes, and the exchange takes the other side
 pub settles_one : (prices : List ℤ) (t : Trade) (old new : Balances) (exchange_old exchange_new : Account) → IsWeightVector t.order.row → IsPricedBy t.order.row prices
-    → account_count new ≡ account_count old → new.credits ≡ old.credits → new.total_money ≡ old.total_money → new.total_units ≡ old.total_units
+    → account_count new ≡ account_count old → new.credits ≡ old.credits → new.totals ≡ old.totals
     → money_of new (trader t) ≡ money_of old (trader t) -ℤ paid prices t
     → ((other : ℕ) → IsAccount old other → other ≢ trader t → money_of new other ≡ money_of old other)
     → ((asset : ℕ) → IsAsset old asset → units_of new (trader t) asset ≡ units_of old (trader t) asset +ℤ received asset t)
@@ -67,11 +66,10 @@ pub settles_one : (prices : List ℤ) (t : Trade) (old new : Balances) (exchange
     → exchange_new.money ≡ exchange_old.money +ℤ paid prices t
     → ((asset : ℕ) → IsAsset old asset → units_in exchange_new asset ≡ units_in exchange_old asset -ℤ received asset t)
     → Settles prices (t ∷ []) old new exchange_old exchange_new
-settles_one prices t old new exchange_old exchange_new lawful priced accounts credits total_money total_units money money_others units units_others exchange_money exchange_units = record {
+settles_one prices t old new exchange_old exchange_new lawful priced accounts credits totals money money_others units units_others exchange_money exchange_units = record {
   accounts = accounts;
   credits = credits;
-  total_money = total_money;
-  total_units = total_units;
+  totals = totals;
   money = λ account there.
       ⊎_elim
       (λ own.
@@ -104,18 +102,17 @@ pub settles_more : (prices : List ℤ) (ts us : List Trade) (old now new : Balan
 settles_more prices ts us old now new exchange_old exchange_now exchange_new first second = record {
   accounts = second.accounts ∙ first.accounts;
   credits = second.credits ∙ first.credits;
-  total_money = second.total_money ∙ first.total_money;
-  total_units = second.total_units ∙ first.total_units;
+  totals = second.totals ∙ first.totals;
   money = λ account there.
       let there_now : IsAccount now account = (there.0, omega (arith, there.1, first.accounts)) in
       omega (arith, ints, first.money account there, second.money account there_now, own_sum-append trader (paid prices) account ts us);
   units = λ account asset there is_asset.
       let there_now : IsAccount now account = (there.0, omega (arith, there.1, first.accounts)) in
-      let asset_now : IsAsset now asset = omega (arith, is_asset, ap length first.total_units) in
+      let asset_now : IsAsset now asset = omega (arith, is_asset, ap (λ (t : Account). length t.units) first.totals) in
       omega (arith, ints, first.units account asset there is_asset, second.units account asset there_now asset_now, own_sum-append trader (received asset) account ts us);
   exchange_money = omega (arith, ints, first.exchange_money, second.exchange_money, residual_cost-append prices ts us);
   exchange_units = λ asset is_asset.
-      let asset_now : IsAsset now asset = omega (arith, is_asset, ap length first.total_units) in
+      let asset_now : IsAsset now asset = omega (arith, is_asset, ap (λ (t : Account). length t.units) first.totals) in
       omega (arith, ints, first.exchange_units asset is_asset, second.exchange_units asset asset_now, residual-append ts us asset);
 }
 
@@ -165,8 +162,8 @@ pub owe_little : (b : Balances) (orders : List Order) → CoversNeeds b orders �
     → ((account asset : ℕ) → IsAccount b account → IsAsset b asset → unit_credit_of b account asset ≤ most_credit) → OweLittle b
 owe_little b orders covers few money units = record {
   few = few;
-  money = λ account there. omega (arith, ints, own_not_negative money_need account orders, covers.money account there, money account there);
-  units = λ account asset there is_asset. omega (arith, ints, own_not_negative (unit_need asset) account orders, covers.units account asset there is_asset, units account asset there is_asset);
+  money = λ account there. omega (arith, ints, own_not_negative money_need account orders, covers account None there tt, money account there);
+  units = λ account asset there is_asset. omega (arith, ints, own_not_negative (unit_need asset) account orders, covers account (Some asset) there is_asset, units account asset there is_asset);
 }
 
 module _ (b : Balances) (owe : OweLittle b) where

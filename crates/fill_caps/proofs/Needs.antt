@@ -1,5 +1,5 @@
 -- After a batch is settled each account still covers what its orders need.
-use Rattle.std.proofs.Common.{◌≡◌, ℕ, suc, zero, ◌+◌, ◌-◌, ◌*◌, ◌≤◌, ◌<◌, Bool, true, false, cond, eqb, ℤ, pos, negsuc, ◌+ℤ◌, ◌-ℤ◌, ◌*ℤ◌, ◌≤ℤ◌, ◌<ℤ◌, List, [], ◌∷◌, ◌++◌, map, length, ap, refl, ⊎_elim, arith}
+use Rattle.std.proofs.Common.{◌≡◌, ℕ, suc, zero, ◌+◌, ◌-◌, ◌*◌, ◌≤◌, ◌<◌, Bool, true, false, cond, eqb, ℤ, pos, negsuc, ◌+ℤ◌, ◌-ℤ◌, ◌*ℤ◌, ◌≤ℤ◌, ◌<ℤ◌, List, [], ◌∷◌, ◌++◌, map, length, ap, refl, ⊎_elim, arith, Some, None}
 use Rattle.std.specs.Prelude.{All, slice_index_or}
 use Rattle.std.specs.List.{filter}
 use Rattle.std.proofs.Math.Nat.{mul-le-mul_left}
@@ -12,8 +12,8 @@ use Rattle.weight_rows.specs.Rows.{weight_in, portfolio_price}
 use Rattle.demand_curve.specs.Demand.{IsWithinLimits, IsRounding}
 use Rattle.demand_curve.specs.Numbers.{or_zero}
 use Rattle.demand_curve.proofs.RoundingLaws.{rounding_is_within_room, rounding_is_exact_at_cuts}
-use Rattle.flow_accounts.specs.Balances.{Account, Credit, Balances, IsAccount, IsAsset, no_credit, credit_in}
-use Rattle.flow_orders.specs.Orders.{Order, remaining_quantity, terms_of, money_need, sold, unit_need, own_sum}
+use Rattle.flow_accounts.specs.Balances.{Account, Credit, Balances, IsAccount, IsAsset, no_credit, credit_in, money_with_credit, units_with_credit}
+use Rattle.flow_orders.specs.Orders.{Order, remaining_quantity, terms_of, money_need, sold, unit_need, own_sum, needed_money, needed_units}
 use Rattle.flow_orders.specs.Trades.{Trade, paid, received, trader, after_fill, is_live, staying}
 use Rattle.fill_caps.specs.Settles.{Settles}
 use Rattle.flow_orders.proofs.TradeFacts.{before_fills, after_fills, IsAllowed}
@@ -90,47 +90,53 @@ abbrev money_credit_at : List Credit → ℕ → ℕ
 money_credit_at credits account = (slice_index_or credits (account - 1) (no_credit 0)).ticks
 
 abbrev unit_credit_at : List Credit → ℕ → ℕ → ℕ
-unit_credit_at credits account asset = credit_in (slice_index_or credits (account - 1) (no_credit 0)) asset
+unit_credit_at credits account asset = credit_in (slice_index_or credits (account - 1) (no_credit 0)) (Some asset)
+
+-- accounts cover their needs of money and of each asset
+pub covers_both : (b : Balances) (orders : List Order) → ((account : ℕ) → IsAccount b account → needed_money orders account ≤ℤ money_with_credit b account)
+    → ((account asset : ℕ) → IsAccount b account → IsAsset b asset → needed_units orders account asset ≤ℤ units_with_credit b account asset) → CoversNeeds b orders
+covers_both b orders money units account None there is_kind = money account there
+covers_both b orders money units account (Some asset) there is_asset = units account asset there is_asset
 
 -- after any first part of the trades is settled, accounts cover what those need after and the others before their fills
 pub needs_kept : (prices : List ℤ) (ts : List Trade) (others : List Order) (old new : Balances) (exchange_old exchange_new : Account) → Settles prices ts old new exchange_old exchange_new → All (IsAllowed prices) ts → CoversNeeds old (before_fills ts ++ others) → CoversNeeds new (after_fills ts ++ others)
-needs_kept prices ts others old new exchange_old exchange_new settles allowed covers = record {
-  money = λ account there.
-      let there_before : IsAccount old account = (there.0, omega (arith, there.1, settles.accounts)) in
-      let before = covers.money account there_before in
-      let need : Order → ℤ = λ o. pos (money_need o) in
-      let falls = own_sum-le_sub trader (λ t. need (after_fill t)) (λ t. need (t.order)) (paid prices) account ts (λ k d inside. money_need_falls prices (slice_index_or ts k d) (allowed k d inside)) in
-      omega (
-        arith,
-        ints,
-        falls,
-        before,
-        settles.money account there_before,
-        ap (λ (l : List Credit). money_credit_at l account) settles.credits,
-        own_sum-append (λ (o : Order). o.account) need account (before_fills ts) others,
-        own_sum-append (λ (o : Order). o.account) need account (after_fills ts) others,
-        own_of_map need (λ t. t.order) (λ t. refl) account ts,
-        own_of_map need after_fill (λ t. refl) account ts,
-      );
-  units = λ account asset there is_asset.
-      let there_before : IsAccount old account = (there.0, omega (arith, there.1, settles.accounts)) in
-      let asset_before : IsAsset old asset = omega (arith, is_asset, ap length settles.total_units) in
-      let before = covers.units account asset there_before asset_before in
-      let need : Order → ℤ = λ o. pos (unit_need asset o) in
-      let falls = own_sum-le_add trader (λ t. need (after_fill t)) (λ t. need (t.order)) (received asset) account ts (λ k d inside. unit_need_falls prices asset (slice_index_or ts k d) (allowed k d inside)) in
-      omega (
-        arith,
-        ints,
-        falls,
-        before,
-        settles.units account asset there_before asset_before,
-        ap (λ (l : List Credit). unit_credit_at l account asset) settles.credits,
-        own_sum-append (λ (o : Order). o.account) need account (before_fills ts) others,
-        own_sum-append (λ (o : Order). o.account) need account (after_fills ts) others,
-        own_of_map need (λ t. t.order) (λ t. refl) account ts,
-        own_of_map need after_fill (λ t. refl) account ts,
-      );
-}
+needs_kept prices ts others old new exchange_old exchange_new settles allowed covers =
+    covers_both new (after_fills ts ++ others)
+    (λ account there.
+    let there_before : IsAccount old account = (there.0, omega (arith, there.1, settles.accounts)) in
+    let before = covers account None there_before tt in
+    let need : Order → ℤ = λ o. pos (money_need o) in
+    let falls = own_sum-le_sub trader (λ t. need (after_fill t)) (λ t. need (t.order)) (paid prices) account ts (λ k d inside. money_need_falls prices (slice_index_or ts k d) (allowed k d inside)) in
+    omega (
+      arith,
+      ints,
+      falls,
+      before,
+      settles.money account there_before,
+      ap (λ (l : List Credit). money_credit_at l account) settles.credits,
+      own_sum-append (λ (o : Order). o.account) need account (before_fills ts) others,
+      own_sum-append (λ (o : Order). o.account) need account (after_fills ts) others,
+      own_of_map need (λ t. t.order) (λ t. refl) account ts,
+      own_of_map need after_fill (λ t. refl) account ts,
+    ))
+    (λ account asset there is_asset.
+    let there_before : IsAccount old account = (there.0, omega (arith, there.1, settles.accounts)) in
+    let asset_before : IsAsset old asset = omega (arith, is_asset, ap (λ (t : Account). length t.units) settles.totals) in
+    let before = covers account (Some asset) there_before asset_before in
+    let need : Order → ℤ = λ o. pos (unit_need asset o) in
+    let falls = own_sum-le_add trader (λ t. need (after_fill t)) (λ t. need (t.order)) (received asset) account ts (λ k d inside. unit_need_falls prices asset (slice_index_or ts k d) (allowed k d inside)) in
+    omega (
+      arith,
+      ints,
+      falls,
+      before,
+      settles.units account asset there_before asset_before,
+      ap (λ (l : List Credit). unit_credit_at l account asset) settles.credits,
+      own_sum-append (λ (o : Order). o.account) need account (before_fills ts) others,
+      own_sum-append (λ (o : Order). o.account) need account (after_fills ts) others,
+      own_of_map need (λ t. t.order) (λ t. refl) account ts,
+      own_of_map need after_fill (λ t. refl) account ts,
+    ))
 
 cond_zero : (own : Bool) (m : ℕ) → m ≡ 0 → cond own (pos m) (pos 0) ≡ pos 0
 cond_zero true m none = ap pos none
@@ -144,10 +150,10 @@ full_needs_nothing account n o full =
 
 -- accounts also cover the needs of the live orders alone
 pub needs_of_live : (b : Balances) (orders : List Order) → CoversNeeds b orders → CoversNeeds b (filter is_live orders)
-needs_of_live b orders covers = record {
-  money = λ account there. rw (int_sum_by-filter (λ o. cond (eqb (o.account) account) (pos (money_need o)) (pos 0)) is_live orders (λ o full. full_needs_nothing account (or_zero o.high) o full)) (covers.money account there);
-  units = λ account asset there is_asset. rw (int_sum_by-filter (λ o. cond (eqb (o.account) account) (pos (unit_need asset o)) (pos 0)) is_live orders (λ o full. full_needs_nothing account (sold (weight_in o.row asset)) o full)) (covers.units account asset there is_asset);
-}
+needs_of_live b orders covers =
+    covers_both b (filter is_live orders)
+    (λ account there. rw (int_sum_by-filter (λ o. cond (eqb (o.account) account) (pos (money_need o)) (pos 0)) is_live orders (λ o full. full_needs_nothing account (or_zero o.high) o full)) (covers account None there tt))
+    (λ account asset there is_asset. rw (int_sum_by-filter (λ o. cond (eqb (o.account) account) (pos (unit_need asset o)) (pos 0)) is_live orders (λ o full. full_needs_nothing account (sold (weight_in o.row asset)) o full)) (covers account (Some asset) there is_asset))
 
 -- after the batch, accounts cover what the orders that stay need
 pub needs_kept_by_batch : (prices : List ℤ) (ts : List Trade) (old new : Balances) (exchange_old exchange_new : Account) → Settles prices ts old new exchange_old exchange_new → All (IsAllowed prices) ts → CoversNeeds old (before_fills ts) → CoversNeeds new (staying ts)

@@ -1,5 +1,5 @@
 -- One order is settled: what the calls require, and what they result in.
-use Rattle.std.proofs.Common.{◌≡◌, ℕ, ◌+◌, ◌^◌, ◌≤◌, ℤ, pos, ◌+ℤ◌, ◌-ℤ◌, ◌*ℤ◌, ◌≤ℤ◌, ◌<ℤ◌, List, [], ◌∷◌, ◌-◌, ap, sym, subst, ◌∙◌, FitsSigned, arith}
+use Rattle.std.proofs.Common.{◌≡◌, ℕ, ◌+◌, ◌^◌, ◌≤◌, ℤ, pos, ◌+ℤ◌, ◌-ℤ◌, ◌*ℤ◌, ◌≤ℤ◌, ◌<ℤ◌, List, [], ◌∷◌, ◌-◌, ap, sym, subst, ◌∙◌, FitsSigned, arith, None}
 use Rattle.std.specs.Prelude.{All, unsigned_abs, slice_index_or}
 use Rattle.std.specs.Int.{w128}
 use Rattle.std.proofs.lemmas.Int.{ints}
@@ -10,7 +10,7 @@ use Rattle.weight_rows.proofs.RowLemmas.{price_is_bounded}
 use Rattle.weight_rows.proofs.RowLawProofs.{weights_are_small}
 use Rattle.demand_curve.specs.Demand.{IsRounding}
 use Rattle.demand_curve.proofs.RoundingLaws.{rounding_is_within_room}
-use Rattle.flow_accounts.specs.Balances.{Account, Balances, IsAccount, IsAsset, grains, no_credit, money_of, money_credit_of, money_with_credit, units_of, unit_credit_of, units_with_credit, move_money}
+use Rattle.flow_accounts.specs.Balances.{Account, Balances, IsAccount, IsAsset, grains, no_credit, money_of, money_credit_of, money_with_credit, units_of, unit_credit_of, units_with_credit, move_balance}
 use Rattle.flow_accounts.proofs.Moves.{money_moves}
 use Rattle.flow_orders.specs.Orders.{Order, IsOrder, terms_of, money_need, unit_need}
 use Rattle.flow_orders.specs.Excess.{price_for}
@@ -80,13 +80,13 @@ module _ (prices : List ℤ) (o : Order) (x : ℕ) (is : IsOrder o) (rounding : 
 
 module _ (prices : List ℤ) (t : Trade) (old mid new : Balances) (amount : ℤ) (exchange_old exchange_new : Account) (lawful : IsWeightVector t.order.row) (priced : IsPricedBy t.order.row prices)
     (there : IsAccount old (trader t)) (amount_is : amount ≡ pos 0 -ℤ paid prices t) (moves : MovesRow prices (trader t) t.traded t.order.row old mid exchange_old exchange_new)
-    (pays_is : new ≡ move_money mid (trader t) amount) where
+    (pays_is : new ≡ move_balance mid (trader t) None amount) where
   -- the units of the legs are moved, and then the account pays
-  moves_and_pays : Settles prices (t ∷ []) old (move_money mid (trader t) amount) exchange_old exchange_new
+  moves_and_pays : Settles prices (t ∷ []) old (move_balance mid (trader t) None amount) exchange_old exchange_new
   moves_and_pays =
       let still : IsAccount mid (trader t) = (there.0, omega (arith, there.1, moves.accounts)) in
       let pays = money_moves mid (trader t) amount still in
-      settles_one prices t old (move_money mid (trader t) amount) exchange_old exchange_new lawful priced (pays.accounts ∙ moves.accounts) moves.credits moves.total_money moves.total_units
+      settles_one prices t old (move_balance mid (trader t) None amount) exchange_old exchange_new lawful priced (pays.accounts ∙ moves.accounts) moves.credits moves.totals
       (omega (arith, ints, moves.money (trader t), pays.money, amount_is))
       (λ other other_there differs. pays.others other (other_there.0, omega (arith, other_there.1, moves.accounts)) differs ∙ moves.money other)
       (λ asset is_asset. pays.units (trader t) asset ∙ moves.units asset)
@@ -98,7 +98,7 @@ module _ (prices : List ℤ) (t : Trade) (old mid new : Balances) (amount : ℤ)
   trade_settles = subst (λ (b : Balances). Settles prices (t ∷ []) old b exchange_old exchange_new) (sym pays_is) moves_and_pays
 
 pub order_settles : (prices : List ℤ) (o : Order) (x : ℕ) (amount : ℤ) (row : List Entry) (account : ℕ) (old mid new : Balances) (exchange_old exchange_new : Account) → IsWeightVector o.row → IsPricedBy o.row prices → IsAccount old o.account
-    → row ≡ o.row → account ≡ o.account → amount ≡ pos 0 -ℤ paid prices (record { order = o; traded = x }) → MovesRow prices account x row old mid exchange_old exchange_new → new ≡ move_money mid account amount
+    → row ≡ o.row → account ≡ o.account → amount ≡ pos 0 -ℤ paid prices (record { order = o; traded = x }) → MovesRow prices account x row old mid exchange_old exchange_new → new ≡ move_balance mid account None amount
     → Settles prices (record { order = o; traded = x } ∷ []) old new exchange_old exchange_new
 order_settles prices o x amount row account old mid new exchange_old exchange_new lawful priced there row_is account_is amount_is moves new_is =
     trade_settles prices (record { order = o; traded = x }) old mid new amount exchange_old exchange_new lawful priced there amount_is (rw (row_is, account_is) at moves) (rw account_is at new_is)

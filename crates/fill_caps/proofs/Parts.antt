@@ -1,5 +1,5 @@
 -- The first orders of a batch are settled, and the next one follows.
-use Rattle.std.proofs.Common.{◌≡◌, ℕ, zero, suc, ◌+◌, ◌-◌, ◌^◌, ◌≤◌, ◌<◌, ℤ, pos, ◌+ℤ◌, ◌≤ℤ◌, List, [], ◌∷◌, ◌++◌, take, drop, length, get_or, cond, eqb, refl, ap, sym, subst, ◌∙◌, arith}
+use Rattle.std.proofs.Common.{◌≡◌, ℕ, zero, suc, ◌+◌, ◌-◌, ◌^◌, ◌≤◌, ◌<◌, ℤ, pos, ◌+ℤ◌, ◌≤ℤ◌, List, [], ◌∷◌, ◌++◌, take, drop, length, get_or, cond, eqb, refl, ap, sym, subst, ◌∙◌, arith, Some, None}
 use Rattle.std.specs.Prelude.{All, slice_index_or, unsigned_abs}
 use Rattle.std.proofs.lemmas.Int.{ints}
 use Rattle.std.proofs.lemmas.Bool.{eq-eqb}
@@ -38,7 +38,7 @@ pub record IsReady (prices : List ℤ) (orders : List Order) (rates : List ℕ) 
   pub accounts_there : All (λ o. IsAccount b o.account) orders
   pub assets_there : All (λ o. All (λ e. IsAsset b e.asset) o.row) orders
   pub covered : CoversNeeds b orders
-  pub total_money : money_of_all b +ℤ exchange.money ≡ b.total_money
+  pub total_money : money_of_all b +ℤ exchange.money ≡ b.totals.money
   pub total_units : (asset : ℕ) → IsAsset b asset → units_of_all b asset +ℤ units_in exchange asset ≡ total_units_of b asset
   pub exchange_money : unsigned_abs exchange.money ≤ 2 ^ 123 - 2 ^ 99
   pub exchange_units : All (λ u. unsigned_abs u ≤ 2 ^ 55 - 2 ^ 31) exchange.units
@@ -176,13 +176,13 @@ module _ (prices : List ℤ) (orders : List Order) (rates : List ℕ) (old : Bal
           (among.0, omega (arith, among.1, before.settled.accounts))
 
       asset_old : (asset : ℕ) → IsAsset now asset → IsAsset old asset
-      asset_old asset is_asset = omega (arith, is_asset, ap length before.settled.total_units)
+      asset_old asset is_asset = omega (arith, is_asset, ap (λ (t : Account). length t.units) before.settled.totals)
 
       money_covered : pos (money_need o) ≤ℤ money_with_credit now o.account
-      money_covered = omega (arith, ints, one_of_needs money_need (after_fills part) (before_fills (drop (i + 1) ts)) o, covers_next.money o.account account_there)
+      money_covered = omega (arith, ints, one_of_needs money_need (after_fills part) (before_fills (drop (i + 1) ts)) o, covers_next o.account None account_there tt)
 
       units_covered : (asset : ℕ) → IsAsset now asset → pos (unit_need asset o) ≤ℤ units_with_credit now o.account asset
-      units_covered asset is_asset = omega (arith, ints, one_of_needs (unit_need asset) (after_fills part) (before_fills (drop (i + 1) ts)) o, covers_next.units o.account asset account_there is_asset)
+      units_covered asset is_asset = omega (arith, ints, one_of_needs (unit_need asset) (after_fills part) (before_fills (drop (i + 1) ts)) o, covers_next o.account (Some asset) account_there is_asset)
 
       owe : OweLittle now
       owe = record {
@@ -193,13 +193,13 @@ module _ (prices : List ℤ) (orders : List Order) (rates : List ℕ) (old : Bal
 
       money_most : money_of now o.account ≤ℤ pos (2 ^ 123 + 2 ^ 117)
       money_most =
-          let sums : money_of_all now +ℤ exchange_now.money ≡ now.total_money = omega (arith, ints, money_held, ready.total_money, before.settled.total_money) in
-          omega (arith, ints, money_is_bounded now owe exchange_now.money now.total_money sums o.account account_there, exchange_money_near, before.lawful.total_money.1)
+          let sums : money_of_all now +ℤ exchange_now.money ≡ now.totals.money = omega (arith, ints, money_held, ready.total_money, ap (λ (t : Account). t.money) before.settled.totals) in
+          omega (arith, ints, money_is_bounded now owe exchange_now.money now.totals.money sums o.account account_there, exchange_money_near, before.lawful.total_money.1)
 
       units_most : (asset : ℕ) → IsAsset now asset → units_of now o.account asset ≤ℤ pos (2 ^ 61)
       units_most asset is_asset =
           let was = asset_old asset is_asset in
-          let same : total_units_of now asset ≡ total_units_of old asset = ap (λ l. slice_index_or l asset (pos 0)) before.settled.total_units in
+          let same : total_units_of now asset ≡ total_units_of old asset = ap (λ (t : Account). units_in t asset) before.settled.totals in
           let sums : units_of_all now asset +ℤ units_in exchange_now asset ≡ total_units_of now asset = omega (arith, ints, units_held asset was, ready.total_units asset was, same) in
           omega (arith, ints, units_are_bounded now owe asset is_asset (units_in exchange_now asset) (total_units_of now asset) sums o.account account_there, exchange_units_near asset was, (unit_total now asset before.lawful is_asset).1)
 
@@ -235,7 +235,7 @@ module _ (prices : List ℤ) (orders : List Order) (rates : List ℕ) (old : Bal
       all_settled = subst (λ l. Settles prices l old now exchange_old exchange_now) whole before.settled
 
       counts : asset_count now ≡ asset_count old
-      counts = ap length before.settled.total_units
+      counts = ap (λ (t : Account). length t.units) before.settled.totals
 
       pub accounts_settled : now ≡ settled_balances prices ts old
       accounts_settled =

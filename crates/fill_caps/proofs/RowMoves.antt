@@ -1,5 +1,5 @@
 -- The legs of a weight vector are settled one by one.
-use Rattle.std.proofs.Common.{◌≡◌, ◌≢◌, ℕ, suc, ◌+◌, ◌-◌, ◌*◌, ◌^◌, ◌≤◌, ◌<◌, ℤ, pos, ◌+ℤ◌, ◌-ℤ◌, ◌*ℤ◌, List, [], ◌∷◌, drop, length, get_or, set, refl, ap, sym, subst, ◌∙◌, ⊎_elim, FitsSigned, ne_eqb, arith}
+use Rattle.std.proofs.Common.{◌≡◌, ◌≢◌, ℕ, suc, ◌+◌, ◌-◌, ◌*◌, ◌^◌, ◌≤◌, ◌<◌, ℤ, pos, ◌+ℤ◌, ◌-ℤ◌, ◌*ℤ◌, List, [], ◌∷◌, drop, length, get_or, set, refl, ap, sym, subst, ◌∙◌, ⊎_elim, FitsSigned, ne_eqb, arith, Some}
 use Rattle.std.specs.Prelude.{All, unsigned_abs}
 use Rattle.std.specs.Int.{w64, w128}
 use Rattle.std.proofs.Math.IntN.{*ℤ_comm, *ℤ-zero, zero-*ℤ}
@@ -14,7 +14,7 @@ use Rattle.weight_rows.specs.declared.entries.Entry.{Entry}
 use Rattle.weight_rows.specs.Rows.{assets_of, IsWeightVector, IsLawfulWeight, IsPrice, weight_in, price_of, portfolio_price}
 use Rattle.weight_rows.proofs.RowLemmas.{weight_in-here, weight_in-later, weight_in-none, asset_at, length-assets_of, price_is_bounded}
 use Rattle.weight_rows.proofs.RowLawProofs.{weights_are_small}
-use Rattle.flow_accounts.specs.Balances.{Account, Credit, Balances, IsAccount, IsAsset, account_count, asset_count, money_of, units_of, units_in, no_credit, credit_in, unit_credit_of, move_units}
+use Rattle.flow_accounts.specs.Balances.{Account, Credit, Balances, IsAccount, IsAsset, account_count, asset_count, money_of, units_of, units_in, no_credit, credit_in, unit_credit_of, move_balance}
 use Rattle.flow_accounts.specs.Lawful.{AreLawful}
 use Rattle.flow_accounts.proofs.Moves.{units_move}
 use Rattle.fill_caps.specs.Moves.{MovesRow}
@@ -76,8 +76,7 @@ pub record IsMovedTo (prices : List ℤ) (account rate : ℕ) (row : List Entry)
   pub lawful : AreLawful now
   pub accounts : account_count now ≡ account_count old
   pub credits : now.credits ≡ old.credits
-  pub total_money : now.total_money ≡ old.total_money
-  pub total_units : now.total_units ≡ old.total_units
+  pub totals : now.totals ≡ old.totals
   pub money : (any : ℕ) → money_of now any ≡ money_of old any
   pub units : (asset : ℕ) → units_of now account asset +ℤ weight_in (drop i row) asset *ℤ pos rate ≡ units_of old account asset +ℤ weight_in row asset *ℤ pos rate
   pub others : (other asset : ℕ) → IsAccount old other → other ≢ account → units_of now other asset ≡ units_of old other asset
@@ -90,8 +89,7 @@ IsMovedTo-none prices account rate row old exchange lawful = record {
   lawful = lawful;
   accounts = refl;
   credits = refl;
-  total_money = refl;
-  total_units = refl;
+  totals = refl;
   money = λ any. refl;
   units = λ asset. refl;
   others = λ other asset there differs. refl;
@@ -109,8 +107,7 @@ IsMovedTo-all prices account rate row old new exchange_old exchange_new i all mo
       lawful = moved.lawful;
       accounts = moved.accounts;
       credits = moved.credits;
-      total_money = moved.total_money;
-      total_units = moved.total_units;
+      totals = moved.totals;
       money = moved.money;
       units = λ asset. omega (arith, ints, moved.units asset, left asset);
       others = moved.others;
@@ -151,7 +148,7 @@ module _ (prices : List ℤ) (account rate : ℕ) (row : List Entry) (old now : 
   -- what the calls for this leg require
   pub units_stay : MayChangeUnits old account turn.asset (weight_in row turn.asset *ℤ pos rate) → MayChangeUnits now account turn.asset amount
   units_stay may =
-      let credit : unit_credit_of now account turn.asset ≡ unit_credit_of old account turn.asset = ap (λ (l : List Credit). credit_in (get_or l (account - 1) (no_credit 0)) turn.asset) before.credits in
+      let credit : unit_credit_of now account turn.asset ≡ unit_credit_of old account turn.asset = ap (λ (l : List Credit). credit_in (get_or l (account - 1) (no_credit 0)) (Some turn.asset)) before.credits in
       (omega (arith, ints, may.0, credit, units_then), omega (arith, ints, may.1, units_then))
 
   pub exchange_units_fit : rate ≤ 2 ^ 24 → unsigned_abs (units_in exchange_old turn.asset) ≤ 2 ^ 56 → FitsSigned w64 (units_in exchange_now turn.asset -ℤ amount)
@@ -167,11 +164,11 @@ module _ (prices : List ℤ) (account rate : ℕ) (row : List Entry) (old now : 
 
   -- the state after this leg is moved
   pub IsMovedTo-more : (new : Balances) (exchange_new : Account) → IsAccount old account → IsAsset old turn.asset → length exchange_old.units ≡ asset_count old
-      → AreLawful new → new ≡ move_units now account turn.asset amount
+      → AreLawful new → new ≡ move_balance now account (Some turn.asset) amount
       → exchange_new ≡ record { money = exchange_now.money +ℤ cost; units = set exchange_now.units turn.asset (units_in exchange_now turn.asset -ℤ amount) }
       → IsMovedTo prices account rate row old new exchange_old exchange_new (i + 1)
   IsMovedTo-more new exchange_new there is_asset one_each lawful_new moved exchange_moved =
-      let asset_now : IsAsset now turn.asset = omega (arith, is_asset, ap length before.total_units) in
+      let asset_now : IsAsset now turn.asset = omega (arith, is_asset, ap (λ (t : Account). length t.units) before.totals) in
       let there_now : IsAccount now account = (there.0, omega (arith, there.1, before.accounts)) in
       let changes = units_move now account turn.asset amount before.lawful there_now asset_now in
       let none : weight_in (drop (i + 1) row) turn.asset *ℤ pos rate ≡ pos 0 = rw (gone row i d lawful inside) (zero-*ℤ (pos rate)) in
@@ -183,11 +180,10 @@ module _ (prices : List ℤ) (account rate : ℕ) (row : List Entry) (old now : 
         lawful = subst AreLawful moved lawful_new;
         accounts = changes.accounts ∙ before.accounts;
         credits = before.credits;
-        total_money = before.total_money;
-        total_units = before.total_units;
+        totals = before.totals;
         money = λ any. changes.money any ∙ before.money any;
         units = λ asset. ⊎_elim
-            (λ own. subst (λ s. units_of (move_units now account turn.asset amount) account s +ℤ weight_in (drop (i + 1) row) s *ℤ pos rate ≡ units_of old account s +ℤ weight_in row s *ℤ pos rate) (sym own)
+            (λ own. subst (λ s. units_of (move_balance now account (Some turn.asset) amount) account s +ℤ weight_in (drop (i + 1) row) s *ℤ pos rate ≡ units_of old account s +ℤ weight_in row s *ℤ pos rate) (sym own)
             (omega (arith, ints, changes.units, none, units_then)))
             (λ differs. omega (arith, ints, changes.other_assets asset differs, same asset differs, before.units asset))
             (cases_eq asset turn.asset);

@@ -38,10 +38,9 @@ module _ (prices : List ℤ) (ts : List Trade) (old new other : Balances) (excha
       (one.money (k + 1) there ∙ sym (two.money (k + 1) there))
       (λ asset is_asset. one.units (k + 1) asset there is_asset ∙ sym (two.units (k + 1) asset there is_asset))
       ∙ sym second) in
-      ap (λ l. record { accounts = l; credits = new.credits; total_money = new.total_money; total_units = new.total_units }) accounts
-      ∙ ap (λ l. record { accounts = other.accounts; credits = l; total_money = new.total_money; total_units = new.total_units }) (one.credits ∙ sym two.credits)
-      ∙ ap (λ m. record { accounts = other.accounts; credits = other.credits; total_money = m; total_units = new.total_units }) (one.total_money ∙ sym two.total_money)
-      ∙ ap (λ u. record { accounts = other.accounts; credits = other.credits; total_money = other.total_money; total_units = u }) (one.total_units ∙ sym two.total_units)
+      ap (λ l. record { accounts = l; credits = new.credits; totals = new.totals }) accounts
+      ∙ ap (λ l. record { accounts = other.accounts; credits = l; totals = new.totals }) (one.credits ∙ sym two.credits)
+      ∙ ap (λ t. record { accounts = other.accounts; credits = other.credits; totals = t }) (one.totals ∙ sym two.totals)
 
   -- the exchange's account after settling is determined
   pub settled_exchange_is_one : Settles prices ts old new exchange_old exchange_new → Settles prices ts old other exchange_old exchange_other

@@ -31,8 +31,7 @@ module _ (prices : List ℤ) (ts : List Trade) (b : Balances) (exchange : Accoun
   settles = record {
     accounts = length-map (range_with_len 1 (account_count b)) (settled_account prices ts b) ∙ length-range_with_len 1 (account_count b);
     credits = refl;
-    total_money = refl;
-    total_units = refl;
+    totals = refl;
     money = λ account there. ap (λ (a : Account). a.money) (settled_at account there) ∙ money_at account;
     units = λ account asset there is_asset. ap (λ (a : Account). units_in a asset) (settled_at account there) ∙ units_at account asset is_asset;
     exchange_money = refl;

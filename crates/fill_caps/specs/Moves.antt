@@ -10,8 +10,7 @@ pub record MovesRow (prices : List ℤ) (account rate : ℕ) (row : List Entry) 
   pub lawful : AreLawful new
   pub accounts : account_count new ≡ account_count old
   pub credits : new.credits ≡ old.credits
-  pub total_money : new.total_money ≡ old.total_money
-  pub total_units : new.total_units ≡ old.total_units
+  pub totals : new.totals ≡ old.totals
   pub money : (any : ℕ) → money_of new any ≡ money_of old any
   pub units : (asset : ℕ) → units_of new account asset ≡ units_of old account asset +ℤ weight_in row asset *ℤ pos rate
   pub others : (other asset : ℕ) → IsAccount old other → other ≢ account → units_of new other asset ≡ units_of old other asset

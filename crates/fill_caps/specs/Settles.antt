@@ -8,8 +8,7 @@ use Rattle.flow_orders.specs.Trades.{Trade, trader, paid, received, residual, re
 pub record Settles (prices : List ℤ) (ts : List Trade) (old new : Balances) (exchange_old exchange_new : Account) : Type 0 where
   pub accounts : account_count new ≡ account_count old
   pub credits : new.credits ≡ old.credits
-  pub total_money : new.total_money ≡ old.total_money
-  pub total_units : new.total_units ≡ old.total_units
+  pub totals : new.totals ≡ old.totals
   pub money : (account : ℕ) → IsAccount old account → money_of new account ≡ money_of old account -ℤ own_sum trader account (paid prices) ts
   pub units : (account asset : ℕ) → IsAccount old account → IsAsset old asset → units_of new account asset ≡ units_of old account asset +ℤ own_sum trader account (received asset) ts
   pub exchange_money : exchange_new.money ≡ exchange_old.money +ℤ residual_cost prices ts

@@ -1,9 +1,9 @@
 //! What the legs of an order move.
-ghost use Rattle.std.specs.Prelude.{◌≡◌, ℕ, ◌<◌, ◌≤◌, ◌^◌, pos, ◌+ℤ◌, ◌-ℤ◌, ◌*ℤ◌, length, slice_set, unsigned_abs, All, FitsSigned};
+ghost use Rattle.std.specs.Prelude.{◌≡◌, ℕ, ◌<◌, ◌≤◌, ◌^◌, pos, ◌+ℤ◌, ◌-ℤ◌, ◌*ℤ◌, length, slice_set, unsigned_abs, All, FitsSigned, Some};
 ghost use Rattle.std.specs.Int.{w64, w128};
 ghost use Rattle.weight_rows.specs.Rows.{IsWeightVector, IsLawfulWeight, IsPrice, price_of, weight_in};
 ghost use Rattle.demand_curve.specs.Demand.{most_rate};
-ghost use Rattle.flow_accounts.specs.Balances.{IsAccount, IsAsset, asset_count, move_units, units_in};
+ghost use Rattle.flow_accounts.specs.Balances.{IsAccount, IsAsset, asset_count, units_in, move_balance};
 ghost use Rattle.flow_accounts.specs.Lawful.{AreLawful};
 ghost use Rattle.fill_caps.specs.Moves.{MovesRow};
 ghost use Rattle.fill_caps.specs.Room.{MayChangeUnits};
@@ -63,7 +63,7 @@ fn settle_entry(
     requires exchange_units { FitsSigned w64
         (units_in exchange.old entry.asset -ℤ entry.weight *ℤ pos rate) }
     ensures accounts { accounts.new
-        ≡ move_units accounts.old account entry.asset (entry.weight *ℤ pos rate) }
+        ≡ move_balance accounts.old account (Some entry.asset) (entry.weight *ℤ pos rate) }
     ensures lawful { AreLawful accounts.new }
     ensures exchange { exchange.new ≡ record {
       money = exchange.old.money +ℤ entry.weight *ℤ pos rate *ℤ price_of prices.now entry.asset;

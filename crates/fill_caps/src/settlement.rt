@@ -44,7 +44,7 @@ pub fn settle(
     requires accounts_there { All (λ o. IsAccount accounts.old o.account) orders.now }
     requires assets_there { All (λ o. All (λ e. IsAsset accounts.old e.asset) o.row) orders.now }
     requires covered { CoversNeeds accounts.old orders.now }
-    requires total_money { money_of_all accounts.old +ℤ exchange.old.money ≡ accounts.old.total_money }
+    requires total_money { money_of_all accounts.old +ℤ exchange.old.money ≡ accounts.old.totals.money }
     requires total_units { (asset : ℕ) → IsAsset accounts.old asset →
         units_of_all accounts.old asset +ℤ units_in exchange.old asset ≡ total_units_of accounts.old asset }
     requires exchange_money { unsigned_abs exchange.old.money ≤ 2 ^ 123 - 2 ^ 99 }

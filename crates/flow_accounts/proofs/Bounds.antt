@@ -55,8 +55,8 @@ changes_fit_near_sums b lawful near = record {
       let total = lawful.total_money in
       record { balance = omega (arith, ints, accepted.within_limit); total = omega (arith, ints) };
   unit_deposit = λ account asset units accepted.
-      let most = sums_bound_balances.units b account asset lawful accepted.account_there accepted.asset_there in
-      let total = unit_total b asset lawful accepted.asset_there in
+      let most = sums_bound_balances.units b account asset lawful accepted.account_there accepted.kind_there in
+      let total = unit_total b asset lawful accepted.kind_there in
       let held = near.units asset in
       record { balance = omega (arith, ints, accepted.within_limit); total = omega (arith, ints) };
   money_withdrawal = λ account ticks reserved positive accepted.
@@ -65,8 +65,8 @@ changes_fit_near_sums b lawful near = record {
       let money = near.money in
       record { balance = omega (arith, ints); total = omega (arith, ints, accepted.free) };
   unit_withdrawal = λ account asset units reserved positive accepted.
-      let most = sums_bound_balances.units b account asset lawful accepted.account_there accepted.asset_there in
-      let balance = unit_balance b account asset lawful accepted.account_there accepted.asset_there in
+      let most = sums_bound_balances.units b account asset lawful accepted.account_there accepted.kind_there in
+      let balance = unit_balance b account asset lawful accepted.account_there accepted.kind_there in
       let held = near.units asset in
       record { balance = omega (arith, ints); total = omega (arith, ints, accepted.free) };
 }

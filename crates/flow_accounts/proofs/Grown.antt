@@ -80,7 +80,7 @@ lawful-with_credit_place assets c lawful = record {
 pub lawful-add_asset : (b : Balances) → AreLawful b → asset_count b < 64 → AreLawful (add_asset b)
 lawful-add_asset b lawful few = record {
   few_accounts = rw length-map lawful.few_accounts;
-  few_assets = omega (arith, length_push b.total_units (pos 0));
+  few_assets = omega (arith, length_push b.totals.units (pos 0));
   accounts = rw length_push (All-map (IsLawfulAccount (asset_count b + 1)) with_asset b.accounts (All-weaker (IsLawfulAccount (asset_count b)) (λ a. IsLawfulAccount (asset_count b + 1) (with_asset a)) (lawful-with_asset (asset_count b)) b.accounts lawful.accounts));
   one_credit_each = length-map b.credits with_credit_place ∙ lawful.one_credit_each ∙ sym (length-map b.accounts with_asset);
   credits = rw length_push (All-map (IsLawfulCredit (asset_count b + 1)) with_credit_place b.credits (All-weaker (IsLawfulCredit (asset_count b)) (λ c. IsLawfulCredit (asset_count b + 1) (with_credit_place c)) (lawful-with_credit_place (asset_count b)) b.credits lawful.credits));
@@ -99,5 +99,5 @@ lawful-add_asset b lawful few = record {
             (cases_lt asset (asset_count b));
       };
   total_money = lawful.total_money;
-  total_units = All-push IsUnitTotal b.total_units (pos 0) lawful.total_units (omega (arith, ints), omega (arith, ints));
+  total_units = All-push IsUnitTotal b.totals.units (pos 0) lawful.total_units (omega (arith, ints), omega (arith, ints));
 }

@@ -1,5 +1,5 @@
 -- The balances that the fields of an `Accounts` represent while one account is written.
-use Rattle.std.proofs.Common.{◌≡◌, ◌≢◌, ℕ, ◌-◌, ◌^◌, ◌<◌, ℤ, pos, ◌+ℤ◌, ◌≤ℤ◌, ◌<ℤ◌, length, map, take, get_or, set, refl, ap, sym, subst, ◌∙◌, arith}
+use Rattle.std.proofs.Common.{◌≡◌, ◌≢◌, ℕ, ◌-◌, ◌^◌, ◌<◌, ℤ, pos, ◌+ℤ◌, ◌≤ℤ◌, ◌<ℤ◌, length, map, take, get_or, set, refl, ap, sym, subst, ◌∙◌, arith, Some, None}
 use Rattle.std.proofs.lemmas.Int.{ints}
 use Rattle.std.proofs.Math.Seq.{take-set-lt, map-set_same}
 use Rattle.std.proofs.lemmas.List.{map-set, get_or-map, get_or-take, get_or-set_other, length-set, length-map}
@@ -7,8 +7,8 @@ use Rattle.std.proofs.lemmas.List.Elements.{All-set}
 use Rattle.std.specs.Vec.{with_item}
 use Rattle.flow_accounts.specs.declared.Holding.{Holding}
 use Rattle.flow_accounts.specs.declared.Accounts.TheInside.{Inside}
-use Rattle.flow_accounts.specs.Balances.{Account, Credit, Balances, IsAccount, IsAsset, asset_count, account_of, credit_of, credit_in, empty_account, no_credit, money_of, units_of, money_credit_of, unit_credit_of, money_with_credit, units_with_credit, move_money, move_units, set_money_credit, set_unit_credit}
-use Rattle.flow_accounts.specs.Answers.{AcceptsMoneyCredit, AcceptsUnitCredit}
+use Rattle.flow_accounts.specs.Balances.{Account, Credit, Balances, IsAccount, IsAsset, asset_count, account_of, credit_of, credit_in, empty_account, no_credit, money_of, units_of, money_credit_of, unit_credit_of, money_with_credit, units_with_credit, move_balance, set_credit}
+use Rattle.flow_accounts.specs.Answers.{AcceptsCredit}
 use Rattle.flow_accounts.specs.Lawful.{AreLawful, IsLawfulAccount, IsMoneyBalance, IsUnitBalance}
 use Rattle.flow_accounts.specs.Places.{account_in, credit_line_in, balances_in, HasSpare, HasSpareCredit, AreKept}
 use Rattle.flow_accounts.proofs.Balance.{money_balance, unit_balance, money_credit_most, unit_credit_most}
@@ -59,11 +59,11 @@ module _ (a : Inside) (account : ℕ) (h : Holding) (kept : AreKept a) (there : 
   credits_same new money units = map-set_same (credit_line_in a.assets) a.accounts.items (account - 1) new h (rw (money, units) (ap (credit_line_in a.assets) read))
 
   -- the money of an account is changed, and the code computes z
-  money_moved : (x z : ℤ) → pos 0 ≤ℤ (money_with_credit (balances_in a) account +ℤ x) → (money_of (balances_in a) account +ℤ x) <ℤ pos (2 ^ 124) → (IsMoneyBalance h.money → IsMoneyBalance (h.money +ℤ x) → z ≡ h.money +ℤ x) → StandsFor (written a account (record h { money = z })) (move_money (balances_in a) account x)
+  money_moved : (x z : ℤ) → pos 0 ≤ℤ (money_with_credit (balances_in a) account +ℤ x) → (money_of (balances_in a) account +ℤ x) <ℤ pos (2 ^ 124) → (IsMoneyBalance h.money → IsMoneyBalance (h.money +ℤ x) → z ≡ h.money +ℤ x) → StandsFor (written a account (record h { money = z })) (move_balance (balances_in a) account None x)
   money_moved x z within fits computed =
       let after : IsMoneyBalance (h.money +ℤ x) = subst (λ (o : Account). IsMoneyBalance (o.money +ℤ x)) account_of-in (money_after (balances_in a) account x kept.lawful there within fits) in
       let is : z ≡ h.money +ℤ x = computed lawful_read.money after in
-      kept_written (record h { money = z }) (move_money (balances_in a) account x) spare_read spare_credit_read
+      kept_written (record h { money = z }) (move_balance (balances_in a) account None x) spare_read spare_credit_read
       (rw (credits_same (record h { money = z }) refl refl, map-set, account_of-in, is) refl)
       (lawful-move_money (balances_in a) account x kept.lawful there within fits)
 
@@ -74,14 +74,14 @@ module _ (a : Inside) (account : ℕ) (h : Holding) (kept : AreKept a) (there : 
 
   -- the units of an asset in an account are changed, and the code computes z
   units_moved : (asset : ℕ) (x z : ℤ) → IsAsset (balances_in a) asset → pos 0 ≤ℤ (units_with_credit (balances_in a) account asset +ℤ x) → (units_of (balances_in a) account asset +ℤ x) <ℤ pos (2 ^ 62)
-      → (IsUnitBalance (get_or h.units asset (pos 0)) → IsUnitBalance (get_or h.units asset (pos 0) +ℤ x) → z ≡ get_or h.units asset (pos 0) +ℤ x) → StandsFor (written a account (record h { units = set h.units asset z })) (move_units (balances_in a) account asset x)
+      → (IsUnitBalance (get_or h.units asset (pos 0)) → IsUnitBalance (get_or h.units asset (pos 0) +ℤ x) → z ≡ get_or h.units asset (pos 0) +ℤ x) → StandsFor (written a account (record h { units = set h.units asset z })) (move_balance (balances_in a) account (Some asset) x)
   units_moved asset x z is_asset within fits computed =
       let in_use : asset < a.assets = subst (λ n. asset < n) (asset_count-in a kept) is_asset in
       let before = unit_before asset is_asset in
       let shown : IsUnitBalance (get_or (take a.assets h.units) asset (pos 0) +ℤ x) = subst (λ (o : Account). IsUnitBalance (get_or o.units asset (pos 0) +ℤ x)) account_of-in (units_after (balances_in a) account asset x kept.lawful there is_asset within fits) in
       let after : IsUnitBalance (get_or h.units asset (pos 0) +ℤ x) = rw get_or-take at shown in
       let is : z ≡ get_or h.units asset (pos 0) +ℤ x = computed before after in
-      kept_written (record h { units = set h.units asset z }) (move_units (balances_in a) account asset x)
+      kept_written (record h { units = set h.units asset z }) (move_balance (balances_in a) account (Some asset) x)
       (record { places_made = length-set h.units asset z ∙ spare_read.places_made; zero_beyond = λ k beyond. let other : k ≢ asset = omega arith in rw get_or-set_other (spare_read.zero_beyond k beyond) }) spare_credit_read
       (rw (credits_same (record h { units = set h.units asset z }) refl refl, map-set, account_of-in, take-set-lt, get_or-take, is) refl)
       (lawful-move_units (balances_in a) account asset x kept.lawful there is_asset within fits)
@@ -90,18 +90,18 @@ module _ (a : Inside) (account : ℕ) (h : Holding) (kept : AreKept a) (there : 
   accounts_same new money units = map-set_same (account_in a.assets) a.accounts.items (account - 1) new h (rw (money, units) (ap (account_in a.assets) read))
 
   -- the credit of an account in money is set
-  money_credit_given : (ticks : ℕ) (reserved : ℤ) → pos 0 ≤ℤ reserved → AcceptsMoneyCredit (balances_in a) account ticks reserved → StandsFor (written a account (record h { money_credit = ticks })) (set_money_credit (balances_in a) account ticks)
+  money_credit_given : (ticks : ℕ) (reserved : ℤ) → pos 0 ≤ℤ reserved → AcceptsCredit (balances_in a) account None ticks reserved → StandsFor (written a account (record h { money_credit = ticks })) (set_credit (balances_in a) account None ticks)
   money_credit_given ticks reserved positive accepted =
-      kept_written (record h { money_credit = ticks }) (set_money_credit (balances_in a) account ticks) spare_read spare_credit_read
+      kept_written (record h { money_credit = ticks }) (set_credit (balances_in a) account None ticks) spare_read spare_credit_read
       (rw (accounts_same (record h { money_credit = ticks }) refl refl, map-set, credit_of-in) refl)
       (credits_keep_law.money (balances_in a) account ticks reserved positive kept.lawful accepted)
 
   -- the credit of an account in an asset is set
-  unit_credit_given : (asset units : ℕ) (reserved : ℤ) → pos 0 ≤ℤ reserved → AcceptsUnitCredit (balances_in a) account asset units reserved
-      → StandsFor (written a account (record h { unit_credits = set h.unit_credits asset units })) (set_unit_credit (balances_in a) account asset units)
+  unit_credit_given : (asset units : ℕ) (reserved : ℤ) → pos 0 ≤ℤ reserved → AcceptsCredit (balances_in a) account (Some asset) units reserved
+      → StandsFor (written a account (record h { unit_credits = set h.unit_credits asset units })) (set_credit (balances_in a) account (Some asset) units)
   unit_credit_given asset units reserved positive accepted =
-      let in_use : asset < a.assets = subst (λ n. asset < n) (asset_count-in a kept) accepted.asset_there in
-      kept_written (record h { unit_credits = set h.unit_credits asset units }) (set_unit_credit (balances_in a) account asset units) spare_read
+      let in_use : asset < a.assets = subst (λ n. asset < n) (asset_count-in a kept) accepted.kind_there in
+      kept_written (record h { unit_credits = set h.unit_credits asset units }) (set_credit (balances_in a) account (Some asset) units) spare_read
       (record { places_made = length-set h.unit_credits asset units ∙ spare_credit_read.places_made; zero_beyond = λ k beyond. let other : k ≢ asset = omega arith in rw get_or-set_other (spare_credit_read.zero_beyond k beyond) })
       (rw (accounts_same (record h { unit_credits = set h.unit_credits asset units }) refl refl, map-set, credit_of-in, take-set-lt) refl)
       (credits_keep_law.units (balances_in a) account asset units reserved positive kept.lawful accepted)
@@ -113,26 +113,26 @@ module _ (a : Inside) (b : Balances) (account : ℕ) (h : Holding) (kept : AreKe
   pub unit_read : (asset : ℕ) → IsAsset b asset → IsUnitBalance (get_or h.units asset (pos 0))
   unit_read asset is_asset = unit_before a account h kept (subst (λ (b : Balances). IsAccount b account) (sym view_is) there) read asset (subst (λ (b : Balances). IsAsset b asset) (sym view_is) is_asset)
 
-  pub moved_money : (x z : ℤ) → pos 0 ≤ℤ (money_with_credit b account +ℤ x) → (money_of b account +ℤ x) <ℤ pos (2 ^ 124) → (IsMoneyBalance h.money → IsMoneyBalance (h.money +ℤ x) → z ≡ h.money +ℤ x) → StandsFor (written a account (record h { money = z })) (move_money b account x)
+  pub moved_money : (x z : ℤ) → pos 0 ≤ℤ (money_with_credit b account +ℤ x) → (money_of b account +ℤ x) <ℤ pos (2 ^ 124) → (IsMoneyBalance h.money → IsMoneyBalance (h.money +ℤ x) → z ≡ h.money +ℤ x) → StandsFor (written a account (record h { money = z })) (move_balance b account None x)
   moved_money x z within fits computed =
-      let P : Balances → Type 0 = λ b. IsAccount b account → pos 0 ≤ℤ (money_with_credit b account +ℤ x) → (money_of b account +ℤ x) <ℤ pos (2 ^ 124) → StandsFor (written a account (record h { money = z })) (move_money b account x) in
+      let P : Balances → Type 0 = λ b. IsAccount b account → pos 0 ≤ℤ (money_with_credit b account +ℤ x) → (money_of b account +ℤ x) <ℤ pos (2 ^ 124) → StandsFor (written a account (record h { money = z })) (move_balance b account None x) in
       subst P view_is (λ there within fits. money_moved a account h kept there read x z within fits computed) there within fits
 
   pub moved_units : (asset : ℕ) (x z : ℤ) → IsAsset b asset → pos 0 ≤ℤ (units_with_credit b account asset +ℤ x) → (units_of b account asset +ℤ x) <ℤ pos (2 ^ 62)
-      → (IsUnitBalance (get_or h.units asset (pos 0)) → IsUnitBalance (get_or h.units asset (pos 0) +ℤ x) → z ≡ get_or h.units asset (pos 0) +ℤ x) → StandsFor (written a account (record h { units = set h.units asset z })) (move_units b account asset x)
+      → (IsUnitBalance (get_or h.units asset (pos 0)) → IsUnitBalance (get_or h.units asset (pos 0) +ℤ x) → z ≡ get_or h.units asset (pos 0) +ℤ x) → StandsFor (written a account (record h { units = set h.units asset z })) (move_balance b account (Some asset) x)
   moved_units asset x z is_asset within fits computed =
-      let P : Balances → Type 0 = λ b. IsAccount b account → IsAsset b asset → pos 0 ≤ℤ (units_with_credit b account asset +ℤ x) → (units_of b account asset +ℤ x) <ℤ pos (2 ^ 62) → StandsFor (written a account (record h { units = set h.units asset z })) (move_units b account asset x) in
+      let P : Balances → Type 0 = λ b. IsAccount b account → IsAsset b asset → pos 0 ≤ℤ (units_with_credit b account asset +ℤ x) → (units_of b account asset +ℤ x) <ℤ pos (2 ^ 62) → StandsFor (written a account (record h { units = set h.units asset z })) (move_balance b account (Some asset) x) in
       subst P view_is (λ there is_asset within fits. units_moved a account h kept there read asset x z is_asset within fits computed) there is_asset within fits
 
-  pub given_money_credit : (ticks : ℕ) (reserved : ℤ) → pos 0 ≤ℤ reserved → AcceptsMoneyCredit b account ticks reserved → StandsFor (written a account (record h { money_credit = ticks })) (set_money_credit b account ticks)
+  pub given_money_credit : (ticks : ℕ) (reserved : ℤ) → pos 0 ≤ℤ reserved → AcceptsCredit b account None ticks reserved → StandsFor (written a account (record h { money_credit = ticks })) (set_credit b account None ticks)
   given_money_credit ticks reserved positive accepted =
-      let P : Balances → Type 0 = λ b. IsAccount b account → AcceptsMoneyCredit b account ticks reserved → StandsFor (written a account (record h { money_credit = ticks })) (set_money_credit b account ticks) in
+      let P : Balances → Type 0 = λ b. IsAccount b account → AcceptsCredit b account None ticks reserved → StandsFor (written a account (record h { money_credit = ticks })) (set_credit b account None ticks) in
       subst P view_is (λ there accepted. money_credit_given a account h kept there read ticks reserved positive accepted) there accepted
 
-  pub given_unit_credit : (asset units : ℕ) (reserved : ℤ) → pos 0 ≤ℤ reserved → AcceptsUnitCredit b account asset units reserved
-      → StandsFor (written a account (record h { unit_credits = set h.unit_credits asset units })) (set_unit_credit b account asset units)
+  pub given_unit_credit : (asset units : ℕ) (reserved : ℤ) → pos 0 ≤ℤ reserved → AcceptsCredit b account (Some asset) units reserved
+      → StandsFor (written a account (record h { unit_credits = set h.unit_credits asset units })) (set_credit b account (Some asset) units)
   given_unit_credit asset units reserved positive accepted =
-      let P : Balances → Type 0 = λ b. IsAccount b account → AcceptsUnitCredit b account asset units reserved → StandsFor (written a account (record h { unit_credits = set h.unit_credits asset units })) (set_unit_credit b account asset units) in
+      let P : Balances → Type 0 = λ b. IsAccount b account → AcceptsCredit b account (Some asset) units reserved → StandsFor (written a account (record h { unit_credits = set h.unit_credits asset units })) (set_credit b account (Some asset) units) in
       subst P view_is (λ there accepted. unit_credit_given a account h kept there read asset units reserved positive accepted) there accepted
 
   -- the money of an account before and after a change that is allowed
@@ -161,7 +161,7 @@ module _ (a : Inside) (b : Balances) (account : ℕ) (h : Holding) (kept : AreKe
       subst P view_is
       (λ there is_asset.
       let in_use : asset < a.assets = subst (λ n. asset < n) (asset_count-in a kept) is_asset in
-      sym (ap (λ (c : Credit). credit_in c asset) (credit_of-in a account h kept there read) ∙ get_or-take a.assets h.unit_credits asset 0 in_use)) there is_asset
+      sym (ap (λ (c : Credit). credit_in c (Some asset)) (credit_of-in a account h kept there read) ∙ get_or-take a.assets h.unit_credits asset 0 in_use)) there is_asset
 
   pub money_credit_read : h.money_credit ≡ money_credit_of b account
   money_credit_read =

@@ -4,6 +4,7 @@ pub mod Bounds
 pub mod Credits
 pub mod Holdings
 pub mod Grown
+pub mod EachKind
 pub mod Moves
 pub mod Restoring
 pub mod Standing

@@ -1,5 +1,5 @@
 -- What each operation on balances changes.
-use Rattle.std.proofs.Common.{◌≡◌, ◌≢◌, ℕ, ◌+◌, ◌-◌, ◌<◌, ◌≤◌, ℤ, pos, ◌+ℤ◌, List, [], ◌∷◌, ◌++◌, replicate, length, get_or, set, refl, ap, sym, subst, ⊎_elim, ◌∙◌, arith}
+use Rattle.std.proofs.Common.{◌≡◌, ◌≢◌, ℕ, ◌+◌, ◌-◌, ◌<◌, ◌≤◌, ℤ, pos, ◌+ℤ◌, List, [], ◌∷◌, ◌++◌, replicate, length, get_or, set, refl, ap, sym, subst, ⊎_elim, ◌∙◌, arith, Some}
 use Rattle.std.proofs.lemmas.Bool.{cases_lt}
 use Rattle.std.proofs.lemmas.Int.{ints}
 use Rattle.std.proofs.lemmas.List.{get_or-set_same, get_or-set_other, get_or_push, get_or_past, get_or-replicate, length-replicate, length-set, length-map, length_push}
@@ -85,7 +85,7 @@ units_change b account asset amount lawful there is_asset =
       record {
         credits = refl;
         accounts = moves.accounts;
-        assets = length-set b.total_units asset after;
+        assets = length-set b.totals.units asset after;
         units = moves.units;
         others = moves.others;
         other_assets = moves.other_assets;
@@ -95,8 +95,8 @@ units_change b account asset amount lawful there is_asset =
         money_sum = moves.money_sum;
       },
       record {
-        total = get_or-set_same b.total_units asset after (pos 0) is_asset;
-        others = λ s differs. get_or-set_other b.total_units asset s after (pos 0) differs;
+        total = get_or-set_same b.totals.units asset after (pos 0) is_asset;
+        others = λ s differs. get_or-set_other b.totals.units asset s after (pos 0) differs;
         money = refl;
       },
     )
@@ -115,7 +115,7 @@ opened_kept b =
       money = λ account. get_or-push_same (λ (x : Account). x.money) b.accounts new (empty_account 0) (account - 1) refl;
       units = λ account asset. get_or-push_same (λ (x : Account). units_in x asset) b.accounts new (empty_account 0) (account - 1) (zero_at (asset_count b) asset);
       money_credits = λ account. get_or-push_same (λ (c : Credit). c.ticks) b.credits (no_credit (asset_count b)) (no_credit 0) (account - 1) refl;
-      unit_credits = λ account asset. get_or-push_same (λ (c : Credit). credit_in c asset) b.credits (no_credit (asset_count b)) (no_credit 0) (account - 1) (none_at (asset_count b) asset);
+      unit_credits = λ account asset. get_or-push_same (λ (c : Credit). credit_in c (Some asset)) b.credits (no_credit (asset_count b)) (no_credit 0) (account - 1) (none_at (asset_count b) asset);
       money_sum = omega (arith, ints, int_sum_by-push (λ (x : Account). x.money) b.accounts new);
       unit_sums = λ asset. omega (arith, ints, int_sum_by-push (λ (x : Account). units_in x asset) b.accounts new, zero_at (asset_count b) asset);
     }
@@ -134,7 +134,7 @@ accounts_open_empty b lawful =
       money = ap (λ (x : Account). x.money) last;
       units = λ asset. ap (λ (x : Account). units_in x asset) last ∙ zero_at (asset_count b) asset;
       money_credit = ap (λ (c : Credit). c.ticks) last_credit;
-      unit_credits = λ asset. ap (λ (c : Credit). credit_in c asset) last_credit ∙ none_at (asset_count b) asset;
+      unit_credits = λ asset. ap (λ (c : Credit). credit_in c (Some asset)) last_credit ∙ none_at (asset_count b) asset;
     }
 
 -- a zero that is pushed changes no credit
@@ -145,18 +145,18 @@ none_pushed xs k = get_or-push_same (λ (u : ℕ). u) xs 0 0 k refl
 pub asset_kept : (b : Balances) → KeepsBalances b (add_asset b)
 asset_kept b =
     let same : (s : ℕ) (a : Account) → units_in (with_asset a) s ≡ units_in a s = λ s a. zero_pushed a.units s in
-    let same_credit : (s : ℕ) (c : Credit) → credit_in (with_credit_place c) s ≡ credit_in c s = λ s c. none_pushed c.units s in
+    let same_credit : (s : ℕ) (c : Credit) → credit_in (with_credit_place c) (Some s) ≡ credit_in c (Some s) = λ s c. none_pushed c.units s in
     record {
       money = λ account. get_or-map_same (λ (x : Account). x.money) with_asset (λ a. refl) b.accounts (empty_account 0) (account - 1);
       units = λ account s. get_or-map_same (λ (x : Account). units_in x s) with_asset (same s) b.accounts (empty_account 0) (account - 1);
       money_credits = λ account. get_or-map_same (λ (c : Credit). c.ticks) with_credit_place (λ c. refl) b.credits (no_credit 0) (account - 1);
-      unit_credits = λ account s. get_or-map_same (λ (c : Credit). credit_in c s) with_credit_place (same_credit s) b.credits (no_credit 0) (account - 1);
+      unit_credits = λ account s. get_or-map_same (λ (c : Credit). credit_in c (Some s)) with_credit_place (same_credit s) b.credits (no_credit 0) (account - 1);
       money_sum = int_sum_by-map_same (λ (x : Account). x.money) with_asset (λ a. refl) b.accounts;
       unit_sums = λ s. int_sum_by-map_same (λ (x : Account). units_in x s) with_asset (same s) b.accounts;
     }
 
 -- a lawful credit line has no credit past its assets
-no_credit_past : (assets : ℕ) (c : Credit) → IsLawfulCredit assets c → credit_in c assets ≡ 0
+no_credit_past : (assets : ℕ) (c : Credit) → IsLawfulCredit assets c → credit_in c (Some assets) ≡ 0
 no_credit_past assets c lawful = let one_each = lawful.one_each in get_or_past c.units assets 0 (omega arith)
 
 -- a lawful account has no units past its assets
@@ -170,10 +170,10 @@ assets_start_at_zero b lawful =
     record {
       kept = kept;
       accounts = length-map b.accounts with_asset;
-      assets = length_push b.total_units (pos 0);
+      assets = length_push b.totals.units (pos 0);
       units = λ account there. kept.units account (asset_count b) ∙ none_past (asset_count b) (account_of b account) (lawful_account b account lawful there);
       unit_credits = λ account there. kept.unit_credits account (asset_count b) ∙ no_credit_past (asset_count b) (credit_of b account) (lawful_credit b account lawful there);
       unit_sum = kept.unit_sums (asset_count b) ∙ int_sum_by-zeros (λ (x : Account). units_in x (asset_count b)) b.accounts none;
-      total = get_or_push b.total_units (pos 0) (pos 0) (asset_count b) refl;
-      totals = zero_pushed b.total_units;
+      total = get_or_push b.totals.units (pos 0) (pos 0) (asset_count b) refl;
+      totals = zero_pushed b.totals.units;
     }

@@ -44,10 +44,10 @@ module _ (b : Balances) (lawful : AreLawful b) where
       }
 
   -- all accounts and the totals are read
-  pub all_restored : (a : Inside) → a.assets ≡ asset_count b → a.total_money ≡ b.total_money → ArePlacesOf (asset_count b) b.total_units a.total_units → AreHoldingsOf b (account_count b) a.accounts.items → StandsFor a b
+  pub all_restored : (a : Inside) → a.assets ≡ asset_count b → a.total_money ≡ b.totals.money → ArePlacesOf (asset_count b) b.totals.units a.total_units → AreHoldingsOf b (account_count b) a.accounts.items → StandsFor a b
   all_restored a assets money totals holdings =
       let shown : balances_in a ≡ b =
-      rw (assets, money, holdings.accounts, holdings.credits, totals.first, take_all (account_count b) b.accounts (omega arith), take_all (account_count b) b.credits (omega (arith, lawful.one_credit_each)), take_all (asset_count b) b.total_units (omega arith)) refl in
+      rw (assets, money, holdings.accounts, holdings.credits, totals.first, take_all (account_count b) b.accounts (omega arith), take_all (account_count b) b.credits (omega (arith, lawful.one_credit_each)), take_all (asset_count b) b.totals.units (omega arith)) refl in
       record {
         kept = record {
           lawful = subst AreLawful (sym shown) lawful;

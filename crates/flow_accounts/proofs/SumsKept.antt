@@ -1,8 +1,8 @@
 -- The totals stay the sums over all accounts.
-use Rattle.std.proofs.Common.{◌≡◌, refl, sym, subst, ◌∙◌, ⊎_elim, arith}
+use Rattle.std.proofs.Common.{◌≡◌, refl, sym, subst, ◌∙◌, ⊎_elim, arith, Some}
 use Rattle.std.proofs.lemmas.Bool.{cases_eq}
 use Rattle.std.proofs.lemmas.Int.{ints}
-use Rattle.flow_accounts.specs.Balances.{total_units_of, change_units}
+use Rattle.flow_accounts.specs.Balances.{total_units_of, change_balance}
 use Rattle.flow_accounts.specs.Laws.{TotalsStaySums}
 use Rattle.flow_accounts.specs.Sums.{units_of_all}
 use Rattle.flow_accounts.proofs.Moves.{opened_kept, asset_kept, money_changes, units_change}
@@ -16,7 +16,7 @@ totals_stay_sums = record {
       record { money = sums.money ∙ sym kept.money_sum; units = λ asset. sums.units asset ∙ sym (kept.unit_sums asset) };
   asset = λ b sums.
       let kept = asset_kept b in
-      record { money = sums.money ∙ sym kept.money_sum; units = λ asset. zero_pushed b.total_units asset ∙ sums.units asset ∙ sym (kept.unit_sums asset) };
+      record { money = sums.money ∙ sym kept.money_sum; units = λ asset. zero_pushed b.totals.units asset ∙ sums.units asset ∙ sym (kept.unit_sums asset) };
   money = λ b account amount there sums.
       let changes = money_changes b account amount there in
       record { money = omega (arith, ints, sums.money, changes.money_sum); units = λ asset. sums.units asset ∙ sym (changes.unit_sums asset) };
@@ -26,7 +26,7 @@ totals_stay_sums = record {
       record {
         money = sums.money ∙ sym changes.money_sum;
         units = λ s. ⊎_elim
-            (λ same. subst (λ s. total_units_of (change_units b account asset amount) s ≡ units_of_all (change_units b account asset amount) s) (sym same) (omega (arith, ints, sums.units asset, totals.total, changes.unit_sum)))
+            (λ same. subst (λ s. total_units_of (change_balance b account (Some asset) amount) s ≡ units_of_all (change_balance b account (Some asset) amount) s) (sym same) (omega (arith, ints, sums.units asset, totals.total, changes.unit_sum)))
             (λ differs. totals.others s differs ∙ sums.units s ∙ sym (changes.other_sums s differs))
             (cases_eq s asset);
       };

@@ -10,7 +10,7 @@ use Rattle.flow_accounts.specs.Places.{balances_in, AreKept}
 use Rattle.flow_accounts.proofs.Standing.{StandsFor, asset_count-in}
 
 -- lawful balances with the total of an asset replaced
-lawful-total : (b : Balances) (asset : ℕ) (z : ℤ) → AreLawful b → IsUnitTotal z → AreLawful (record b { total_units = set b.total_units asset z })
+lawful-total : (b : Balances) (asset : ℕ) (z : ℤ) → AreLawful b → IsUnitTotal z → AreLawful (record b { totals = record (b.totals) { units = set b.totals.units asset z } })
 lawful-total b asset z lawful total = record {
   few_accounts = lawful.few_accounts;
   few_assets = rw length-set lawful.few_assets;
@@ -19,13 +19,13 @@ lawful-total b asset z lawful total = record {
   credits = rw length-set lawful.credits;
   within_credit = record { money = lawful.within_credit.money; units = λ k s there is_asset. lawful.within_credit.units k s there (rw length-set at is_asset) };
   total_money = lawful.total_money;
-  total_units = All-set IsUnitTotal b.total_units asset z total lawful.total_units;
+  total_units = All-set IsUnitTotal b.totals.units asset z total lawful.total_units;
 }
 
-total_shown : (a : Inside) (asset : ℕ) (z : ℤ) → AreKept a → IsAsset (balances_in a) asset → IsUnitTotal z → StandsFor (record a { total_units = set a.total_units asset z }) (record (balances_in a) { total_units = set (balances_in a).total_units asset z })
+total_shown : (a : Inside) (asset : ℕ) (z : ℤ) → AreKept a → IsAsset (balances_in a) asset → IsUnitTotal z → StandsFor (record a { total_units = set a.total_units asset z }) (record (balances_in a) { totals = record ((balances_in a).totals) { units = set (balances_in a).totals.units asset z } })
 total_shown a asset z kept is_asset total =
     let in_use : asset < a.assets = subst (λ n. asset < n) (asset_count-in a kept) is_asset in
-    let shown : balances_in (record a { total_units = set a.total_units asset z }) ≡ record (balances_in a) { total_units = set (balances_in a).total_units asset z } = rw take-set-lt refl in
+    let shown : balances_in (record a { total_units = set a.total_units asset z }) ≡ record (balances_in a) { totals = record ((balances_in a).totals) { units = set (balances_in a).totals.units asset z } } = rw take-set-lt refl in
     record {
       kept = record {
         lawful = subst AreLawful (sym shown) (lawful-total (balances_in a) asset z kept.lawful total);
@@ -41,7 +41,7 @@ total_shown a asset z kept is_asset total =
     }
 
 -- the total of an asset is written, and the code computes z
-pub total_written : (a : Inside) (b : Balances) (asset : ℕ) (total z : ℤ) → AreKept a → balances_in a ≡ b → IsAsset b asset → IsUnitTotal total → z ≡ total → StandsFor (record a { total_units = set a.total_units asset z }) (record b { total_units = set b.total_units asset total })
+pub total_written : (a : Inside) (b : Balances) (asset : ℕ) (total z : ℤ) → AreKept a → balances_in a ≡ b → IsAsset b asset → IsUnitTotal total → z ≡ total → StandsFor (record a { total_units = set a.total_units asset z }) (record b { totals = record (b.totals) { units = set b.totals.units asset total } })
 total_written a b asset total z kept view_is is_asset fits is =
-    let P : Balances → ℤ → Type 0 = λ b z. IsAsset b asset → StandsFor (record a { total_units = set a.total_units asset z }) (record b { total_units = set b.total_units asset total }) in
+    let P : Balances → ℤ → Type 0 = λ b z. IsAsset b asset → StandsFor (record a { total_units = set a.total_units asset z }) (record b { totals = record (b.totals) { units = set b.totals.units asset total } }) in
     subst (λ z. P b z) (sym is) (subst (λ b. P b total) view_is (λ is_asset. total_shown a asset total kept is_asset fits)) is_asset

@@ -44,7 +44,7 @@ pub record ChangesUnitsOf (account asset : ℕ) (amount : ℤ) (old new : Balanc
 pub record ChangesTotalOf (asset : ℕ) (amount : ℤ) (old new : Balances) : Type 0 where
   pub total : total_units_of new asset ≡ total_units_of old asset +ℤ amount
   pub others : (s : ℕ) → s ≢ asset → total_units_of new s ≡ total_units_of old s
-  pub money : new.total_money ≡ old.total_money
+  pub money : new.totals.money ≡ old.totals.money
 
 -- there is one more account, which holds nothing and has no credit
 pub record OpensAccount (old new : Balances) : Type 0 where
@@ -70,8 +70,8 @@ pub record AddsAsset (old new : Balances) : Type 0 where
 -- one account's credit in money is set, in ticks, and nothing else changes
 pub record SetsMoneyCreditOf (account ticks : ℕ) (old new : Balances) : Type 0 where
   pub accounts : new.accounts ≡ old.accounts
-  pub total_money : new.total_money ≡ old.total_money
-  pub total_units : new.total_units ≡ old.total_units
+  pub total_money : new.totals.money ≡ old.totals.money
+  pub total_units : new.totals.units ≡ old.totals.units
   pub credit : money_credit_of new account ≡ ticks
   pub others : (other : ℕ) → IsAccount old other → other ≢ account → money_credit_of new other ≡ money_credit_of old other
   pub unit_credits : (any asset : ℕ) → unit_credit_of new any asset ≡ unit_credit_of old any asset
@@ -79,8 +79,8 @@ pub record SetsMoneyCreditOf (account ticks : ℕ) (old new : Balances) : Type 0
 -- one account's credit in one asset is set, in units, and nothing else changes
 pub record SetsUnitCreditOf (account asset units : ℕ) (old new : Balances) : Type 0 where
   pub accounts : new.accounts ≡ old.accounts
-  pub total_money : new.total_money ≡ old.total_money
-  pub total_units : new.total_units ≡ old.total_units
+  pub total_money : new.totals.money ≡ old.totals.money
+  pub total_units : new.totals.units ≡ old.totals.units
   pub credit : unit_credit_of new account asset ≡ units
   pub other_assets : (s : ℕ) → s ≢ asset → unit_credit_of new account s ≡ unit_credit_of old account s
   pub others : (other s : ℕ) → IsAccount old other → other ≢ account → unit_credit_of new other s ≡ unit_credit_of old other s

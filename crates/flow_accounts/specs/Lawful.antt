@@ -1,5 +1,5 @@
 -- The invariant of all balances.
-use Rattle.std.specs.Prelude.{◌≡◌, ℕ, ◌^◌, ◌≤◌, ℤ, pos, neg_ℤ, ◌≤ℤ◌, ◌<ℤ◌, length}
+use Rattle.std.specs.Prelude.{Option, Some, None, ◌≡◌, ℕ, ◌^◌, ◌≤◌, ℤ, pos, neg_ℤ, ◌≤ℤ◌, ◌<ℤ◌, length}
 use Rattle.std.specs.List.{All}
 use Rattle.flow_accounts.specs.Balances.{Account, Credit, Balances, IsAccount, IsAsset, account_count, asset_count, grains, money_with_credit, units_with_credit}
 
@@ -11,13 +11,10 @@ most_accounts = 65536
 abbrev pub most_assets : ℕ
 most_assets = 64
 
--- the limit of the total of money, in grains, which no deposit passes
-abbrev pub money_limit : ℤ
-money_limit = pos (2 ^ 100)
-
--- the limit of the total of an asset, in units, which no deposit passes
-abbrev pub unit_limit : ℤ
-unit_limit = pos (2 ^ 60)
+-- the limit of the total of a kind, which no deposit passes: 2^100 grains of money, 2^60 units of an asset
+abbrev pub total_limit : Option ℕ → ℤ
+total_limit None = pos (2 ^ 100)
+total_limit (Some asset) = pos (2 ^ 60)
 
 -- the greatest credit, in ticks or in units
 abbrev pub most_credit : ℕ
@@ -33,11 +30,11 @@ IsUnitBalance units = (neg_ℤ (pos most_credit) ≤ℤ units) × (units <ℤ po
 
 -- a total of money is at most its limit, and above -2^124 grains
 abbrev pub IsMoneyTotal : ℤ → Type 0
-IsMoneyTotal money = (neg_ℤ (pos (2 ^ 124)) <ℤ money) × (money ≤ℤ money_limit)
+IsMoneyTotal money = (neg_ℤ (pos (2 ^ 124)) <ℤ money) × (money ≤ℤ total_limit None)
 
--- a total of units is at most its limit, and above -2^62 units
+-- a total of units is at most its limit, which is the same for each asset, and above -2^62 units
 abbrev pub IsUnitTotal : ℤ → Type 0
-IsUnitTotal units = (neg_ℤ (pos (2 ^ 62)) <ℤ units) × (units ≤ℤ unit_limit)
+IsUnitTotal units = (neg_ℤ (pos (2 ^ 62)) <ℤ units) × (units ≤ℤ total_limit (Some 0))
 
 -- an account is lawful: its balances are within their limits, and it has one for each asset
 pub record IsLawfulAccount (assets : ℕ) (a : Account) : Type 0 where
@@ -64,5 +61,5 @@ pub record AreLawful (b : Balances) : Type 0 where
   pub one_credit_each : length b.credits ≡ account_count b
   pub credits : All (IsLawfulCredit (asset_count b)) b.credits
   pub within_credit : AreWithinCredit b
-  pub total_money : IsMoneyTotal b.total_money
-  pub total_units : All IsUnitTotal b.total_units
+  pub total_money : IsMoneyTotal b.totals.money
+  pub total_units : All IsUnitTotal b.totals.units

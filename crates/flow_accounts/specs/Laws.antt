@@ -1,8 +1,8 @@
 -- Laws of the operations on balances. The module `laws` has a function for each of these.
-use Rattle.std.specs.Prelude.{◌≡◌, ℕ, ◌^◌, ℤ, pos, neg_ℤ, ◌+ℤ◌, ◌≤ℤ◌}
-use Rattle.flow_accounts.specs.Balances.{Balances, IsAccount, IsAsset, grains, money_of, units_of, money_credit_of, unit_credit_of, no_balances, open_account, add_asset, move_money, move_units, change_money, change_units, set_money_credit, set_unit_credit}
+use Rattle.std.specs.Prelude.{◌≡◌, ℕ, ◌^◌, ℤ, pos, neg_ℤ, ◌+ℤ◌, ◌≤ℤ◌, Some, None}
+use Rattle.flow_accounts.specs.Balances.{Balances, IsAccount, IsAsset, grains, money_of, units_of, money_credit_of, unit_credit_of, no_balances, open_account, add_asset, move_balance, change_balance, set_credit}
 use Rattle.flow_accounts.specs.Changes.{OpensAccount, AddsAsset, ChangesMoneyOf, ChangesUnitsOf, ChangesTotalOf, SetsMoneyCreditOf, SetsUnitCreditOf}
-use Rattle.flow_accounts.specs.Answers.{AcceptsMoneyCredit, AcceptsUnitCredit}
+use Rattle.flow_accounts.specs.Answers.{AcceptsCredit}
 use Rattle.flow_accounts.specs.Fits.{AcceptedChangesFit, SumsAreNearTotals}
 use Rattle.flow_accounts.specs.Lawful.{AreLawful}
 use Rattle.flow_accounts.specs.Sums.{TotalsAreSums, money_of_all, units_of_all}
@@ -18,25 +18,25 @@ AssetsStartAtZero = (b : Balances) → AreLawful b → AddsAsset b (add_asset b)
 -- moving money changes one balance by the amount, and so the sum over all accounts
 abbrev pub MoneyMoves : Type 0
 MoneyMoves = (b : Balances) (account : ℕ) (amount : ℤ) → IsAccount b account →
-    ChangesMoneyOf account amount b (move_money b account amount)
+    ChangesMoneyOf account amount b (move_balance b account None amount)
 
 -- moving units changes one balance by the amount, and so the sum of their asset
 abbrev pub UnitsMove : Type 0
 UnitsMove = (b : Balances) (account asset : ℕ) (amount : ℤ) →
     AreLawful b → IsAccount b account → IsAsset b asset →
-    ChangesUnitsOf account asset amount b (move_units b account asset amount)
+    ChangesUnitsOf account asset amount b (move_balance b account (Some asset) amount)
 
 -- a deposit or withdrawal of money changes one balance by the amount, and so the sum over all accounts
 abbrev pub MoneyChanges : Type 0
 MoneyChanges = (b : Balances) (account : ℕ) (amount : ℤ) → IsAccount b account →
-    ChangesMoneyOf account amount b (change_money b account amount)
+    ChangesMoneyOf account amount b (change_balance b account None amount)
 
 -- a deposit or withdrawal of units changes one balance and one total by the amount, and so the sum of the asset
 abbrev pub UnitsChange : Type 0
 UnitsChange = (b : Balances) (account asset : ℕ) (amount : ℤ) →
     AreLawful b → IsAccount b account → IsAsset b asset →
-    ChangesUnitsOf account asset amount b (change_units b account asset amount) ×
-    ChangesTotalOf asset amount b (change_units b account asset amount)
+    ChangesUnitsOf account asset amount b (change_balance b account (Some asset) amount) ×
+    ChangesTotalOf asset amount b (change_balance b account (Some asset) amount)
 
 -- totals that are the sums over all accounts stay so through openings, new assets, deposits and withdrawals
 pub record TotalsStaySums : Type 0 where
@@ -44,27 +44,27 @@ pub record TotalsStaySums : Type 0 where
   pub opened : (b : Balances) → TotalsAreSums b → TotalsAreSums (open_account b)
   pub asset : (b : Balances) → TotalsAreSums b → TotalsAreSums (add_asset b)
   pub money : (b : Balances) (account : ℕ) (amount : ℤ) → IsAccount b account →
-      TotalsAreSums b → TotalsAreSums (change_money b account amount)
+      TotalsAreSums b → TotalsAreSums (change_balance b account None amount)
   pub units : (b : Balances) (account asset : ℕ) (amount : ℤ) →
       AreLawful b → IsAccount b account → IsAsset b asset →
-      TotalsAreSums b → TotalsAreSums (change_units b account asset amount)
+      TotalsAreSums b → TotalsAreSums (change_balance b account (Some asset) amount)
 
 -- setting a credit in money changes nothing else
 abbrev pub MoneyCreditIsSet : Type 0
 MoneyCreditIsSet = (b : Balances) (account ticks : ℕ) → AreLawful b → IsAccount b account →
-    SetsMoneyCreditOf account ticks b (set_money_credit b account ticks)
+    SetsMoneyCreditOf account ticks b (set_credit b account None ticks)
 
 -- setting a credit in an asset changes nothing else
 abbrev pub UnitCreditIsSet : Type 0
 UnitCreditIsSet = (b : Balances) (account asset units : ℕ) → AreLawful b → IsAccount b account → IsAsset b asset →
-    SetsUnitCreditOf account asset units b (set_unit_credit b account asset units)
+    SetsUnitCreditOf account asset units b (set_credit b account (Some asset) units)
 
 -- balances stay lawful when an accepted credit is set
 pub record CreditsKeepLaw : Type 0 where
   pub money : (b : Balances) (account ticks : ℕ) (reserved : ℤ) → pos 0 ≤ℤ reserved →
-      AreLawful b → AcceptsMoneyCredit b account ticks reserved → AreLawful (set_money_credit b account ticks)
+      AreLawful b → AcceptsCredit b account None ticks reserved → AreLawful (set_credit b account None ticks)
   pub units : (b : Balances) (account asset units : ℕ) (reserved : ℤ) → pos 0 ≤ℤ reserved →
-      AreLawful b → AcceptsUnitCredit b account asset units reserved → AreLawful (set_unit_credit b account asset units)
+      AreLawful b → AcceptsCredit b account (Some asset) units reserved → AreLawful (set_credit b account (Some asset) units)
 
 -- no balance is below minus its account's credit; without credit none is negative
 pub record NoBalanceIsBelowItsCredit : Type 0 where

@@ -20,8 +20,7 @@ abbrev pub balances_in : Inside → Balances
 balances_in a = record {
   accounts = map (account_in a.assets) a.accounts.items;
   credits = map (credit_line_in a.assets) a.accounts.items;
-  total_money = a.total_money;
-  total_units = take a.assets a.total_units;
+  totals = record { money = a.total_money; units = take a.assets a.total_units };
 }
 
 -- there is a place for the units of each asset that there may be, and the places that aren't in use are 0

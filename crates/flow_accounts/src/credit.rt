@@ -1,12 +1,12 @@
-ghost use Rattle.std.specs.Prelude.{◌≡◌, ◌≤◌, ◌↔◌, IsOk, OnOk, OnErr, IfErr, SomeIff, pos, ◌≤ℤ◌, ◌+ℤ◌};
+ghost use Rattle.std.specs.Prelude.{◌≡◌, ◌≤◌, ◌↔◌, IsOk, OnOk, OnErr, IfErr, SomeIff, pos, ◌≤ℤ◌, ◌+ℤ◌, Some, None};
 
 use crate::places::grains_of;
 use crate::{AccountFault, Accounts, MOST_CREDIT};
 
 impl Accounts {
-    ghost use Rattle.flow_accounts.specs.Balances.{IsAccount, IsAsset, money_credit_of, unit_credit_of, money_with_credit, units_with_credit, set_money_credit, set_unit_credit};
+    ghost use Rattle.flow_accounts.specs.Balances.{IsAccount, IsAsset, money_credit_of, unit_credit_of, money_with_credit, units_with_credit, set_credit};
     ghost use Rattle.flow_accounts.specs.Lawful.{AreLawful, most_credit};
-    ghost use Rattle.flow_accounts.specs.Answers.{AcceptsMoneyCredit, RefusesMoneyCredit, AcceptsUnitCredit, RefusesUnitCredit};
+    ghost use Rattle.flow_accounts.specs.Answers.{AcceptsCredit, RefusesCredit};
 
     /// Returns an account's credit in money, in ticks, or `None` exactly if the account isn't there.
     pub fn money_credit(&self, account: u32) -> Option<u64>
@@ -60,9 +60,9 @@ impl Accounts {
     ) -> Result<(), AccountFault>
         requires not_negative { pos 0 ≤ℤ reserved }
         requires covered { IsAccount self.old account → reserved ≤ℤ money_with_credit self.old account }
-        ensures accepted { IsOk result ↔ AcceptsMoneyCredit self.old account ticks reserved }
-        ensures refused { IfErr result (RefusesMoneyCredit self.old account ticks reserved) }
-        ensures ok { OnOk result (self.new ≡ set_money_credit self.old account ticks) }
+        ensures accepted { IsOk result ↔ AcceptsCredit self.old account None ticks reserved }
+        ensures refused { IfErr result (RefusesCredit self.old account None ticks reserved) }
+        ensures ok { OnOk result (self.new ≡ set_credit self.old account None ticks) }
         ensures err { OnErr result (self.new ≡ self.old) }
         ensures lawful { AreLawful self.new }
     {
@@ -87,9 +87,9 @@ impl Accounts {
         requires not_negative { pos 0 ≤ℤ reserved }
         requires covered { IsAccount self.old account → IsAsset self.old asset →
             reserved ≤ℤ units_with_credit self.old account asset }
-        ensures accepted { IsOk result ↔ AcceptsUnitCredit self.old account asset units reserved }
-        ensures refused { IfErr result (RefusesUnitCredit self.old account asset units reserved) }
-        ensures ok { OnOk result (self.new ≡ set_unit_credit self.old account asset units) }
+        ensures accepted { IsOk result ↔ AcceptsCredit self.old account (Some asset) units reserved }
+        ensures refused { IfErr result (RefusesCredit self.old account (Some asset) units reserved) }
+        ensures ok { OnOk result (self.new ≡ set_credit self.old account (Some asset) units) }
         ensures err { OnErr result (self.new ≡ self.old) }
         ensures lawful { AreLawful self.new }
     {
@@ -107,8 +107,8 @@ impl Accounts {
     ) -> Result<(), AccountFault>
         requires not_negative { pos 0 ≤ℤ reserved }
         requires covered { IsAccount self.now account → reserved ≤ℤ money_with_credit self.now account }
-        ensures accepted { IsOk result ↔ AcceptsMoneyCredit self.now account ticks reserved }
-        ensures refused { IfErr result (RefusesMoneyCredit self.now account ticks reserved) }
+        ensures accepted { IsOk result ↔ AcceptsCredit self.now account None ticks reserved }
+        ensures refused { IfErr result (RefusesCredit self.now account None ticks reserved) }
         ensures lawful { AreLawful self.now }
     {
         if !self.has_account(account) {
@@ -135,8 +135,8 @@ impl Accounts {
         requires not_negative { pos 0 ≤ℤ reserved }
         requires covered { IsAccount self.now account → IsAsset self.now asset →
             reserved ≤ℤ units_with_credit self.now account asset }
-        ensures accepted { IsOk result ↔ AcceptsUnitCredit self.now account asset units reserved }
-        ensures refused { IfErr result (RefusesUnitCredit self.now account asset units reserved) }
+        ensures accepted { IsOk result ↔ AcceptsCredit self.now account (Some asset) units reserved }
+        ensures refused { IfErr result (RefusesCredit self.now account (Some asset) units reserved) }
         ensures lawful { AreLawful self.now }
     {
         if !self.has_account(account) {
@@ -157,8 +157,8 @@ impl Accounts {
 
     fn write_money_credit(&mut self, account: u32, ticks: u64, reserved: i128)
         requires not_negative { pos 0 ≤ℤ reserved }
-        requires accepted { AcceptsMoneyCredit self.old account ticks reserved }
-        ensures given { self.new ≡ set_money_credit self.old account ticks }
+        requires accepted { AcceptsCredit self.old account None ticks reserved }
+        ensures given { self.new ≡ set_credit self.old account None ticks }
         ensures lawful { AreLawful self.new }
     {
         // Taken for its contract: the balance and the new credit cover what is reserved.
@@ -169,8 +169,8 @@ impl Accounts {
 
     fn write_unit_credit(&mut self, account: u32, asset: u16, units: u64, reserved: i128)
         requires not_negative { pos 0 ≤ℤ reserved }
-        requires accepted { AcceptsUnitCredit self.old account asset units reserved }
-        ensures given { self.new ≡ set_unit_credit self.old account asset units }
+        requires accepted { AcceptsCredit self.old account (Some asset) units reserved }
+        ensures given { self.new ≡ set_credit self.old account (Some asset) units }
         ensures lawful { AreLawful self.new }
     {
         // Taken for its contract: the balance and the new credit cover what is reserved.

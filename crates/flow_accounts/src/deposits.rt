@@ -1,12 +1,12 @@
-ghost use Rattle.std.specs.Prelude.{◌≡◌, ◌↔◌, IsOk, IfOk, OnOk, OnErr, IfErr, pos};
+ghost use Rattle.std.specs.Prelude.{◌≡◌, ◌↔◌, IsOk, IfOk, OnOk, OnErr, IfErr, pos, Some, None};
 
 use crate::places::grains_of;
 use crate::{AccountFault, Accounts, MONEY_LIMIT, UNIT_LIMIT};
 
 impl Accounts {
-    ghost use Rattle.flow_accounts.specs.Balances.{grains, change_money, change_units};
+    ghost use Rattle.flow_accounts.specs.Balances.{grains, change_balance};
     ghost use Rattle.flow_accounts.specs.Lawful.{AreLawful};
-    ghost use Rattle.flow_accounts.specs.Answers.{AcceptsMoneyDeposit, RefusesMoneyDeposit, AcceptsUnitDeposit, RefusesUnitDeposit};
+    ghost use Rattle.flow_accounts.specs.Answers.{AcceptsDeposit, RefusesDeposit};
     ghost use Rattle.flow_accounts.specs.Fits.{MoneyFits, UnitsFit};
 
     /// Deposits ticks: the account's money and the total of money rise by them.
@@ -17,11 +17,11 @@ impl Accounts {
     /// 2^124 grains. If the total is the sum of all balances, it does:
     /// [`laws::changes_fit_at_sums`](crate::laws::changes_fit_at_sums).
     pub fn deposit_money(&mut self, account: u32, ticks: u64) -> Result<(), AccountFault>
-        requires fits { AcceptsMoneyDeposit self.old account ticks →
+        requires fits { AcceptsDeposit self.old account None ticks →
             MoneyFits self.old account (grains ticks) }
-        ensures accepted { IsOk result ↔ AcceptsMoneyDeposit self.old account ticks }
-        ensures refused { IfErr result (RefusesMoneyDeposit self.old account ticks) }
-        ensures ok { OnOk result (self.new ≡ change_money self.old account (grains ticks)) }
+        ensures accepted { IsOk result ↔ AcceptsDeposit self.old account None ticks }
+        ensures refused { IfErr result (RefusesDeposit self.old account None ticks) }
+        ensures ok { OnOk result (self.new ≡ change_balance self.old account None (grains ticks)) }
         ensures err { OnErr result (self.new ≡ self.old) }
         ensures lawful { AreLawful self.new }
     {
@@ -42,11 +42,11 @@ impl Accounts {
         asset: u16,
         units: u64,
     ) -> Result<(), AccountFault>
-        requires fits { AcceptsUnitDeposit self.old account asset units →
+        requires fits { AcceptsDeposit self.old account (Some asset) units →
             UnitsFit self.old account asset (pos units) }
-        ensures accepted { IsOk result ↔ AcceptsUnitDeposit self.old account asset units }
-        ensures refused { IfErr result (RefusesUnitDeposit self.old account asset units) }
-        ensures ok { OnOk result (self.new ≡ change_units self.old account asset (pos units)) }
+        ensures accepted { IsOk result ↔ AcceptsDeposit self.old account (Some asset) units }
+        ensures refused { IfErr result (RefusesDeposit self.old account (Some asset) units) }
+        ensures ok { OnOk result (self.new ≡ change_balance self.old account (Some asset) (pos units)) }
         ensures err { OnErr result (self.new ≡ self.old) }
         ensures lawful { AreLawful self.new }
     {
@@ -57,8 +57,8 @@ impl Accounts {
 
     /// Returns the grains that [`Accounts::deposit_money`] would add, or the fault that it would return. Nothing changes.
     pub fn money_deposit(&self, account: u32, ticks: u64) -> Result<i128, AccountFault>
-        ensures accepted { IsOk result ↔ AcceptsMoneyDeposit self.now account ticks }
-        ensures refused { IfErr result (RefusesMoneyDeposit self.now account ticks) }
+        ensures accepted { IsOk result ↔ AcceptsDeposit self.now account None ticks }
+        ensures refused { IfErr result (RefusesDeposit self.now account None ticks) }
         ensures amount { IfOk result (λ amount. amount ≡ grains ticks) }
         ensures lawful { AreLawful self.now }
     {
@@ -77,8 +77,8 @@ impl Accounts {
 
     /// Returns the units that [`Accounts::deposit_units`] would add, or the fault that it would return. Nothing changes.
     pub fn unit_deposit(&self, account: u32, asset: u16, units: u64) -> Result<i64, AccountFault>
-        ensures accepted { IsOk result ↔ AcceptsUnitDeposit self.now account asset units }
-        ensures refused { IfErr result (RefusesUnitDeposit self.now account asset units) }
+        ensures accepted { IsOk result ↔ AcceptsDeposit self.now account (Some asset) units }
+        ensures refused { IfErr result (RefusesDeposit self.now account (Some asset) units) }
         ensures amount { IfOk result (λ amount. amount ≡ pos units) }
         ensures lawful { AreLawful self.now }
     {

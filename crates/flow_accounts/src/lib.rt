@@ -165,7 +165,7 @@ impl Accounts {
     /// Returns all deposits of money less all withdrawals, in grains. It is at most 2^100, above -2^124,
     /// and may be negative.
     pub fn total_money(&self) -> i128
-        ensures total { result ≡ self.now.total_money }
+        ensures total { result ≡ self.now.totals.money }
         ensures within { IsMoneyTotal result }
     {
         self.total_money

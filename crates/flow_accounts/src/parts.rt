@@ -44,7 +44,7 @@ pub trait AccountParts {
 
     /// Returns all deposits of money less all withdrawals, in grains.
     fn total_money(&self) -> i128
-        ensures { result ≡ (balances self.now).total_money };
+        ensures { result ≡ (balances self.now).totals.money };
 
     /// Returns all deposits of an asset less all withdrawals, in units.
     fn total_units(&self, asset: u16) -> Option<i64>

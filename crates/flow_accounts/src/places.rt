@@ -1,5 +1,5 @@
-ghost use Rattle.std.specs.Prelude.{◌≡◌, ◌↔◌, ◌^◌, IsTrue, slice_set, pos, ◌+ℤ◌, ◌-ℤ◌, ◌≤ℤ◌, ◌<ℤ◌};
-ghost use Rattle.flow_accounts.specs.Balances.{grains};
+ghost use Rattle.std.specs.Prelude.{◌≡◌, ◌↔◌, ◌^◌, IsTrue, slice_set, pos, ◌+ℤ◌, ◌-ℤ◌, ◌≤ℤ◌, ◌<ℤ◌, Some, None};
+ghost use Rattle.flow_accounts.specs.Balances.{grains, change_balance};
 ghost use Rattle.flow_accounts.specs.Places.{HasSpare, HasSpareCredit};
 
 use crate::{Accounts, PLACES};
@@ -29,8 +29,8 @@ pub(crate) fn no_credits() -> [u64; PLACES]
 }
 
 impl Accounts {
-    ghost use Rattle.flow_accounts.specs.Balances.{IsAccount, IsAsset, money_of, units_of, money_with_credit, units_with_credit, total_units_of, change_money, change_units};
-    ghost use Rattle.flow_accounts.specs.Lawful.{AreLawful, IsMoneyBalance, IsUnitBalance, IsMoneyTotal, IsUnitTotal, money_limit, unit_limit};
+    ghost use Rattle.flow_accounts.specs.Balances.{IsAccount, IsAsset, money_of, units_of, money_with_credit, units_with_credit, total_units_of, total_of, change_balance};
+    ghost use Rattle.flow_accounts.specs.Lawful.{AreLawful, IsMoneyBalance, IsUnitBalance, IsMoneyTotal, IsUnitTotal, total_limit};
     ghost use Rattle.flow_accounts.specs.Fits.{MoneyFits, UnitsFit};
 
     pub(crate) fn has_account(&self, account: u32) -> bool
@@ -119,9 +119,9 @@ impl Accounts {
     pub(crate) fn change_money(&mut self, account: u32, amount: i128)
         requires account { IsAccount self.old account }
         requires within_credit { pos 0 ≤ℤ (money_with_credit self.old account +ℤ amount) }
-        requires within_limit { (self.old.total_money +ℤ amount) ≤ℤ money_limit }
+        requires within_limit { (total_of self.old None +ℤ amount) ≤ℤ total_limit None }
         requires fits { MoneyFits self.old account amount }
-        ensures changed { self.new ≡ change_money self.old account amount }
+        ensures changed { self.new ≡ change_balance self.old account None amount }
         ensures lawful { AreLawful self.new }
     {
         let total = self.total_money() + amount;
@@ -134,9 +134,9 @@ impl Accounts {
         requires account { IsAccount self.old account }
         requires asset { IsAsset self.old asset }
         requires within_credit { pos 0 ≤ℤ (units_with_credit self.old account asset +ℤ amount) }
-        requires within_limit { (total_units_of self.old asset +ℤ amount) ≤ℤ unit_limit }
+        requires within_limit { (total_of self.old (Some asset) +ℤ amount) ≤ℤ total_limit (Some asset) }
         requires fits { UnitsFit self.old account asset amount }
-        ensures changed { self.new ≡ change_units self.old account asset amount }
+        ensures changed { self.new ≡ change_balance self.old account (Some asset) amount }
         ensures lawful { AreLawful self.new }
     {
         let total = self.units_total(asset) + amount;
@@ -146,7 +146,7 @@ impl Accounts {
 
     fn set_total_money(&mut self, total: i128)
         requires { IsMoneyTotal total }
-        ensures set { self.new ≡ record self.old { total_money = total } }
+        ensures set { self.new ≡ record self.old { totals = record (self.old.totals) { money = total } } }
         ensures lawful { AreLawful self.new }
     {
         self.total_money = total;
@@ -156,7 +156,7 @@ impl Accounts {
         requires asset { IsAsset self.old asset }
         requires total { IsUnitTotal total }
         ensures set { self.new ≡
-            record self.old { total_units = slice_set self.old.total_units asset total } }
+            record self.old { totals = record (self.old.totals) { units = slice_set self.old.totals.units asset total } } }
         ensures lawful { AreLawful self.new }
     {
         self.total_units[asset as usize] = total;

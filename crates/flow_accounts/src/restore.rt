@@ -89,7 +89,7 @@ fn credits_of<P: AccountParts>(parts: &P, account: u32) -> [u64; PLACES]
 fn totals_of<P: AccountParts>(parts: &P) -> [i64; PLACES]
     requires lawful { AreLawful (P.balances parts.now) }
     ensures { ArePlacesOf (asset_count (P.balances parts.now))
-        (P.balances parts.now).total_units result }
+        (P.balances parts.now).totals.units result }
 {
     let mut totals = no_units();
     for asset in 0..parts.asset_count() {

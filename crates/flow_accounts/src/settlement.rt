@@ -1,9 +1,9 @@
-ghost use Rattle.std.specs.Prelude.{◌≡◌, ◌^◌, pos, ◌+ℤ◌, ◌≤ℤ◌, ◌<ℤ◌};
+ghost use Rattle.std.specs.Prelude.{◌≡◌, ◌^◌, pos, ◌+ℤ◌, ◌≤ℤ◌, ◌<ℤ◌, Some, None};
 
 use crate::Accounts;
 
 impl Accounts {
-    ghost use Rattle.flow_accounts.specs.Balances.{IsAccount, IsAsset, money_of, units_of, money_with_credit, units_with_credit, move_money, move_units};
+    ghost use Rattle.flow_accounts.specs.Balances.{IsAccount, IsAsset, money_of, units_of, money_with_credit, units_with_credit, move_balance};
     ghost use Rattle.flow_accounts.specs.Lawful.{AreLawful};
 
     /// Changes the money of an account by so many grains, which may be negative, when a batch is
@@ -12,7 +12,7 @@ impl Accounts {
         requires account { IsAccount self.old account }
         requires within_credit { pos 0 ≤ℤ (money_with_credit self.old account +ℤ amount) }
         requires fits { (money_of self.old account +ℤ amount) <ℤ pos (2 ^ 124) }
-        ensures moved { self.new ≡ move_money self.old account amount }
+        ensures moved { self.new ≡ move_balance self.old account None amount }
         ensures lawful { AreLawful self.new }
     {
         let holding = &mut self.accounts[account as usize - 1];
@@ -26,7 +26,7 @@ impl Accounts {
         requires asset { IsAsset self.old asset }
         requires within_credit { pos 0 ≤ℤ (units_with_credit self.old account asset +ℤ amount) }
         requires fits { (units_of self.old account asset +ℤ amount) <ℤ pos (2 ^ 62) }
-        ensures moved { self.new ≡ move_units self.old account asset amount }
+        ensures moved { self.new ≡ move_balance self.old account (Some asset) amount }
         ensures lawful { AreLawful self.new }
     {
         let holding = &mut self.accounts[account as usize - 1];

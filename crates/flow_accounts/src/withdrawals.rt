@@ -1,4 +1,4 @@
-ghost use Rattle.std.specs.Prelude.{◌≡◌, ◌<◌, ◌^◌, ◌↔◌, IsOk, IfOk, OnOk, OnErr, IfErr, pos, neg_ℤ, ◌≤ℤ◌};
+ghost use Rattle.std.specs.Prelude.{◌≡◌, ◌<◌, ◌^◌, ◌↔◌, IsOk, IfOk, OnOk, OnErr, IfErr, pos, neg_ℤ, ◌≤ℤ◌, Some, None};
 
 use crate::places::grains_of;
 use crate::{AccountFault, Accounts};
@@ -12,9 +12,9 @@ fn less(units: u64) -> i64
 }
 
 impl Accounts {
-    ghost use Rattle.flow_accounts.specs.Balances.{grains, IsAccount, IsAsset, money_of, units_of, money_with_credit, units_with_credit, change_money, change_units};
+    ghost use Rattle.flow_accounts.specs.Balances.{grains, IsAccount, IsAsset, money_of, units_of, money_with_credit, units_with_credit, change_balance};
     ghost use Rattle.flow_accounts.specs.Lawful.{AreLawful};
-    ghost use Rattle.flow_accounts.specs.Answers.{AcceptsMoneyWithdrawal, RefusesMoneyWithdrawal, AcceptsUnitWithdrawal, RefusesUnitWithdrawal};
+    ghost use Rattle.flow_accounts.specs.Answers.{AcceptsWithdrawal, RefusesWithdrawal};
     ghost use Rattle.flow_accounts.specs.Fits.{MoneyFits, UnitsFit};
 
     /// Withdraws ticks: the account's money and the total of money fall by them. `reserved` is what
@@ -33,11 +33,11 @@ impl Accounts {
     ) -> Result<(), AccountFault>
         requires not_negative { pos 0 ≤ℤ reserved }
         requires covered { IsAccount self.old account → reserved ≤ℤ money_with_credit self.old account }
-        requires fits { AcceptsMoneyWithdrawal self.old account ticks reserved →
+        requires fits { AcceptsWithdrawal self.old account None ticks reserved →
             MoneyFits self.old account (neg_ℤ (grains ticks)) }
-        ensures accepted { IsOk result ↔ AcceptsMoneyWithdrawal self.old account ticks reserved }
-        ensures refused { IfErr result (RefusesMoneyWithdrawal self.old account ticks reserved) }
-        ensures ok { OnOk result (self.new ≡ change_money self.old account (neg_ℤ (grains ticks))) }
+        ensures accepted { IsOk result ↔ AcceptsWithdrawal self.old account None ticks reserved }
+        ensures refused { IfErr result (RefusesWithdrawal self.old account None ticks reserved) }
+        ensures ok { OnOk result (self.new ≡ change_balance self.old account None (neg_ℤ (grains ticks))) }
         ensures err { OnErr result (self.new ≡ self.old) }
         ensures lawful { AreLawful self.new }
     {
@@ -65,11 +65,11 @@ impl Accounts {
         requires not_negative { pos 0 ≤ℤ reserved }
         requires covered { IsAccount self.old account → IsAsset self.old asset →
             reserved ≤ℤ units_with_credit self.old account asset }
-        requires fits { AcceptsUnitWithdrawal self.old account asset units reserved →
+        requires fits { AcceptsWithdrawal self.old account (Some asset) units reserved →
             UnitsFit self.old account asset (neg_ℤ (pos units)) }
-        ensures accepted { IsOk result ↔ AcceptsUnitWithdrawal self.old account asset units reserved }
-        ensures refused { IfErr result (RefusesUnitWithdrawal self.old account asset units reserved) }
-        ensures ok { OnOk result (self.new ≡ change_units self.old account asset (neg_ℤ (pos units))) }
+        ensures accepted { IsOk result ↔ AcceptsWithdrawal self.old account (Some asset) units reserved }
+        ensures refused { IfErr result (RefusesWithdrawal self.old account (Some asset) units reserved) }
+        ensures ok { OnOk result (self.new ≡ change_balance self.old account (Some asset) (neg_ℤ (pos units))) }
         ensures err { OnErr result (self.new ≡ self.old) }
         ensures lawful { AreLawful self.new }
     {
@@ -88,8 +88,8 @@ impl Accounts {
     ) -> Result<i128, AccountFault>
         requires not_negative { pos 0 ≤ℤ reserved }
         requires covered { IsAccount self.now account → reserved ≤ℤ money_with_credit self.now account }
-        ensures accepted { IsOk result ↔ AcceptsMoneyWithdrawal self.now account ticks reserved }
-        ensures refused { IfErr result (RefusesMoneyWithdrawal self.now account ticks reserved) }
+        ensures accepted { IsOk result ↔ AcceptsWithdrawal self.now account None ticks reserved }
+        ensures refused { IfErr result (RefusesWithdrawal self.now account None ticks reserved) }
         ensures amount { IfOk result (λ amount. amount ≡ neg_ℤ (grains ticks)) }
         ensures lawful { AreLawful self.now }
     {
@@ -119,8 +119,8 @@ impl Accounts {
         requires not_negative { pos 0 ≤ℤ reserved }
         requires covered { IsAccount self.now account → IsAsset self.now asset →
             reserved ≤ℤ units_with_credit self.now account asset }
-        ensures accepted { IsOk result ↔ AcceptsUnitWithdrawal self.now account asset units reserved }
-        ensures refused { IfErr result (RefusesUnitWithdrawal self.now account asset units reserved) }
+        ensures accepted { IsOk result ↔ AcceptsWithdrawal self.now account (Some asset) units reserved }
+        ensures refused { IfErr result (RefusesWithdrawal self.now account (Some asset) units reserved) }
         ensures amount { IfOk result (λ amount. amount ≡ neg_ℤ (pos units)) }
         ensures lawful { AreLawful self.now }
     {

@@ -9,7 +9,7 @@ use Rattle.canonical_rule.specs.Canonical.{IsCanonicalOutcome}
 use Rattle.market_rules.specs.Market.{Market, IsConsistent, empty_market}
 use Rattle.market_rules.specs.Journal.{Follows}
 use Rattle.market_rules.proofs.Consistency.{consistent-empty}
-use Rattle.market_rules.proofs.LawProofs.{journals_hold_deposits}
+use Rattle.market_rules.proofs.LawProofs.{journals_hold_deposits, journals_stay_consistent}
 use Rattle.market_rules.proofs.Promised.{legal_journal_keeps_promises}
 use Rattle.canonical_journals.proofs.CanonicalIsLegal.{canonical_follows_are_admissible}
 use Rattle.canonical_journals.proofs.OwnPromises.{canonical_journal_clears_near}
@@ -30,7 +30,7 @@ are_own_kept old new pairs consistent steps =
 
 -- the market that a source begins with is consistent
 pub consistent_first : (bytes : List ℕ) (kind : Origin) (market : Market) (place : ℕ) (rest : List ℕ) → IsFirst bytes (Whole kind market place rest) → IsConsistent market
-consistent_first bytes Journal market place rest first = (journals_hold_deposits (empty_market first.version) first.pairs market (consistent-empty first.version) first.legal.steps).consistent
+consistent_first bytes Journal market place rest first = (journals_stay_consistent (empty_market first.version) first.pairs market (consistent-empty first.version) first.legal.steps)
 consistent_first bytes Checkpoint market place rest first = first.is_one.consistent
 
 pub keeps_runs : (limit : ℕ) (told : Option (List ℕ)) → KeepsRuns limit told

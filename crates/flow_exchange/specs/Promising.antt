@@ -9,7 +9,7 @@ use Rattle.wire_records.specs.declared.version.Version.TheVariants.{One}
 use Rattle.wire_records.specs.Formats.{commands}
 use Rattle.flow_orders.specs.Outcomes.{Outcome}
 use Rattle.market_rules.specs.Market.{Market, empty_market}
-use Rattle.market_rules.specs.Journal.{HoldsDeposits}
+use Rattle.market_rules.specs.Deposits.{HoldsDeposits}
 use Rattle.market_rules.specs.Promises.{KeepsPromises, ClearNear}
 use Rattle.market_history.specs.Histories.{market_of}
 use Rattle.exchange_session.specs.Journals.{Journals}

@@ -6,6 +6,7 @@ use Rattle.std.proofs.lemmas.List.Elements.{All-nil, All-push, All-map, All-filt
 use Rattle.wire_records.specs.Records.{Record}
 use Rattle.wire_records.specs.Commands.{Command, Place, CancelOrder, RunBatch, Answer, Pair}
 use Rattle.wire_records.specs.CommandRecords.{IsCommand}
+use Rattle.wire_records.proofs.FieldForms.{command_from}
 use Rattle.wire_records.specs.Versions.{IsReadAs}
 use Rattle.wire_records.specs.Reading.{Ending, End, Torn, TooLong}
 use Rattle.wire_records.specs.declared.command.BodyFault.{BodyFault}
@@ -19,7 +20,7 @@ use Rattle.journal_records.specs.Formats.{journal_magic_of}
 use Rattle.market_rules.specs.Market.{Market, empty_market}
 use Rattle.market_rules.specs.Step.{Accepts, Answers, ServesRead, after_batch, placed}
 use Rattle.market_rules.specs.Journal.{Follows}
-use Rattle.market_rules.proofs.LawProofs.{journals_hold_deposits}
+use Rattle.market_rules.proofs.LawProofs.{journals_stay_consistent}
 use Rattle.market_snapshot.specs.Checkpoints.{checkpoint_bytes}
 use Rattle.market_history.specs.Histories.{Start, Empty, Kept, CanStart, market_of}
 use Rattle.flow_exchange.specs.declared.form.Form.TheVariants.{Audit}
@@ -94,7 +95,7 @@ lasts_accepted m (CancelOrder account number) a n is fits accepts =
     lasts_by n accepts.1 (All-filter (λ (o : Order). not (o.number == number)) (λ (o : Order). o.last < 2 ^ 32) m.orders fits)
 lasts_accepted m (RunBatch budget) a n is fits accepts = lasts_by n accepts.2.1 (lasts_after m accepts.0 fits)
 lasts_accepted m (Place (Some last) r) a n is fits accepts =
-    lasts_by n accepts.1 (All-push (λ (o : Order). o.last < 2 ^ 32) m.orders (placed m (Some last) r) fits is.0)
+    lasts_by n accepts.1 (All-push (λ (o : Order). o.last < 2 ^ 32) m.orders (placed m (Some last) r) fits (command_from (Place (Some last) r) is).0)
 lasts_accepted m command a n is fits accepts = lasts_by n accepts.1 fits
 
 lasts_answered : (m : Market) (c : Command) (first : Option Refusal) (a : Answer Outcome) (n : Market) → IsCommand c → LastsFit m.orders → Answers IsAdmissibleOutcome m c first a n → LastsFit n.orders
@@ -125,7 +126,7 @@ first_lasts (Kept market) begins = begins.last
 
 pub histories_have_checkpoints : HistoriesHaveCheckpoints
 histories_have_checkpoints start pairs market begins legal few = record {
-  consistent = (journals_hold_deposits (market_of start) pairs market (consistent_start start begins) legal.steps).consistent;
+  consistent = (journals_stay_consistent (market_of start) pairs market (consistent_start start begins) legal.steps);
   next = omega (arith, orders_few (market_of start) market pairs legal.steps, few);
   last = lasts_follow (market_of start) pairs market (first_lasts start begins) legal.steps;
   spelled = refl;

@@ -19,7 +19,7 @@ use Rattle.market_rules.specs.Journal.{Follows, IsJournal}
 use Rattle.market_rules.proofs.OneJournal.{follows-append}
 use Rattle.canonical_journals.proofs.OneCanonicalJournal.{one_canonical_journal}
 use Rattle.canonical_journals.proofs.CanonicalIsLegal.{canonical_follows_are_admissible}
-use Rattle.market_rules.proofs.LawProofs.{journals_hold_deposits, steps_keep_consistency, sequences_compose, legal_steps_number_one}
+use Rattle.market_rules.proofs.LawProofs.{steps_keep_consistency, sequences_compose, legal_steps_number_one, journals_stay_consistent}
 use Rattle.canonical_journals.proofs.LawProofs.{steps_number_one}
 use Rattle.batch_audit.specs.Legal.{IsLegalJournal}
 use Rattle.journal_replay.specs.declared.replaying.ReplayFault.{ReplayFault}
@@ -65,7 +65,7 @@ joined version pairs more bytes text before behind =
 
 -- the market of a valid journal is consistent
 pub legal_is_consistent : (version : Version) (pairs : List (Pair Record Outcome)) (market : Market) → IsLegalJournal version pairs market → IsConsistent market
-legal_is_consistent version pairs market legal = (journals_hold_deposits (empty_market version) pairs market (steps_keep_consistency.0 version) legal.steps).consistent
+legal_is_consistent version pairs market legal = (journals_stay_consistent (empty_market version) pairs market (steps_keep_consistency.0 version) legal.steps)
 
 -- entries that answer records from the market of a valid journal on make with it a valid journal
 module _ (most : ℕ) (version : Version) (pairs : List (Pair Record Outcome)) (bytes text : List ℕ) (old new : Market) (records : List Record)

@@ -11,9 +11,9 @@ use Rattle.flow_orders.specs.Outcomes.{Outcome, IsAdmissibleOutcome}
 use Rattle.journal_records.specs.Pairs.{IsPair}
 use Rattle.journal_records.specs.Formats.{journal_in}
 use Rattle.market_rules.specs.Market.{Market, IsConsistent, empty_market}
-use Rattle.market_rules.specs.Journal.{HoldsDeposits}
+use Rattle.market_rules.specs.Deposits.{HoldsDeposits}
 use Rattle.market_rules.specs.Laws.{Leads}
-use Rattle.market_rules.proofs.LawProofs.{journals_hold_deposits, sequences_compose}
+use Rattle.market_rules.proofs.LawProofs.{journals_hold_deposits, journals_stay_consistent, sequences_compose}
 use Rattle.canonical_journals.proofs.CanonicalIsLegal.{canonical_follows_are_admissible}
 use Rattle.market_rules.proofs.Versions.{follows_version}
 use Rattle.batch_audit.specs.Legal.{IsLegalJournal}
@@ -68,11 +68,11 @@ goes_from More bytes ended text kind market place rest stands all =
     goes kind market More place rest comes.0 ended text comes.1 comes.2
 
 after_each : (old new : Market) (records : List Record) (text : List ℕ) (writes : Continues old records new text) (before after : List (Pair Record Outcome)) → IsConsistent old
-    → writes.pairs ≡ before ++ after → (market : Market) × Leads old before market × HoldsDeposits IsReadAs old before market
+    → writes.pairs ≡ before ++ after → (market : Market) × Leads old before market × IsConsistent market × HoldsDeposits IsReadAs old before market
 after_each old new records text writes before after consistent parts =
     let legal = canonical_follows_are_admissible IsReadAs read_own old writes.pairs new consistent writes.answered.steps in
     let apart = sequences_compose.apart old new before after (rw parts at legal) in
-    (apart.0, apart.1, journals_hold_deposits old before apart.0 consistent apart.1)
+    (apart.0, apart.1, journals_stay_consistent old before apart.0 consistent apart.1, journals_hold_deposits old before apart.0 consistent apart.1)
 
 pub resumptions_keep_promises : ResumptionsKeepPromises
 resumptions_keep_promises = record {

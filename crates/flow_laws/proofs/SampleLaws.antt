@@ -1,7 +1,8 @@
 -- A sample's file is run and its journal audited, and there is some line on it.
 use Rattle.std.proofs.Common.{◌≡◌, ◌+◌, ◌*◌, ◌≤◌, ℕ, List, [], ◌∷◌, map, length, refl, sym, ap, ◌∙◌, length-append, arith}
 use Rattle.std.proofs.lemmas.List.{length-map}
-use Rattle.wire_records.specs.Records.{Record, spelling, command_magic}
+use Rattle.wire_records.specs.Records.{Record, spelling}
+use Rattle.wire_records.specs.Formats.{command_magic_of}
 use Rattle.wire_records.specs.Commands.{Command, Pair}
 use Rattle.wire_records.specs.CommandRecords.{record_of}
 use Rattle.wire_records.specs.Reading.{File, End}
@@ -48,7 +49,7 @@ commands_few (c ∷ commands) = omega (arith, length-append (spelling (record_of
 
 sample_few : (number orders : ℕ) → length (sample number orders) ≤ 11284 + 56 * orders
 unfolding sample_file
-sample_few number orders = omega (arith, samples_are_short number orders, commands_few (sample number orders), length-append command_magic (spell_commands (sample number orders)))
+sample_few number orders = omega (arith, samples_are_short number orders, commands_few (sample number orders), length-append (command_magic_of One) (spell_commands (sample number orders)))
 
 pub some_sample : (number orders : ℕ) → orders ≤ 16384 → ((status : Status) (line : List ℕ) → ¬ SamplesTo number orders status line) → ⊥
 some_sample number orders few none =

@@ -7,7 +7,7 @@ use Rattle.wire_records.specs.Versions.{IsReadAs}
 use Rattle.flow_orders.specs.Outcomes.{Outcome}
 use Rattle.journal_records.specs.Pairs.{pair_spelling}
 use Rattle.market_rules.specs.Market.{Market}
-use Rattle.market_rules.specs.Journal.{HoldsDeposits}
+use Rattle.market_rules.specs.Deposits.{HoldsDeposits}
 use Rattle.market_rules.specs.Promises.{KeepsPromises}
 use Rattle.market_snapshot.specs.Checkpoints.{checkpoint_bytes}
 use Rattle.market_history.specs.Histories.{Start, CanStart, market_of, spell_start}

@@ -14,7 +14,7 @@ use Rattle.journal_records.specs.Pairs.{pair_spelling}
 use Rattle.journal_records.specs.Formats.{journals, journal_magic_of, journal_in}
 use Rattle.flow_accounts.specs.Balances.{IsAccount}
 use Rattle.market_rules.specs.Market.{Market, empty_market, IsConsistent}
-use Rattle.market_rules.specs.Journal.{HoldsDeposits}
+use Rattle.market_rules.specs.Deposits.{HoldsDeposits}
 use Rattle.market_rules.specs.Laws.{Leads}
 use Rattle.market_snapshot.specs.Checkpoints.{checkpoint_magic, checkpoint_bytes, IsCheckpoint, HasCheckpointMagic, BeginsWithNoCheckpoint}
 use Rattle.market_history.specs.Histories.{Start, Kept, CanStart, market_of, spell_start}
@@ -356,7 +356,7 @@ pub record ResumptionsKeepPromises : Type 0 where
       → ComesTo Resume limit bytes status text → IsConsistent market × GoesOn market rest text
   pub keeps : (old new : Market) (records : List Record) (text : List ℕ) (writes : Continues old records new text) → IsConsistent old → AreCanonicallyKept old writes.pairs new
   pub after_each : (old new : Market) (records : List Record) (text : List ℕ) (writes : Continues old records new text) (before after : List (Pair Record Outcome)) → IsConsistent old
-      → writes.pairs ≡ before ++ after → (market : Market) × Leads old before market × HoldsDeposits IsReadAs old before market
+      → writes.pairs ≡ before ++ after → (market : Market) × Leads old before market × IsConsistent market × HoldsDeposits IsReadAs old before market
 
 -- the bytes begin with what keeps the market of these valid entries, and this rest follows: their journal, if the rest begins with no complete
 -- entry, or a checkpoint of the market

@@ -4,7 +4,8 @@ use Rattle.std.specs.List.{sum_by}
 use Rattle.weight_rows.specs.Rows.{IsWeightVector, weight_in}
 use Rattle.demand_curve.specs.Demand.{IsWithinLimits}
 use Rattle.flow_orders.specs.Orders.{Order, terms_of}
-use Rattle.flow_orders.specs.Excess.{low_excess, high_excess, steepness}
+use Rattle.flow_orders.specs.Excess.{steepness}
+use Rattle.flow_orders.specs.WholeUnits.{low_excess, high_excess}
 
 -- an order whose curve and weight vector are within the limits
 pub record IsConsistent (o : Order) : Type 0 where

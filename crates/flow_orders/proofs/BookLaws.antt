@@ -13,11 +13,13 @@ use Rattle.demand_curve.specs.Numbers.{distance}
 use Rattle.demand_curve.proofs.Parts.{parts_never_rise}
 use Rattle.flow_orders.specs.Orders.{terms_of}
 use Rattle.list_sums.proofs.SumLemmas.{int_sum_by-le, int_sum_by-scale}
-use Rattle.flow_orders.specs.Excess.{low_part, high_part, low_part_in, high_part_in}
+use Rattle.flow_orders.specs.Excess.{low_part_in, high_part_in}
+use Rattle.flow_orders.specs.WholeUnits.{low_part, high_part}
 use Rattle.flow_orders.proofs.Excess.{part_step, low_part-whole, high_part-whole}
 use Rattle.flow_orders.specs.Orders.{Order}
 use Rattle.flow_orders.proofs.Book.{IsConsistent, squares}
-use Rattle.flow_orders.specs.Excess.{low_excess, high_excess, low_excess_in, high_excess_in, steepness}
+use Rattle.flow_orders.specs.Excess.{low_excess_in, high_excess_in, steepness}
+use Rattle.flow_orders.specs.WholeUnits.{low_excess, high_excess}
 use Rattle.flow_orders.proofs.BookSums.{squares-le, squares_are, price_follows, price_one_more, from_distance}
 
 -- ---- whole units and parts of them

@@ -17,7 +17,8 @@ use Rattle.flow_orders.specs.Orders.{Order}
 use Rattle.flow_orders.proofs.Book.{IsConsistent}
 use Rattle.flow_orders.specs.Moves.{risen, fallen}
 use Rattle.flow_orders.specs.Duals.{share, IsCommonPart, exact_dual}
-use Rattle.flow_orders.specs.Excess.{low_excess, high_excess, low_excess_in, high_excess_in, steepness}
+use Rattle.flow_orders.specs.Excess.{low_excess_in, high_excess_in, steepness}
+use Rattle.flow_orders.specs.WholeUnits.{low_excess, high_excess}
 use Rattle.flow_orders.proofs.Moves.{IsRise, IsFall, risen_none, fallen_none, risen_more, fallen_more}
 use Rattle.flow_orders.proofs.Progress.{AreShares, true_excess, dual_floors, times_keeps, low_excess-below, high_excess-above, low_excess_in-below, high_excess_in-above, true_excess_step, dual_falls_by_excess, grain_rises, grain_falls}
 

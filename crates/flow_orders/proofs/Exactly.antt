@@ -5,9 +5,11 @@ use Rattle.std.proofs.lemmas.Int.{ints}
 use Rattle.std.proofs.lemmas.Bool.{false≢true, cases_lt}
 use Rattle.weight_rows.specs.Rows.{price_of}
 use Rattle.flow_orders.specs.Orders.{Order}
-use Rattle.flow_orders.specs.Excess.{is_above, is_below, is_above_in, is_below_in}
+use Rattle.flow_orders.specs.Excess.{is_above_in, is_below_in}
+use Rattle.flow_orders.specs.WholeUnits.{is_above, is_below}
 use Rattle.flow_orders.specs.Moves.{risen, fallen, rise_of, fall_of, moved, amount_of}
 use Rattle.flow_orders.proofs.Book.{IsConsistent}
+use Rattle.flow_orders.proofs.WholeUnits.{above_one, below_one}
 use Rattle.flow_orders.proofs.BookLaws.{low_excess-falls, high_excess-falls}
 use Rattle.flow_orders.proofs.Moving.{IsLeast, least_amount_is, above_in_is, not_above_in_is, below_in_is, not_below_in_is}
 
@@ -56,7 +58,8 @@ module _ (parts : ℕ) (orders : List Order) (reach : ℕ) (prices : List ℤ) (
   unfolding moved amount_of
   rises_to above before after =
       let exactly = rise_exactly before after in
-      (rw above (ap (risen prices asset) exactly), rw above exactly)
+      let risen_now = above_one orders prices asset ∙ above in
+      (rw risen_now (ap (risen prices asset) exactly), rw risen_now exactly)
 
   -- a move to such a place is that fall
   pub falls_to : is_above orders prices asset ≡ false → is_below orders prices asset ≡ true → is_below_in parts orders (fallen prices asset e) asset ≡ true → is_below_in parts orders (fallen prices asset (suc e)) asset ≡ false
@@ -64,4 +67,6 @@ module _ (parts : ℕ) (orders : List Order) (reach : ℕ) (prices : List ℤ) (
   unfolding moved amount_of
   falls_to level below before after =
       let exactly = fall_exactly before after in
-      (rw (level, below) (ap (fallen prices asset) exactly), rw (level, below) exactly)
+      let not_above = above_one orders prices asset ∙ level in
+      let fallen_now = below_one orders prices asset ∙ below in
+      (rw (not_above, fallen_now) (ap (fallen prices asset) exactly), rw (not_above, fallen_now) exactly)

@@ -6,7 +6,8 @@ use borrow.Author.Differences.{up, down, product_is}
 use Rattle.demand_curve.specs.Demand.{Terms, IsWithinLimits, span, scaled_demand, floor_rate, ceil_rate, floor_in, ceil_in}
 use Rattle.demand_curve.proofs.RoundingLaws.{roundings_enclose_demand}
 use Rattle.demand_curve.proofs.DemandLaws.{demand_moves_little}
-use Rattle.flow_orders.specs.Excess.{low_part, high_part, low_part_in, high_part_in}
+use Rattle.flow_orders.specs.Excess.{low_part_in, high_part_in}
+use Rattle.flow_orders.specs.WholeUnits.{low_part, high_part}
 use Rattle.demand_curve.proofs.Parts.{parts_move_little, parts_enclose_demand}
 
 -- a number times minus another

@@ -10,7 +10,7 @@ use Rattle.list_sums.specs.Sums.{int_sum_by}
 use Rattle.list_sums.proofs.Products.{unsigned_abs-add, unsigned_abs-mul_le}
 use Rattle.weight_rows.specs.Rows.{price_of}
 use Rattle.demand_curve.specs.Demand.{IsRounding, span, loss}
-use Rattle.demand_curve.specs.Numbers.{rounded_up}
+use Rattle.std.specs.Int.{div_ceil}
 use Rattle.demand_curve.proofs.LossLaws.{loss_is_small}
 use Rattle.flow_orders.specs.Orders.{Order, IsOrder, terms_of}
 use Rattle.flow_orders.specs.Excess.{price_for, residual_bound}
@@ -21,12 +21,12 @@ use Rattle.flow_orders.specs.Laws.{GapsAreBounded, CommonsExist}
 use Rattle.flow_orders.proofs.WalkLaws.{walks_lower_the_dual}
 
 losses : (prices : List ℤ) (orders : List Order) (rates : List ℕ) → All IsOrder orders → All (λ t. IsRounding (terms_of t.order) t.traded (price_for prices t.order)) (trades orders rates)
-    → sum_by (λ t. loss (terms_of t.order) t.traded (price_for prices t.order)) (trades orders rates) ≤ sum_by (λ o. rounded_up (span (terms_of o)) (2 * o.rate)) orders
+    → sum_by (λ t. loss (terms_of t.order) t.traded (price_for prices t.order)) (trades orders rates) ≤ sum_by (λ o. div_ceil (span (terms_of o)) (2 * o.rate)) orders
 losses prices [] rates each rounded = omega arith
 losses prices (o ∷ orders) [] each rounded = omega arith
 losses prices (o ∷ orders) (x ∷ rates) each rounded =
     let f = λ (t : Trade). loss (terms_of t.order) t.traded (price_for prices t.order) in
-    let g = λ (p : Order). rounded_up (span (terms_of p)) (2 * p.rate) in
+    let g = λ (p : Order). div_ceil (span (terms_of p)) (2 * p.rate) in
     let t : Trade = record { order = o; traded = x } in
     let here = (loss_is_small (terms_of o) (each 0 o (omega arith)).terms (price_for prices o) x (rounded 0 t (omega arith))).0 in
     let rest = losses prices orders rates (λ k d inside. each (suc k) d (omega (arith, inside))) (λ k d inside. rounded (suc k) d (omega (arith, inside))) in

@@ -26,3 +26,4 @@ pub mod WalkFacts
 pub mod WalkLaws
 pub mod WalkParts
 pub mod WelfareLaws
+pub mod WholeUnits

@@ -11,10 +11,11 @@ use Rattle.demand_curve.specs.Numbers.{distance}
 use Rattle.demand_curve.proofs.RoundingLaws.{roundings_enclose_demand}
 use Rattle.flow_orders.specs.Orders.{terms_of}
 use Rattle.list_sums.proofs.SumLemmas.{int_sum_by-le}
-use Rattle.flow_orders.specs.Excess.{low_part, high_part}
+use Rattle.flow_orders.specs.WholeUnits.{low_part, high_part}
 use Rattle.flow_orders.specs.Orders.{Order}
 use Rattle.flow_orders.proofs.Book.{IsConsistent, IsSettled}
-use Rattle.flow_orders.specs.Excess.{low_excess, high_excess, low_excess_in, high_excess_in, steepness}
+use Rattle.flow_orders.specs.Excess.{low_excess_in, high_excess_in, steepness}
+use Rattle.flow_orders.specs.WholeUnits.{low_excess, high_excess}
 use Rattle.flow_orders.specs.Moves.{risen, fallen}
 use Rattle.flow_orders.proofs.BookSums.{from_distance}
 use Rattle.flow_orders.proofs.Moves.{IsRise, IsFall}

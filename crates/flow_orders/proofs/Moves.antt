@@ -7,7 +7,8 @@ use borrow.Author.Differences.{up, down}
 use Rattle.weight_rows.specs.Rows.{price_of}
 use Rattle.flow_orders.specs.Orders.{Order}
 use Rattle.flow_orders.proofs.Book.{IsConsistent, IsSettled}
-use Rattle.flow_orders.specs.Excess.{low_excess, high_excess, low_excess_in, high_excess_in, steepness}
+use Rattle.flow_orders.specs.Excess.{low_excess_in, high_excess_in, steepness}
+use Rattle.flow_orders.specs.WholeUnits.{low_excess, high_excess}
 use Rattle.flow_orders.specs.Moves.{risen, fallen}
 use Rattle.flow_orders.proofs.BookSums.{own_price}
 use Rattle.flow_orders.proofs.BookLaws.{low_above_next_high, low_excess-whole, high_excess-whole}

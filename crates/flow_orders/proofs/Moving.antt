@@ -11,12 +11,14 @@ use Rattle.weight_rows.specs.Rows.{assets_of, weight_in, price_of}
 use Rattle.weight_rows.specs.declared.entries.Entry.{Entry}
 use Rattle.std.proofs.lemmas.Bool.Decides.{eqb_tells}
 use Rattle.flow_orders.specs.Orders.{Order, terms_of}
-use Rattle.flow_orders.specs.Excess.{low_part, high_part, price_for, low_excess, high_excess, low_excess_in, high_excess_in, steepness, is_above, is_below, is_above_in, is_below_in, is_unsettled}
+use Rattle.flow_orders.specs.Excess.{price_for, low_excess_in, high_excess_in, steepness, is_above_in, is_below_in, is_unsettled}
+use Rattle.flow_orders.specs.WholeUnits.{low_part, high_part, low_excess, high_excess, is_above, is_below}
 use Rattle.flow_orders.specs.Walks.{first_that, walk_end, IsLegal}
 use Rattle.flow_orders.specs.Moves.{least_amount, risen, fallen, rise_of, fall_of, moved, amount_of, walk_reach}
 use Rattle.flow_orders.specs.Outcomes.{step_of, IsUnnamed}
 use Rattle.flow_orders.specs.Duals.{movement_of}
 use Rattle.flow_orders.proofs.Book.{IsSettled}
+use Rattle.flow_orders.proofs.WholeUnits.{above_one, below_one, unsettled_one}
 use Rattle.flow_orders.proofs.Moves.{IsRise, IsFall}
 use Rattle.flow_orders.proofs.DualWalks.{IsMove, IsWalk}
 use Rattle.list_sums.proofs.SumLemmas.{int_sum_by-same_all}
@@ -49,14 +51,12 @@ pub not_below_in_is : (parts : ℕ) (orders : List Order) (prices : List ℤ) (a
 not_below_in_is parts orders prices asset e = omega (arith, ints, e)
 
 pub settled_is : (orders : List Order) (prices : List ℤ) (asset : ℕ) → is_unsettled orders prices asset ≡ false → IsSettled orders prices asset
-unfolding is_unsettled
 settled_is orders prices asset e =
-    let parts = or_parts (is_above orders prices asset) (is_below orders prices asset) e in
+    let parts = or_parts (is_above orders prices asset) (is_below orders prices asset) (sym (unsettled_one orders prices asset) ∙ e) in
     record { low = not_above_is orders prices asset parts.0; high = not_below_is orders prices asset parts.1 }
 
 pub is_settled : (orders : List Order) (prices : List ℤ) (asset : ℕ) → IsSettled orders prices asset → is_unsettled orders prices asset ≡ false
-unfolding is_unsettled
-is_settled orders prices asset settled = by (is_above orders prices asset) (is_below orders prices asset) refl refl
+is_settled orders prices asset settled = unsettled_one orders prices asset ∙ by (is_above orders prices asset) (is_below orders prices asset) refl refl
   where
     by : (a b : Bool) → is_above orders prices asset ≡ a → is_below orders prices asset ≡ b → (a || b) ≡ false
     by true b e f = absurd (omega (arith, ints, settled.low, above_is orders prices asset e))
@@ -132,7 +132,7 @@ module _ (parts : ℕ) (orders : List Order) (reach : ℕ) (prices : List ℤ) (
   -- if an asset is unsettled, the move of the definitions is a rise or a fall by the least amount
   pub moves_by : is_unsettled orders prices asset ≡ true → IsMove parts orders prices asset reach (amount_of parts orders reach prices asset) (moved parts orders reach prices asset)
   unfolding is_unsettled moved amount_of
-  moves_by unsettled = by (is_above orders prices asset) (is_below orders prices asset) refl refl unsettled
+  moves_by unsettled = by (is_above_in 1 orders prices asset) (is_below_in 1 orders prices asset) (sym (above_one orders prices asset)) (sym (below_one orders prices asset)) unsettled
     where
       by : (a b : Bool) → is_above orders prices asset ≡ a → is_below orders prices asset ≡ b → (a || b) ≡ true
           → IsMove parts orders prices asset reach (cond a (rise_of parts orders reach prices asset) (cond b (fall_of parts orders reach prices asset) 0)) (cond a (risen prices asset (rise_of parts orders reach prices asset)) (cond b (fallen prices asset (fall_of parts orders reach prices asset)) prices))

@@ -17,11 +17,13 @@ use Rattle.demand_curve.proofs.DualLaws.{dual_falls_in_parts}
 use Rattle.demand_curve.proofs.Smooth.{dual_is_smooth}
 use Rattle.demand_curve.proofs.Limits.{span_least}
 use Rattle.list_sums.proofs.Products.{*ℤ-assoc}
-use Rattle.flow_orders.specs.Excess.{low_part, high_part, low_part_in, high_part_in}
+use Rattle.flow_orders.specs.Excess.{low_part_in, high_part_in}
+use Rattle.flow_orders.specs.WholeUnits.{low_part, high_part}
 use Rattle.flow_orders.proofs.Excess.{low_below, low_part-below, high_part-above, true_step}
 use Rattle.flow_orders.specs.Orders.{Order}
 use Rattle.flow_orders.proofs.Book.{IsConsistent, squares}
-use Rattle.flow_orders.specs.Excess.{low_excess, high_excess, low_excess_in, high_excess_in, steepness}
+use Rattle.flow_orders.specs.Excess.{low_excess_in, high_excess_in, steepness}
+use Rattle.flow_orders.specs.WholeUnits.{low_excess, high_excess}
 use Rattle.flow_orders.specs.Moves.{risen, fallen}
 use Rattle.flow_orders.specs.Duals.{share, exact_dual}
 use Rattle.flow_orders.proofs.BookSums.{int_sum_by-pos, squares-le, squares_are, price_follows, price_one_more}

@@ -12,10 +12,11 @@ use Rattle.demand_curve.specs.Demand.{Terms, IsWithinLimits, floor_rate, ceil_ra
 use Rattle.demand_curve.proofs.RoundingLaws.{roundings_enclose_demand}
 use Rattle.demand_curve.proofs.Quotients.{up_within}
 use Rattle.flow_orders.specs.Orders.{terms_of}
-use Rattle.flow_orders.specs.Excess.{low_part, high_part}
+use Rattle.flow_orders.specs.WholeUnits.{low_part, high_part}
 use Rattle.flow_orders.specs.Orders.{Order}
 use Rattle.flow_orders.proofs.Book.{IsConsistent, squares}
-use Rattle.flow_orders.specs.Excess.{low_excess, high_excess, steepness, spread}
+use Rattle.flow_orders.specs.Excess.{steepness, spread}
+use Rattle.flow_orders.specs.WholeUnits.{low_excess, high_excess}
 
 -- a product of a weight and a rate is at most 2^36
 product_most : (n x : ℕ) → n ≤ 4096 → x ≤ 2 ^ 24 → n * x ≤ 2 ^ 36

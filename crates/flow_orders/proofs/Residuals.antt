@@ -10,10 +10,11 @@ use Rattle.demand_curve.specs.Demand.{Terms, IsWithinLimits, IsRounding, floor_r
 use Rattle.demand_curve.proofs.RoundingLaws.{roundings_enclose_demand, roundings_are_floor_and_ceil}
 use Rattle.flow_orders.specs.Orders.{terms_of}
 use Rattle.list_sums.proofs.SumLemmas.{int_sum_by-le}
-use Rattle.flow_orders.specs.Excess.{low_part, high_part}
+use Rattle.flow_orders.specs.WholeUnits.{low_part, high_part}
 use Rattle.flow_orders.specs.Orders.{Order}
 use Rattle.flow_orders.proofs.Book.{IsConsistent, IsSettled}
-use Rattle.flow_orders.specs.Excess.{low_excess, high_excess, steepness, spread}
+use Rattle.flow_orders.specs.Excess.{steepness, spread}
+use Rattle.flow_orders.specs.WholeUnits.{low_excess, high_excess}
 use Rattle.flow_orders.proofs.BookSums.{int_sum_by-pos, int_sum_by-map}
 
 -- a rounding is at least the demand rounded down, and at most the demand rounded up

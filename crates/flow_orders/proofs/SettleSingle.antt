@@ -10,10 +10,10 @@ use Rattle.weight_rows.specs.Rows.{weight_in, price_of, portfolio_price}
 use Rattle.demand_curve.specs.Demand.{IsWithin}
 use Rattle.flow_orders.specs.Orders.{terms_of}
 use Rattle.list_sums.proofs.SumLemmas.{int_sum_by-same_all}
-use Rattle.flow_orders.specs.Excess.{low_part, high_part}
+use Rattle.flow_orders.specs.WholeUnits.{low_part, high_part}
 use Rattle.flow_orders.specs.Orders.{Order}
 use Rattle.flow_orders.proofs.Book.{IsConsistent, IsSettled}
-use Rattle.flow_orders.specs.Excess.{low_excess, high_excess}
+use Rattle.flow_orders.specs.WholeUnits.{low_excess, high_excess}
 use Rattle.flow_orders.proofs.Singles.{IsSingle, one_price}
 use Rattle.flow_orders.proofs.SingleMoves.{rise_ends_within, fall_ends_within, rise_settles, fall_settles}
 use Rattle.flow_orders.proofs.MoveFacts.{moved_unsettled}

@@ -16,10 +16,12 @@ use Rattle.demand_curve.proofs.Parts.{parts_enclose_demand}
 use Rattle.demand_curve.proofs.Limits.{span_least}
 use Rattle.flow_orders.specs.Orders.{terms_of}
 use Rattle.list_sums.proofs.SumLemmas.{int_sum_by-same_all}
-use Rattle.flow_orders.specs.Excess.{low_part, high_part, low_part_in, high_part_in}
+use Rattle.flow_orders.specs.Excess.{low_part_in, high_part_in}
+use Rattle.flow_orders.specs.WholeUnits.{low_part, high_part}
 use Rattle.flow_orders.specs.Orders.{Order}
 use Rattle.flow_orders.proofs.Book.{IsConsistent, IsSettled}
-use Rattle.flow_orders.specs.Excess.{low_excess, high_excess, low_excess_in, high_excess_in}
+use Rattle.flow_orders.specs.Excess.{low_excess_in, high_excess_in}
+use Rattle.flow_orders.specs.WholeUnits.{low_excess, high_excess}
 
 -- an order that names one asset
 abbrev pub IsSingle : Order → Type 0

@@ -4,9 +4,10 @@ use Rattle.std.specs.List.{range_with_len, sum_by}
 use Rattle.list_sums.specs.Sums.{int_sum_by}
 use Rattle.weight_rows.specs.Rows.{price_of, IsPricedBy}
 use Rattle.demand_curve.specs.Demand.{span}
-use Rattle.demand_curve.specs.Numbers.{rounded_up}
+use Rattle.std.specs.Int.{div_ceil}
 use Rattle.flow_orders.specs.Orders.{Order, IsOrder, terms_of}
-use Rattle.flow_orders.specs.Excess.{low_excess, high_excess, low_excess_in, high_excess_in, is_unsettled, residual_bound}
+use Rattle.flow_orders.specs.Excess.{low_excess_in, high_excess_in, is_unsettled, residual_bound}
+use Rattle.flow_orders.specs.WholeUnits.{low_excess, high_excess}
 use Rattle.flow_orders.specs.Moves.{moved, amount_of}
 use Rattle.flow_orders.specs.Trades.{trades}
 use Rattle.flow_orders.specs.Outcomes.{Fill, Clearing, Skipping, dual_of, IsLegalFrom, end_of, IsAdmissibleClearing, IsAdmissibleSkip}
@@ -59,7 +60,7 @@ AdmissibleClearingsAreOptimal = (orders : List Order) (start : List ℤ) (c : Cl
 -- the gap of an admissible clearing is at most what all roundings can lose and what imbalances within their tolerances can cost
 abbrev pub GapsAreBounded : Type 0
 GapsAreBounded = (orders : List Order) (start : List ℤ) (c : Clearing) → All IsOrder orders → IsAdmissibleClearing orders start c
-    → c.gap ≤ℤ pos (sum_by (λ o. rounded_up (span (terms_of o)) (2 * o.rate)) orders
+    → c.gap ≤ℤ pos (sum_by (λ o. div_ceil (span (terms_of o)) (2 * o.rate)) orders
     + sum_by (λ asset. unsigned_abs (price_of c.prices asset) * residual_bound orders asset) (range_with_len 0 (length c.prices)))
 
 -- every book has a number that twice the rate of each order divides

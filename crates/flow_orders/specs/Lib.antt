@@ -1,6 +1,7 @@
 pub mod Orders
 pub mod Kept
 pub mod Excess
+pub mod WholeUnits
 pub mod Walks
 pub mod Moves
 pub mod Trades

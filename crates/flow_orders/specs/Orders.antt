@@ -1,5 +1,5 @@
 -- An order, what it may still trade, and what it reserves for that. Limits are in grains.
-use Rattle.std.specs.Prelude.{◌≡◌, ℕ, ◌+◌, ◌-◌, ◌*◌, ◌^◌, ◌<◌, ◌≤◌, min, ◌==◌, if◌then◌else◌, ℤ, pos, negsuc, ◌*ℤ◌, ◌<ℤ◌, List}
+use Rattle.std.specs.Prelude.{◌≡◌, ℕ, ◌+◌, ◌-◌, ◌*◌, ◌^◌, ◌<◌, ◌≤◌, min, ◌==◌, if◌then◌else◌, ℤ, pos, negsuc, ◌*ℤ◌, ◌<ℤ◌, List, Option, Some, None}
 use Rattle.weight_rows.specs.declared.entries.Entry.{Entry}
 use Rattle.list_sums.specs.Sums.{int_sum_by}
 use Rattle.weight_rows.specs.Rows.{IsWeightVector, weight_in}
@@ -59,27 +59,39 @@ pub record IsOrder (o : Order) : Type 0 where
   pub left : o.filled < o.cap
   pub row : IsWeightVector o.row
 
--- the money that an order reserves, in grains: its high limit, or 0 if that is negative, times its remaining quantity
-abbrev pub money_need : Order → ℕ
-money_need o = or_zero o.high * remaining_quantity o
-
 -- how many units of an asset with this weight one unit of a portfolio gives away
 abbrev pub sold : ℤ → ℕ
 sold (pos _) = 0
 sold (negsuc n) = n + 1
 
--- the units of an asset that an order reserves: what one unit of its portfolio gives away, times its remaining quantity
-abbrev pub unit_need : ℕ → Order → ℕ
-unit_need asset o = sold (weight_in o.row asset) * remaining_quantity o
+-- what an order reserves for its remaining quantity: of money (None), in grains, its high limit, or 0 if that is negative, for each unit of
+-- its portfolio; of an asset (Some), what each gives away
+abbrev pub need_of : Option ℕ → Order → ℕ
+need_of None o = or_zero o.high * remaining_quantity o
+need_of (Some asset) o = sold (weight_in o.row asset) * remaining_quantity o
 
 -- the sum of f over those elements of a list that belong to an account
 abbrev pub own_sum : {X : Type 0} → (X → ℕ) → ℕ → (X → ℤ) → List X → ℤ
 own_sum whose account f xs = int_sum_by (λ x. if whose x == account then f x else pos 0) xs
 
+-- what the orders of an account reserve of a kind, in grains or in units
+abbrev pub needed : List Order → ℕ → Option ℕ → ℤ
+needed orders account kind = own_sum (λ o. o.account) account (λ o. pos (need_of kind o)) orders
+
+-- ---- of money and of units, by names of their own
+
+-- the money that an order reserves, in grains
+abbrev pub money_need : Order → ℕ
+money_need o = need_of None o
+
+-- the units of an asset that an order reserves
+abbrev pub unit_need : ℕ → Order → ℕ
+unit_need asset o = need_of (Some asset) o
+
 -- the money that the orders of an account reserve, in grains
 abbrev pub needed_money : List Order → ℕ → ℤ
-needed_money orders account = own_sum (λ o. o.account) account (λ o. pos (money_need o)) orders
+needed_money orders account = needed orders account None
 
 -- the units of an asset that the orders of an account reserve
 abbrev pub needed_units : List Order → ℕ → ℕ → ℤ
-needed_units orders account asset = own_sum (λ o. o.account) account (λ o. pos (unit_need asset o)) orders
+needed_units orders account asset = needed orders account (Some asset)

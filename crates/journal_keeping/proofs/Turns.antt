@@ -17,7 +17,7 @@ use Rattle.journal_records.specs.Formats.{records_of}
 use Rattle.market_rules.specs.Market.{Market, empty_market}
 use Rattle.market_rules.specs.Journal.{Step}
 use Rattle.canonical_journals.proofs.CanonicalIsLegal.{canonical_follows_are_admissible}
-use Rattle.market_rules.proofs.LawProofs.{journals_hold_deposits, steps_keep_consistency}
+use Rattle.market_rules.proofs.LawProofs.{steps_keep_consistency, journals_stay_consistent}
 use Rattle.disk_edge.specs.Disks.{DiskState, IsDisk}
 use Rattle.disk_edge.proofs.Moments.{no_call}
 use Rattle.journal_disk.specs.Pairs.{IsRecordPair, pair_bytes, IsWholePair}
@@ -34,7 +34,7 @@ Pairs = List (Pair Record Outcome)
 -- a canonical step from the market of a valid journal is an admissible one
 pub canonical_is_admissible : (version : Version) (pairs : Pairs) (m : Market) (pair : Pair Record Outcome) (n : Market) → IsKeptJournal version pairs m → Step IsReadAs IsCanonicalOutcome m pair.asked pair.answer n → Step IsReadAs IsAdmissibleOutcome m pair.asked pair.answer n
 canonical_is_admissible version pairs m pair n legal step =
-    let consistent = (journals_hold_deposits (empty_market version) pairs m (steps_keep_consistency.0 version) legal.steps).consistent in
+    let consistent = (journals_stay_consistent (empty_market version) pairs m (steps_keep_consistency.0 version) legal.steps) in
     let right = canonical_follows_are_admissible IsReadAs read_own m (pair ∷ []) n consistent (n, step, refl) in
     subst (λ (x : Market). Step IsReadAs IsAdmissibleOutcome m pair.asked pair.answer x) (sym right.2) right.1
 

@@ -6,7 +6,7 @@ use Rattle.wire_fields.specs.Numbers.{unsigned, signed, IsUnsigned, IsSigned}
 use Rattle.wire_fields.proofs.Spelling.{length-unsigned, length-signed, unsigned_unique, signed_unique}
 use Rattle.wire_records.proofs.CodeLaws.{counted_unique, counted_size}
 use Rattle.flow_orders.specs.Outcomes.{Fill, Clearing, Skipping}
-use Rattle.journal_records.specs.Replies.{fill_spelling, clearing_spelling, skipping_spelling, IsFill, IsClearing, IsSkipping}
+use Rattle.journal_records.specs.Bodies.{fill_spelling, clearing_spelling, skipping_spelling, IsFill, IsClearing, IsSkipping}
 
 -- a fill from its parts
 same_fill : (f g : Fill) → f.order ≡ g.order → f.rate ≡ g.rate → f ≡ g

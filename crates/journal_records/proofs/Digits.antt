@@ -8,7 +8,7 @@ use Rattle.std.proofs.lemmas.List.Elements.{All-take, All-drop}
 use Rattle.wire_fields.specs.Numbers.{unsigned, signed, IsUnsigned, IsSigned}
 use Rattle.wire_fields.proofs.Spelling.{length-signed, signed_unique, unsigned_complete}
 use Rattle.wire_records.specs.Records.{AreBytes}
-use Rattle.journal_records.specs.Replies.{fill_spelling, IsFill}
+use Rattle.journal_records.specs.Bodies.{fill_spelling, IsFill}
 use Rattle.journal_records.specs.Private.{digits_on, sign_in, fill_in}
 use Rattle.journal_records.proofs.Batches.{fill_unique, fill_size}
 use Rattle.journal_records.proofs.Values.{IsFixed}

@@ -8,7 +8,7 @@ use Rattle.wire_fields.specs.Numbers.{unsigned}
 use Rattle.flow_orders.specs.Orders.{Order}
 use Rattle.flow_orders.specs.Trades.{trades}
 use Rattle.flow_orders.specs.Outcomes.{Fill, fill_of}
-use Rattle.journal_records.specs.Replies.{fill_spelling, IsFill}
+use Rattle.journal_records.specs.Bodies.{fill_spelling, IsFill}
 
 -- the fills of orders with these rates
 abbrev pub fills_of : List Order → List ℕ → List Fill

@@ -1,4 +1,5 @@
 pub mod Batches
+pub mod FieldForms
 pub mod Values
 pub mod Digits
 pub mod Spelled

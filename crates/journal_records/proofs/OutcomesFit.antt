@@ -25,7 +25,8 @@ use Rattle.flow_orders.specs.Duals.{movement_of}
 use Rattle.flow_orders.proofs.Book.{IsConsistent}
 use Rattle.flow_orders.proofs.Ranges.{sum_by-most, spread-most, steepness-most}
 use Rattle.flow_orders.proofs.WalkLaws.{admissible_skips_lower_the_dual}
-use Rattle.journal_records.specs.Replies.{IsFill, IsClearing, IsSkipping}
+use Rattle.journal_records.specs.Bodies.{IsFill, IsClearing, IsSkipping}
+use Rattle.journal_records.proofs.FieldForms.{clearing_fits, skipping_fits}
 use Rattle.journal_records.specs.Laws.{AdmissibleOutcomesFit}
 
 -- a number in range
@@ -97,8 +98,8 @@ module _ (orders : List Order) (start : List ℤ) (each : All IsOrder orders) (f
   fill_count : (c : Clearing) → IsAdmissibleClearing orders start c → length c.fills ≡ length orders
   fill_count c right = sym (length-map c.fills (λ (f : Fill). f.order)) ∙ ap length right.numbers ∙ length-map orders (λ (o : Order). o.number)
 
-  clearing_fits : (c : Clearing) → IsAdmissibleClearing orders start c → IsClearing c
-  clearing_fits c right =
+  clearing_parts_fit : (c : Clearing) → IsAdmissibleClearing orders start c → IsClearing c
+  clearing_parts_fit c right =
       let ts = trades_of orders c.fills in
       let fills = fill_count c right in
       let lost : Trade → ℕ = λ t. loss (terms_of t.order) t.traded (price_for c.prices t.order) in
@@ -146,9 +147,9 @@ dual_fits z n is most = rw is (omega (arith, ints), omega (arith, ints, most))
 below : (e f m n : ℕ) → (pos e +ℤ pos m) <ℤ (pos f +ℤ pos n) → f ≤ 2 ^ 117 → n ≤ most_orders → e ≤ 2 ^ 118
 below e f m n less most few = omega (arith, ints, less, most, few)
 
-skipping_fits : (parts : ℕ) → 1 ≤ parts → (orders : List Order) (start : List ℤ) (budget : ℕ) → All IsOrder orders → length orders ≤ most_orders → length start ≤ 64 → All IsPrice start → budget ≤ most_budget
+skipping_parts_fit : (parts : ℕ) → 1 ≤ parts → (orders : List Order) (start : List ℤ) (budget : ℕ) → All IsOrder orders → length orders ≤ most_orders → length start ≤ 64 → All IsPrice start → budget ≤ most_budget
     → (s : Skipping) → IsAdmissibleSkip parts orders start budget s → IsSkipping s
-skipping_fits parts some orders start budget each few assets small moves s right =
+skipping_parts_fit parts some orders start budget each few assets small moves s right =
     let first : s.start_dual ≡ pos (dual_of orders start) = ap (λ (x : Skipping). x.start_dual) right.duals in
     let last : s.end_dual ≡ pos (dual_of orders (end_of parts orders start s.trace)) = ap (λ (x : Skipping). x.end_dual) right.duals in
     let most = dual_most orders start each few small in
@@ -162,6 +163,6 @@ skipping_fits parts some orders start budget each few assets small moves s right
 
 pub admissible_outcomes_fit : AdmissibleOutcomesFit
 admissible_outcomes_fit parts some orders start budget number (Cleared c) each few numbered assets small moves batch right =
-    ((omega (arith, batch), clearing_fits orders start each few numbered assets c right), (omega (arith, right.one_price_each, assets), omega (arith, fill_count orders start each few numbered assets c right, few)))
+    (clearing_fits number c (omega (arith, batch)) (clearing_parts_fit orders start each few numbered assets c right), (omega (arith, right.one_price_each, assets), omega (arith, fill_count orders start each few numbered assets c right, few)))
 admissible_outcomes_fit parts some orders start budget number (Skipped s) each few numbered assets small moves batch right =
-    ((omega (arith, batch), skipping_fits parts some orders start budget each few assets small moves s right), omega (arith, right.whole, moves))
+    (skipping_fits number s (omega (arith, batch)) (skipping_parts_fit parts some orders start budget each few assets small moves s right), omega (arith, right.whole, moves))

@@ -15,8 +15,10 @@ use Rattle.wire_records.proofs.Bodies.{number_unique, same_record}
 use Rattle.wire_records.proofs.Codes.{code_of-byte}
 use Rattle.flow_orders.specs.Outcomes.{Fill, Clearing, Skipping, Outcome, Cleared, Skipped}
 use Rattle.journal_records.specs.Numbered.{ClearedBatch, SkippedBatch}
-use Rattle.journal_records.specs.Replies.{reply_tag, reply_body, answer_tag, answer_body, fill_spelling, clearing_spelling, skipping_spelling, IsFill, SpellsAnswer}
+use Rattle.journal_records.specs.Replies.{fields_of, answer_body, SpellsAnswer}
+use Rattle.journal_records.specs.Bodies.{reply_tag, reply_body, fill_spelling, clearing_spelling, skipping_spelling, IsFill}
 use Rattle.journal_records.specs.Private.{SpellsCleared, SpellsNoCleared, SpellsSkipped, SpellsNoSkipped, SpellsReply, SpellsNoReply}
+use Rattle.journal_records.proofs.FieldForms.{tag_of_reply, body_of_reply, reply_fits, reply_from, body_of_clearing, clearing_fits, clearing_from, body_of_skip, skipping_fits, skipping_from}
 use Rattle.journal_records.proofs.Spelled.{reply_tag-most}
 
 -- a clearing's body from the imbalances on, and from each field before them on
@@ -118,45 +120,50 @@ no_reply_of_code body code fits spelled none (Refused refusal) s =
     none refusal (number_unique 1 (code_of refusal) code (omega (arith, code_of-byte refusal)) fits (sym s.spelled ∙ spelled))
 
 -- the tag and the body of an answer's record
-answer_parts : (r : Record) (answer : Answer Outcome) → SpellsAnswer r answer → (r.tag ≡ answer_tag answer) × (r.body ≡ answer_body answer)
+answer_parts : (r : Record) (answer : Answer Outcome) → SpellsAnswer r answer → (r.tag ≡ (fields_of answer).0) × (r.body ≡ answer_body answer)
 answer_parts r answer s = (ap (λ (x : Record). x.tag) s.spelled, ap (λ (x : Record). x.body) s.spelled)
 
 -- a record of the tag 133 encodes a clearing or nothing
 pub none_cleared : (r : Record) → r.tag ≡ 133 → SpellsNoCleared r.body → (answer : Answer Outcome) → ¬ SpellsAnswer r answer
-unfolding answer_body
-none_cleared r tag none (Plain reply) s = omega (arith, tag, (answer_parts r (Plain reply) s).0, reply_tag-most reply)
+none_cleared r tag none (Plain reply) s = omega (arith, tag, (answer_parts r (Plain reply) s).0, tag_of_reply reply, reply_tag-most reply)
 none_cleared r tag none (Batch number (Cleared c)) s =
-    none (record { batch = number; clearing = c }) (record { batch = s.fits.0; fits = s.fits.1; spelled = (answer_parts r (Batch number (Cleared c)) s).1 })
+    let fits = clearing_from number c s.fits in
+    none (record { batch = number; clearing = c }) (record { batch = fits.0; fits = fits.1; spelled = (answer_parts r (Batch number (Cleared c)) s).1 ∙ body_of_clearing number c })
 none_cleared r tag none (Batch number (Skipped t)) s = omega (arith, tag, (answer_parts r (Batch number (Skipped t)) s).0)
 
 -- a record of the tag 134 encodes a skip or nothing
 pub none_skipped : (r : Record) → r.tag ≡ 134 → SpellsNoSkipped r.body → (answer : Answer Outcome) → ¬ SpellsAnswer r answer
-unfolding answer_body
-none_skipped r tag none (Plain reply) s = omega (arith, tag, (answer_parts r (Plain reply) s).0, reply_tag-most reply)
+none_skipped r tag none (Plain reply) s = omega (arith, tag, (answer_parts r (Plain reply) s).0, tag_of_reply reply, reply_tag-most reply)
 none_skipped r tag none (Batch number (Cleared c)) s = omega (arith, tag, (answer_parts r (Batch number (Cleared c)) s).0)
 none_skipped r tag none (Batch number (Skipped t)) s =
-    none (record { batch = number; skipping = t }) (record { batch = s.fits.0; fits = s.fits.1; spelled = (answer_parts r (Batch number (Skipped t)) s).1 })
+    let fits = skipping_from number t s.fits in
+    none (record { batch = number; skipping = t }) (record { batch = fits.0; fits = fits.1; spelled = (answer_parts r (Batch number (Skipped t)) s).1 ∙ body_of_skip number t })
 
 -- a record of another tag encodes a plain reply or nothing
 pub none_plain : (r : Record) → r.tag ≢ 133 → r.tag ≢ 134 → SpellsNoReply r.tag r.body → (answer : Answer Outcome) → ¬ SpellsAnswer r answer
-unfolding answer_body
 none_plain r cleared skipped none (Plain reply) s =
     let parts = answer_parts r (Plain reply) s in
-    none reply (record { fits = s.fits; tag_is = parts.0; spelled = parts.1 })
+    none reply (record { fits = reply_from reply s.fits; tag_is = parts.0 ∙ tag_of_reply reply; spelled = parts.1 ∙ body_of_reply reply })
 none_plain r cleared skipped none (Batch number (Cleared c)) s = cleared (answer_parts r (Batch number (Cleared c)) s).0
 none_plain r cleared skipped none (Batch number (Skipped t)) s = skipped (answer_parts r (Batch number (Skipped t)) s).0
 
 -- the answer of a clearing's body
 pub cleared_answer : (r : Record) (b : ClearedBatch) → r.tag ≡ 133 → SpellsCleared r.body b → SpellsAnswer r (Batch b.batch (Cleared b.clearing))
-unfolding answer_body
-cleared_answer r b tag s = record { fits = (s.batch, s.fits); spelled = same_record r 133 (clearing_spelling b.batch b.clearing) tag s.spelled }
+cleared_answer r b tag s = record {
+  fits = clearing_fits b.batch b.clearing s.batch s.fits;
+  spelled = same_record r 133 (answer_body (Batch b.batch (Cleared b.clearing))) tag (s.spelled ∙ sym (body_of_clearing b.batch b.clearing));
+}
 
 -- the answer of a skip's body
 pub skipped_answer : (r : Record) (b : SkippedBatch) → r.tag ≡ 134 → SpellsSkipped r.body b → SpellsAnswer r (Batch b.batch (Skipped b.skipping))
-unfolding answer_body
-skipped_answer r b tag s = record { fits = (s.batch, s.fits); spelled = same_record r 134 (skipping_spelling b.batch b.skipping) tag s.spelled }
+skipped_answer r b tag s = record {
+  fits = skipping_fits b.batch b.skipping s.batch s.fits;
+  spelled = same_record r 134 (answer_body (Batch b.batch (Skipped b.skipping))) tag (s.spelled ∙ sym (body_of_skip b.batch b.skipping));
+}
 
 -- the answer of a plain reply's body
 pub plain_answer : (r : Record) (reply : Reply) → SpellsReply r.tag r.body reply → SpellsAnswer r (Plain reply)
-unfolding answer_body
-plain_answer r reply s = record { fits = s.fits; spelled = same_record r (reply_tag reply) (reply_body reply) s.tag_is s.spelled }
+plain_answer r reply s = record {
+  fits = reply_fits reply s.fits;
+  spelled = same_record r (fields_of (Plain reply)).0 (answer_body (Plain reply)) (s.tag_is ∙ sym (tag_of_reply reply)) (s.spelled ∙ sym (body_of_reply reply));
+}

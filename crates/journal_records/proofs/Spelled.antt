@@ -12,8 +12,10 @@ use Rattle.wire_records.proofs.Bodies.{number_unique}
 use Rattle.wire_records.proofs.Codes.{code_of-unique, code_of-byte}
 use Rattle.wire_records.proofs.Spelled.{length-spelling, spelling_unique, head_and_body}
 use Rattle.flow_orders.specs.Outcomes.{Clearing, Skipping, Outcome, Cleared, Skipped}
-use Rattle.journal_records.specs.Replies.{reply_tag, reply_body, answer_tag, answer_body, answer_record, fill_spelling, clearing_spelling, skipping_spelling, IsReply, IsAnswer, IsWithinLimits, most_reply_body}
+use Rattle.journal_records.specs.Replies.{fields_of, answer_body, answer_record, IsAnswer, IsWithinLimits, most_reply_body}
+use Rattle.journal_records.specs.Bodies.{reply_tag, reply_body, fill_spelling, clearing_spelling, skipping_spelling, IsReply}
 use Rattle.journal_records.specs.Pairs.{IsPair, pair_spelling, plain_room, cleared_room, skipped_room}
+use Rattle.journal_records.proofs.FieldForms.{tag_of_reply, body_of_reply, reply_from, body_of_clearing, clearing_from, body_of_skip, skipping_from}
 use Rattle.journal_records.proofs.Batches.{clearing_unique, skipping_unique, clearing_size, skipping_size}
 
 -- two plain replies of one tag and one body are one
@@ -43,20 +45,24 @@ same_batch : (m n : ℕ) (a b : Outcome) → m ≡ n → a ≡ b → Batch m a �
 same_batch m n a b numbers outcomes = ap (λ k. Batch k a) numbers ∙ ap (λ o. Batch n o) outcomes
 
 -- two answers of one tag and one body are one
-same_answer : (a b : Answer Outcome) → IsAnswer a → IsAnswer b → answer_tag a ≡ answer_tag b → answer_body a ≡ answer_body b → a ≡ b
-unfolding answer_body
-same_answer (Plain a) (Plain b) h k tags bodies = ap Plain (same_reply a b h k tags bodies)
-same_answer (Plain a) (Batch n (Cleared d)) h k tags bodies = absurd (omega (arith, tags, reply_tag-most a))
-same_answer (Plain a) (Batch n (Skipped t)) h k tags bodies = absurd (omega (arith, tags, reply_tag-most a))
-same_answer (Batch m (Cleared c)) (Plain b) h k tags bodies = absurd (omega (arith, tags, reply_tag-most b))
-same_answer (Batch m (Skipped s)) (Plain b) h k tags bodies = absurd (omega (arith, tags, reply_tag-most b))
+same_answer : (a b : Answer Outcome) → IsAnswer a → IsAnswer b → (fields_of a).0 ≡ (fields_of b).0 → answer_body a ≡ answer_body b → a ≡ b
+same_answer (Plain a) (Plain b) h k tags bodies =
+    ap Plain (same_reply a b (reply_from a h) (reply_from b k) (sym (tag_of_reply a) ∙ tags ∙ tag_of_reply b) (sym (body_of_reply a) ∙ bodies ∙ body_of_reply b))
+same_answer (Plain a) (Batch n (Cleared d)) h k tags bodies = absurd (omega (arith, tags, tag_of_reply a, reply_tag-most a))
+same_answer (Plain a) (Batch n (Skipped t)) h k tags bodies = absurd (omega (arith, tags, tag_of_reply a, reply_tag-most a))
+same_answer (Batch m (Cleared c)) (Plain b) h k tags bodies = absurd (omega (arith, tags, tag_of_reply b, reply_tag-most b))
+same_answer (Batch m (Skipped s)) (Plain b) h k tags bodies = absurd (omega (arith, tags, tag_of_reply b, reply_tag-most b))
 same_answer (Batch m (Cleared c)) (Batch n (Cleared d)) h k tags bodies =
-    let e = clearing_unique m n c d h.0 k.0 h.1 k.1 bodies in
+    let one = clearing_from m c h in
+    let other = clearing_from n d k in
+    let e = clearing_unique m n c d one.0 other.0 one.1 other.1 (sym (body_of_clearing m c) ∙ bodies ∙ body_of_clearing n d) in
     same_batch m n (Cleared c) (Cleared d) e.0 (ap Cleared e.1)
 same_answer (Batch m (Cleared c)) (Batch n (Skipped t)) h k tags bodies = absurd (omega (arith, tags))
 same_answer (Batch m (Skipped s)) (Batch n (Cleared d)) h k tags bodies = absurd (omega (arith, tags))
 same_answer (Batch m (Skipped s)) (Batch n (Skipped t)) h k tags bodies =
-    let e = skipping_unique m n s t h.0 k.0 h.1 k.1 bodies in
+    let one = skipping_from m s h in
+    let other = skipping_from n t k in
+    let e = skipping_unique m n s t one.0 other.0 one.1 other.1 (sym (body_of_skip m s) ∙ bodies ∙ body_of_skip n t) in
     same_batch m n (Skipped s) (Skipped t) e.0 (ap Skipped e.1)
 
 -- a record encodes at most one answer
@@ -89,18 +95,18 @@ length-reply_body (Refused r) = omega (arith, length-unsigned 1 (code_of r))
 
 -- an entry with a plain reply takes at most the space that is reserved for one
 pub pair_room : (asked : Record) (reply : Reply) → length (pair_spelling (record { asked = asked; answer = Plain reply })) ≤ plain_room asked
-unfolding pair_spelling answer_body
+unfolding pair_spelling
 pair_room asked reply =
     let answered = answer_record (Plain reply) in
-    omega (arith, length-append (spelling asked) (spelling answered), length-spelling answered, length-reply_body reply)
+    omega (arith, length-append (spelling asked) (spelling answered), length-spelling answered, ap length (body_of_reply reply), length-reply_body reply)
 
 -- an entry with a batch that cleared takes the space that is reserved for it
 pub cleared_pair_room : (asked : Record) (number : ℕ) (c : Clearing) → length c.residuals ≡ length c.prices
     → length (pair_spelling (record { asked = asked; answer = Batch number (Cleared c) })) ≡ cleared_room asked (length c.prices) (length c.fills)
-unfolding pair_spelling answer_body
+unfolding pair_spelling
 cleared_pair_room asked number c each =
     let answered = answer_record (Batch number (Cleared c)) in
-    omega (arith, length-append (spelling asked) (spelling answered), length-spelling answered, clearing_size number c, each)
+    omega (arith, length-append (spelling asked) (spelling answered), length-spelling answered, ap length (body_of_clearing number c), clearing_size number c, each)
 
 -- what is written of a batch that cleared, part by part, is one record
 joined : (old a b c d e f g h : List ℕ) → ((((((((old ++ a) ++ b) ++ c) ++ d) ++ e) ++ f) ++ g) ++ h) ≡ (old ++ a) ++ (b ++ (c ++ (d ++ (e ++ (f ++ (g ++ h))))))
@@ -109,11 +115,12 @@ joined old a b c d e f g h = simp append_assoc
 pub put_together : (old : List ℕ) (number : ℕ) (c : Clearing) (n orders : ℕ) → length c.residuals ≡ length c.prices → length c.fills ≡ orders → n ≡ 26 + 16 * length c.prices + 12 * orders
     → (((((((old ++ head 133 n) ++ unsigned 4 number) ++ unsigned 2 (length c.prices)) ++ flat_map (signed 8) c.prices) ++ unsigned 4 orders) ++ flat_map fill_spelling c.fills) ++ flat_map (signed 8) c.residuals) ++ signed 16 c.gap
     ≡ old ++ spelling (answer_record (Batch number (Cleared c)))
-unfolding answer_body clearing_spelling
+unfolding clearing_spelling
 put_together old number c n orders residuals fills size =
     ap (λ k. (((((((old ++ head 133 n) ++ unsigned 4 number) ++ unsigned 2 (length c.prices)) ++ flat_map (signed 8) c.prices) ++ unsigned 4 k) ++ flat_map fill_spelling c.fills) ++ flat_map (signed 8) c.residuals) ++ signed 16 c.gap) (sym fills)
     ∙ joined old (head 133 n) (unsigned 4 number) (unsigned 2 (length c.prices)) (flat_map (signed 8) c.prices) (unsigned 4 (length c.fills)) (flat_map fill_spelling c.fills) (flat_map (signed 8) c.residuals) (signed 16 c.gap)
     ∙ head_and_body old (clearing_spelling number c) 133 n (omega (arith, clearing_size number c, residuals, fills, size))
+    ∙ ap (λ body. old ++ spelling (record { tag = 133; body = body })) (sym (body_of_clearing number c))
 
 joined_skip : (old a b c d e f : List ℕ) → ((((((old ++ a) ++ b) ++ c) ++ d) ++ e) ++ f) ≡ (old ++ a) ++ (b ++ (c ++ (d ++ (e ++ f))))
 joined_skip old a b c d e f = simp append_assoc
@@ -122,26 +129,25 @@ joined_skip old a b c d e f = simp append_assoc
 pub put_skip_together : (old : List ℕ) (number : ℕ) (s : Skipping) (n moves : ℕ) → length s.trace ≡ moves → n ≡ 40 + moves
     → (((((old ++ head 134 n) ++ unsigned 4 number) ++ signed 16 s.start_dual) ++ signed 16 s.end_dual) ++ unsigned 4 moves) ++ s.trace
     ≡ old ++ spelling (answer_record (Batch number (Skipped s)))
-unfolding answer_body skipping_spelling
+unfolding skipping_spelling
 put_skip_together old number s n moves count size =
     ap (λ k. (((((old ++ head 134 n) ++ unsigned 4 number) ++ signed 16 s.start_dual) ++ signed 16 s.end_dual) ++ unsigned 4 k) ++ s.trace) (sym count)
     ∙ joined_skip old (head 134 n) (unsigned 4 number) (signed 16 s.start_dual) (signed 16 s.end_dual) (unsigned 4 (length s.trace)) s.trace
     ∙ head_and_body old (skipping_spelling number s) 134 n (omega (arith, skipping_size number s, count, size))
+    ∙ ap (λ body. old ++ spelling (record { tag = 134; body = body })) (sym (body_of_skip number s))
 
 -- an entry with a batch that was skipped takes exactly the space that is reserved for it
 pub skipped_pair_room : (asked : Record) (number : ℕ) (s : Skipping) → length (pair_spelling (record { asked = asked; answer = Batch number (Skipped s) })) ≡ skipped_room asked (length s.trace)
-unfolding pair_spelling answer_body
+unfolding pair_spelling
 skipped_pair_room asked number s =
     let answered = answer_record (Batch number (Skipped s)) in
-    omega (arith, length-append (spelling asked) (spelling answered), length-spelling answered, skipping_size number s)
+    omega (arith, length-append (spelling asked) (spelling answered), length-spelling answered, ap length (body_of_skip number s), skipping_size number s)
 
 -- the record of a plain reply is short
 pub plain_short : (reply : Reply) → IsRecord most_reply_body (answer_record (Plain reply))
-unfolding answer_body
-plain_short reply = record { tag = omega (arith, reply_tag-most reply); body = omega (arith, length-reply_body reply) }
+plain_short reply = record { tag = omega (arith, tag_of_reply reply, reply_tag-most reply); body = omega (arith, ap length (body_of_reply reply), length-reply_body reply) }
 
 -- the record of a batch within the limits is within the limit
 pub batch_short : (number : ℕ) (outcome : Outcome) → IsAnswer (Batch number outcome) → IsWithinLimits outcome → IsRecord most_reply_body (answer_record (Batch number outcome))
-unfolding answer_body
-batch_short number (Cleared c) h few = record { tag = omega arith; body = omega (arith, clearing_size number c, h.1.residual_each, few.0, few.1) }
-batch_short number (Skipped s) h few = record { tag = omega arith; body = omega (arith, skipping_size number s, few) }
+batch_short number (Cleared c) h few = record { tag = omega arith; body = omega (arith, ap length (body_of_clearing number c), clearing_size number c, h.1, few.0, few.1) }
+batch_short number (Skipped s) h few = record { tag = omega arith; body = omega (arith, ap length (body_of_skip number s), skipping_size number s, few) }

@@ -1,5 +1,5 @@
 -- Journals as files: entries of two records each, whatever these ask and answer.
-use Rattle.std.specs.Prelude.{ℕ, List, ◌++◌}
+use Rattle.std.specs.Prelude.{ℕ, List, ◌++◌, codes}
 use Rattle.std.specs.List.{flat_map}
 use Rattle.wire_records.specs.Records.{Record, most_body}
 use Rattle.wire_records.specs.Commands.{Pair}
@@ -10,13 +10,13 @@ use Rattle.wire_records.specs.declared.version.Version.TheVariants.{One, Two, Th
 use Rattle.wire_records.specs.Formats.{magics, records, EitherStatesOver}
 use Rattle.flow_orders.specs.Outcomes.{Outcome}
 use Rattle.journal_records.specs.Replies.{answer_record, most_reply_body}
-use Rattle.journal_records.specs.Pairs.{pair_spelling, journal_magic, journal_magic_2, journal_magic_3}
+use Rattle.journal_records.specs.Pairs.{pair_spelling}
 
 -- the magic of a journal of each version
 abbrev pub journal_magic_of : Version → List ℕ
-journal_magic_of One = journal_magic
-journal_magic_of Two = journal_magic_2
-journal_magic_of Three = journal_magic_3
+journal_magic_of One = codes "FLOWJNL1"
+journal_magic_of Two = codes "FLOWJNL2"
+journal_magic_of Three = codes "FLOWJNL3"
 
 -- the bytes of a journal of these entries, in a version
 abbrev pub journal_in : Version → List (Pair Record Outcome) → List ℕ

@@ -1,4 +1,5 @@
 pub mod Replies
+pub mod Bodies
 pub mod Numbered
 pub mod Private
 pub mod Pairs

@@ -16,21 +16,9 @@ pub record IsPair (pair : Pair Record Outcome) : Type 0 where
 unfoldable pub pair_spelling : Pair Record Outcome → List ℕ
 pair_spelling pair = spelling pair.asked ++ spelling (answer_record pair.answer)
 
--- the magic of a journal of version One
-abbrev pub journal_magic : List ℕ
-journal_magic = codes "FLOWJNL1"
-
--- the magic of a journal of version Two
-abbrev pub journal_magic_2 : List ℕ
-journal_magic_2 = codes "FLOWJNL2"
-
--- the magic of a journal of version Three
-abbrev pub journal_magic_3 : List ℕ
-journal_magic_3 = codes "FLOWJNL3"
-
 -- the bytes of a journal of these entries, in version One
 abbrev pub journal : List (Pair Record Outcome) → List ℕ
-journal pairs = journal_magic ++ flat_map pair_spelling pairs
+journal pairs = codes "FLOWJNL1" ++ flat_map pair_spelling pairs
 
 -- the number of bytes of the longest entry: two heads of 5 bytes, and both bodies at their limits
 abbrev pub longest_pair : ℕ

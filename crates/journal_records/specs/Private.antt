@@ -6,7 +6,7 @@ use Rattle.wire_fields.specs.Numbers.{signed, IsUnsigned, IsSigned}
 use Rattle.wire_records.specs.declared.reply.Reply.{Reply}
 use Rattle.flow_orders.specs.Outcomes.{Fill}
 use Rattle.journal_records.specs.Numbered.{ClearedBatch, SkippedBatch}
-use Rattle.journal_records.specs.Replies.{reply_tag, reply_body, fill_spelling, clearing_spelling, skipping_spelling, IsReply, IsFill, IsClearing, IsSkipping}
+use Rattle.journal_records.specs.Bodies.{reply_tag, reply_body, fill_spelling, clearing_spelling, skipping_spelling, IsReply, IsFill, IsClearing, IsSkipping}
 
 -- the number whose digits to the base 256 are those of n, followed by these bytes
 unfoldable pub digits_on : ℕ → List ℕ → ℕ

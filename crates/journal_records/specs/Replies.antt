@@ -1,99 +1,52 @@
 -- The answers to commands, and the record that each is encoded as.
-use Rattle.std.specs.Prelude.{◌≡◌, ◌≤◌, ℕ, List, [], ◌++◌, length, All}
+use Rattle.std.specs.Prelude.{◌≡◌, ◌≤◌, ℕ, List, [], ◌∷◌, ◌++◌, length, map, All}
 use Rattle.std.specs.List.{flat_map}
-use Rattle.wire_fields.specs.Numbers.{unsigned, signed, IsUnsigned, IsSigned}
 use Rattle.wire_records.specs.declared.reply.Reply.{Reply}
 use Rattle.wire_records.specs.declared.reply.Reply.TheVariants.{Done, Asset, Account, Order, Refused}
-use Rattle.wire_records.specs.Records.{Record, AreBytes}
+use Rattle.wire_records.specs.Records.{Record}
 use Rattle.wire_records.specs.Commands.{Answer, Plain, Batch}
 use Rattle.wire_records.specs.Refusals.{code_of}
 use Rattle.flow_orders.specs.Orders.{most_orders}
 use Rattle.flow_orders.specs.Residuals.{most_prices}
-use Rattle.flow_orders.specs.Outcomes.{Fill, Clearing, Skipping, Outcome, Cleared, Skipped, most_budget}
+use Rattle.flow_orders.specs.Outcomes.{Fill, Outcome, Cleared, Skipped, most_budget}
+use Rattle.wire_records.specs.Fields.{Field, Unsigned, Signed, Bytes, field_bytes, FitsField}
 
--- the tag of each plain reply
-abbrev pub reply_tag : Reply → ℕ
-reply_tag Done = 128
-reply_tag (Asset asset) = 129
-reply_tag (Account account) = 130
-reply_tag (Order order) = 131
-reply_tag (Refused refusal) = 132
+-- the fields of a fill: the order's number, and its rate
+abbrev pub fill_fields : Fill → List Field
+fill_fields f = Unsigned 8 f.order ∷ Unsigned 4 f.rate ∷ []
 
--- the tag of each answer
-abbrev pub answer_tag : Answer Outcome → ℕ
-answer_tag (Plain reply) = reply_tag reply
-answer_tag (Batch number (Cleared clearing)) = 133
-answer_tag (Batch number (Skipped skipping)) = 134
-
--- the body of each plain reply
-unfoldable pub reply_body : Reply → List ℕ
-reply_body Done = []
-reply_body (Asset asset) = unsigned 2 asset
-reply_body (Account account) = unsigned 4 account
-reply_body (Order order) = unsigned 8 order
-reply_body (Refused refusal) = unsigned 1 (code_of refusal)
-
--- the bytes of a fill: the order's number, and its rate
-unfoldable pub fill_spelling : Fill → List ℕ
-fill_spelling f = unsigned 8 f.order ++ unsigned 4 f.rate
-
--- the bytes of a batch that cleared: its number, how many prices there are and the prices, how many fills there are and
--- the fills, as many imbalances as prices, and the gap
-unfoldable pub clearing_spelling : ℕ → Clearing → List ℕ
-clearing_spelling number c =
-    unsigned 4 number ++ (unsigned 2 (length c.prices) ++ (flat_map (signed 8) c.prices
-    ++ (unsigned 4 (length c.fills) ++ (flat_map fill_spelling c.fills ++ (flat_map (signed 8) c.residuals ++ signed 16 c.gap)))))
-
--- the bytes of a batch that was skipped: its number, the dual values at the start and at the end, how many moves there are,
--- and the asset of each
-unfoldable pub skipping_spelling : ℕ → Skipping → List ℕ
-skipping_spelling number s =
-    unsigned 4 number ++ (signed 16 s.start_dual ++ (signed 16 s.end_dual ++ (unsigned 4 (length s.trace) ++ s.trace)))
+-- The record of each answer: its tag, and the fields of its body. A batch that cleared has its number, how many prices there are and the
+-- prices, how many fills there are and the fills, the imbalances, and the gap. A batch that was skipped has its number, the dual values at
+-- the start and at the end, how many moves there are, and the asset of each in a byte.
+abbrev pub fields_of : Answer Outcome → ℕ × List Field
+fields_of (Plain Done) = (128, [])
+fields_of (Plain (Asset asset)) = (129, Unsigned 2 asset ∷ [])
+fields_of (Plain (Account account)) = (130, Unsigned 4 account ∷ [])
+fields_of (Plain (Order order)) = (131, Unsigned 8 order ∷ [])
+fields_of (Plain (Refused refusal)) = (132, Unsigned 1 (code_of refusal) ∷ [])
+fields_of (Batch number (Cleared c)) = (
+  133,
+  Unsigned 4 number ∷ Unsigned 2 (length c.prices) ∷ map (Signed 8) c.prices
+      ++ Unsigned 4 (length c.fills) ∷ flat_map fill_fields c.fills ++ map (Signed 8) c.residuals ++ Signed 16 c.gap ∷ [],
+)
+fields_of (Batch number (Skipped s)) = (
+  134,
+  Unsigned 4 number ∷ Signed 16 s.start_dual ∷ Signed 16 s.end_dual ∷ Unsigned 4 (length s.trace) ∷ Bytes (length s.trace) s.trace ∷ [],
+)
 
 -- the body of each answer
 unfoldable pub answer_body : Answer Outcome → List ℕ
-answer_body (Plain reply) = reply_body reply
-answer_body (Batch number (Cleared clearing)) = clearing_spelling number clearing
-answer_body (Batch number (Skipped skipping)) = skipping_spelling number skipping
+answer_body answer = flat_map field_bytes (fields_of answer).1
 
 -- the record of each answer
 abbrev pub answer_record : Answer Outcome → Record
-answer_record answer = record { tag = answer_tag answer; body = answer_body answer }
+answer_record answer = record { tag = (fields_of answer).0; body = answer_body answer }
 
--- a plain reply whose number fits its width
-abbrev pub IsReply : Reply → Type 0
-IsReply Done = Unit {0}
-IsReply (Asset asset) = IsUnsigned 2 asset
-IsReply (Account account) = IsUnsigned 4 account
-IsReply (Order order) = IsUnsigned 8 order
-IsReply (Refused refusal) = Unit {0}
-
--- a fill whose order and rate fit their widths
-abbrev pub IsFill : Fill → Type 0
-IsFill f = IsUnsigned 8 f.order × IsUnsigned 4 f.rate
-
--- a clearing whose numbers fit their widths, with one imbalance for each price
-pub record IsClearing (c : Clearing) : Type 0 where
-  pub count : IsUnsigned 2 (length c.prices)
-  pub prices : All (IsSigned 8) c.prices
-  pub fill_count : IsUnsigned 4 (length c.fills)
-  pub fills : All IsFill c.fills
-  pub residual_each : length c.residuals ≡ length c.prices
-  pub residuals : All (IsSigned 8) c.residuals
-  pub gap : IsSigned 16 c.gap
-
--- a skip whose numbers fit their widths
-pub record IsSkipping (s : Skipping) : Type 0 where
-  pub start_dual : IsSigned 16 s.start_dual
-  pub end_dual : IsSigned 16 s.end_dual
-  pub steps : IsUnsigned 4 (length s.trace)
-  pub trace : AreBytes s.trace
-
--- each field of an answer fits its width
+-- the value of each field of an answer fits, and a clearing has one imbalance for each price
 abbrev pub IsAnswer : Answer Outcome → Type 0
-IsAnswer (Plain reply) = IsReply reply
-IsAnswer (Batch number (Cleared clearing)) = IsUnsigned 4 number × IsClearing clearing
-IsAnswer (Batch number (Skipped skipping)) = IsUnsigned 4 number × IsSkipping skipping
+IsAnswer (Plain reply) = All FitsField (fields_of (Plain reply)).1
+IsAnswer (Batch number (Cleared c)) = All FitsField (fields_of (Batch number (Cleared c))).1 × (length c.residuals ≡ length c.prices)
+IsAnswer (Batch number (Skipped s)) = All FitsField (fields_of (Batch number (Skipped s))).1
 
 -- a record encodes an answer
 pub record SpellsAnswer (r : Record) (answer : Answer Outcome) : Type 0 where

@@ -8,7 +8,8 @@ ghost use Rattle.flow_orders.specs.Orders.{most_orders};
 ghost use Rattle.flow_orders.specs.Trades.{trades};
 ghost use Rattle.flow_orders.specs.Outcomes.{fill_of, Cleared as cleared_outcome};
 ghost use Rattle.batch_outcome.specs.Published.{clearing_of};
-ghost use Rattle.journal_records.specs.Replies.{fill_spelling, answer_record, IsFill, IsAnswer};
+ghost use Rattle.journal_records.specs.Replies.{answer_record, IsAnswer};
+ghost use Rattle.journal_records.specs.Bodies.{fill_spelling, IsFill};
 ghost use Rattle.journal_records.specs.Pairs.{pair_spelling, cleared_room};
 
 use batch_outcome::Cleared;

@@ -2,7 +2,7 @@
 ghost use Rattle.std.specs.Prelude.{◌≡◌, ◌+◌, ◌*◌, ◌<◌, ◌^◌, ◌++◌, ℕ, List, All, map, length, slice_get, Option, Some, IfOk, IfSome, IsSomeAnd};
 ghost use Rattle.std.specs.List.{flat_map};
 ghost use Rattle.flow_orders.specs.Outcomes.{Fill};
-ghost use Rattle.journal_records.specs.Replies.{fill_spelling, IsFill};
+ghost use Rattle.journal_records.specs.Bodies.{fill_spelling, IsFill};
 
 use crate::numbers_view::as_bytes;
 use std::alloc::Global;

@@ -31,7 +31,7 @@ pub fn reserve_plain(asked: &RecordView<'_>, out: &mut Vec<u8>) -> Result<(), Me
 }
 
 // Appends the record of a reply.
-#[tactic(auto, unfolding(crate::specs::Replies::answer_body, crate::specs::Replies::reply_body))]
+#[tactic(auto, using(crate::proofs::FieldForms::reply_fits))]
 fn put_reply(reply: &Reply, out: &mut Vec<u8>)
     requires { vec_len out.old + 13 ≤ vec_capacity out.old }
     ensures written { out.new.items ≡ out.old.items ++ spelling (answer_record (Plain reply.now)) }

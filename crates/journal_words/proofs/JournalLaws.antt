@@ -16,7 +16,7 @@ use Rattle.journal_records.proofs.Files.{journals_readable, short_at_end}
 use Rattle.journal_records.proofs.Spelled.{answer_unique}
 use Rattle.market_rules.specs.Market.{Market, empty_market, IsConsistent}
 use Rattle.market_rules.specs.Journal.{Follows}
-use Rattle.market_rules.proofs.LawProofs.{journals_hold_deposits, steps_keep_consistency}
+use Rattle.market_rules.proofs.LawProofs.{journals_stay_consistent, steps_keep_consistency}
 use Rattle.market_rules.proofs.Consistency.{consistent-empty}
 use Rattle.market_rules.proofs.Versions.{follows_version}
 use Rattle.market_rules.proofs.Promised.{legal_journal_keeps_promises}
@@ -120,7 +120,7 @@ module _ {S B : Type 0} (watch : Watch S B) where
         parts = are.parts;
         journal = record { each = are.each; steps = steps };
         counted = omega (arith, are.pairs, none);
-        deposits = journals_hold_deposits (empty_market s.market.version) are.legal s.market consistent steps;
+        consistent = journals_stay_consistent (empty_market s.market.version) are.legal s.market consistent steps;
         keeps = legal_journal_keeps_promises (empty_market s.market.version) are.legal s.market consistent steps;
       }
 

@@ -6,8 +6,7 @@ use Rattle.wire_records.specs.Versions.{IsReadAs}
 use Rattle.flow_orders.specs.Outcomes.{Outcome}
 use Rattle.journal_records.specs.Formats.{journals, records_of}
 use Rattle.journal_records.specs.Pairs.{longest_pair}
-use Rattle.market_rules.specs.Market.{Market, empty_market}
-use Rattle.market_rules.specs.Journal.{HoldsDeposits}
+use Rattle.market_rules.specs.Market.{Market, IsConsistent, empty_market}
 use Rattle.market_rules.specs.Promises.{KeepsPromises}
 use Rattle.market_rules.specs.Allocating.{RecordMayAllocate}
 use Rattle.batch_audit.specs.Legal.{IsLegalPair, IsIllegalPair, IsLegalJournal}
@@ -35,14 +34,14 @@ pub record Watched (S : Type 0) : Type 0 where
   pub pairs : ℕ
   pub seen : S
 
--- The units are the entries of a valid journal, as many as were counted. It leads to the market, which holds the accepted
--- deposits less the accepted withdrawals, and keeps the promises of the exchange.
+-- The units are the entries of a valid journal, as many as were counted. It leads to the market, which is consistent, and keeps the
+-- promises of the exchange.
 pub record KeepsJournal (units : List (Record × Record)) (market : Market) (pairs : ℕ) : Type 0 where
   pub legal : List (Pair Record Outcome)
   pub parts : units ≡ map records_of legal
   pub journal : IsLegalJournal market.version legal market
   pub counted : pairs ≡ length legal
-  pub deposits : HoldsDeposits IsReadAs (empty_market market.version) legal market
+  pub consistent : IsConsistent market
   pub keeps : KeepsPromises IsReadAs (empty_market market.version) legal
 
 module _ {S B : Type 0} (watch : Watch S B) where

@@ -1,200 +1,120 @@
 -- The market's replies, by the results of its accounts and its tickers.
-use Rattle.std.proofs.Common.{◌≡◌, ℕ, inl, inr, Result, Ok, Err, Some, None, OnOk, OnErr, IsOk, ◌↔◌, refl, ap, arith}
-use Rattle.std.specs.Prelude.{IfErr, MatchResult}
+use Rattle.std.proofs.Common.{◌≡◌, ℕ, inl, inr, Option, Result, Ok, Err, Some, None, OnOk, OnErr, IsOk, ◌↔◌, refl, ap, arith}
+use Rattle.std.specs.Prelude.{IfErr, MatchResult, neg_ℤ}
 use Rattle.std.proofs.lemmas.Int.{ints}
-use Rattle.wire_records.specs.Commands.{DepositMoney, DepositAsset, WithdrawMoney, WithdrawAsset, SetMoneyCredit, SetUnitCredit, Plain}
+use Rattle.wire_records.specs.Commands.{Command, DepositMoney, DepositAsset, WithdrawMoney, WithdrawAsset, SetMoneyCredit, SetUnitCredit, Plain}
 use Rattle.wire_records.specs.declared.reply.Reply.{Reply}
 use Rattle.wire_records.specs.declared.reply.Reply.TheVariants.{Done, Refused}
+use Rattle.wire_records.specs.declared.reply.Refusal.{Refusal}
 use Rattle.wire_records.specs.declared.reply.Refusal.TheVariants as refusals
 use Rattle.flow_accounts.specs.declared.fault.AccountFault.{AccountFault}
 use Rattle.flow_accounts.specs.declared.fault.AccountFault.TheVariants as fault
-use Rattle.flow_accounts.specs.Balances.{Balances, grains, change_money, change_units, set_money_credit, set_unit_credit}
-use Rattle.flow_accounts.specs.Answers.{AcceptsMoneyDeposit, RefusesMoneyDeposit, AcceptsUnitDeposit, RefusesUnitDeposit, AcceptsMoneyWithdrawal, RefusesMoneyWithdrawal, AcceptsUnitWithdrawal, RefusesUnitWithdrawal, AcceptsMoneyCredit, RefusesMoneyCredit, AcceptsUnitCredit, RefusesUnitCredit}
-use Rattle.std.specs.Prelude.{pos, neg_ℤ}
+use Rattle.flow_accounts.specs.Balances.{Balances, value_of, change_balance, set_credit}
+use Rattle.flow_accounts.specs.Answers.{AcceptsDeposit, RefusesDeposit, AcceptsWithdrawal, RefusesWithdrawal, AcceptsCredit, RefusesCredit}
 use Rattle.flow_orders.specs.Outcomes.{BatchRule}
-use Rattle.flow_orders.specs.Orders.{needed_money, needed_units}
+use Rattle.flow_orders.specs.Orders.{needed}
 use Rattle.market_rules.specs.Market.{Market}
-use Rattle.market_rules.specs.Step.{Serves}
+use Rattle.market_rules.specs.Step.{DepositRefusal, WithdrawalRefusal, CreditRefusal, FirstRefusal, Accepts, Serves, gives}
 use Rattle.market_core.specs.Private.{refusal_for}
 
 -- the reply for the result of a change of an account
 abbrev pub Replies : {T : Type 0} → Result T AccountFault → Reply → Type 0
 Replies outcome reply = MatchResult outcome (λ _. reply ≡ Done) (λ why. reply ≡ Refused (refusal_for why))
 
+-- the commands by the kind of what is deposited, withdrawn or given as credit
+abbrev pub deposit : ℕ → Option ℕ → ℕ → Command
+deposit account None ticks = DepositMoney account ticks
+deposit account (Some asset) units = DepositAsset account asset units
+
+abbrev pub withdrawal : ℕ → Option ℕ → ℕ → Command
+withdrawal account None ticks = WithdrawMoney account ticks
+withdrawal account (Some asset) units = WithdrawAsset account asset units
+
+abbrev pub credit : ℕ → Option ℕ → ℕ → Command
+credit account None ticks = SetMoneyCredit account ticks
+credit account (Some asset) units = SetUnitCredit account asset units
+
 module _ (Rule : BatchRule) (m : Market) (now : Balances) where
   abbrev made : Market
   made = record m { balances = now }
 
-  pub serves-deposit_money : {T : Type 0} (account ticks : ℕ) (outcome : Result T AccountFault) (reply : Reply)
-      → (IsOk outcome ↔ AcceptsMoneyDeposit m.balances account ticks) → IfErr outcome (RefusesMoneyDeposit m.balances account ticks)
-      → OnOk outcome (now ≡ change_money m.balances account (grains ticks)) → OnErr outcome (now ≡ m.balances) → Replies outcome reply
-      → Serves Rule m (DepositMoney account ticks) (Plain reply) made
-  serves-deposit_money account ticks (Ok x) reply accepted refused ok err is =
-      let a = accepted.0 refl in
-      record {
-        first = None;
-        refused = inr (a.account_there, inr (λ zero. omega (arith, zero, a.not_zero), inr (λ over. omega (arith, ints, over, a.within_limit), refl)));
-        answered = (ap Plain is, ap (λ b. record m { balances = b }) ok);
-      }
-  serves-deposit_money account ticks (Err fault.NoAccount) reply accepted refused ok err is =
-      record { first = Some refusals.NoAccount; refused = inl (refused, refl); answered = (ap Plain is, ap (λ b. record m { balances = b }) err) }
-  serves-deposit_money account ticks (Err fault.Zero) reply accepted refused ok err is =
-      record { first = Some refusals.ZeroAmount; refused = inr (refused.0, inl (refused.1, refl)); answered = (ap Plain is, ap (λ b. record m { balances = b }) err) }
-  serves-deposit_money account ticks (Err fault.TotalLimit) reply accepted refused ok err is =
-      record {
-        first = Some refusals.TotalLimit;
-        refused = inr (refused.0, inr (λ zero. omega (arith, zero, refused.1), inl (refused.2, refl)));
-        answered = (ap Plain is, ap (λ b. record m { balances = b }) err);
-      }
-  serves-deposit_money account ticks (Err fault.NoAsset) reply accepted refused ok err is = absurd refused
-  serves-deposit_money account ticks (Err fault.Full) reply accepted refused ok err is = absurd refused
-  serves-deposit_money account ticks (Err (fault.NotFree free)) reply accepted refused ok err is = absurd refused
-  serves-deposit_money account ticks (Err fault.CreditLimit) reply accepted refused ok err is = absurd refused
-  serves-deposit_money account ticks (Err (fault.InUse used)) reply accepted refused ok err is = absurd refused
-  serves-deposit_money account ticks (Err fault.Memory) reply accepted refused ok err is = absurd refused
+  -- a command is served, by the result of a change of an account: when it is accepted, why it isn't, and what there is then
+  abbrev pub IsServed : {T : Type 0} → Command → Type 0 → (AccountFault → Type 0) → Balances → Result T AccountFault → Reply → Type 0
+  IsServed c IsAccepted IsRefused changed outcome reply =
+      (IsOk outcome ↔ IsAccepted) → IfErr outcome IsRefused → OnOk outcome (now ≡ changed) → OnErr outcome (now ≡ m.balances) → Replies outcome reply → Serves Rule m c (Plain reply) made
 
-  pub serves-deposit_units : {T : Type 0} (account asset units : ℕ) (outcome : Result T AccountFault) (reply : Reply)
-      → (IsOk outcome ↔ AcceptsUnitDeposit m.balances account asset units) → IfErr outcome (RefusesUnitDeposit m.balances account asset units)
-      → OnOk outcome (now ≡ change_units m.balances account asset (pos units)) → OnErr outcome (now ≡ m.balances) → Replies outcome reply
-      → Serves Rule m (DepositAsset account asset units) (Plain reply) made
-  serves-deposit_units account asset units (Ok x) reply accepted refused ok err is =
-      let a = accepted.0 refl in
-      record {
-        first = None;
-        refused = inr (a.account_there, inr (a.asset_there, inr (λ zero. omega (arith, zero, a.not_zero), inr (λ over. omega (arith, ints, over, a.within_limit), refl))));
-        answered = (ap Plain is, ap (λ b. record m { balances = b }) ok);
-      }
-  serves-deposit_units account asset units (Err fault.NoAccount) reply accepted refused ok err is =
-      record { first = Some refusals.NoAccount; refused = inl (refused, refl); answered = (ap Plain is, ap (λ b. record m { balances = b }) err) }
-  serves-deposit_units account asset units (Err fault.NoAsset) reply accepted refused ok err is =
-      record { first = Some refusals.NoAsset; refused = inr (refused.0, inl (refused.1, refl)); answered = (ap Plain is, ap (λ b. record m { balances = b }) err) }
-  serves-deposit_units account asset units (Err fault.Zero) reply accepted refused ok err is =
-      record { first = Some refusals.ZeroAmount; refused = inr (refused.0, inr (refused.1, inl (refused.2, refl))); answered = (ap Plain is, ap (λ b. record m { balances = b }) err) }
-  serves-deposit_units account asset units (Err fault.TotalLimit) reply accepted refused ok err is =
-      record {
-        first = Some refusals.TotalLimit;
-        refused = inr (refused.0, inr (refused.1, inr (λ zero. omega (arith, zero, refused.2), inl (refused.3, refl))));
-        answered = (ap Plain is, ap (λ b. record m { balances = b }) err);
-      }
-  serves-deposit_units account asset units (Err fault.Full) reply accepted refused ok err is = absurd refused
-  serves-deposit_units account asset units (Err (fault.NotFree free)) reply accepted refused ok err is = absurd refused
-  serves-deposit_units account asset units (Err fault.CreditLimit) reply accepted refused ok err is = absurd refused
-  serves-deposit_units account asset units (Err (fault.InUse used)) reply accepted refused ok err is = absurd refused
-  serves-deposit_units account asset units (Err fault.Memory) reply accepted refused ok err is = absurd refused
+  -- a command that is refused so, and when it is accepted is done with these balances
+  record Says (c : Command) (Refuses : Option Refusal → Type 0) (changed : Balances) : Type 0 where
+    refuses : (first : Option Refusal) → Refuses first → FirstRefusal m c first
+    accepts : (reply : Reply) → gives (Plain Done) (record m { balances = changed }) (Plain reply) made → Accepts Rule m c (Plain reply) made
 
-  -- a withdrawal of money: what the orders of the account need is reserved
-  pub serves-withdraw_money : {T : Type 0} (account ticks : ℕ) (outcome : Result T AccountFault) (reply : Reply) → let reserved = needed_money m.orders account in
-      (IsOk outcome ↔ AcceptsMoneyWithdrawal m.balances account ticks reserved) → IfErr outcome (RefusesMoneyWithdrawal m.balances account ticks reserved)
-      → OnOk outcome (now ≡ change_money m.balances account (neg_ℤ (grains ticks))) → OnErr outcome (now ≡ m.balances) → Replies outcome reply
-      → Serves Rule m (WithdrawMoney account ticks) (Plain reply) made
-  serves-withdraw_money account ticks (Ok x) reply accepted refused ok err is =
-      let a = accepted.0 refl in
-      record {
-        first = None;
-        refused = inr (a.account_there, inr (λ zero. omega (arith, zero, a.not_zero), inr (λ over. omega (arith, ints, over, a.free), refl)));
-        answered = (ap Plain is, ap (λ b. record m { balances = b }) ok);
-      }
-  serves-withdraw_money account ticks (Err fault.NoAccount) reply accepted refused ok err is =
-      record { first = Some refusals.NoAccount; refused = inl (refused, refl); answered = (ap Plain is, ap (λ b. record m { balances = b }) err) }
-  serves-withdraw_money account ticks (Err fault.Zero) reply accepted refused ok err is =
-      record { first = Some refusals.ZeroAmount; refused = inr (refused.0, inl (refused.1, refl)); answered = (ap Plain is, ap (λ b. record m { balances = b }) err) }
-  serves-withdraw_money account ticks (Err (fault.NotFree free)) reply accepted refused ok err is =
-      record {
-        first = Some refusals.NotFree;
-        refused = inr (refused.0, inr (λ zero. omega (arith, zero, refused.1), inl (omega (arith, ints, refused.2, refused.3), refl)));
-        answered = (ap Plain is, ap (λ b. record m { balances = b }) err);
-      }
-  serves-withdraw_money account ticks (Err fault.NoAsset) reply accepted refused ok err is = absurd refused
-  serves-withdraw_money account ticks (Err fault.TotalLimit) reply accepted refused ok err is = absurd refused
-  serves-withdraw_money account ticks (Err fault.Full) reply accepted refused ok err is = absurd refused
-  serves-withdraw_money account ticks (Err fault.CreditLimit) reply accepted refused ok err is = absurd refused
-  serves-withdraw_money account ticks (Err (fault.InUse used)) reply accepted refused ok err is = absurd refused
-  serves-withdraw_money account ticks (Err fault.Memory) reply accepted refused ok err is = absurd refused
+  accepted_by : {c : Command} {Refuses : Option Refusal → Type 0} {changed : Balances} → Says c Refuses changed → (reply : Reply) → Refuses None → reply ≡ Done → now ≡ changed → Serves Rule m c (Plain reply) made
+  accepted_by says reply none is ok = record { first = None; refused = says.refuses None none; answered = says.accepts reply (ap Plain is, ap (λ b. record m { balances = b }) ok) }
 
-  pub serves-withdraw_units : {T : Type 0} (account asset units : ℕ) (outcome : Result T AccountFault) (reply : Reply) → let reserved = needed_units m.orders account asset in
-      (IsOk outcome ↔ AcceptsUnitWithdrawal m.balances account asset units reserved) → IfErr outcome (RefusesUnitWithdrawal m.balances account asset units reserved)
-      → OnOk outcome (now ≡ change_units m.balances account asset (neg_ℤ (pos units))) → OnErr outcome (now ≡ m.balances) → Replies outcome reply
-      → Serves Rule m (WithdrawAsset account asset units) (Plain reply) made
-  serves-withdraw_units account asset units (Ok x) reply accepted refused ok err is =
-      let a = accepted.0 refl in
-      record {
-        first = None;
-        refused = inr (a.account_there, inr (a.asset_there, inr (λ zero. omega (arith, zero, a.not_zero), inr (λ over. omega (arith, ints, over, a.free), refl))));
-        answered = (ap Plain is, ap (λ b. record m { balances = b }) ok);
-      }
-  serves-withdraw_units account asset units (Err fault.NoAccount) reply accepted refused ok err is =
-      record { first = Some refusals.NoAccount; refused = inl (refused, refl); answered = (ap Plain is, ap (λ b. record m { balances = b }) err) }
-  serves-withdraw_units account asset units (Err fault.NoAsset) reply accepted refused ok err is =
-      record { first = Some refusals.NoAsset; refused = inr (refused.0, inl (refused.1, refl)); answered = (ap Plain is, ap (λ b. record m { balances = b }) err) }
-  serves-withdraw_units account asset units (Err fault.Zero) reply accepted refused ok err is =
-      record { first = Some refusals.ZeroAmount; refused = inr (refused.0, inr (refused.1, inl (refused.2, refl))); answered = (ap Plain is, ap (λ b. record m { balances = b }) err) }
-  serves-withdraw_units account asset units (Err (fault.NotFree free)) reply accepted refused ok err is =
-      record {
-        first = Some refusals.NotFree;
-        refused = inr (refused.0, inr (refused.1, inr (λ zero. omega (arith, zero, refused.2), inl (omega (arith, ints, refused.3, refused.4), refl))));
-        answered = (ap Plain is, ap (λ b. record m { balances = b }) err);
-      }
-  serves-withdraw_units account asset units (Err fault.TotalLimit) reply accepted refused ok err is = absurd refused
-  serves-withdraw_units account asset units (Err fault.Full) reply accepted refused ok err is = absurd refused
-  serves-withdraw_units account asset units (Err fault.CreditLimit) reply accepted refused ok err is = absurd refused
-  serves-withdraw_units account asset units (Err (fault.InUse used)) reply accepted refused ok err is = absurd refused
-  serves-withdraw_units account asset units (Err fault.Memory) reply accepted refused ok err is = absurd refused
+  refused_by : {c : Command} {Refuses : Option Refusal → Type 0} {changed : Balances} → Says c Refuses changed → (reply : Reply) (refusal : Refusal) → Refuses (Some refusal) → reply ≡ Refused refusal → now ≡ m.balances → Serves Rule m c (Plain reply) made
+  refused_by says reply refusal first is err = record { first = Some refusal; refused = says.refuses (Some refusal) first; answered = (ap Plain is, ap (λ b. record m { balances = b }) err) }
 
-  -- a credit in money: what the orders of the account need is reserved
-  pub serves-set_money_credit : {T : Type 0} (account ticks : ℕ) (outcome : Result T AccountFault) (reply : Reply) → let reserved = needed_money m.orders account in
-      (IsOk outcome ↔ AcceptsMoneyCredit m.balances account ticks reserved) → IfErr outcome (RefusesMoneyCredit m.balances account ticks reserved)
-      → OnOk outcome (now ≡ set_money_credit m.balances account ticks) → OnErr outcome (now ≡ m.balances) → Replies outcome reply
-      → Serves Rule m (SetMoneyCredit account ticks) (Plain reply) made
-  serves-set_money_credit account ticks (Ok x) reply accepted refused ok err is =
-      let a = accepted.0 refl in
-      record {
-        first = None;
-        refused = inr (a.account_there, inr (λ above. omega (arith, above, a.within_limit), inr (λ short. omega (arith, ints, short, a.covers), refl)));
-        answered = (ap Plain is, ap (λ b. record m { balances = b }) ok);
-      }
-  serves-set_money_credit account ticks (Err fault.NoAccount) reply accepted refused ok err is =
-      record { first = Some refusals.NoAccount; refused = inl (refused, refl); answered = (ap Plain is, ap (λ b. record m { balances = b }) err) }
-  serves-set_money_credit account ticks (Err fault.CreditLimit) reply accepted refused ok err is =
-      record { first = Some refusals.CreditLimit; refused = inr (refused.0, inl (refused.1, refl)); answered = (ap Plain is, ap (λ b. record m { balances = b }) err) }
-  serves-set_money_credit account ticks (Err (fault.InUse used)) reply accepted refused ok err is =
-      record {
-        first = Some refusals.CreditInUse;
-        refused = inr (refused.0, inr (λ above. omega (arith, above, refused.1), inl (omega (arith, ints, refused.2, refused.3), refl)));
-        answered = (ap Plain is, ap (λ b. record m { balances = b }) err);
-      }
-  serves-set_money_credit account ticks (Err fault.NoAsset) reply accepted refused ok err is = absurd refused
-  serves-set_money_credit account ticks (Err fault.Zero) reply accepted refused ok err is = absurd refused
-  serves-set_money_credit account ticks (Err fault.TotalLimit) reply accepted refused ok err is = absurd refused
-  serves-set_money_credit account ticks (Err fault.Full) reply accepted refused ok err is = absurd refused
-  serves-set_money_credit account ticks (Err (fault.NotFree free)) reply accepted refused ok err is = absurd refused
-  serves-set_money_credit account ticks (Err fault.Memory) reply accepted refused ok err is = absurd refused
+  module _ (account : ℕ) where
+    says_deposit : (kind : Option ℕ) (count : ℕ) → Says (deposit account kind count) (DepositRefusal m account kind count) (change_balance m.balances account kind (value_of kind count))
+    says_deposit None count = record { refuses = λ first refusal. refusal; accepts = λ reply given. given }
+    says_deposit (Some asset) count = record { refuses = λ first refusal. refusal; accepts = λ reply given. given }
 
-  -- a credit in an asset: what the orders of the account need of it is reserved
-  pub serves-set_unit_credit : {T : Type 0} (account asset units : ℕ) (outcome : Result T AccountFault) (reply : Reply) → let reserved = needed_units m.orders account asset in
-      (IsOk outcome ↔ AcceptsUnitCredit m.balances account asset units reserved) → IfErr outcome (RefusesUnitCredit m.balances account asset units reserved)
-      → OnOk outcome (now ≡ set_unit_credit m.balances account asset units) → OnErr outcome (now ≡ m.balances) → Replies outcome reply
-      → Serves Rule m (SetUnitCredit account asset units) (Plain reply) made
-  serves-set_unit_credit account asset units (Ok x) reply accepted refused ok err is =
-      let a = accepted.0 refl in
-      record {
-        first = None;
-        refused = inr (a.account_there, inr (a.asset_there, inr (λ above. omega (arith, above, a.within_limit), inr (λ short. omega (arith, ints, short, a.covers), refl))));
-        answered = (ap Plain is, ap (λ b. record m { balances = b }) ok);
-      }
-  serves-set_unit_credit account asset units (Err fault.NoAccount) reply accepted refused ok err is =
-      record { first = Some refusals.NoAccount; refused = inl (refused, refl); answered = (ap Plain is, ap (λ b. record m { balances = b }) err) }
-  serves-set_unit_credit account asset units (Err fault.NoAsset) reply accepted refused ok err is =
-      record { first = Some refusals.NoAsset; refused = inr (refused.0, inl (refused.1, refl)); answered = (ap Plain is, ap (λ b. record m { balances = b }) err) }
-  serves-set_unit_credit account asset units (Err fault.CreditLimit) reply accepted refused ok err is =
-      record { first = Some refusals.CreditLimit; refused = inr (refused.0, inr (refused.1, inl (refused.2, refl))); answered = (ap Plain is, ap (λ b. record m { balances = b }) err) }
-  serves-set_unit_credit account asset units (Err (fault.InUse used)) reply accepted refused ok err is =
-      record {
-        first = Some refusals.CreditInUse;
-        refused = inr (refused.0, inr (refused.1, inr (λ above. omega (arith, above, refused.2), inl (omega (arith, ints, refused.3, refused.4), refl))));
-        answered = (ap Plain is, ap (λ b. record m { balances = b }) err);
-      }
-  serves-set_unit_credit account asset units (Err fault.Zero) reply accepted refused ok err is = absurd refused
-  serves-set_unit_credit account asset units (Err fault.TotalLimit) reply accepted refused ok err is = absurd refused
-  serves-set_unit_credit account asset units (Err fault.Full) reply accepted refused ok err is = absurd refused
-  serves-set_unit_credit account asset units (Err (fault.NotFree free)) reply accepted refused ok err is = absurd refused
-  serves-set_unit_credit account asset units (Err fault.Memory) reply accepted refused ok err is = absurd refused
+    says_withdrawal : (kind : Option ℕ) (count : ℕ) → Says (withdrawal account kind count) (WithdrawalRefusal m account kind count) (change_balance m.balances account kind (neg_ℤ (value_of kind count)))
+    says_withdrawal None count = record { refuses = λ first refusal. refusal; accepts = λ reply given. given }
+    says_withdrawal (Some asset) count = record { refuses = λ first refusal. refusal; accepts = λ reply given. given }
+
+    says_credit : (kind : Option ℕ) (count : ℕ) → Says (credit account kind count) (CreditRefusal m account kind count) (set_credit m.balances account kind count)
+    says_credit None count = record { refuses = λ first refusal. refusal; accepts = λ reply given. given }
+    says_credit (Some asset) count = record { refuses = λ first refusal. refusal; accepts = λ reply given. given }
+
+    pub serves-deposit : {T : Type 0} (kind : Option ℕ) (count : ℕ) (outcome : Result T AccountFault) (reply : Reply)
+        → IsServed (deposit account kind count) (AcceptsDeposit m.balances account kind count) (RefusesDeposit m.balances account kind count) (change_balance m.balances account kind (value_of kind count)) outcome reply
+    serves-deposit kind count (Ok x) reply accepted refused ok err is =
+        let a = accepted.0 refl in
+        accepted_by (says_deposit kind count) reply (inr (a.account_there, inr (a.kind_there, inr (λ zero. omega (arith, zero, a.not_zero), inr (λ over. omega (arith, ints, over, a.within_limit), refl))))) is ok
+    serves-deposit kind count (Err fault.NoAccount) reply accepted refused ok err is = refused_by (says_deposit kind count) reply refusals.NoAccount (inl (refused, refl)) is err
+    serves-deposit kind count (Err fault.NoAsset) reply accepted refused ok err is = refused_by (says_deposit kind count) reply refusals.NoAsset (inr (refused.0, inl (refused.1, refl))) is err
+    serves-deposit kind count (Err fault.Zero) reply accepted refused ok err is = refused_by (says_deposit kind count) reply refusals.ZeroAmount (inr (refused.0, inr (refused.1, inl (refused.2, refl)))) is err
+    serves-deposit kind count (Err fault.TotalLimit) reply accepted refused ok err is =
+        refused_by (says_deposit kind count) reply refusals.TotalLimit (inr (refused.0, inr (refused.1, inr (λ zero. omega (arith, zero, refused.2), inl (refused.3, refl))))) is err
+    serves-deposit kind count (Err fault.Full) reply accepted refused ok err is = absurd refused
+    serves-deposit kind count (Err (fault.NotFree free)) reply accepted refused ok err is = absurd refused
+    serves-deposit kind count (Err fault.CreditLimit) reply accepted refused ok err is = absurd refused
+    serves-deposit kind count (Err (fault.InUse used)) reply accepted refused ok err is = absurd refused
+    serves-deposit kind count (Err fault.Memory) reply accepted refused ok err is = absurd refused
+
+    -- a withdrawal: what the orders of the account need is reserved
+    pub serves-withdrawal : {T : Type 0} (kind : Option ℕ) (count : ℕ) (outcome : Result T AccountFault) (reply : Reply) → let reserved = needed m.orders account kind in
+        IsServed (withdrawal account kind count) (AcceptsWithdrawal m.balances account kind count reserved) (RefusesWithdrawal m.balances account kind count reserved) (change_balance m.balances account kind (neg_ℤ (value_of kind count))) outcome reply
+    serves-withdrawal kind count (Ok x) reply accepted refused ok err is =
+        let a = accepted.0 refl in
+        accepted_by (says_withdrawal kind count) reply (inr (a.account_there, inr (a.kind_there, inr (λ zero. omega (arith, zero, a.not_zero), inr (λ over. omega (arith, ints, over, a.free), refl))))) is ok
+    serves-withdrawal kind count (Err fault.NoAccount) reply accepted refused ok err is = refused_by (says_withdrawal kind count) reply refusals.NoAccount (inl (refused, refl)) is err
+    serves-withdrawal kind count (Err fault.NoAsset) reply accepted refused ok err is = refused_by (says_withdrawal kind count) reply refusals.NoAsset (inr (refused.0, inl (refused.1, refl))) is err
+    serves-withdrawal kind count (Err fault.Zero) reply accepted refused ok err is = refused_by (says_withdrawal kind count) reply refusals.ZeroAmount (inr (refused.0, inr (refused.1, inl (refused.2, refl)))) is err
+    serves-withdrawal kind count (Err (fault.NotFree free)) reply accepted refused ok err is =
+        refused_by (says_withdrawal kind count) reply refusals.NotFree
+        (inr (refused.0, inr (refused.1, inr (λ zero. omega (arith, zero, refused.2), inl (omega (arith, ints, refused.3, refused.4), refl))))) is err
+    serves-withdrawal kind count (Err fault.TotalLimit) reply accepted refused ok err is = absurd refused
+    serves-withdrawal kind count (Err fault.Full) reply accepted refused ok err is = absurd refused
+    serves-withdrawal kind count (Err fault.CreditLimit) reply accepted refused ok err is = absurd refused
+    serves-withdrawal kind count (Err (fault.InUse used)) reply accepted refused ok err is = absurd refused
+    serves-withdrawal kind count (Err fault.Memory) reply accepted refused ok err is = absurd refused
+
+    -- a credit: what the orders of the account need is reserved
+    pub serves-credit : {T : Type 0} (kind : Option ℕ) (count : ℕ) (outcome : Result T AccountFault) (reply : Reply) → let reserved = needed m.orders account kind in
+        IsServed (credit account kind count) (AcceptsCredit m.balances account kind count reserved) (RefusesCredit m.balances account kind count reserved) (set_credit m.balances account kind count) outcome reply
+    serves-credit kind count (Ok x) reply accepted refused ok err is =
+        let a = accepted.0 refl in
+        accepted_by (says_credit kind count) reply (inr (a.account_there, inr (a.kind_there, inr (λ above. omega (arith, above, a.within_limit), inr (λ short. omega (arith, ints, short, a.covers), refl))))) is ok
+    serves-credit kind count (Err fault.NoAccount) reply accepted refused ok err is = refused_by (says_credit kind count) reply refusals.NoAccount (inl (refused, refl)) is err
+    serves-credit kind count (Err fault.NoAsset) reply accepted refused ok err is = refused_by (says_credit kind count) reply refusals.NoAsset (inr (refused.0, inl (refused.1, refl))) is err
+    serves-credit kind count (Err fault.CreditLimit) reply accepted refused ok err is = refused_by (says_credit kind count) reply refusals.CreditLimit (inr (refused.0, inr (refused.1, inl (refused.2, refl)))) is err
+    serves-credit kind count (Err (fault.InUse used)) reply accepted refused ok err is =
+        refused_by (says_credit kind count) reply refusals.CreditInUse
+        (inr (refused.0, inr (refused.1, inr (λ above. omega (arith, above, refused.2), inl (omega (arith, ints, refused.3, refused.4), refl))))) is err
+    serves-credit kind count (Err fault.Zero) reply accepted refused ok err is = absurd refused
+    serves-credit kind count (Err fault.TotalLimit) reply accepted refused ok err is = absurd refused
+    serves-credit kind count (Err fault.Full) reply accepted refused ok err is = absurd refused
+    serves-credit kind count (Err (fault.NotFree free)) reply accepted refused ok err is = absurd refused
+    serves-credit kind count (Err fault.Memory) reply accepted refused ok err is = absurd refused

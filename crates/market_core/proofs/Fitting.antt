@@ -1,5 +1,5 @@
 -- A consistent market meets the preconditions of its accounts' calls, and stays consistent.
-use Rattle.std.proofs.Common.{ℕ, ◌^◌, ◌≤◌, pos, ⊎_elim, arith}
+use Rattle.std.proofs.Common.{ℕ, ◌^◌, ◌≤◌, pos, ⊎_elim, arith, Some, None}
 use Rattle.std.specs.Prelude.{slice_index_or, unsigned_abs, ◌≤ℤ◌, ◌+ℤ◌}
 use Rattle.std.proofs.lemmas.Int.{ints}
 use Rattle.std.proofs.lemmas.Bool.{cases_lt}
@@ -26,7 +26,7 @@ none_held : (m : Market) → IsConsistent m → (asset : ℕ) → asset_count m.
 none_held m consistent asset past =
     let none = int_sum_by-zeros (λ (a : Account). units_in a asset) m.balances.accounts
     (λ k d inside. let count = consistent.one_each.accounts k d inside in get_or_past (slice_index_or m.balances.accounts k d).units asset (pos 0) (omega (arith, past, count))) in
-    let total = get_or_past m.balances.total_units asset (pos 0) past in
+    let total = get_or_past m.balances.totals.units asset (pos 0) past in
     omega (arith, ints, none, total)
 
 -- all accounts together hold little more than the totals
@@ -34,12 +34,12 @@ pub consistent_is_near : (m : Market) → IsConsistent m → SumsAreNearTotals m
 consistent_is_near m consistent = record {
   money =
       let exchange : unsigned_abs m.exchange.money ≤ 2 ^ 123 = omega (arith, consistent.widths.exchange_money, consistent.few_batches) in
-      omega (arith, ints, consistent.totals.money, exchange);
+      omega (arith, ints, consistent.totals None tt, exchange);
   units = λ asset. ⊎_elim
       (λ there.
       let most = consistent.widths.exchange_units asset (pos 0) (omega (arith, there, consistent.one_each.exchange)) in
       let small : unsigned_abs (units_in m.exchange asset) ≤ 2 ^ 55 = omega (arith, most, consistent.few_batches) in
-      omega (arith, ints, consistent.totals.units asset there, small))
+      omega (arith, ints, consistent.totals (Some asset) there, small))
       (λ past. none_held m consistent asset past)
       (cases_lt asset (asset_count m.balances));
 }

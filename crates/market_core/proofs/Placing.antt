@@ -17,7 +17,8 @@ use Rattle.demand_curve.specs.Numbers.{or_zero}
 use Rattle.flow_orders.specs.Orders.{Order, most_orders, price_of_ticks, sold}
 use Rattle.flow_orders.specs.Outcomes.{BatchRule}
 use Rattle.order_book.specs.Book.{Book, HasOrder, without}
-use Rattle.market_rules.specs.Market.{Market, IsConsistent, usable_money, usable_units}
+use Rattle.market_rules.specs.Market.{Market, IsConsistent, usable_balance}
+use Rattle.market_rules.proofs.ByKind.{affords}
 use Rattle.market_rules.specs.Step.{◌unless◌else◌, FirstRefusal, RefusesRow, Serves, placed, IsAffordable}
 use Rattle.market_core.specs.Private.{cancel_reply, RefusesNumbers, HasRightNumbers, no_other, IsFreeFor}
 use Rattle.market_rules.proofs.Accepted.{past_when, past_unless, not_least}
@@ -58,12 +59,12 @@ negative_is_not_none n is = omega (arith, ints, is)
 
 -- the units that each leg sells are free exactly if those of each asset are
 pub free_by_entries : (m : Market) (account cap : ℕ) (row : List Entry) → IsWeightVector row → All (λ e. IsAsset m.balances e.asset) row
-    → ((asset : ℕ) → IsAsset m.balances asset → pos 0 ≤ℤ usable_units m account asset)
-    → All (λ e. pos (sold e.weight * cap) ≤ℤ usable_units m account e.asset) row
-    → (asset : ℕ) → IsAsset m.balances asset → pos (sold (weight_in row asset) * cap) ≤ℤ usable_units m account asset
+    → ((asset : ℕ) → IsAsset m.balances asset → pos 0 ≤ℤ usable_balance m account (Some asset))
+    → All (λ e. pos (sold e.weight * cap) ≤ℤ usable_balance m account (Some e.asset)) row
+    → (asset : ℕ) → IsAsset m.balances asset → pos (sold (weight_in row asset) * cap) ≤ℤ usable_balance m account (Some asset)
 free_by_entries m account cap row lawful assets some each asset there = by_weight (weight_in row asset) refl
   where
-    by_weight : (w : ℤ) → weight_in row asset ≡ w → pos (sold w * cap) ≤ℤ usable_units m account asset
+    by_weight : (w : ℤ) → weight_in row asset ≡ w → pos (sold w * cap) ≤ℤ usable_balance m account (Some asset)
     by_weight (pos n) is = omega (arith, ints, some asset there)
     by_weight (negsuc n) is =
         let named = (named_assets_weigh row asset lawful).0 (λ none. absurd (negative_is_not_none n (sym is ∙ none))) in
@@ -72,40 +73,44 @@ free_by_entries m account cap row lawful assets some each asset there = by_weigh
         let is_asset : (slice_index_or row named.0 d).asset ≡ asset = sym (asset_at row named.0 d asset inside) ∙ named.2 in
         let here = each named.0 d inside in
         let weight : (slice_index_or row named.0 d).weight ≡ negsuc n = sym (entries_give_weights row lawful named.0 d inside) ∙ ap (weight_in row) is_asset ∙ is in
-        subst (λ a. pos (sold (negsuc n) * cap) ≤ℤ usable_units m account a) is_asset
-        (subst (λ w. pos (sold w * cap) ≤ℤ usable_units m account (slice_index_or row named.0 d).asset) weight here)
+        subst (λ a. pos (sold (negsuc n) * cap) ≤ℤ usable_balance m account (Some a)) is_asset
+        (subst (λ w. pos (sold w * cap) ≤ℤ usable_balance m account (Some (slice_index_or row named.0 d).asset)) weight here)
 
 pub entries_are_free : (m : Market) (account cap : ℕ) (row : List Entry) → IsWeightVector row → All (λ e. IsAsset m.balances e.asset) row
-    → ((asset : ℕ) → IsAsset m.balances asset → pos (sold (weight_in row asset) * cap) ≤ℤ usable_units m account asset)
-    → All (λ e. pos (sold e.weight * cap) ≤ℤ usable_units m account e.asset) row
+    → ((asset : ℕ) → IsAsset m.balances asset → pos (sold (weight_in row asset) * cap) ≤ℤ usable_balance m account (Some asset))
+    → All (λ e. pos (sold e.weight * cap) ≤ℤ usable_balance m account (Some e.asset)) row
 entries_are_free m account cap row lawful assets free k d inside =
-    subst (λ w. pos (sold w * cap) ≤ℤ usable_units m account (slice_index_or row k d).asset) (entries_give_weights row lawful k d inside)
+    subst (λ w. pos (sold w * cap) ≤ℤ usable_balance m account (Some (slice_index_or row k d).asset)) (entries_give_weights row lawful k d inside)
     (free (slice_index_or row k d).asset (assets k d inside))
 
 -- what an order needs is free exactly if its money and the units of each leg are
 pub affordable_is : (m : Market) (r : Request) (free : Bool) → IsConsistent m → IsAccount m.balances r.account → IsWeightVector r.row → All (λ e. IsAsset m.balances e.asset) r.row
-    → pos (or_zero (price_of_ticks r.high) * r.cap) ≤ℤ usable_money m r.account
-    → (IsTrue free ↔ All (λ e. pos (sold e.weight * r.cap) ≤ℤ usable_units m r.account e.asset) r.row)
+    → pos (or_zero (price_of_ticks r.high) * r.cap) ≤ℤ usable_balance m r.account None
+    → (IsTrue free ↔ All (λ e. pos (sold e.weight * r.cap) ≤ℤ usable_balance m r.account (Some e.asset)) r.row)
     → (IsTrue free ↔ IsFreeFor m r)
 affordable_is m r free consistent account lawful assets money is =
     let whole : r.cap ≡ r.cap - 0 = omega arith in
-    let some : (asset : ℕ) → IsAsset m.balances asset → pos 0 ≤ℤ usable_units m r.account asset =
-    λ asset there. omega (arith, ints, consistent.covered.units r.account asset account there) in (
-      λ yes. record {
-        money = subst (λ n. pos (or_zero (price_of_ticks r.high) * n) ≤ℤ usable_money m r.account) whole money;
-        units = λ asset there. subst (λ n. pos (sold (weight_in r.row asset) * n) ≤ℤ usable_units m r.account asset) whole
-            (free_by_entries m r.account r.cap r.row lawful assets some (is.0 yes) asset there);
-      },
+    let some : (asset : ℕ) → IsAsset m.balances asset → pos 0 ≤ℤ usable_balance m r.account (Some asset) =
+    λ asset there. omega (arith, ints, consistent.covered r.account (Some asset) account there) in (
+      λ yes. affords m (placed m None r) (subst (λ n. pos (or_zero (price_of_ticks r.high) * n) ≤ℤ usable_balance m r.account None) whole money)
+          (λ asset there. subst (λ n. pos (sold (weight_in r.row asset) * n) ≤ℤ usable_balance m r.account (Some asset)) whole
+          (free_by_entries m r.account r.cap r.row lawful assets some (is.0 yes) asset there)),
       λ affordable. is.1 (entries_are_free m r.account r.cap r.row lawful assets
-          (λ asset there. subst (λ n. pos (sold (weight_in r.row asset) * n) ≤ℤ usable_units m r.account asset) (sym whole) (affordable.units asset there))),
+          (λ asset there. subst (λ n. pos (sold (weight_in r.row asset) * n) ≤ℤ usable_balance m r.account (Some asset)) (sym whole) (affordable (Some asset) there))),
     )
+
+-- the money that it needs is free then
+pub free_money_is : (m : Market) (r : Request) → IsFreeFor m r → pos (or_zero (price_of_ticks r.high) * r.cap) ≤ℤ usable_balance m r.account None
+free_money_is m r free =
+    let whole : r.cap ≡ r.cap - 0 = omega arith in
+    subst (λ n. pos (or_zero (price_of_ticks r.high) * n) ≤ℤ usable_balance m r.account None) (sym whole) (free None tt)
 
 -- what is free for an order without a last batch is free for one with any last batch
 pub free_until : (m : Market) (last : Option ℕ) (r : Request) → IsFreeFor m r → IsAffordable m (placed m last r)
-free_until m last r free = record { money = free.money; units = free.units }
+free_until m last r free = affords m (placed m last r) (free None tt) (λ asset there. free (Some asset) there)
 
 pub free_from : (m : Market) (last : Option ℕ) (r : Request) → IsAffordable m (placed m last r) → IsFreeFor m r
-free_from m last r free = record { money = free.money; units = free.units }
+free_from m last r free = affords m (placed m None r) (free None tt) (λ asset there. free (Some asset) there)
 
 -- ---- refusals in parts
 

@@ -7,7 +7,7 @@ ghost use Rattle.flow_orders.specs.Orders.{AreLimits, IsFrom1To, most_cap, price
 ghost use Rattle.wire_records.specs.Commands.{Place, CancelOrder, Plain};
 ghost use Rattle.wire_records.specs.Versions.{IsOfVersion};
 ghost use Rattle.wire_records.specs.CommandRecords.{IsCommand};
-ghost use Rattle.market_rules.specs.Market.{IsConsistent, usable_money, usable_units};
+ghost use Rattle.market_rules.specs.Market.{IsConsistent, usable_balance};
 ghost use Rattle.market_rules.specs.Step.{FirstRefusal, RefusesRow, placed, ServesPlain};
 ghost use Rattle.market_rules.specs.Allocating.{MayAllocate};
 ghost use Rattle.market_core.specs.Private.{cancel_reply, RefusesNumbers, HasRightNumbers, no_other, IsFreeFor};
@@ -187,7 +187,7 @@ impl Market {
         requires account { IsAccount self.now.balances place.now.account }
         requires limits { AreLimits place.now.low place.now.high }
         requires cap { IsFrom1To most_cap place.now.cap }
-        ensures value { IsTrue result ↔ (pos (or_zero (price_of_ticks place.now.high) * place.now.cap) ≤ℤ usable_money self.now place.now.account) }
+        ensures value { IsTrue result ↔ (pos (or_zero (price_of_ticks place.now.high) * place.now.cap) ≤ℤ usable_balance self.now place.now.account None) }
         ensures consistent { IsConsistent self.now }
     {
         money_need(place.high(), place.cap()) <= self.usable_money(place.account())
@@ -199,7 +199,7 @@ impl Market {
         requires cap { cap ≤ most_cap }
         requires row { IsWeightVector row.now }
         requires assets { All (λ e. IsAsset self.now.balances e.asset) row.now }
-        ensures { IsTrue result ↔ All (λ e. pos (sold e.weight * cap) ≤ℤ usable_units self.now account e.asset) row.now }
+        ensures { IsTrue result ↔ All (λ e. pos (sold e.weight * cap) ≤ℤ usable_balance self.now account (Some e.asset)) row.now }
     {
         let mut place = 0;
         while let Some(entry) = row.entry(place) {
@@ -217,7 +217,7 @@ impl Market {
         requires cap { cap ≤ most_cap }
         requires weight { IsLawfulWeight entry.weight }
         requires asset { IsAsset self.now.balances entry.asset }
-        ensures { IsTrue result ↔ (pos (sold entry.weight * cap) ≤ℤ usable_units self.now account entry.asset) }
+        ensures { IsTrue result ↔ (pos (sold entry.weight * cap) ≤ℤ usable_balance self.now account (Some entry.asset)) }
     {
         i128::from(unit_need(entry.weight, cap)) <= self.usable_units(account, entry.asset)
     }
@@ -226,7 +226,7 @@ impl Market {
     // need.
     fn usable_money(&self, account: u32) -> i128
         requires { IsAccount self.now.balances account }
-        ensures value { result ≡ usable_money self.now account }
+        ensures value { result ≡ usable_balance self.now account None }
         ensures consistent { IsConsistent self.now }
     {
         self.money_with_credit(account) - self.book.money_needed(account)
@@ -247,7 +247,7 @@ impl Market {
     fn usable_units(&self, account: u32, asset: u16) -> i128
         requires account { IsAccount self.now.balances account }
         requires asset { IsAsset self.now.balances asset }
-        ensures { result ≡ usable_units self.now account asset }
+        ensures { result ≡ usable_balance self.now account (Some asset) }
     {
         self.units_with_credit(account, asset) - self.book.units_needed(account, asset)
     }

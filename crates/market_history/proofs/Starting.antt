@@ -1,22 +1,19 @@
 -- What bytes begin with, by their first eight and by what was read.
-use Rattle.std.proofs.Common.{◌≡◌, ◌+◌, ◌-◌, ◌<◌, ◌≤◌, ℕ, List, [], ◌++◌, Option, Some, None, Result, Ok, Err, IfOk, IfErr, IfSome, length, map, take, drop, append-nil, append_assoc, length-append, refl, sym, ap, ◌∙◌, subst, arith}
-use Rattle.std.specs.List.{flat_map}
+use Rattle.std.proofs.Common.{◌≡◌, ◌+◌, ◌-◌, ◌<◌, ◌≤◌, ℕ, List, [], ◌++◌, Option, Some, None, Result, Ok, Err, IfOk, IfErr, IfSome, length, take, drop, append-nil, append_assoc, length-append, refl, sym, ap, ◌∙◌, subst, arith}
 use Rattle.std.proofs.lemmas.List.{take-append-drop, take-append-le, take_at, drop_at, length-take}
 use Rattle.flow_io.specs.Streams.{Takes}
 use Rattle.flow_io.specs.Windows.{WindowState, IsPast, IsWithin, Fills, empty_window}
 use Rattle.flow_io.specs.declared.window.InputEnd.{InputEnd}
 use Rattle.flow_io.specs.declared.window.InputEnd.TheVariants.{Source, Limit}
 use Rattle.flow_io.proofs.Reading.{Takes-more}
-use Rattle.wire_fields.specs.Numbers.{unsigned}
 use Rattle.wire_records.specs.Grammars.{BeginsWith, BeginsWithNone}
-use Rattle.wire_records.specs.Versions.{number_of}
 use Rattle.wire_records.specs.declared.version.Version.{Version}
 use Rattle.file_units.specs.Inputs.{known}
 use Rattle.file_units.proofs.Gone.{considered, within_limit}
 use Rattle.journal_records.specs.Formats.{journals, journal_magic_of}
 use Rattle.journal_records.proofs.Files.{eight}
 use Rattle.market_rules.specs.Market.{Market, empty_market}
-use Rattle.market_snapshot.specs.Checkpoints.{checkpoint_magic, checkpoint_bytes, parts_spelling, tickers_spelling, accounts_spelling, totals_spelling, exchange_spelling, batches_spelling, orders_spelling, read_order, IsCheckpoint, HasCheckpointMagic, BeginsWithNoCheckpoint}
+use Rattle.market_snapshot.specs.Checkpoints.{checkpoint_magic, checkpoint_bytes, IsCheckpoint, HasCheckpointMagic, BeginsWithNoCheckpoint}
 use Rattle.market_history.specs.declared.start.StartFault.{StartFault}
 use Rattle.market_history.specs.declared.start.StartFault.TheVariants.{Read, Memory, NotFlow, NoCheckpoint}
 use Rattle.market_history.specs.Histories.{Start, Empty, Kept, starts, BeginsUnsound, BeginsOtherwise}
@@ -26,11 +23,8 @@ use Rattle.market_history.proofs.Taking.{known_behind, considered_behind}
 
 -- a checkpoint begins with its magic
 pub made_magic : (market : Market) → (rest : List ℕ) × (checkpoint_bytes market ≡ checkpoint_magic ++ rest)
-unfolding checkpoint_bytes parts_spelling tickers_spelling
-made_magic market =
-    let mid = unsigned 1 (number_of market.version) ++ (unsigned 2 (length market.tickers) ++ flat_map (λ t. t) market.tickers) in
-    let more = accounts_spelling market.balances ++ (totals_spelling market.balances ++ (exchange_spelling market.exchange ++ (batches_spelling market.next_order market.batches market.last_prices ++ orders_spelling (map read_order market.orders)))) in
-    (mid ++ more, append_assoc checkpoint_magic mid more)
+unfolding checkpoint_bytes
+made_magic market = (_, refl)
 
 pub kept_magic : (market : Market) (bytes rest : List ℕ) → bytes ≡ checkpoint_bytes market ++ rest → HasCheckpointMagic bytes
 kept_magic market bytes rest e = let made = made_magic market in (made.0 ++ rest, e ∙ ap (λ xs. xs ++ rest) made.1 ∙ append_assoc checkpoint_magic made.0 rest)

@@ -4,8 +4,9 @@ use Rattle.std.specs.Prelude.{◌<◌, neg_ℤ, IfSome}
 use Rattle.std.proofs.lemmas.Int.{ints}
 use Rattle.std.proofs.lemmas.List.Elements.{All-nil}
 use Rattle.ticker_table.specs.Tickers.{IsTicker}
-use Rattle.flow_accounts.specs.Balances.{grains, money_of, units_of, money_credit_of, money_with_credit, total_units_of}
-use Rattle.flow_accounts.specs.Lawful.{unit_limit, most_credit}
+use Rattle.flow_accounts.specs.Balances.{grains, money_of, units_of, money_credit_of, money_with_credit, total_of, no_balances}
+use Rattle.flow_accounts.specs.Lawful.{most_credit}
+use Rattle.market_rules.proofs.ByKind.{holds_totals, within_limits}
 use Rattle.flow_orders.specs.Orders.{needed_money, needed_units}
 use Rattle.flow_orders.specs.Outcomes.{IsAdmissibleOutcome, Outcome}
 use Rattle.wire_records.specs.Commands.{Request, Command, AddAsset, OpenAccount, DepositMoney, DepositAsset, WithdrawMoney, WithdrawAsset, Place, CancelOrder, RunBatch, SetMoneyCredit, SetUnitCredit, Answer, Pair}
@@ -39,9 +40,9 @@ consistent-accepted m OpenAccount a n of consistent none accepts =
     subst IsConsistent (sym accepts.1) (consistent-opened m consistent (not_least 65536 (length m.balances.accounts) one.0))
 consistent-accepted m (DepositMoney account ticks) a n of consistent none accepts =
     let one = past_unless none in
-    let two = past_when one.1 in
+    let two = past_when (past_unless one.1).1 in
     let three = past_when two.1 in
-    subst IsConsistent (sym accepts.1) (consistent-money m account (grains ticks) consistent one.0 (more (needed_money m.orders account) (money_with_credit m.balances account) (2 ^ 32 * ticks) (consistent.covered.money account one.0)) (not_below _ _ three.0))
+    subst IsConsistent (sym accepts.1) (consistent-money m account (grains ticks) consistent one.0 (more (needed_money m.orders account) (money_with_credit m.balances account) (2 ^ 32 * ticks) (consistent.covered account None one.0 tt)) (not_below _ _ three.0))
   where
     more : (x y : ℤ) (n : ℕ) → x ≤ℤ y → x ≤ℤ (y +ℤ pos n)
     more x y n below = omega (arith, ints, below)
@@ -50,14 +51,14 @@ consistent-accepted m (DepositAsset account asset units) a n of consistent none 
     let two = past_unless one.1 in
     let three = past_when two.1 in
     let four = past_when three.1 in
-    subst IsConsistent (sym accepts.1) (consistent-units m account asset (pos units) consistent one.0 two.0 (omega (arith, ints, consistent.covered.units account asset one.0 two.0)) (not_below _ _ four.0))
+    subst IsConsistent (sym accepts.1) (consistent-units m account asset (pos units) consistent one.0 two.0 (omega (arith, ints, consistent.covered account (Some asset) one.0 two.0)) (not_below _ _ four.0))
 consistent-accepted m (WithdrawMoney account ticks) a n of consistent none accepts =
     let one = past_unless none in
-    let two = past_when one.1 in
+    let two = past_when (past_unless one.1).1 in
     let three = past_when two.1 in
     subst IsConsistent (sym accepts.1) (consistent-money m account (neg_ℤ (grains ticks)) consistent one.0
     (less (needed_money m.orders account) (money_of m.balances account) (2 ^ 32 * ticks) (money_credit_of m.balances account) (not_below _ _ three.0))
-    (fewer m.balances.total_money (2 ^ 32 * ticks) _ consistent.widths.total_money))
+    (fewer (total_of m.balances None) (2 ^ 32 * ticks) _ (consistent.widths.totals None tt)))
   where
     less : (x y : ℤ) (n credit : ℕ) → pos n ≤ℤ (y -ℤ x) → x ≤ℤ (y +ℤ grains credit +ℤ neg_ℤ (pos n))
     less x y n credit free = omega (arith, ints, free)
@@ -70,7 +71,7 @@ consistent-accepted m (WithdrawAsset account asset units) a n of consistent none
     let three = past_when two.1 in
     let four = past_when three.1 in
     let free : pos units ≤ℤ (units_of m.balances account asset -ℤ needed_units m.orders account asset) = not_below _ _ four.0 in
-    let limit : total_units_of m.balances asset ≤ℤ unit_limit = consistent.widths.total_units asset (pos 0) two.0 in
+    let limit = consistent.widths.totals (Some asset) two.0 in
     subst IsConsistent (sym accepts.1) (consistent-units m account asset (neg_ℤ (pos units)) consistent one.0 two.0 (omega (arith, ints, free)) (omega (arith, ints, limit)))
 consistent-accepted m (CancelOrder account number) a n of consistent none accepts = subst IsConsistent (sym accepts.1) (consistent-without m number consistent)
 consistent-accepted m (RunBatch budget) a n of consistent none accepts =
@@ -91,7 +92,7 @@ consistent-accepted m (Place last r) a n of consistent none accepts =
     (in_time m last r of time.0))
 consistent-accepted m (SetMoneyCredit account ticks) a n of consistent none accepts =
     let one = past_unless none in
-    let two = past_when one.1 in
+    let two = past_when (past_unless one.1).1 in
     let three = past_when two.1 in
     let version = not_one m.version (omega (arith, of.1)) in
     let covers : pos 0 ≤ℤ (money_of m.balances account -ℤ needed_money m.orders account +ℤ grains ticks) = not_below _ _ three.0 in
@@ -120,10 +121,10 @@ consistent-empty version = record {
   tickers = record { valid = All-nil IsTicker; distinct = λ i j d below inside. absurd (omega (arith, inside)); few = omega arith };
   live = λ k d inside. absurd (omega (arith, inside));
   ascending = λ i j d below inside. absurd (omega (arith, inside));
-  covered = record { money = λ account there. absurd (omega (arith, there.0, there.1)); units = λ account asset there is_asset. absurd (omega (arith, there.0, there.1)) };
+  covered = λ account kind there is_kind. absurd (omega (arith, there.0, there.1));
   credit = record { lawful = λ k d inside. absurd (omega (arith, inside)); none = λ one k d inside. absurd (omega (arith, inside)) };
-  totals = record { money = refl; units = λ asset is_asset. absurd (omega (arith, is_asset)) };
-  widths = record { total_money = omega (arith, ints); total_units = λ k d inside. absurd (omega (arith, inside)); exchange_money = omega arith; exchange_units = λ k d inside. absurd (omega (arith, inside)) };
+  totals = holds_totals (empty_market version) refl (λ asset is_asset. absurd (omega (arith, is_asset)));
+  widths = record { totals = within_limits no_balances (omega (arith, ints)) (λ asset is_asset. absurd (omega (arith, is_asset))); exchange_money = omega arith; exchange_units = λ k d inside. absurd (omega (arith, inside)) };
   prices = λ k d inside. absurd (omega (arith, inside));
   few_accounts = omega arith;
   few_orders = omega arith;

@@ -1,5 +1,5 @@
 -- A batch with an admissible outcome keeps a market consistent.
-use Rattle.std.proofs.Common.{◌≡◌, ◌≢◌, ℕ, ◌+◌, ◌*◌, ◌^◌, ◌≤◌, ◌<◌, ℤ, pos, ◌+ℤ◌, ◌-ℤ◌, List, length, map, refl, ap, sym, subst, ◌∙◌, arith}
+use Rattle.std.proofs.Common.{◌≡◌, ◌≢◌, ℕ, ◌+◌, ◌*◌, ◌^◌, ◌≤◌, ◌<◌, ℤ, pos, ◌+ℤ◌, ◌-ℤ◌, List, length, map, refl, ap, sym, subst, ◌∙◌, arith, Some, None}
 use Rattle.std.specs.Prelude.{All, slice_index_or, unsigned_abs, not, ◌==◌}
 use Rattle.std.specs.List.{range_with_len}
 use Rattle.std.proofs.lemmas.Int.{ints}
@@ -23,6 +23,7 @@ use Rattle.fill_caps.proofs.Totals.{money_kept, units_kept}
 use Rattle.flow_orders.proofs.Moved.{exchange_units_move, exchange_money_moves}
 use Rattle.fill_caps.proofs.Settled.{staying_are_live, numbers_ascend}
 use Rattle.fill_caps.proofs.SettledBalances.{settles, settled_units_count, exchange_units_count}
+use Rattle.market_rules.proofs.ByKind.{holds_totals, within_limits}
 use Rattle.market_rules.proofs.ConsistentBalances.{live_still}
 use Rattle.market_rules.proofs.ConsistentOrders.{filter_few}
 use Rattle.market_rules.proofs.OwnNeeds.{needs-filter}
@@ -153,13 +154,10 @@ module _ (m : Market) (c : Clearing) (ts : List Trade) (is : trades_of m.orders 
     ascending = AllPairs-filter (λ (x : Order) (y : Order). x.number < y.number) (λ (o : Order). not (o.last == m.batches + 1)) (staying ts) (numbers_ascend ts (rw orders_before consistent.ascending));
     covered = needs-filter new (λ (o : Order). not (o.last == m.batches + 1)) (staying ts) (needs_kept_by_batch c.prices ts m.balances new m.exchange exchange settling allowed (rw orders_before consistent.covered));
     credit = record { lawful = consistent.credit.lawful; none = consistent.credit.none };
-    totals = record {
-      money = money_kept c.prices ts m.balances new m.exchange exchange settling there lawful priced ∙ consistent.totals.money;
-      units = λ asset is_asset. units_kept c.prices ts m.balances new m.exchange exchange settling there asset is_asset ∙ consistent.totals.units asset is_asset;
-    };
+    totals = holds_totals after (money_kept c.prices ts m.balances new m.exchange exchange settling there lawful priced ∙ consistent.totals None tt)
+        (λ asset is_asset. units_kept c.prices ts m.balances new m.exchange exchange settling there asset is_asset ∙ consistent.totals (Some asset) is_asset);
     widths = record {
-      total_money = consistent.widths.total_money;
-      total_units = consistent.widths.total_units;
+      totals = within_limits new (consistent.widths.totals None tt) (λ asset is_asset. consistent.widths.totals (Some asset) is_asset);
       exchange_money = sum_small m.exchange.money (residual_cost c.prices ts) m.batches (2 ^ 99) consistent.widths.exchange_money money_moves;
       exchange_units = All-map (λ units. unsigned_abs units ≤ (m.batches + 1) * 2 ^ 31) (λ asset. units_in m.exchange asset -ℤ residual ts asset) (range_with_len 0 (asset_count m.balances))
           (λ k d inside.
@@ -191,10 +189,9 @@ consistent-skipped m consistent more =
       ascending = AllPairs-filter (λ (x : Order) (y : Order). x.number < y.number) goes m.orders consistent.ascending;
       covered = needs-filter m.balances goes m.orders consistent.covered;
       credit = record { lawful = consistent.credit.lawful; none = consistent.credit.none };
-      totals = record { money = consistent.totals.money; units = consistent.totals.units };
+      totals = consistent.totals;
       widths = record {
-        total_money = consistent.widths.total_money;
-        total_units = consistent.widths.total_units;
+        totals = consistent.widths.totals;
         exchange_money = omega (arith, consistent.widths.exchange_money);
         exchange_units = λ k d inside. let before = consistent.widths.exchange_units k d inside in omega (arith, before);
       };

@@ -1,5 +1,5 @@
 -- New assets, and orders that are placed and cancelled, keep a market consistent.
-use Rattle.std.proofs.Common.{◌≡◌, ◌≢◌, Bool, inl, inr, ℕ, ◌+◌, ◌*◌, ◌^◌, ◌≤◌, ◌<◌, ℤ, pos, ◌≤ℤ◌, List, [], ◌∷◌, Option, length, refl, ap, sym, subst, ⊎_elim, ◌∙◌, arith}
+use Rattle.std.proofs.Common.{◌≡◌, ◌≢◌, Bool, inl, inr, ℕ, ◌+◌, ◌*◌, ◌^◌, ◌≤◌, ◌<◌, ℤ, pos, ◌≤ℤ◌, List, [], ◌∷◌, Option, length, refl, ap, sym, subst, ⊎_elim, ◌∙◌, arith, Some, None}
 use Rattle.std.specs.Prelude.{All, Contains, slice_index_or, unsigned_abs, not, ◌==◌}
 use Rattle.std.specs.List.{filter}
 use Rattle.std.proofs.lemmas.Int.{ints}
@@ -11,15 +11,17 @@ use Rattle.std.proofs.lemmas.List.Quantifiers.{all_pairs_push}
 use Rattle.weight_rows.specs.Rows.{IsPrice, IsWeightVector}
 use Rattle.ticker_table.specs.Tickers.{IsTicker}
 use Rattle.demand_curve.specs.Demand.{IsWithin, most_rate}
-use Rattle.flow_accounts.specs.Balances.{Account, IsAccount, IsAsset, asset_count, units_of, units_in, total_units_of, with_asset, add_asset, with_credit_place, unit_credit_of}
-use Rattle.flow_accounts.specs.Lawful.{unit_limit, IsLawfulCredit}
+use Rattle.flow_accounts.specs.Balances.{Account, IsAccount, IsAsset, asset_count, units_of, units_in, total_of, with_asset, add_asset, with_credit_place, unit_credit_of}
+use Rattle.flow_accounts.specs.Lawful.{total_limit, IsLawfulCredit}
+use Rattle.market_rules.proofs.ByKind.{holds_totals, within_limits}
 use Rattle.flow_accounts.proofs.Grown.{lawful-with_credit_place}
+use Rattle.fill_caps.proofs.Needs.{covers_both}
 use Rattle.market_rules.proofs.Ending.{all_in_time}
 use Rattle.flow_accounts.proofs.Moves.{assets_start_at_zero}
 use Rattle.flow_accounts.proofs.ListLemmas.{get_or-push_same}
 use Rattle.flow_orders.specs.Orders.{most_orders, Order, IsOrder, most_cap, price_of_ticks, unit_need, AreLimits, IsFrom1To}
 use Rattle.wire_records.specs.Commands.{Request}
-use Rattle.market_rules.specs.Market.{Market, IsConsistent, IsLiveOrder, IsInTime, IsNoCredit, held_units}
+use Rattle.market_rules.specs.Market.{Market, IsConsistent, IsLiveOrder, IsInTime, IsNoCredit, held_balance}
 use Rattle.market_rules.proofs.Made.{with_ticker, with_order, without_order}
 use Rattle.market_rules.specs.Step.{placed, IsAffordable}
 use Rattle.market_rules.proofs.Lawful.{consistent_is_lawful}
@@ -54,47 +56,50 @@ consistent-ticker m ticker consistent valid absent few =
       };
       live = live_still m (with_ticker m ticker) m.orders (omega (arith, adds.accounts)) (omega (arith, one_more)) (omega arith) (all_in_time m m.orders consistent.live) consistent.live;
       ascending = consistent.ascending;
-      covered = record {
-        money = λ k there.
-            let is : IsAccount b k = (there.0, omega (arith, there.1, adds.accounts)) in
-            omega (arith, ints, adds.kept.money k, adds.kept.money_credits k, consistent.covered.money k is);
-        units = λ k asset there is_asset.
-            let is : IsAccount b k = (there.0, omega (arith, there.1, adds.accounts)) in
-            ⊎_elim
-            (λ before. omega (arith, ints, adds.kept.units k asset, adds.kept.unit_credits k asset, consistent.covered.units k asset is before))
-            (λ last.
-            let is_new : asset ≡ n = omega (arith, last, is_asset, one_more) in
-            let none = own_sum-zeros (λ (o : Order). o.account) (λ (o : Order). pos (unit_need asset o)) k m.orders
-            (λ i d inside. let w = weight_above (slice_index_or m.orders i d).row asset (λ j e within. let there = (consistent.live i d inside).assets j e within in omega (arith, there, is_new)) in rw w (omega (arith, ints))) in
-            let zero_units : units_of new k asset ≡ pos 0 = subst (λ s. units_of new k s ≡ pos 0) (sym is_new) (adds.units k is) in
-            let zero_credit : unit_credit_of new k asset ≡ 0 = subst (λ s. unit_credit_of new k s ≡ 0) (sym is_new) (adds.unit_credits k is) in
-            omega (arith, ints, none, zero_units, zero_credit))
-            (cases_lt asset n);
-      };
+      covered = covers_both new m.orders
+          (λ k there.
+          let is : IsAccount b k = (there.0, omega (arith, there.1, adds.accounts)) in
+          omega (arith, ints, adds.kept.money k, adds.kept.money_credits k, consistent.covered k None is tt))
+          (λ k asset there is_asset.
+          let is : IsAccount b k = (there.0, omega (arith, there.1, adds.accounts)) in
+          ⊎_elim
+          (λ before. omega (arith, ints, adds.kept.units k asset, adds.kept.unit_credits k asset, consistent.covered k (Some asset) is before))
+          (λ last.
+          let is_new : asset ≡ n = omega (arith, last, is_asset, one_more) in
+          let none = own_sum-zeros (λ (o : Order). o.account) (λ (o : Order). pos (unit_need asset o)) k m.orders
+          (λ i d inside. let w = weight_above (slice_index_or m.orders i d).row asset (λ j e within. let there = (consistent.live i d inside).assets j e within in omega (arith, there, is_new)) in rw w (omega (arith, ints))) in
+          let zero_units : units_of new k asset ≡ pos 0 = subst (λ s. units_of new k s ≡ pos 0) (sym is_new) (adds.units k is) in
+          let zero_credit : unit_credit_of new k asset ≡ 0 = subst (λ s. unit_credit_of new k s ≡ 0) (sym is_new) (adds.unit_credits k is) in
+          omega (arith, ints, none, zero_units, zero_credit))
+          (cases_lt asset n));
       credit = record {
         lawful = rw one_more (All-map (IsLawfulCredit (n + 1)) with_credit_place b.credits (λ k d inside. lawful-with_credit_place n (slice_index_or b.credits k d) (consistent.credit.lawful k d inside)));
         none = λ one. All-map IsNoCredit with_credit_place b.credits (λ k d inside.
             let c = consistent.credit.none one k d inside in
             record { ticks = c.ticks; units = All-push (λ (u : ℕ). u ≡ 0) (slice_index_or b.credits k d).units 0 c.units refl });
       };
-      totals = record {
-        money = omega (arith, ints, adds.kept.money_sum, consistent.totals.money);
-        units = λ asset is_asset.
+      totals = holds_totals (with_ticker m ticker) (omega (arith, ints, adds.kept.money_sum, consistent.totals None tt))
+          (λ asset is_asset.
+          ⊎_elim
+          (λ before.
+          let same : units_in (with_asset m.exchange) asset ≡ units_in m.exchange asset = kept_unit m.exchange asset in
+          omega (arith, ints, adds.kept.unit_sums asset, consistent.totals (Some asset) before, adds.totals asset, same))
+          (λ last.
+          let is_new : asset ≡ n = omega (arith, last, is_asset, one_more) in
+          let sum : held_balance (with_ticker m ticker) (Some n) ≡ total_of new (Some n) =
+          (let same : units_in (with_asset m.exchange) n ≡ pos 0 = kept_unit m.exchange n ∙ past_unit m.exchange n (omega (arith, consistent.one_each.exchange)) in
+          omega (arith, ints, adds.unit_sum, adds.total, same)) in
+          subst (λ s. held_balance (with_ticker m ticker) (Some s) ≡ total_of new (Some s)) (sym is_new) sum)
+          (cases_lt asset n));
+      widths = record {
+        totals = within_limits new (consistent.widths.totals None tt)
+            (λ asset is_asset.
             ⊎_elim
-            (λ before.
-            let same : units_in (with_asset m.exchange) asset ≡ units_in m.exchange asset = kept_unit m.exchange asset in
-            omega (arith, ints, adds.kept.unit_sums asset, consistent.totals.units asset before, adds.totals asset, same))
+            (λ before. omega (arith, ints, adds.totals asset, consistent.widths.totals (Some asset) before))
             (λ last.
             let is_new : asset ≡ n = omega (arith, last, is_asset, one_more) in
-            let sum : held_units (with_ticker m ticker) n ≡ total_units_of new n =
-            (let same : units_in (with_asset m.exchange) n ≡ pos 0 = kept_unit m.exchange n ∙ past_unit m.exchange n (omega (arith, consistent.one_each.exchange)) in
-            omega (arith, ints, adds.unit_sum, adds.total, same)) in
-            subst (λ s. held_units (with_ticker m ticker) s ≡ total_units_of new s) (sym is_new) sum)
-            (cases_lt asset n);
-      };
-      widths = record {
-        total_money = consistent.widths.total_money;
-        total_units = All-push (λ units. units ≤ℤ unit_limit) b.total_units (pos 0) consistent.widths.total_units (omega (arith, ints));
+            subst (λ s. total_of new (Some s) ≤ℤ total_limit (Some s)) (sym is_new) (omega (arith, ints, adds.total)))
+            (cases_lt asset n));
         exchange_money = consistent.widths.exchange_money;
         exchange_units = All-push (λ units. unsigned_abs units ≤ m.batches * 2 ^ 31) m.exchange.units (pos 0) consistent.widths.exchange_units (omega arith);
       };
@@ -144,10 +149,10 @@ consistent-order m o consistent order number account assets few affordable time 
   live = All-push (IsLiveOrder (with_order m o)) m.orders o (live_still m (with_order m o) m.orders (omega arith) (omega arith) (omega arith) (all_in_time m m.orders consistent.live) consistent.live)
       (record { order = order; numbered = (omega (arith, number, consistent.next), omega (arith, number)); account = account; assets = assets; in_time = time });
   ascending = all_pairs_push (λ (x : Order) (y : Order). x.number < y.number) m.orders o consistent.ascending (λ k d inside. let l = consistent.live k d inside in omega (arith, l.numbered.1, number));
-  covered = needs-push m.balances m.orders o consistent.covered affordable.money affordable.units;
+  covered = needs-push m.balances m.orders o consistent.covered affordable;
   credit = record { lawful = consistent.credit.lawful; none = consistent.credit.none };
-  totals = record { money = consistent.totals.money; units = consistent.totals.units };
-  widths = record { total_money = consistent.widths.total_money; total_units = consistent.widths.total_units; exchange_money = consistent.widths.exchange_money; exchange_units = consistent.widths.exchange_units };
+  totals = consistent.totals;
+  widths = record { totals = consistent.widths.totals; exchange_money = consistent.widths.exchange_money; exchange_units = consistent.widths.exchange_units };
   prices = consistent.prices;
   few_accounts = consistent.few_accounts;
   few_orders = omega (arith, length_push m.orders o, few);
@@ -166,8 +171,8 @@ consistent-without m number consistent =
       ascending = AllPairs-filter (λ (x : Order) (y : Order). x.number < y.number) stays m.orders consistent.ascending;
       covered = needs-filter m.balances stays m.orders consistent.covered;
       credit = record { lawful = consistent.credit.lawful; none = consistent.credit.none };
-      totals = record { money = consistent.totals.money; units = consistent.totals.units };
-      widths = record { total_money = consistent.widths.total_money; total_units = consistent.widths.total_units; exchange_money = consistent.widths.exchange_money; exchange_units = consistent.widths.exchange_units };
+      totals = consistent.totals;
+      widths = record { totals = consistent.widths.totals; exchange_money = consistent.widths.exchange_money; exchange_units = consistent.widths.exchange_units };
       prices = consistent.prices;
       few_accounts = consistent.few_accounts;
       few_orders = omega (arith, filter_few stays m.orders, consistent.few_orders);

@@ -1,5 +1,5 @@
 -- Conditions of refusals hold or don't.
-use Rattle.std.proofs.Common.{bytes_eq, ◌≡◌, ℕ, suc, zero, ◌+◌, ◌-◌, ◌^◌, ◌≤◌, ◌<◌, ◌⊎◌, inl, inr, Bool, true, false, ℤ, pos, ◌≤ℤ◌, ◌<ℤ◌, List, [], ◌∷◌, length, take, drop, replicate, refl, ap, sym, subst, ◌∙◌, ⊎_elim, arith}
+use Rattle.std.proofs.Common.{bytes_eq, ◌≡◌, ℕ, suc, zero, ◌+◌, ◌-◌, ◌^◌, ◌≤◌, ◌<◌, ◌⊎◌, inl, inr, Bool, true, false, ℤ, pos, ◌≤ℤ◌, ◌<ℤ◌, List, [], ◌∷◌, length, take, drop, replicate, refl, ap, sym, subst, ◌∙◌, ⊎_elim, arith, Some, None, Option}
 use Rattle.std.specs.Prelude.{All, Contains, slice_index, slice_index_or, unsigned_abs}
 use Rattle.std.proofs.lemmas.Int.{ints, by_lt_z}
 use Rattle.std.proofs.lemmas.Bool.{cases_lt, cases_eq, false≢true}
@@ -13,9 +13,10 @@ use Rattle.weight_rows.specs.Rows.{IsWeightVector, IsLawfulWeight, assets_of}
 use Rattle.ticker_table.specs.Tickers.{IsTicker, IsNameCharacter}
 use Rattle.ticker_table.proofs.Names.{IsTicker-from_parts}
 use Rattle.demand_curve.specs.Demand.{IsWithin}
-use Rattle.flow_accounts.specs.Balances.{Balances, IsAccount, IsAsset, asset_count, account_count}
-use Rattle.flow_orders.specs.Orders.{Order, money_need, unit_need, AreLimits, IsFrom1To}
-use Rattle.market_rules.specs.Market.{usable_money, usable_units, Market}
+use Rattle.flow_accounts.specs.Balances.{Balances, IsAccount, IsAsset, IsKind, asset_count, account_count}
+use Rattle.flow_orders.specs.Orders.{Order, need_of, AreLimits, IsFrom1To}
+use Rattle.market_rules.specs.Market.{usable_balance, Market}
+use Rattle.market_rules.proofs.ByKind.{affords}
 use Rattle.market_rules.specs.Step.{IsAffordable}
 use Rattle.order_book.specs.Book.{HasOrder}
 
@@ -113,6 +114,10 @@ either_contains {X} P (x ∷ xs) each =
 pub either_account : (b : Balances) (account : ℕ) → Either (IsAccount b account)
 either_account b account = either_both (either_le 1 account) (either_le account (account_count b))
 
+pub either_kind : (b : Balances) (kind : Option ℕ) → Either (IsKind b kind)
+either_kind b None = inl tt
+either_kind b (Some asset) = either_le _ _
+
 pub either_from_1 : (most n : ℕ) → Either (IsFrom1To most n)
 either_from_1 most n = either_both (either_le 1 n) (either_le n most)
 
@@ -142,10 +147,10 @@ either_assets b row = either_all (λ e. IsAsset b e.asset) row (λ e. either_le 
 pub either_affordable : (m : Market) (o : Order) → Either (IsAffordable m o)
 either_affordable m o =
     either_same
-    (λ p. record { money = p.0; units = λ asset is_asset. p.1 asset is_asset })
-    (λ is. (is.money, λ asset is_asset. is.units asset is_asset))
-    (either_both (either_le_z (pos (money_need o)) (usable_money m o.account))
-    (either_below (asset_count m.balances) (λ asset. pos (unit_need asset o) ≤ℤ usable_units m o.account asset) (λ asset. either_le_z _ _)))
+    (λ p. affords m o p.0 p.1)
+    (λ is. (is None tt, λ asset is_asset. is (Some asset) is_asset))
+    (either_both (either_le_z (pos (need_of None o)) (usable_balance m o.account None))
+    (either_below (asset_count m.balances) (λ asset. pos (need_of (Some asset) o) ≤ℤ usable_balance m o.account (Some asset)) (λ asset. either_le_z _ _)))
 
 pub either_order : (m : Market) (account number : ℕ) → Either (HasOrder m.orders account number)
 either_order m account number =

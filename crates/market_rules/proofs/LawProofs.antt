@@ -1,7 +1,9 @@
 -- What a step is, if its answer is a batch; and the laws.
-use Rattle.std.proofs.Common.{Result, Ok, Err, ◌<◌, ◌≤◌, ◌⊎◌, inl, inr, arith, length, map, List, ◌≡◌, ℕ, pos, ◌+ℤ◌, ◌+◌, ◌-◌, Option, Some, None, refl, ap, sym, subst, ◌∙◌}
+use Rattle.std.proofs.Common.{Result, Ok, Err, ◌<◌, ◌≤◌, ◌⊎◌, inl, inr, arith, length, map, List, ◌≡◌, ℕ, pos, ◌+ℤ◌, ◌≤ℤ◌, ◌+◌, ◌-◌, Option, Some, None, refl, ap, sym, subst, ◌∙◌}
 use Rattle.std.proofs.lemmas.Bool.{cases_lt}
-use Rattle.flow_accounts.specs.Balances.{Credit, IsAsset, no_credit, credit_of, money_credit_of, unit_credit_of}
+use Rattle.flow_accounts.specs.Balances.{Credit, no_credit, credit_of, credit_in, balance_of}
+use Rattle.flow_accounts.specs.Lawful.{AreLawful}
+use Rattle.flow_accounts.proofs.EachKind.{each_kind}
 use Rattle.flow_accounts.proofs.Bounds.{no_balance_is_below_its_credit}
 use Rattle.flow_orders.specs.Orders.{Order, IsOrder}
 use Rattle.flow_orders.specs.Trades.{trades, after_fill, is_live, staying}
@@ -17,10 +19,10 @@ use Rattle.wire_records.specs.Commands.{Command, AddAsset, OpenAccount, Place, R
 use Rattle.wire_records.specs.declared.reply.Refusal.{Refusal}
 use Rattle.wire_records.specs.declared.reply.Reply.{Reply}
 use Rattle.wire_records.specs.declared.reply.Reply.TheVariants.{Done, Asset as AssetAdded, Account as AccountOpened, Order as OrderPlaced, Refused}
-use Rattle.market_rules.specs.Market.{Market, IsConsistent, IsInTime, IsNoCredit, parts_of, start_prices}
+use Rattle.market_rules.specs.Market.{Market, IsConsistent, IsInTime, IsNoCredit, parts_of, start_prices, usable_balance, free_balance}
 use Rattle.wire_records.specs.declared.command.BodyFault.{BodyFault}
 use Rattle.market_rules.specs.Step.{NoOutcome, ServesPlain, FirstRefusal, Accepts, Answers, Serves, ServesRead, after_batch}
-use Rattle.market_rules.specs.Laws.{MarketIsDetermined, JournalsDetermineTheMarket, OneRefusal, PlainCommandsHaveOneAnswer, PlainCommandsHoldNoBatch, StepsKeepConsistency, HeldIsDeposited, BatchesKeepTotals, SkipsOnlyEndOrders, OrdersEndInTime, VersionOneIsAsBefore, BatchesOfVersionOne, OrdersMayLeave, SkipsLowerTheDual, LargeBudgetsClear, ClearedBatchesAreOptimal, FillsKeepCaps, SequencesCompose, LimitsAgree, JournalsHoldDeposits, LegalStepsNumberOne}
+use Rattle.market_rules.specs.Laws.{MarketIsDetermined, JournalsDetermineTheMarket, OneRefusal, PlainCommandsHaveOneAnswer, PlainCommandsHoldNoBatch, StepsKeepConsistency, HeldIsDeposited, BatchesKeepTotals, SkipsOnlyEndOrders, OrdersEndInTime, VersionOneIsAsBefore, BatchesOfVersionOne, OrdersMayLeave, SkipsLowerTheDual, LargeBudgetsClear, ClearedBatchesAreOptimal, FillsKeepCaps, SequencesCompose, LimitsAgree, JournalsStayConsistent, JournalsHoldDeposits, LegalStepsNumberOne}
 use Rattle.std.proofs.lemmas.Int.{ints}
 use Rattle.std.proofs.lemmas.List.{length-map, get_or_past}
 use Rattle.std.proofs.lemmas.List.Elements.{All-filter, All-map}
@@ -29,7 +31,7 @@ use Rattle.std.specs.Prelude.{All, Contains, slice_index_or, ◌<ℤ◌}
 use Rattle.market_rules.proofs.OneStep.{HasOneOutcome, one_first, one_service}
 use Rattle.market_rules.proofs.OneJournal.{step_market, journal_market, follows-append, follows-parts}
 use Rattle.market_rules.proofs.Consistency.{consistent_served, consistent_step, consistent_follows, consistent-empty}
-use Rattle.market_rules.proofs.HeldTotals.{batch_keeps_held, held_money_is, held_units_are, held_money_changes, held_units_change, more_money, more_units}
+use Rattle.market_rules.proofs.HeldTotals.{held_changes, held_is, held_more, batch_keeps_held}
 use Rattle.market_rules.proofs.Fills.{fills_within_cap, live_fills_within_cap}
 use Rattle.wire_records.specs.Versions.{IsReadAs, IsOfVersion}
 use Rattle.wire_records.specs.declared.version.Version.{Version}
@@ -145,10 +147,6 @@ plain_by_any Rule m c a n serves = record { first = serves.first; refused = serv
 pub plain_commands_hold_no_batch : PlainCommandsHoldNoBatch
 plain_commands_hold_no_batch old c a n = (plain_by_any IsAdmissibleOutcome old c a n, served_by_any IsAdmissibleOutcome NoOutcome old c a n)
 
-same_assets : (m : Market) (o : Outcome) (asset : ℕ) → IsAsset m.balances asset → IsAsset (after_batch m o).balances asset
-same_assets m (Cleared c) asset is = is
-same_assets m (Skipped s) asset is = is
-
 -- a batch is a command of each version
 batch_of_version : (version : Version) (budget : ℕ) → IsOfVersion version (RunBatch budget)
 batch_of_version version budget = (omega arith, first_tags version)
@@ -156,8 +154,8 @@ batch_of_version version budget = (omega arith, first_tags version)
 pub batches_keep_totals : BatchesKeepTotals
 batches_keep_totals old c n o new consistent serves =
     let batch = batch_of IsAdmissibleOutcome old c n o new serves in
-    let both = batch_keeps_held IsReadAs read_own old new o consistent (consistent_served old c (Batch n o) new (subst (IsOfVersion old.version) (sym batch.command_is) (batch_of_version old.version batch.budget)) consistent serves) batch.made in
-    (both.0, λ asset is. both.1 asset is (subst (λ (m : Market). IsAsset m.balances asset) (sym batch.made) (same_assets old o asset is)))
+    let consistent_after = consistent_served old c (Batch n o) new (subst (IsOfVersion old.version) (sym batch.command_is) (batch_of_version old.version batch.budget)) consistent serves in
+    λ kind there. batch_keeps_held old new o kind consistent consistent_after batch.made
 
 pub batch_count : (m : Market) (o : Outcome) → (after_batch m o).batches ≡ m.batches + 1
 batch_count m (Cleared c) = refl
@@ -203,21 +201,29 @@ no_credit_at credits k none =
 
 pub version_one_is_as_before : VersionOneIsAsBefore
 version_one_is_as_before m consistent one =
-    let none : (account : ℕ) → IsNoCredit (credit_of m.balances account) = λ account. no_credit_at m.balances.credits (account - 1) (consistent.credit.none one) in
-    let money : (account : ℕ) → money_credit_of m.balances account ≡ 0 = λ account. (none account).ticks in
-    let units : (account asset : ℕ) → unit_credit_of m.balances account asset ≡ 0 = λ account asset. zeros_at (credit_of m.balances account).units asset (none account).units in
-    let lawful = consistent_is_lawful m consistent in
     let lasts : All (λ (o : Order). o.last ≡ 0) m.orders = λ k d inside. no_last m (slice_index_or m.orders k d) one (consistent.live k d inside).in_time in
     record {
       lasts = lasts;
       goes_on = λ batch some. all_go_on batch m.orders (λ k d inside same. let last = lasts k d inside in omega (arith, last, same, some));
-      money_credit = money;
-      unit_credit = units;
-      money = λ account. omega (arith, ints, money account);
-      units = λ account asset. omega (arith, ints, units account asset);
-      no_debt = λ account there. no_balance_is_below_its_credit.no_money_credit m.balances account lawful there (money account);
-      no_short = λ account asset there is_asset. no_balance_is_below_its_credit.no_unit_credit m.balances account asset lawful there is_asset (units account asset);
+      credit = none;
+      usable = all_usable;
+      no_debt = λ account kind there. each_kind m.balances (λ kind. pos 0 ≤ℤ balance_of m.balances account kind) (no_balance_is_below_its_credit.no_money_credit m.balances account lawful there (none account None))
+          (λ asset is_asset. no_balance_is_below_its_credit.no_unit_credit m.balances account asset lawful there is_asset (none account (Some asset))) kind;
     }
+  where
+    lawful : AreLawful m.balances
+    lawful = consistent_is_lawful m consistent
+
+    line : (account : ℕ) → IsNoCredit (credit_of m.balances account)
+    line account = no_credit_at m.balances.credits (account - 1) (consistent.credit.none one)
+
+    none : (account : ℕ) (kind : Option ℕ) → credit_in (credit_of m.balances account) kind ≡ 0
+    none account None = (line account).ticks
+    none account (Some asset) = zeros_at (credit_of m.balances account).units asset (line account).units
+
+    all_usable : (account : ℕ) (kind : Option ℕ) → usable_balance m account kind ≡ free_balance m account kind
+    all_usable account None = omega (arith, ints, none account None)
+    all_usable account (Some asset) = omega (arith, ints, none account (Some asset))
 
 -- orders that trade keep their last batches
 staying_lasts : (orders : List Order) (rates : List ℕ) → All (λ (o : Order). o.last ≡ 0) orders → All (λ (o : Order). o.last ≡ 0) (staying (trades orders rates))
@@ -253,18 +259,20 @@ steps_keep_consistency = (consistent-empty, λ old asked a new consistent step. 
 
 pub held_is_deposited : HeldIsDeposited
 held_is_deposited = record {
-  money = λ old pairs new consistent follows. held_money_changes IsReadAs read_own old pairs new consistent follows;
-  units = λ old pairs new asset consistent before after follows. held_units_change IsReadAs read_own old pairs new asset consistent before after follows;
-  all_money = λ version pairs m follows. held_money_is IsReadAs read_own version pairs m follows;
-  all_units = λ version pairs m asset is follows. held_units_are IsReadAs read_own version pairs m asset is follows;
+  change = λ old pairs new kind consistent follows. held_changes IsReadAs read_own old pairs new kind consistent follows;
+  all = λ version pairs m kind follows. held_is IsReadAs read_own version pairs m kind follows;
 }
+
+pub journals_stay_consistent : JournalsStayConsistent
+journals_stay_consistent start pairs m consistent follows = consistent_follows IsReadAs read_own start pairs m consistent follows
 
 pub journals_hold_deposits : JournalsHoldDeposits
 journals_hold_deposits start pairs m consistent follows =
+    let after = journals_stay_consistent start pairs m consistent follows in
     record {
-      consistent = consistent_follows IsReadAs read_own start pairs m consistent follows;
-      money = more_money IsReadAs read_own start pairs m consistent follows;
-      units = λ asset _. more_units IsReadAs read_own start pairs m asset consistent follows;
+      covered = after.covered;
+      totals = after.totals;
+      held = λ kind there. held_more IsReadAs read_own start pairs m kind consistent follows;
     }
 
 pub fills_keep_caps : FillsKeepCaps

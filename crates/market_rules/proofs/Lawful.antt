@@ -1,5 +1,5 @@
 -- The balances of a consistent market are within the widths that they are kept in.
-use Rattle.std.proofs.Common.{◌≡◌, ℕ, ◌+◌, ◌-◌, ◌^◌, ◌≤◌, ◌<◌, pos, ◌≤ℤ◌, length, ap, sym, subst, ◌∙◌, arith}
+use Rattle.std.proofs.Common.{◌≡◌, ℕ, ◌+◌, ◌-◌, ◌^◌, ◌≤◌, ◌<◌, pos, ◌≤ℤ◌, length, ap, sym, subst, ◌∙◌, arith, Some, None}
 use Rattle.std.specs.Prelude.{slice_index_or, unsigned_abs, neg_ℤ}
 use Rattle.std.proofs.lemmas.Int.{ints}
 use Rattle.std.proofs.lemmas.List.{get_or_default}
@@ -37,15 +37,15 @@ module _ (m : Market) (consistent : IsConsistent m) where
       (λ account asset there is_asset. let c = credit_line account there in c.units asset 0 (subst (λ n. asset < n) (sym c.one_each) is_asset))
 
   pub money_of_each : (account : ℕ) → IsAccount m.balances account → IsMoneyBalance (money_of m.balances account)
-  money_of_each = money_fits m.balances owes_little m.exchange.money m.exchange.money m.balances.total_money consistent.totals.money consistent.widths.total_money exchange_money (omega (arith, ints))
+  money_of_each = money_fits m.balances owes_little m.exchange.money m.exchange.money m.balances.totals.money (consistent.totals None tt) (consistent.widths.totals None tt) exchange_money (omega (arith, ints))
 
   total_at : (asset : ℕ) → IsAsset m.balances asset → total_units_of m.balances asset ≤ℤ pos (2 ^ 60)
-  total_at asset is_asset = consistent.widths.total_units asset (pos 0) is_asset
+  total_at asset is_asset = consistent.widths.totals (Some asset) is_asset
 
   pub units_of_each : (asset : ℕ) → IsAsset m.balances asset → (account : ℕ) → IsAccount m.balances account → IsUnitBalance (units_of m.balances account asset)
   units_of_each asset is_asset =
       units_fit m.balances owes_little asset is_asset (units_in m.exchange asset) (units_in m.exchange asset) (total_units_of m.balances asset)
-      (consistent.totals.units asset is_asset) (total_at asset is_asset) (exchange_units asset is_asset) (omega (arith, ints))
+      (consistent.totals (Some asset) is_asset) (total_at asset is_asset) (exchange_units asset is_asset) (omega (arith, ints))
 
   -- all accounts together owe little
   money_least : neg_ℤ (pos (2 ^ 88)) ≤ℤ money_of_all m.balances
@@ -75,11 +75,11 @@ module _ (m : Market) (consistent : IsConsistent m) where
     one_credit_each = consistent.one_each.credits;
     credits = consistent.credit.lawful;
     within_credit = record {
-      money = λ account there. omega (arith, ints, own_not_negative money_need account m.orders, consistent.covered.money account there);
-      units = λ account asset there is_asset. omega (arith, ints, own_not_negative (unit_need asset) account m.orders, consistent.covered.units account asset there is_asset);
+      money = λ account there. omega (arith, ints, own_not_negative money_need account m.orders, consistent.covered account None there tt);
+      units = λ account asset there is_asset. omega (arith, ints, own_not_negative (unit_need asset) account m.orders, consistent.covered account (Some asset) there is_asset);
     };
-    total_money = (omega (arith, ints, consistent.totals.money, money_least, exchange_money), consistent.widths.total_money);
+    total_money = (omega (arith, ints, (consistent.totals None tt), money_least, exchange_money), (consistent.widths.totals None tt));
     total_units = λ k d inside.
-        subst IsUnitTotal (get_or_default m.balances.total_units k (pos 0) d inside)
-        (omega (arith, ints, consistent.totals.units k inside, units_least k inside, exchange_units k inside), total_at k inside);
+        subst IsUnitTotal (get_or_default m.balances.totals.units k (pos 0) d inside)
+        (omega (arith, ints, consistent.totals (Some k) inside, units_least k inside, exchange_units k inside), total_at k inside);
   }

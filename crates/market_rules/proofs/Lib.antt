@@ -16,4 +16,5 @@ pub mod ConsistentBatch
 mod ConsistentOrders
 pub mod Consistency
 pub mod Starts
+pub mod ByKind
 pub mod Versions

@@ -1,7 +1,7 @@
 -- A step is determined: by old market, command and answer the new market, and of a command that is no batch the answer too.
 use Rattle.std.proofs.Common.{◌≡◌, ◌+◌, ℕ, Option, Some, None, inl, inr, sym, ap, ◌∙◌}
 use Rattle.flow_orders.specs.Outcomes.{Outcome, BatchRule}
-use Rattle.wire_records.specs.Commands.{Command, OpenAccount, DepositAsset, WithdrawAsset, Place, CancelOrder, RunBatch, SetUnitCredit, Answer, Batch}
+use Rattle.wire_records.specs.Commands.{Command, AddAsset, OpenAccount, Place, CancelOrder, RunBatch, Answer, Batch}
 use Rattle.wire_records.specs.declared.reply.Refusal.{Refusal}
 use Rattle.market_rules.specs.Market.{Market, parts_of, start_prices}
 use Rattle.market_rules.specs.Step.{◌when◌else◌, ◌unless◌else◌, accept, FirstRefusal, Accepts, Answers, Serves, after_batch}
@@ -29,13 +29,11 @@ one_unless r C others rest x y first other =
 
 pub one_first : (m : Market) (c : Command) → IsOne (FirstRefusal m c)
 one_first m OpenAccount = one_when _ _ _ one_accept
-one_first m (DepositAsset account asset units) = one_unless _ _ _ (one_unless _ _ _ (one_when _ _ _ (one_when _ _ _ one_accept)))
-one_first m (WithdrawAsset account asset units) = one_unless _ _ _ (one_unless _ _ _ (one_when _ _ _ (one_when _ _ _ one_accept)))
+one_first m (AddAsset ticker) = one_unless _ _ _ (one_when _ _ _ (one_when _ _ _ one_accept))
 one_first m (CancelOrder account number) = one_unless _ _ _ (one_unless _ _ _ one_accept)
 one_first m (RunBatch budget) = one_unless _ _ _ (one_when _ _ _ one_accept)
 one_first m (Place last r) = one_unless _ _ _ (one_unless _ _ _ (one_unless _ _ _ (one_unless _ _ _ (one_unless _ _ _ (one_unless _ _ _ (one_unless _ _ _ (one_when _ _ _ (one_unless _ _ _ one_accept))))))))
-one_first m (SetUnitCredit account asset units) = one_unless _ _ _ (one_unless _ _ _ (one_when _ _ _ (one_when _ _ _ one_accept)))
-one_first m command = one_unless _ _ _ (one_when _ _ _ (one_when _ _ _ one_accept))
+one_first m command = one_unless _ _ _ (one_unless _ _ _ (one_when _ _ _ (one_when _ _ _ one_accept)))
 
 -- for any rule of the outcomes of a batch
 module _ (Rule : BatchRule) where

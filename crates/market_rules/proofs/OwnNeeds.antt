@@ -1,5 +1,5 @@
 -- What an account's own orders need when orders come and go.
-use Rattle.std.proofs.Common.{◌≡◌, ◌≢◌, ℕ, suc, ◌<◌, Bool, cond, eqb, ℤ, pos, ◌+ℤ◌, ◌-ℤ◌, ◌≤ℤ◌, List, [], ◌∷◌, ◌++◌, refl, ⊎_elim, arith}
+use Rattle.std.proofs.Common.{◌≡◌, ◌≢◌, ℕ, suc, ◌<◌, Bool, cond, eqb, ℤ, pos, ◌+ℤ◌, ◌-ℤ◌, ◌≤ℤ◌, List, [], ◌∷◌, ◌++◌, refl, ⊎_elim, arith, Some, None, Option}
 use Rattle.std.specs.Prelude.{All}
 use Rattle.std.specs.List.{filter}
 use Rattle.std.proofs.lemmas.Int.{ints}
@@ -7,10 +7,11 @@ use Rattle.std.proofs.lemmas.Bool.{cases_Bool}
 use Rattle.std.proofs.lemmas.Bool.Decides.{eqb_tells}
 use Rattle.weight_rows.specs.declared.entries.Entry.{Entry}
 use Rattle.weight_rows.specs.Rows.{weight_in}
-use Rattle.flow_accounts.specs.Balances.{Balances, IsAsset, money_with_credit, units_with_credit}
-use Rattle.flow_orders.specs.Orders.{Order, own_sum, money_need, unit_need, needed_money, needed_units}
+use Rattle.flow_accounts.specs.Balances.{Balances, IsKind, balance_with_credit}
+use Rattle.flow_orders.specs.Orders.{Order, own_sum, money_need, unit_need, need_of, needed}
 use Rattle.fill_caps.specs.Covers.{CoversNeeds}
 use Rattle.flow_orders.proofs.OwnSums.{own_sum-append}
+use Rattle.fill_caps.proofs.Needs.{covers_both}
 
 -- an asset above all that a weight vector names has no weight in it
 pub weight_above : (row : List Entry) (asset : ℕ) → All (λ e. e.asset < asset) row → weight_in row asset ≡ pos 0
@@ -54,37 +55,25 @@ module _ {X : Type 0} (whose : X → ℕ) (f : X → ℤ) where
 
 -- needs stay covered when orders leave
 pub needs-filter : (b : Balances) (p : Order → Bool) (orders : List Order) → CoversNeeds b orders → CoversNeeds b (filter p orders)
-needs-filter b p orders covers = record {
-  money = λ account there.
-      let less = own_sum-filter (λ (o : Order). o.account) (λ (o : Order). pos (money_need o)) account p orders (λ x. omega (arith, ints)) in
-      omega (arith, ints, less, covers.money account there);
-  units = λ account asset there is_asset.
-      let less = own_sum-filter (λ (o : Order). o.account) (λ (o : Order). pos (unit_need asset o)) account p orders (λ x. omega (arith, ints)) in
-      omega (arith, ints, less, covers.units account asset there is_asset);
-}
+needs-filter b p orders covers =
+    covers_both b (filter p orders)
+    (λ account there.
+    let less = own_sum-filter (λ (o : Order). o.account) (λ (o : Order). pos (money_need o)) account p orders (λ x. omega (arith, ints)) in
+    omega (arith, ints, less, covers account None there tt))
+    (λ account asset there is_asset.
+    let less = own_sum-filter (λ (o : Order). o.account) (λ (o : Order). pos (unit_need asset o)) account p orders (λ x. omega (arith, ints)) in
+    omega (arith, ints, less, covers account (Some asset) there is_asset))
 
 -- needs stay covered when an order is placed that needs what is free
 pub needs-push : (b : Balances) (orders : List Order) (o : Order) → CoversNeeds b orders
-    → pos (money_need o) ≤ℤ (money_with_credit b o.account -ℤ needed_money orders o.account)
-    → ((asset : ℕ) → IsAsset b asset → pos (unit_need asset o) ≤ℤ (units_with_credit b o.account asset -ℤ needed_units orders o.account asset))
+    → ((kind : Option ℕ) → IsKind b kind → pos (need_of kind o) ≤ℤ (balance_with_credit b o.account kind -ℤ needed orders o.account kind))
     → CoversNeeds b (orders ++ o ∷ [])
-needs-push b orders o covers money units = record {
-  money = λ account there.
-      let all = own_sum-push (λ (o : Order). o.account) (λ (o : Order). pos (money_need o)) account orders o in
-      ⊎_elim
-      (λ same.
-      let free : pos (money_need o) ≤ℤ (money_with_credit b account -ℤ needed_money orders account) = rw (← same.1) money in
-      let here = rw same.0 at all in
-      omega (arith, ints, here, free))
-      (λ other. let here = rw other.0 at all in omega (arith, ints, here, covers.money account there))
-      (eqb_tells o.account account);
-  units = λ account asset there is_asset.
-      let all = own_sum-push (λ (o : Order). o.account) (λ (o : Order). pos (unit_need asset o)) account orders o in
-      ⊎_elim
-      (λ same.
-      let free : pos (unit_need asset o) ≤ℤ (units_with_credit b account asset -ℤ needed_units orders account asset) = rw (← same.1) (units asset is_asset) in
-      let here = rw same.0 at all in
-      omega (arith, ints, here, free))
-      (λ other. let here = rw other.0 at all in omega (arith, ints, here, covers.units account asset there is_asset))
-      (eqb_tells o.account account);
-}
+needs-push b orders o covers enough account kind there is_kind =
+    let all = own_sum-push (λ (o : Order). o.account) (λ (o : Order). pos (need_of kind o)) account orders o in
+    ⊎_elim
+    (λ same.
+    let free : pos (need_of kind o) ≤ℤ (balance_with_credit b account kind -ℤ needed orders account kind) = rw (← same.1) (enough kind is_kind) in
+    let here = rw same.0 at all in
+    omega (arith, ints, here, free))
+    (λ other. let here = rw other.0 at all in omega (arith, ints, here, covers account kind there is_kind))
+    (eqb_tells o.account account)

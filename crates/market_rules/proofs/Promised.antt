@@ -73,9 +73,7 @@ module _ (start : Market) (pairs : List (Pair Record Outcome)) (market : Market)
           rw number (orders_end_in_time.before old (RunBatch batch.budget) batch.number outcome new consistent served),
           rw number (orders_end_in_time.after old (RunBatch batch.budget) batch.number outcome new consistent served),
         );
-    totals = λ old new outcome batch.
-        let same = batches_keep_totals old (RunBatch batch.budget) batch.number outcome new (consistent_before begins old outcome new batch) (right_step begins old outcome new batch) in
-        record { money = same.0; units = same.1 };
+    totals = λ old new outcome batch. batches_keep_totals old (RunBatch batch.budget) batch.number outcome new (consistent_before begins old outcome new batch) (right_step begins old outcome new batch);
     fills = λ before after pair number cap stands places.
         subst (λ ps. fills_of number ps ≤ cap) (sym stands)
         (fills_within_cap IsReadAs read_own reading_unique start before after pair market number cap begins (subst (λ ps. Follows IsReadAs IsAdmissibleOutcome start ps market) stands legal) places);

@@ -1,8 +1,8 @@
 -- What holds of steps, journals and markets.
-use Rattle.std.specs.Prelude.{◌≡◌, ◌≢◌, ◌⊎◌, ℕ, ◌+◌, ◌*◌, ◌^◌, ◌<◌, ◌≤◌, ℤ, pos, ◌+ℤ◌, ◌<ℤ◌, ◌≤ℤ◌, Bool, List, ◌∷◌, ◌++◌, length, map, All, Contains}
+use Rattle.std.specs.Prelude.{◌≡◌, ◌≢◌, ◌⊎◌, ℕ, ◌+◌, ◌*◌, ◌^◌, ◌<◌, ◌≤◌, ℤ, pos, ◌+ℤ◌, ◌<ℤ◌, ◌≤ℤ◌, Bool, Option, List, ◌∷◌, ◌++◌, length, map, All, Contains}
 use Rattle.std.specs.List.{filter}
 use Rattle.ticker_table.specs.Tickers.{ticker_limit}
-use Rattle.flow_accounts.specs.Balances.{Balances, IsAccount, IsAsset, money_of, units_of, money_credit_of, unit_credit_of}
+use Rattle.flow_accounts.specs.Balances.{Balances, IsAccount, IsKind, balance_of, credit_of, credit_in}
 use Rattle.fill_caps.specs.Covers.{CoversNeeds}
 use Rattle.flow_accounts.specs.Lawful.{most_assets}
 use Rattle.wire_records.specs.Records.{Record}
@@ -17,10 +17,11 @@ use Rattle.flow_orders.specs.Outcomes.{Outcome, Fill, Clearing, Cleared, Skippin
 use Rattle.flow_orders.specs.Trades.{staying, going_on}
 use Rattle.flow_orders.specs.Duals.{movement_of}
 use Rattle.flow_orders.specs.Welfare.{IsOptimalWithin}
-use Rattle.market_rules.specs.Market.{Market, empty_market, IsConsistent, parts_of, start_prices, held_money, held_units, free_money, free_units, usable_money, usable_units}
+use Rattle.market_rules.specs.Market.{Market, empty_market, IsConsistent, parts_of, start_prices, held_balance, free_balance, usable_balance}
 use Rattle.market_rules.specs.Step.{Serves, ServesPlain, after_batch}
-use Rattle.market_rules.specs.Journal.{Step, Follows, money_added, units_added, AddTogether, Places, HoldsDeposits, fills_of}
-use Rattle.market_rules.specs.Promises.{KeepsPromises}
+use Rattle.market_rules.specs.Journal.{Step, Follows, Places, fills_of}
+use Rattle.market_rules.specs.Deposits.{AddTogether, HoldsDeposits}
+use Rattle.market_rules.specs.Promises.{KeepsPromises, HoldTheSame}
 
 -- the entries lead from one market to another by steps, with any admissible outcomes of batches
 abbrev pub Leads : Market → List (Pair Record Outcome) → Market → Type 0
@@ -60,19 +61,19 @@ abbrev pub StepsKeepConsistency : Type 0
 StepsKeepConsistency = ((version : Version) → IsConsistent (empty_market version)) × ((old : Market) (asked : Record) (answer : Answer Outcome) (new : Market)
     → IsConsistent old → Step IsReadAs IsAdmissibleOutcome old asked answer new → IsConsistent new × (new.version ≡ old.version))
 
--- from a consistent market on, what is held changes by the accepted deposits less the accepted withdrawals; in a journal, which begins
--- with the empty market, it is exactly that
+-- from a consistent market on, what is held of money and of each asset changes by the accepted deposits less the accepted withdrawals; in
+-- a journal, which begins with the empty market, it is exactly that
 pub record HeldIsDeposited : Type 0 where
-  pub money : (old : Market) (pairs : List (Pair Record Outcome)) (new : Market) → IsConsistent old → Leads old pairs new
-      → (added : ℤ) × AddTogether (IsReadAs old.version) money_added pairs added × (held_money new ≡ held_money old +ℤ added)
-  pub units : (old : Market) (pairs : List (Pair Record Outcome)) (new : Market) (asset : ℕ)
-      → IsConsistent old → IsAsset old.balances asset → IsAsset new.balances asset → Leads old pairs new
-      → (added : ℤ) × AddTogether (IsReadAs old.version) (units_added asset) pairs added × (held_units new asset ≡ held_units old asset +ℤ added)
-  pub all_money : (version : Version) (pairs : List (Pair Record Outcome)) (m : Market) → Leads (empty_market version) pairs m → AddTogether (IsReadAs version) money_added pairs (held_money m)
-  pub all_units : (version : Version) (pairs : List (Pair Record Outcome)) (m : Market) (asset : ℕ) → IsAsset m.balances asset → Leads (empty_market version) pairs m
-      → AddTogether (IsReadAs version) (units_added asset) pairs (held_units m asset)
+  pub change : (old : Market) (pairs : List (Pair Record Outcome)) (new : Market) (kind : Option ℕ) → IsConsistent old → Leads old pairs new
+      → (added : ℤ) × AddTogether (IsReadAs old.version) kind pairs added × (held_balance new kind ≡ held_balance old kind +ℤ added)
+  pub all : (version : Version) (pairs : List (Pair Record Outcome)) (m : Market) (kind : Option ℕ) → Leads (empty_market version) pairs m
+      → AddTogether (IsReadAs version) kind pairs (held_balance m kind)
 
--- steps from a consistent market lead to a consistent one, which holds more by the accepted deposits less the accepted withdrawals
+-- steps from a consistent market lead to a consistent one
+abbrev pub JournalsStayConsistent : Type 0
+JournalsStayConsistent = (start : Market) (pairs : List (Pair Record Outcome)) (m : Market) → IsConsistent start → Leads start pairs m → IsConsistent m
+
+-- steps from a consistent market lead to one that holds more by the accepted deposits less the accepted withdrawals
 abbrev pub JournalsHoldDeposits : Type 0
 JournalsHoldDeposits = (start : Market) (pairs : List (Pair Record Outcome)) (m : Market)
     → IsConsistent start → Leads start pairs m → HoldsDeposits IsReadAs start pairs m
@@ -81,7 +82,7 @@ JournalsHoldDeposits = (start : Market) (pairs : List (Pair Record Outcome)) (m 
 abbrev pub BatchesKeepTotals : Type 0
 BatchesKeepTotals = (old : Market) (command : Command) (number : ℕ) (outcome : Outcome) (new : Market)
     → IsConsistent old → Serves IsAdmissibleOutcome old command (Batch number outcome) new
-    → (held_money new ≡ held_money old) × ((asset : ℕ) → IsAsset old.balances asset → held_units new asset ≡ held_units old asset)
+    → HoldTheSame old new
 
 -- a batch that is skipped is counted, the orders whose last batch it was leave, and nothing else changes
 abbrev pub SkipsOnlyEndOrders : Type 0
@@ -100,16 +101,13 @@ pub record OrdersEndInTime : Type 0 where
       → Serves IsAdmissibleOutcome old command (Batch number (Skipped s)) new → Contains old.orders o → o.last ≢ number → Contains new.orders o
 
 -- no order has a last batch and no account has credit, so no batch is an order's last one, an order may need exactly what is free,
--- and no account owes anything
+-- and no account owes anything, of money and of each asset
 pub record VersionOneHasNeither (m : Market) : Type 0 where
   pub lasts : All (λ (o : Order). o.last ≡ 0) m.orders
   pub goes_on : (batch : ℕ) → 1 ≤ batch → going_on batch m.orders ≡ m.orders
-  pub money_credit : (account : ℕ) → money_credit_of m.balances account ≡ 0
-  pub unit_credit : (account asset : ℕ) → unit_credit_of m.balances account asset ≡ 0
-  pub money : (account : ℕ) → usable_money m account ≡ free_money m account
-  pub units : (account asset : ℕ) → usable_units m account asset ≡ free_units m account asset
-  pub no_debt : (account : ℕ) → IsAccount m.balances account → pos 0 ≤ℤ money_of m.balances account
-  pub no_short : (account asset : ℕ) → IsAccount m.balances account → IsAsset m.balances asset → pos 0 ≤ℤ units_of m.balances account asset
+  pub credit : (account : ℕ) (kind : Option ℕ) → credit_in (credit_of m.balances account) kind ≡ 0
+  pub usable : (account : ℕ) (kind : Option ℕ) → usable_balance m account kind ≡ free_balance m account kind
+  pub no_debt : (account : ℕ) (kind : Option ℕ) → IsAccount m.balances account → IsKind m.balances kind → pos 0 ≤ℤ balance_of m.balances account kind
 
 -- a consistent market of version One has neither last batches nor credit
 abbrev pub VersionOneIsAsBefore : Type 0

@@ -1,15 +1,15 @@
 -- The market: what is kept from one command to the next, and the invariant that holds of it at all times.
-use Rattle.std.specs.Prelude.{◌≡◌, ◌≢◌, ◌⊎◌, ℕ, ◌*◌, ◌^◌, ◌<◌, ◌≤◌, ℤ, pos, neg_ℤ, ◌+ℤ◌, ◌-ℤ◌, ◌≤ℤ◌, unsigned_abs, List, [], map, length, All, AllPairs}
+use Rattle.std.specs.Prelude.{◌≡◌, ◌≢◌, ◌⊎◌, ℕ, ◌*◌, ◌^◌, ◌<◌, ◌≤◌, ℤ, pos, neg_ℤ, ◌+ℤ◌, ◌-ℤ◌, ◌≤ℤ◌, unsigned_abs, List, [], map, length, All, AllPairs, Option, Some, None}
 use Rattle.std.specs.Int.{int_min, int_max}
 use Rattle.weight_rows.specs.Rows.{IsPrice}
 use Rattle.ticker_table.specs.Tickers.{AreTickers}
 use Rattle.wire_records.specs.declared.version.Version.{Version}
 use Rattle.wire_records.specs.declared.version.Version.TheVariants.{One, Two, Three}
-use Rattle.flow_accounts.specs.Balances.{Account, Credit, Balances, IsAccount, IsAsset, account_count, asset_count, money_of, money_with_credit, units_with_credit}
-use Rattle.flow_accounts.specs.Balances.{units_of, units_in, total_units_of, no_balances, empty_account}
-use Rattle.flow_accounts.specs.Lawful.{most_accounts, money_limit, unit_limit, IsLawfulCredit}
-use Rattle.flow_accounts.specs.Sums.{money_of_all, units_of_all}
-use Rattle.flow_orders.specs.Orders.{Order, IsOrder, most_orders, needed_money, needed_units}
+use Rattle.flow_accounts.specs.Balances.{Account, Credit, Balances, IsAccount, IsAsset, IsKind, account_count, asset_count, balance_in, balance_of}
+use Rattle.flow_accounts.specs.Balances.{balance_with_credit, total_of, no_balances, empty_account}
+use Rattle.flow_accounts.specs.Lawful.{most_accounts, total_limit, IsLawfulCredit}
+use Rattle.flow_accounts.specs.Sums.{balance_of_all}
+use Rattle.flow_orders.specs.Orders.{Order, IsOrder, most_orders, needed}
 use Rattle.fill_caps.specs.Covers.{CoversNeeds}
 
 -- the most batches that a market holds
@@ -47,29 +47,17 @@ parts_of Three = 256
 abbrev pub start_prices : Market → List ℤ
 start_prices market = map cut_price market.last_prices
 
--- the money that accounts and exchange hold together, in grains
-abbrev pub held_money : Market → ℤ
-held_money m = money_of_all m.balances +ℤ m.exchange.money
+-- what accounts and exchange hold together of a kind, in grains or in units
+abbrev pub held_balance : Market → Option ℕ → ℤ
+held_balance m kind = balance_of_all m.balances kind +ℤ balance_in m.exchange kind
 
--- the units of an asset that accounts and exchange hold together
-abbrev pub held_units : Market → ℕ → ℤ
-held_units m asset = units_of_all m.balances asset +ℤ units_in m.exchange asset
+-- what an account has free of a kind: its balance less what its orders need, without its credit
+abbrev pub free_balance : Market → ℕ → Option ℕ → ℤ
+free_balance m account kind = balance_of m.balances account kind -ℤ needed m.orders account kind
 
--- the free money of an account, in grains: what it has less what its orders need, without its credit
-abbrev pub free_money : Market → ℕ → ℤ
-free_money m account = money_of m.balances account -ℤ needed_money m.orders account
-
--- the free units of an asset in an account: what it has less what its orders need, without its credit
-abbrev pub free_units : Market → ℕ → ℕ → ℤ
-free_units m account asset = units_of m.balances account asset -ℤ needed_units m.orders account asset
-
--- the money that a new order of an account may need at most, in grains: balance and credit, less what its orders need
-abbrev pub usable_money : Market → ℕ → ℤ
-usable_money m account = money_with_credit m.balances account -ℤ needed_money m.orders account
-
--- the units of an asset that a new order of an account may need at most: balance and credit, less what its orders need
-abbrev pub usable_units : Market → ℕ → ℕ → ℤ
-usable_units m account asset = units_with_credit m.balances account asset -ℤ needed_units m.orders account asset
+-- what a new order of an account may need at most of a kind: balance and credit, less what its orders need
+abbrev pub usable_balance : Market → ℕ → Option ℕ → ℤ
+usable_balance m account kind = balance_with_credit m.balances account kind -ℤ needed m.orders account kind
 
 -- each asset has one ticker, one last price, and one balance in each account and in the exchange's; each account has one credit line
 pub record HasOneEach (m : Market) : Type 0 where
@@ -102,15 +90,13 @@ pub record HasLawfulCredit (m : Market) : Type 0 where
   pub lawful : All (IsLawfulCredit (asset_count m.balances)) m.balances.credits
   pub none : m.version ≡ One → All IsNoCredit m.balances.credits
 
--- accounts and exchange together hold the totals
-pub record HoldsTotals (m : Market) : Type 0 where
-  pub money : held_money m ≡ m.balances.total_money
-  pub units : (asset : ℕ) → IsAsset m.balances asset → held_units m asset ≡ total_units_of m.balances asset
+-- accounts and exchange together hold the totals, of money and of each asset
+abbrev pub HoldsTotals : Market → Type 0
+HoldsTotals m = (kind : Option ℕ) → IsKind m.balances kind → held_balance m kind ≡ total_of m.balances kind
 
 -- totals are at most their limits, and the exchange is no further from 0 than its batches can have brought it
 pub record IsWithinWidths (m : Market) : Type 0 where
-  pub total_money : m.balances.total_money ≤ℤ money_limit
-  pub total_units : All (λ units. units ≤ℤ unit_limit) m.balances.total_units
+  pub totals : (kind : Option ℕ) → IsKind m.balances kind → total_of m.balances kind ≤ℤ total_limit kind
   pub exchange_money : unsigned_abs m.exchange.money ≤ m.batches * 2 ^ 99
   pub exchange_units : All (λ units. unsigned_abs units ≤ m.batches * 2 ^ 31) m.exchange.units
 

@@ -1,22 +1,21 @@
 -- What a journal promises of its batches, and of the fills of its orders.
-use Rattle.std.specs.Prelude.{◌≡◌, ◌⊎◌, ℕ, ◌+◌, ◌<◌, ◌≤◌, pos, ◌≤ℤ◌, true, List, ◌∷◌, ◌++◌, map, All, Contains, Result, Ok}
+use Rattle.std.specs.Prelude.{◌≡◌, ◌⊎◌, ℕ, ◌+◌, ◌<◌, ◌≤◌, pos, ◌≤ℤ◌, true, List, ◌∷◌, ◌++◌, map, All, Contains, Result, Ok, Option}
 use Rattle.wire_records.specs.Commands.{Command, RunBatch, Batch, Pair}
 use Rattle.wire_records.specs.declared.command.BodyFault.{BodyFault}
 use Rattle.wire_records.specs.declared.version.Version.{Version}
-use Rattle.flow_accounts.specs.Balances.{IsAsset}
+use Rattle.flow_accounts.specs.Balances.{IsKind}
 use Rattle.flow_orders.specs.Orders.{Order}
 use Rattle.flow_orders.specs.Trades.{going_on}
 use Rattle.flow_orders.specs.Outcomes.{Fill, Clearing, Skipping, Outcome, Cleared, Skipped, IsAdmissibleOutcome, IsAdmissibleClearing, IsAdmissibleSkip, are_single, ClearsNear}
 use Rattle.flow_orders.specs.Welfare.{IsOptimalWithin}
 use Rattle.batch_outcome.specs.GapBound.{gap_bound}
 use Rattle.batch_outcome.specs.Progress.{LowersTheDual}
-use Rattle.market_rules.specs.Market.{Market, parts_of, start_prices, held_money, held_units}
+use Rattle.market_rules.specs.Market.{Market, parts_of, start_prices, held_balance}
 use Rattle.market_rules.specs.Journal.{Step, Follows, Places, fills_of}
 
 -- what accounts and exchange hold together is the same, of money and of each asset
-pub record HoldTheSame (old new : Market) : Type 0 where
-  pub money : held_money new ≡ held_money old
-  pub units : (asset : ℕ) → IsAsset old.balances asset → held_units new asset ≡ held_units old asset
+abbrev pub HoldTheSame : Market → Market → Type 0
+HoldTheSame old new = (kind : Option ℕ) → IsKind old.balances kind → held_balance new kind ≡ held_balance old kind
 
 -- Reads: what records are read as in each version; start: the market before the first entry, for a journal the empty one of its version
 module _ {R : Type 0} (Reads : Version → R → Result Command BodyFault → Type 0) (start : Market) where

@@ -11,13 +11,13 @@ use Rattle.wire_records.specs.declared.command.BodyFault.{BodyFault}
 use Rattle.wire_records.specs.declared.command.BodyFault.TheVariants as fault
 use Rattle.ticker_table.specs.Tickers.{IsTicker, ticker_limit}
 use Rattle.demand_curve.specs.Demand.{most_rate}
-use Rattle.flow_accounts.specs.Balances.{IsAccount, IsAsset, account_count, total_units_of, grains, with_asset, add_asset, open_account, change_money, change_units, set_money_credit, set_unit_credit}
-use Rattle.flow_accounts.specs.Lawful.{most_accounts, most_credit, money_limit, unit_limit}
-use Rattle.flow_orders.specs.Orders.{Order, most_orders, most_cap, AreLimits, IsFrom1To, price_of_ticks, money_need, unit_need}
+use Rattle.flow_accounts.specs.Balances.{IsAccount, IsAsset, IsKind, account_count, total_of, value_of, with_asset, add_asset, open_account, change_balance, set_credit}
+use Rattle.flow_accounts.specs.Lawful.{most_accounts, most_credit, total_limit}
+use Rattle.flow_orders.specs.Orders.{Order, most_orders, most_cap, AreLimits, IsFrom1To, price_of_ticks, need_of}
 use Rattle.flow_orders.specs.Outcomes.{Outcome, BatchRule, Cleared, Skipped, trades_of, most_budget}
 use Rattle.flow_orders.specs.Trades.{staying, going_on}
 use Rattle.order_book.specs.Book.{HasOrder, without}
-use Rattle.market_rules.specs.Market.{Market, most_batches, parts_of, start_prices, free_money, free_units, usable_money, usable_units}
+use Rattle.market_rules.specs.Market.{Market, most_batches, parts_of, start_prices, free_balance, usable_balance}
 use Rattle.fill_caps.specs.Settlement.{settled_balances, settled_exchange}
 
 -- ---- refusals
@@ -49,10 +49,9 @@ placed market last r = record {
   last = unwrap_or last 0;
 }
 
--- its account, credit included, has what the order needs beside what the account's other orders need
-pub record IsAffordable (market : Market) (o : Order) : Type 0 where
-  pub money : pos (money_need o) ≤ℤ usable_money market o.account
-  pub units : (asset : ℕ) → IsAsset market.balances asset → pos (unit_need asset o) ≤ℤ usable_units market o.account asset
+-- its account, credit included, has what the order needs beside what the account's other orders need, of money and of each asset
+abbrev pub IsAffordable : Market → Order → Type 0
+IsAffordable market o = (kind : Option ℕ) → IsKind market.balances kind → pos (need_of kind o) ≤ℤ usable_balance market o.account kind
 
 -- the refusals of an order whose numbers are within their limits: for its weight vector, for a full book, or for what it needs
 abbrev pub RefusesRow : Market → Order → Option Refusal → Type 0
@@ -62,6 +61,30 @@ RefusesRow m o =
     OrderLimit when most_orders ≤ length m.orders else
     NotFree unless IsAffordable m o else accept
 
+-- the first refusal of a deposit of so many ticks or units; money is a kind that is always there
+abbrev pub DepositRefusal : Market → ℕ → Option ℕ → ℕ → Option Refusal → Type 0
+DepositRefusal m account kind count =
+    NoAccount unless IsAccount m.balances account else
+    NoAsset unless IsKind m.balances kind else
+    ZeroAmount when count ≡ 0 else
+    TotalLimit when total_limit kind <ℤ (total_of m.balances kind +ℤ value_of kind count) else accept
+
+-- the first refusal of a withdrawal of so many ticks or units
+abbrev pub WithdrawalRefusal : Market → ℕ → Option ℕ → ℕ → Option Refusal → Type 0
+WithdrawalRefusal m account kind count =
+    NoAccount unless IsAccount m.balances account else
+    NoAsset unless IsKind m.balances kind else
+    ZeroAmount when count ≡ 0 else
+    NotFree when free_balance m account kind <ℤ value_of kind count else accept
+
+-- the first refusal of a credit of so many ticks or units
+abbrev pub CreditRefusal : Market → ℕ → Option ℕ → ℕ → Option Refusal → Type 0
+CreditRefusal m account kind count =
+    NoAccount unless IsAccount m.balances account else
+    NoAsset unless IsKind m.balances kind else
+    CreditLimit when most_credit < count else
+    CreditInUse when (free_balance m account kind +ℤ value_of kind count) <ℤ pos 0 else accept
+
 -- the first refusal of a command: the conditions in the order in which they are tested, or None if no refusal holds
 abbrev pub FirstRefusal : Market → Command → Option Refusal → Type 0
 FirstRefusal m (AddAsset ticker) =
@@ -70,24 +93,10 @@ FirstRefusal m (AddAsset ticker) =
     AssetLimit when ticker_limit ≤ length m.tickers else accept
 FirstRefusal m OpenAccount =
     AccountLimit when most_accounts ≤ account_count m.balances else accept
-FirstRefusal m (DepositMoney account ticks) =
-    NoAccount unless IsAccount m.balances account else
-    ZeroAmount when ticks ≡ 0 else
-    TotalLimit when money_limit <ℤ (m.balances.total_money +ℤ grains ticks) else accept
-FirstRefusal m (DepositAsset account asset units) =
-    NoAccount unless IsAccount m.balances account else
-    NoAsset unless IsAsset m.balances asset else
-    ZeroAmount when units ≡ 0 else
-    TotalLimit when unit_limit <ℤ (total_units_of m.balances asset +ℤ pos units) else accept
-FirstRefusal m (WithdrawMoney account ticks) =
-    NoAccount unless IsAccount m.balances account else
-    ZeroAmount when ticks ≡ 0 else
-    NotFree when free_money m account <ℤ grains ticks else accept
-FirstRefusal m (WithdrawAsset account asset units) =
-    NoAccount unless IsAccount m.balances account else
-    NoAsset unless IsAsset m.balances asset else
-    ZeroAmount when units ≡ 0 else
-    NotFree when free_units m account asset <ℤ pos units else accept
+FirstRefusal m (DepositMoney account ticks) = DepositRefusal m account None ticks
+FirstRefusal m (DepositAsset account asset units) = DepositRefusal m account (Some asset) units
+FirstRefusal m (WithdrawMoney account ticks) = WithdrawalRefusal m account None ticks
+FirstRefusal m (WithdrawAsset account asset units) = WithdrawalRefusal m account (Some asset) units
 FirstRefusal m (Place last r) =
     NoAccount unless IsAccount m.balances r.account else
     BadLimits unless AreLimits r.low r.high else
@@ -100,15 +109,8 @@ FirstRefusal m (CancelOrder account number) =
 FirstRefusal m (RunBatch budget) =
     BadBudget unless IsFrom1To most_budget budget else
     BatchLimit when most_batches ≤ m.batches else accept
-FirstRefusal m (SetMoneyCredit account ticks) =
-    NoAccount unless IsAccount m.balances account else
-    CreditLimit when most_credit < ticks else
-    CreditInUse when (free_money m account +ℤ grains ticks) <ℤ pos 0 else accept
-FirstRefusal m (SetUnitCredit account asset units) =
-    NoAccount unless IsAccount m.balances account else
-    NoAsset unless IsAsset m.balances asset else
-    CreditLimit when most_credit < units else
-    CreditInUse when (free_units m account asset +ℤ pos units) <ℤ pos 0 else accept
+FirstRefusal m (SetMoneyCredit account ticks) = CreditRefusal m account None ticks
+FirstRefusal m (SetUnitCredit account asset units) = CreditRefusal m account (Some asset) units
 
 -- ---- accepted commands
 
@@ -143,15 +145,15 @@ Accepts Rule m (AddAsset ticker) = gives (Plain (reply.Asset (length m.tickers))
   last_prices = m.last_prices ++ pos 0 ∷ [];
 })
 Accepts Rule m OpenAccount = gives (Plain (reply.Account (account_count m.balances + 1))) (record m { balances = open_account m.balances })
-Accepts Rule m (DepositMoney account ticks) = gives (Plain reply.Done) (record m { balances = change_money m.balances account (grains ticks) })
-Accepts Rule m (DepositAsset account asset units) = gives (Plain reply.Done) (record m { balances = change_units m.balances account asset (pos units) })
-Accepts Rule m (WithdrawMoney account ticks) = gives (Plain reply.Done) (record m { balances = change_money m.balances account (neg_ℤ (grains ticks)) })
-Accepts Rule m (WithdrawAsset account asset units) = gives (Plain reply.Done) (record m { balances = change_units m.balances account asset (neg_ℤ (pos units)) })
+Accepts Rule m (DepositMoney account ticks) = gives (Plain reply.Done) (record m { balances = change_balance m.balances account None (value_of None ticks) })
+Accepts Rule m (DepositAsset account asset units) = gives (Plain reply.Done) (record m { balances = change_balance m.balances account (Some asset) (value_of (Some asset) units) })
+Accepts Rule m (WithdrawMoney account ticks) = gives (Plain reply.Done) (record m { balances = change_balance m.balances account None (neg_ℤ (value_of None ticks)) })
+Accepts Rule m (WithdrawAsset account asset units) = gives (Plain reply.Done) (record m { balances = change_balance m.balances account (Some asset) (neg_ℤ (value_of (Some asset) units)) })
 Accepts Rule m (Place last r) = gives (Plain (reply.Order m.next_order)) (record m { orders = m.orders ++ placed m last r ∷ []; next_order = m.next_order + 1 })
 Accepts Rule m (CancelOrder account number) = gives (Plain reply.Done) (record m { orders = without m.orders number })
 Accepts Rule m (RunBatch budget) = holds_batch Rule m budget
-Accepts Rule m (SetMoneyCredit account ticks) = gives (Plain reply.Done) (record m { balances = set_money_credit m.balances account ticks })
-Accepts Rule m (SetUnitCredit account asset units) = gives (Plain reply.Done) (record m { balances = set_unit_credit m.balances account asset units })
+Accepts Rule m (SetMoneyCredit account ticks) = gives (Plain reply.Done) (record m { balances = set_credit m.balances account None ticks })
+Accepts Rule m (SetUnitCredit account asset units) = gives (Plain reply.Done) (record m { balances = set_credit m.balances account (Some asset) units })
 
 -- the first refusal is the answer and changes nothing; if there is none, the command is accepted
 abbrev pub Answers : BatchRule → Market → Command → Option Refusal → Answer Outcome → Market → Type 0

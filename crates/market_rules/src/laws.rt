@@ -2,7 +2,7 @@
 //! does nothing.
 ghost use Rattle.market_rules.specs.Laws.{MarketIsDetermined, JournalsDetermineTheMarket, OneRefusal, PlainCommandsHaveOneAnswer, PlainCommandsHoldNoBatch};
 ghost use Rattle.market_rules.specs.Laws.{StepsKeepConsistency, HeldIsDeposited, BatchesKeepTotals, SkipsOnlyEndOrders, OrdersEndInTime, VersionOneIsAsBefore, BatchesOfVersionOne, OrdersMayLeave, FillsKeepCaps};
-ghost use Rattle.market_rules.specs.Laws.{ClearedBatchesAreOptimal, SkipsLowerTheDual, LargeBudgetsClear, SequencesCompose, LimitsAgree, JournalsHoldDeposits, LegalStepsNumberOne, LegalJournalsKeepPromises};
+ghost use Rattle.market_rules.specs.Laws.{ClearedBatchesAreOptimal, SkipsLowerTheDual, LargeBudgetsClear, SequencesCompose, LimitsAgree, JournalsStayConsistent, JournalsHoldDeposits, LegalStepsNumberOne, LegalJournalsKeepPromises};
 
 /// The old market, the record and the answer determine the new market.
 pub fn market_is_determined()
@@ -40,8 +40,13 @@ pub fn held_is_deposited()
     ensures { HeldIsDeposited }
 {}
 
-/// Steps from a consistent market lead to a consistent one, which holds more by the accepted deposits less the accepted
-/// withdrawals.
+/// Steps from a consistent market lead to a consistent one.
+pub fn journals_stay_consistent()
+    ensures { JournalsStayConsistent }
+{}
+
+/// Steps from a consistent market lead to one that holds more by the accepted deposits less the accepted withdrawals. In it each
+/// account covers, with its credit, what its live orders reserve, and accounts and exchange together hold the totals.
 pub fn journals_hold_deposits()
     ensures { JournalsHoldDeposits }
 {}

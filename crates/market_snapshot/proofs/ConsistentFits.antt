@@ -10,7 +10,7 @@ use Rattle.wire_fields.specs.Numbers.{IsUnsigned, IsSigned}
 use Rattle.weight_rows.specs.declared.entries.Entry.{Entry}
 use Rattle.weight_rows.specs.Rows.{IsLawfulWeight}
 use Rattle.demand_curve.specs.Demand.{IsWithin}
-use Rattle.wire_records.specs.CommandRecords.{IsEntry}
+use Rattle.wire_records.specs.Bodies.{IsEntry}
 use Rattle.wire_records.specs.declared.version.Version.{Version}
 use Rattle.wire_records.specs.declared.version.Version.TheVariants.{One, Two, Three}
 use Rattle.flow_accounts.specs.Balances.{Account, Credit, asset_count}
@@ -19,7 +19,8 @@ use Rattle.flow_orders.specs.Orders.{Order}
 use Rattle.market_rules.specs.Market.{Market, IsConsistent, IsLiveOrder}
 use Rattle.market_rules.proofs.Lawful.{consistent_is_lawful}
 use Rattle.wire_records.specs.Versions.{number_of}
-use Rattle.market_snapshot.specs.Checkpoints.{ticks_of, read_order, parts_of_market}
+use Rattle.market_snapshot.specs.Checkpoints.{ticks_of}
+use Rattle.market_snapshot.specs.Spellings.{read_order, parts_of_market}
 use Rattle.market_snapshot.specs.Widths.{FitUnits, FitsAccount, FitsOrder, FitWidths}
 
 number_fits : (v : Version) → IsUnsigned 1 (number_of v)
@@ -105,9 +106,9 @@ module _ (m : Market) (consistent : IsConsistent m) (next : m.next_order < 2 ^ 6
       accounts = subst (λ n. All (FitsAccount n) (zip m.balances.accounts m.balances.credits)) (sym consistent.one_each.tickers)
           (all_pairs (FitsAccount (asset_count m.balances)) m.balances.accounts m.balances.credits lawful.one_credit_each (λ i d e inside.
           account_fits (asset_count m.balances) (get_or m.balances.accounts i d) (get_or m.balances.credits i e) (lawful.accounts i d inside) (lawful.credits i e (omega (arith, inside, lawful.one_credit_each)))));
-      total_money = total_money_fits m.balances.total_money lawful.total_money;
+      total_money = total_money_fits m.balances.totals.money lawful.total_money;
       totals = sym consistent.one_each.tickers;
-      total_units = λ i d inside. total_units_fit (get_or m.balances.total_units i d) (lawful.total_units i d inside);
+      total_units = λ i d inside. total_units_fit (get_or m.balances.totals.units i d) (lawful.total_units i d inside);
     };
     exchange = record {
       money = near_16 m.exchange.money (omega (arith, consistent.widths.exchange_money, consistent.few_batches));

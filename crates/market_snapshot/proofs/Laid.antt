@@ -12,12 +12,12 @@ use Rattle.wire_fields.specs.Numbers.{unsigned, signed, IsUnsigned, IsSigned}
 use Rattle.byte_places.specs.Places.{part, unsigned_at, signed_at}
 use Rattle.byte_places.proofs.Digits.{length-part, unsigned_spelled, signed_spelled_4, signed_spelled_8, signed_spelled_16}
 use Rattle.byte_places.proofs.Parts.{part_join, parts_join}
-use Rattle.wire_records.specs.CommandRecords.{entry_spelling, IsEntry}
+use Rattle.wire_records.specs.Bodies.{entry_spelling, IsEntry}
 use Rattle.flow_accounts.specs.Balances.{account_count}
 use Rattle.flow_orders.specs.Orders.{most_orders}
 use Rattle.market_parts.specs.Parts.{ReadOrder}
 use Rattle.market_snapshot.specs.declared.layout.Layout.{Layout}
-use Rattle.market_snapshot.specs.Checkpoints.{units_spelling, account_spelling, order_spelling, tickers_spelling, accounts_spelling, totals_spelling, exchange_spelling, batches_spelling, orders_spelling, parts_spelling}
+use Rattle.market_snapshot.specs.Spellings.{units_spelling, account_spelling, order_spelling, tickers_spelling, accounts_spelling, totals_spelling, exchange_spelling, batches_spelling, orders_spelling, parts_spelling}
 use Rattle.market_snapshot.specs.Widths.{FitUnits, FitsAccount, FitsOrder, FitWidths}
 use Rattle.market_snapshot.specs.Layout.{account_size, signs_at, tickers_at, account_at, credit_at, entry_at, entries_at, order_size, order_at, account_place, balances_at, parts_at, count_place, first_place, IsLayout, AreOrders}
 

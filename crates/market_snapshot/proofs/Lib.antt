@@ -1,3 +1,4 @@
+mod FieldForms
 mod Laid
 pub mod OneMarket
 mod OneParts

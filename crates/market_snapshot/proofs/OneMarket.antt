@@ -6,12 +6,14 @@ use Rattle.std.proofs.Math.Seq.{take-append_seam}
 use Rattle.flow_orders.specs.Orders.{Order, IsOrder}
 use Rattle.market_rules.specs.Market.{Market, IsConsistent}
 use Rattle.market_parts.specs.Parts.{Parts, order_of, HasParts, AreConsistent}
-use Rattle.market_snapshot.specs.Checkpoints.{parts_of_market, parts_spelling, checkpoint_bytes, IsCheckpoint, BeginsWithNoCheckpoint}
+use Rattle.market_snapshot.specs.Checkpoints.{checkpoint_bytes, IsCheckpoint, BeginsWithNoCheckpoint}
+use Rattle.market_snapshot.specs.Spellings.{parts_of_market, parts_spelling, market_spelling}
 use Rattle.market_snapshot.specs.declared.reading.SnapshotFault.{SnapshotFault}
 use Rattle.market_snapshot.specs.declared.reading.SnapshotFault.TheVariants.{NotSound, Memory}
 use Rattle.market_snapshot.specs.Answers.{IsMarketRead, WhereNotSound}
 use Rattle.market_snapshot.specs.Widths.{FitWidths}
 use Rattle.market_snapshot.specs.Layout.{BeginsWithNoParts}
+use Rattle.market_snapshot.proofs.FieldForms.{market_is_plain}
 use Rattle.market_snapshot.proofs.OneParts.{parts_unique}
 use Rattle.market_snapshot.proofs.Ticks.{has_parts, own_parts, same_market}
 use Rattle.market_snapshot.proofs.ConsistentFits.{consistent_fits}
@@ -24,8 +26,8 @@ pub fitting : (m : Market) (bytes : List ℕ) → IsCheckpoint m bytes → FitWi
 fitting m bytes is = consistent_fits m is.consistent is.next is.last
 
 pub spelled : (m : Market) (bytes : List ℕ) → IsCheckpoint m bytes → bytes ≡ parts_spelling (parts_of_market m)
-unfolding checkpoint_bytes
-spelled m bytes is = is.spelled
+unfolding market_spelling
+spelled m bytes is = is.spelled ∙ market_is_plain m
 
 -- bytes begin with a checkpoint of one market
 pub one_market : (m n : Market) (p q x y : List ℕ) → IsCheckpoint m p → IsCheckpoint n q → p ++ x ≡ q ++ y → (m ≡ n) × (x ≡ y)
@@ -46,8 +48,8 @@ unsound p bytes rest fits begins not m front more is e =
 
 -- a market of consistent parts with which the bytes begin
 found_spelled : (p : Parts) (m : Market) (bytes rest : List ℕ) → HasParts p m → bytes ≡ parts_spelling p ++ rest → take (length (parts_spelling p)) bytes ≡ checkpoint_bytes m
-unfolding checkpoint_bytes
-found_spelled p m bytes rest has begins = ap (take (length (parts_spelling p))) begins ∙ take-append_seam (parts_spelling p) rest ∙ ap parts_spelling (sym (own_parts p m has))
+unfolding market_spelling
+found_spelled p m bytes rest has begins = ap (take (length (parts_spelling p))) begins ∙ take-append_seam (parts_spelling p) rest ∙ ap parts_spelling (sym (own_parts p m has)) ∙ sym (market_is_plain m)
 
 pub found : (p : Parts) (m : Market) (bytes rest : List ℕ) → FitWidths p → bytes ≡ parts_spelling p ++ rest → HasParts p m → AreConsistent p → IsCheckpoint m (take (length (parts_spelling p)) bytes) × (length (parts_spelling p) ≤ length bytes)
 found p m bytes rest fits begins has are =

@@ -8,13 +8,14 @@ use Rattle.std.proofs.lemmas.List.{take_at}
 use Rattle.wire_fields.specs.Numbers.{unsigned, signed, IsUnsigned, IsSigned}
 use Rattle.wire_fields.proofs.Spelling.{unsigned_unique, signed_unique}
 use Rattle.weight_rows.specs.declared.entries.Entry.{Entry}
-use Rattle.wire_records.specs.CommandRecords.{entry_spelling, IsEntry}
+use Rattle.wire_records.specs.Bodies.{entry_spelling, IsEntry}
 use Rattle.wire_records.proofs.CodeLaws.{counted_unique}
 use Rattle.wire_records.proofs.Requests.{same_entry}
 use Rattle.flow_accounts.specs.Balances.{Account, Credit, Balances, account_count}
 use Rattle.flow_orders.specs.Orders.{most_orders}
 use Rattle.market_parts.specs.Parts.{ReadOrder, Parts}
-use Rattle.market_snapshot.specs.Checkpoints.{checkpoint_magic, units_spelling, account_spelling, order_spelling, tickers_spelling, accounts_spelling, totals_spelling, exchange_spelling, batches_spelling, orders_spelling, parts_spelling}
+use Rattle.market_snapshot.specs.Checkpoints.{checkpoint_magic}
+use Rattle.market_snapshot.specs.Spellings.{units_spelling, account_spelling, order_spelling, tickers_spelling, accounts_spelling, totals_spelling, exchange_spelling, batches_spelling, orders_spelling, parts_spelling}
 use Rattle.market_snapshot.specs.Widths.{FitUnits, FitsAccount, FitsOrder, FitBalances, FitsExchange, FitWidths}
 
 -- what follows equal bytes is equal
@@ -141,12 +142,12 @@ accounts_unique assets a b x y h k e =
     let both = firsts_from a.accounts b.accounts a.credits b.credits h.one_each k.one_each accounts.0 in
     (both.0, both.1, accounts.1)
 
-totals_unique : (assets : ℕ) (a b : Balances) (x y : List ℕ) → FitBalances assets a → FitBalances assets b → totals_spelling a ++ x ≡ totals_spelling b ++ y → (a.total_money ≡ b.total_money) × (a.total_units ≡ b.total_units) × (x ≡ y)
+totals_unique : (assets : ℕ) (a b : Balances) (x y : List ℕ) → FitBalances assets a → FitBalances assets b → totals_spelling a ++ x ≡ totals_spelling b ++ y → (a.totals.money ≡ b.totals.money) × (a.totals.units ≡ b.totals.units) × (x ≡ y)
 unfolding totals_spelling
 totals_unique assets a b x y h k e =
-    let apart = sym (append_assoc (signed 16 a.total_money) (flat_map (signed 8) a.total_units) x) ∙ e ∙ append_assoc (signed 16 b.total_money) (flat_map (signed 8) b.total_units) y in
-    let money = signed_unique 16 a.total_money b.total_money _ _ (omega arith) h.total_money k.total_money apart in
-    let units = signs_unique a.total_units b.total_units x y h.total_units k.total_units (h.totals ∙ sym k.totals) money.1 in
+    let apart = sym (append_assoc (signed 16 a.totals.money) (flat_map (signed 8) a.totals.units) x) ∙ e ∙ append_assoc (signed 16 b.totals.money) (flat_map (signed 8) b.totals.units) y in
+    let money = signed_unique 16 a.totals.money b.totals.money _ _ (omega arith) h.total_money k.total_money apart in
+    let units = signs_unique a.totals.units b.totals.units x y h.total_units k.total_units (h.totals ∙ sym k.totals) money.1 in
     (money.0, units.0, units.1)
 
 exchange_unique : (assets : ℕ) (a b : Account) (x y : List ℕ) → FitsExchange assets a → FitsExchange assets b → exchange_spelling a ++ x ≡ exchange_spelling b ++ y → (a ≡ b) × (x ≡ y)
@@ -175,14 +176,14 @@ orders_unique o p x y h k in_o in_p e =
     counted_unique FitsOrder order_spelling order_unique o p x y in_o in_p count.0 count.1
 
 -- all parts are equal if each is
-same_parts : (m n : Parts) → m.version ≡ n.version → m.tickers ≡ n.tickers → m.balances.accounts ≡ n.balances.accounts → m.balances.credits ≡ n.balances.credits → m.balances.total_money ≡ n.balances.total_money → m.balances.total_units ≡ n.balances.total_units → m.exchange ≡ n.exchange → m.next_order ≡ n.next_order → m.batches ≡ n.batches → m.last_prices ≡ n.last_prices → m.orders ≡ n.orders → m ≡ n
+same_parts : (m n : Parts) → m.version ≡ n.version → m.tickers ≡ n.tickers → m.balances.accounts ≡ n.balances.accounts → m.balances.credits ≡ n.balances.credits → m.balances.totals.money ≡ n.balances.totals.money → m.balances.totals.units ≡ n.balances.totals.units → m.exchange ≡ n.exchange → m.next_order ≡ n.next_order → m.batches ≡ n.batches → m.last_prices ≡ n.last_prices → m.orders ≡ n.orders → m ≡ n
 same_parts m n version tickers accounts credits money units exchange next batches prices orders =
-    let kept : List Account → List Credit → ℤ → List ℤ → Balances = λ a c t u. record { accounts = a; credits = c; total_money = t; total_units = u } in
+    let kept : List Account → List Credit → ℤ → List ℤ → Balances = λ a c t u. record { accounts = a; credits = c; totals = record { money = t; units = u } } in
     let same : m.balances ≡ n.balances =
-    ap (λ a. kept a m.balances.credits m.balances.total_money m.balances.total_units) accounts
-    ∙ ap (λ c. kept n.balances.accounts c m.balances.total_money m.balances.total_units) credits
-    ∙ ap (λ t. kept n.balances.accounts n.balances.credits t m.balances.total_units) money
-    ∙ ap (λ u. kept n.balances.accounts n.balances.credits n.balances.total_money u) units in
+    ap (λ a. kept a m.balances.credits m.balances.totals.money m.balances.totals.units) accounts
+    ∙ ap (λ c. kept n.balances.accounts c m.balances.totals.money m.balances.totals.units) credits
+    ∙ ap (λ t. kept n.balances.accounts n.balances.credits t m.balances.totals.units) money
+    ∙ ap (λ u. kept n.balances.accounts n.balances.credits n.balances.totals.money u) units in
     let made : ℕ → List (List ℕ) → Balances → Account → List ReadOrder → ℕ → ℕ → List ℤ → Parts =
     λ v t b e o k c p. record { version = v; tickers = t; balances = b; exchange = e; orders = o; next_order = k; batches = c; last_prices = p } in
     ap (λ v. made v m.tickers m.balances m.exchange m.orders m.next_order m.batches m.last_prices) version

@@ -10,7 +10,8 @@ use Rattle.flow_accounts.specs.Lawful.{most_accounts}
 use Rattle.flow_orders.specs.Orders.{most_orders}
 use Rattle.market_rules.specs.Market.{Market}
 use Rattle.market_parts.specs.Parts.{ReadOrder, Parts}
-use Rattle.market_snapshot.specs.Checkpoints.{order_spelling, parts_of_market, IsCheckpoint}
+use Rattle.market_snapshot.specs.Checkpoints.{IsCheckpoint}
+use Rattle.market_snapshot.specs.Spellings.{order_spelling, parts_of_market}
 use Rattle.market_snapshot.specs.Widths.{FitsOrder, FitWidths}
 use Rattle.market_snapshot.specs.Layout.{account_size, order_size}
 use Rattle.market_snapshot.proofs.Walking.{order_length, StandsAt, stands, StandAhead, none_passed, next_stands, one_passed, HasFront, front}

@@ -9,7 +9,7 @@ use Rattle.market_snapshot.specs.declared.layout.Layout.{Layout}
 use Rattle.market_snapshot.specs.declared.reading.SnapshotFault.{SnapshotFault}
 use Rattle.market_snapshot.specs.declared.reading.SnapshotFault.TheVariants.{NotSound, Memory}
 use Rattle.market_snapshot.specs.Answers.{WhereNotSound}
-use Rattle.market_snapshot.specs.Checkpoints.{order_spelling}
+use Rattle.market_snapshot.specs.Spellings.{order_spelling}
 use Rattle.market_snapshot.specs.Layout.{account_size, count_place, first_place, IsLayout, BeginsWithNoParts, HasNoOrders}
 use Rattle.market_snapshot.proofs.Walking.{HasFront, front}
 

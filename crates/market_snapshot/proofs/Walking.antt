@@ -11,12 +11,13 @@ use Rattle.wire_fields.proofs.Spelling.{length-unsigned, length-signed}
 use Rattle.byte_places.specs.Places.{part, unsigned_at}
 use Rattle.byte_places.proofs.Digits.{unsigned_here}
 use Rattle.byte_places.proofs.Parts.{part_join}
-use Rattle.wire_records.specs.CommandRecords.{entry_spelling}
+use Rattle.wire_records.specs.Bodies.{entry_spelling}
 use Rattle.wire_records.proofs.CodeLaws.{counted_size}
 use Rattle.wire_records.proofs.Requests.{entry_size}
 use Rattle.flow_accounts.specs.Balances.{Account, Credit, account_count}
 use Rattle.market_parts.specs.Parts.{ReadOrder, Parts}
-use Rattle.market_snapshot.specs.Checkpoints.{checkpoint_magic, units_spelling, account_spelling, order_spelling, tickers_spelling, accounts_spelling, totals_spelling, exchange_spelling, batches_spelling, orders_spelling, parts_spelling}
+use Rattle.market_snapshot.specs.Checkpoints.{checkpoint_magic}
+use Rattle.market_snapshot.specs.Spellings.{units_spelling, account_spelling, order_spelling, tickers_spelling, accounts_spelling, totals_spelling, exchange_spelling, batches_spelling, orders_spelling, parts_spelling}
 use Rattle.market_snapshot.specs.Widths.{FitsAccount, FitsOrder, FitWidths}
 use Rattle.market_snapshot.specs.Layout.{account_size, order_size, order_at, AreOrders}
 use Rattle.market_snapshot.proofs.Laid.{order_spelled}
@@ -164,7 +165,7 @@ six a b c d e f x = simp append_assoc
 -- the length of the totals
 totals_length : (p : Parts) → FitWidths p → length (totals_spelling p.balances) ≡ 16 + 8 * length p.tickers
 unfolding totals_spelling
-totals_length p fits = simp (length-append, length-signed) (omega (arith, counted_size (signed 8) 8 (length-signed 8) p.balances.total_units, fits.balances.totals))
+totals_length p fits = simp (length-append, length-signed) (omega (arith, counted_size (signed 8) 8 (length-signed 8) p.balances.totals.units, fits.balances.totals))
 
 exchange_length : (p : Parts) → FitWidths p → length (exchange_spelling p.exchange) ≡ 16 + 8 * length p.tickers
 unfolding exchange_spelling

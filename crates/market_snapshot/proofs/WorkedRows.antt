@@ -1,5 +1,5 @@
 -- Worked checkpoints, by computation from the definitions.
-use Rattle.std.proofs.Common.{◌≡◌, ◌<◌, ◌^◌, ℕ, ℤ, pos, List, [], ◌∷◌, ◌++◌, length, replicate, refl, sym, ap, ◌∙◌, arith}
+use Rattle.std.proofs.Common.{◌≡◌, ◌<◌, ◌^◌, ℕ, ℤ, pos, List, [], ◌∷◌, ◌++◌, length, replicate, refl, sym, ap, ◌∙◌, arith, None}
 use Rattle.std.specs.Prelude.{codes}
 use Rattle.std.proofs.lemmas.Int.{ints}
 use Rattle.std.proofs.lemmas.List.{append-nil}
@@ -7,10 +7,11 @@ use Rattle.std.proofs.lemmas.List.Elements.{All-nil}
 use Rattle.wire_fields.specs.Numbers.{unsigned, signed, IsSigned}
 use Rattle.wire_records.specs.declared.version.Version.TheVariants.{One}
 use Rattle.flow_orders.specs.Orders.{Order}
-use Rattle.market_rules.specs.Market.{empty_market, held_money}
+use Rattle.market_rules.specs.Market.{empty_market, held_balance}
 use Rattle.market_rules.proofs.Consistency.{consistent-empty}
 use Rattle.market_parts.specs.Parts.{Parts}
-use Rattle.market_snapshot.specs.Checkpoints.{tickers_spelling, accounts_spelling, totals_spelling, exchange_spelling, batches_spelling, orders_spelling, parts_spelling, parts_of_market, checkpoint_bytes, IsCheckpoint, BeginsWithNoCheckpoint}
+use Rattle.market_snapshot.specs.Checkpoints.{checkpoint_bytes, IsCheckpoint, BeginsWithNoCheckpoint}
+use Rattle.market_snapshot.specs.Spellings.{tickers_spelling, accounts_spelling, totals_spelling, exchange_spelling, batches_spelling, orders_spelling, parts_spelling, parts_of_market}
 use Rattle.market_snapshot.specs.Widths.{FitsAccount, FitsOrder, FitWidths}
 use Rattle.market_snapshot.proofs.OneMarket.{fitting, spelled}
 use Rattle.market_snapshot.proofs.OneParts.{parts_unique}
@@ -24,7 +25,7 @@ sixty_three : length (with_total 0) ≡ 63
 sixty_three = refl
 
 empty_bytes : checkpoint_bytes (empty_market One) ≡ with_total 0
-unfolding checkpoint_bytes parts_spelling tickers_spelling accounts_spelling totals_spelling exchange_spelling batches_spelling orders_spelling unsigned signed
+unfolding checkpoint_bytes unsigned signed
 empty_bytes = refl
 
 empty_checkpoint : IsCheckpoint (empty_market One) (with_total 0)
@@ -39,7 +40,7 @@ empty_checkpoint = record {
 a_grain : Parts
 a_grain = record {
   version = 1;
-  balances = record { accounts = []; credits = []; total_money = pos 1; total_units = [] };
+  balances = record { accounts = []; credits = []; totals = record { money = pos 1; units = [] } };
   tickers = [];
   exchange = record { money = pos 0; units = [] };
   orders = [];
@@ -77,13 +78,13 @@ grain_fits = record {
 
 -- what the parts of a market would hold
 held_of : Parts → ℤ
-held_of p = held_money (record { version = One; tickers = p.tickers; balances = p.balances; exchange = p.exchange; orders = []; next_order = p.next_order; batches = p.batches; last_prices = p.last_prices })
+held_of p = held_balance (record { version = One; tickers = p.tickers; balances = p.balances; exchange = p.exchange; orders = []; next_order = p.next_order; batches = p.batches; last_prices = p.last_prices }) None
 
 a_grain_too_much : BeginsWithNoCheckpoint (with_total 1)
 unfolding a_grain held_of
 a_grain_too_much m front rest is e =
     let same = parts_unique (parts_of_market m) a_grain rest [] (fitting m front is) grain_fits (ap (λ z. z ++ rest) (sym (spelled m front is)) ∙ sym e ∙ sym grain_bytes ∙ sym (append-nil (parts_spelling a_grain))) in
-    let held : held_of (parts_of_market m) ≡ m.balances.total_money = is.consistent.totals.money in
+    let held : held_of (parts_of_market m) ≡ m.balances.totals.money = is.consistent.totals None tt in
     let none : held_of a_grain ≡ pos 0 = refl in
-    let total : m.balances.total_money ≡ pos 1 = ap (λ (p : Parts). p.balances.total_money) same.0 in
+    let total : m.balances.totals.money ≡ pos 1 = ap (λ (p : Parts). p.balances.totals.money) same.0 in
     absurd (omega (arith, ints, (sym held ∙ ap held_of same.0 ∙ none), total))

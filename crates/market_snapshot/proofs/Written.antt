@@ -8,13 +8,15 @@ use Rattle.std.proofs.lemmas.List.Folds.{flat_map-map}
 use Rattle.std.proofs.lemmas.Slice.Zip.{get_or-zip}
 use Rattle.wire_fields.specs.Numbers.{unsigned, signed}
 use Rattle.weight_rows.specs.declared.entries.Entry.{Entry}
-use Rattle.wire_records.specs.CommandRecords.{entry_spelling}
+use Rattle.wire_records.specs.Bodies.{entry_spelling}
 use Rattle.flow_accounts.specs.Balances.{Account, Credit, Balances, IsAccount, account_count, asset_count, account_of, credit_of, empty_account, no_credit, units_of, unit_credit_of}
 use Rattle.flow_accounts.specs.Lawful.{AreLawful}
 use Rattle.flow_orders.specs.Orders.{Order, price_of_ticks}
 use Rattle.market_rules.specs.Market.{Market}
 use Rattle.wire_records.specs.Versions.{number_of}
-use Rattle.market_snapshot.specs.Checkpoints.{units_spelling, account_spelling, order_spelling, accounts_spelling, totals_spelling, exchange_spelling, tickers_spelling, batches_spelling, orders_spelling, parts_spelling, checkpoint_bytes, read_order, ticks_of, checkpoint_magic}
+use Rattle.market_snapshot.specs.Checkpoints.{checkpoint_bytes, ticks_of, checkpoint_magic}
+use Rattle.market_snapshot.specs.Spellings.{units_spelling, account_spelling, order_spelling, accounts_spelling, totals_spelling, exchange_spelling, tickers_spelling, batches_spelling, orders_spelling, parts_spelling, read_order, market_spelling}
+use Rattle.market_snapshot.proofs.FieldForms.{market_is_plain}
 use Rattle.market_snapshot.specs.Fields.{fields_spelling}
 use Rattle.market_snapshot.proofs.OneParts.{length-pairs}
 use Rattle.market_snapshot.proofs.Ticks.{ticks_are}
@@ -93,9 +95,9 @@ pub accounts_written : (old now : List ℕ) (b : Balances) → now ≡ (old ++ u
 unfolding accounts_spelling
 accounts_written old now b is = two old (unsigned 4 (account_count b)) (flat_map account_spelling (zip b.accounts b.credits)) now is
 
-pub totals_written : (old now : List ℕ) (b : Balances) → now ≡ (old ++ signed 16 b.total_money) ++ flat_map (signed 8) b.total_units → now ≡ old ++ totals_spelling b
+pub totals_written : (old now : List ℕ) (b : Balances) → now ≡ (old ++ signed 16 b.totals.money) ++ flat_map (signed 8) b.totals.units → now ≡ old ++ totals_spelling b
 unfolding totals_spelling
-totals_written old now b is = two old (signed 16 b.total_money) (flat_map (signed 8) b.total_units) now is
+totals_written old now b is = two old (signed 16 b.totals.money) (flat_map (signed 8) b.totals.units) now is
 
 pub exchange_written : (old now : List ℕ) (a : Account) → now ≡ (old ++ signed 16 a.money) ++ flat_map (signed 8) a.units → now ≡ old ++ exchange_spelling a
 unfolding exchange_spelling
@@ -147,5 +149,6 @@ unfolding fields_spelling
 fields_written old now m is = is ∙ five old (tickers_spelling (number_of m.version) m.tickers) (accounts_spelling m.balances) (totals_spelling m.balances) (exchange_spelling m.exchange) (batches_spelling m.next_order m.batches m.last_prices)
 
 pub market_written : (old now : List ℕ) (m : Market) → now ≡ (old ++ fields_spelling m) ++ orders_spelling (map read_order m.orders) → now ≡ old ++ checkpoint_bytes m
-unfolding fields_spelling checkpoint_bytes parts_spelling
+unfolding fields_spelling market_spelling parts_spelling
 market_written old now m is = is ∙ six old (tickers_spelling (number_of m.version) m.tickers) (accounts_spelling m.balances) (totals_spelling m.balances) (exchange_spelling m.exchange) (batches_spelling m.next_order m.batches m.last_prices) (orders_spelling (map read_order m.orders))
+    ∙ ap (λ bytes. old ++ bytes) (sym (market_is_plain m))

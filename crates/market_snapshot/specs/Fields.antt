@@ -2,7 +2,7 @@
 use Rattle.std.specs.Prelude.{ℕ, List, ◌++◌}
 use Rattle.market_rules.specs.Market.{Market}
 use Rattle.wire_records.specs.Versions.{number_of}
-use Rattle.market_snapshot.specs.Checkpoints.{tickers_spelling, accounts_spelling, totals_spelling, exchange_spelling, batches_spelling}
+use Rattle.market_snapshot.specs.Spellings.{tickers_spelling, accounts_spelling, totals_spelling, exchange_spelling, batches_spelling}
 
 -- the bytes of all parts of a market but its orders
 unfoldable pub fields_spelling : Market → List ℕ

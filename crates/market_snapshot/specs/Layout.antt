@@ -7,7 +7,8 @@ use Rattle.weight_rows.specs.declared.entries.Entry.{Entry}
 use Rattle.flow_accounts.specs.Balances.{Account, Credit, Balances}
 use Rattle.market_parts.specs.Parts.{ReadOrder, Parts}
 use Rattle.market_snapshot.specs.declared.layout.Layout.{Layout}
-use Rattle.market_snapshot.specs.Checkpoints.{checkpoint_magic, order_spelling, parts_spelling}
+use Rattle.market_snapshot.specs.Checkpoints.{checkpoint_magic}
+use Rattle.market_snapshot.specs.Spellings.{order_spelling, parts_spelling}
 use Rattle.market_snapshot.specs.Widths.{FitsOrder, FitWidths}
 
 -- how many bytes an account takes, with its credit line
@@ -75,8 +76,7 @@ abbrev pub balances_at : Layout → List ℕ → Balances
 balances_at l bytes = record {
   accounts = map (λ k. account_at l.assets (account_place l.assets k) bytes) (range_with_len 0 l.accounts);
   credits = map (λ k. credit_at l.assets (account_place l.assets k) bytes) (range_with_len 0 l.accounts);
-  total_money = signed_at w128 l.totals bytes;
-  total_units = signs_at l.assets (l.totals + 16) bytes;
+  totals = record { money = signed_at w128 l.totals bytes; units = signs_at l.assets (l.totals + 16) bytes };
 }
 
 -- the parts of a market in bytes of this layout whose orders are at these places

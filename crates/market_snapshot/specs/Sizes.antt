@@ -3,7 +3,8 @@ use Rattle.std.specs.Prelude.{◌≡◌, ◌+◌, ◌≤◌, ℕ, List, ◌++◌
 use Rattle.std.specs.List.{flat_map}
 use Rattle.market_rules.specs.Market.{Market}
 use Rattle.market_parts.specs.Parts.{ReadOrder}
-use Rattle.market_snapshot.specs.Checkpoints.{order_spelling, IsCheckpoint}
+use Rattle.market_snapshot.specs.Checkpoints.{IsCheckpoint}
+use Rattle.market_snapshot.specs.Spellings.{order_spelling}
 use Rattle.market_snapshot.specs.Widths.{FitsOrder}
 
 -- each checkpoint that begins with these bytes has at least n bytes, and exactly n if n of them are here

@@ -2,7 +2,7 @@
 use Rattle.std.specs.Prelude.{◌≡◌, ◌≤◌, ℕ, ℤ, List, length, All}
 use Rattle.std.specs.List.{zip}
 use Rattle.wire_fields.specs.Numbers.{IsUnsigned, IsSigned}
-use Rattle.wire_records.specs.CommandRecords.{IsEntry}
+use Rattle.wire_records.specs.Bodies.{IsEntry}
 use Rattle.flow_accounts.specs.Balances.{Account, Credit, Balances, account_count}
 use Rattle.flow_orders.specs.Orders.{most_orders}
 use Rattle.market_parts.specs.Parts.{ReadOrder, Parts}
@@ -37,9 +37,9 @@ pub record FitBalances (assets : ℕ) (b : Balances) : Type 0 where
   pub count : IsUnsigned 4 (account_count b)
   pub one_each : length b.credits ≡ account_count b
   pub accounts : All (FitsAccount assets) (zip b.accounts b.credits)
-  pub total_money : IsSigned 16 b.total_money
-  pub totals : length b.total_units ≡ assets
-  pub total_units : All (IsSigned 8) b.total_units
+  pub total_money : IsSigned 16 b.totals.money
+  pub totals : length b.totals.units ≡ assets
+  pub total_units : All (IsSigned 8) b.totals.units
 
 -- the exchange's own account fits its fields, and is of this many assets
 pub record FitsExchange (assets : ℕ) (a : Account) : Type 0 where

@@ -3,7 +3,7 @@ ghost use Rattle.std.specs.Prelude.{◌≡◌, ◌+◌, ◌*◌, ◌≤◌, ◌+
 ghost use Rattle.std.specs.List.{flat_map, zip};
 ghost use Rattle.flow_accounts.specs.Balances.{IsAccount, account_count, asset_count, account_of, credit_of};
 ghost use Rattle.market_snapshot.specs.Layout.{account_size};
-ghost use Rattle.market_snapshot.specs.Checkpoints.{units_spelling, account_spelling, accounts_spelling, totals_spelling, exchange_spelling};
+ghost use Rattle.market_snapshot.specs.Spellings.{units_spelling, account_spelling, accounts_spelling, totals_spelling, exchange_spelling};
 
 use flow_accounts::Accounts;
 use residual_account::ResidualAccount;

@@ -2,8 +2,8 @@
 ghost use Rattle.std.specs.Prelude.{◌≡◌, ◌+◌, ◌*◌, ◌^◌, ◌<◌, ◌≤◌, ◌++◌, length, map, vec_len, vec_capacity, All};
 ghost use Rattle.std.specs.List.{flat_map};
 ghost use Rattle.flow_orders.specs.Orders.{most_orders};
-ghost use Rattle.wire_records.specs.CommandRecords.{entry_spelling};
-ghost use Rattle.market_snapshot.specs.Checkpoints.{order_spelling, orders_spelling, read_order};
+ghost use Rattle.wire_records.specs.Bodies.{entry_spelling};
+ghost use Rattle.market_snapshot.specs.Spellings.{order_spelling, orders_spelling, read_order};
 
 use crate::layout::{ENTRY, ORDER};
 use flow_orders::Order;

@@ -1,6 +1,6 @@
 //! A view of a checkpoint in borrowed bytes.
 ghost use Rattle.std.specs.Prelude.{◌≡◌, ◌++◌, length, drop, IfOk};
-ghost use Rattle.market_snapshot.specs.Checkpoints.{parts_spelling};
+ghost use Rattle.market_snapshot.specs.Spellings.{parts_spelling};
 ghost use Rattle.market_snapshot.specs.Widths.{FitWidths};
 ghost use Rattle.market_snapshot.specs.Layout.{BeginsWithNoParts};
 ghost use Rattle.market_snapshot.specs.Answers.{IfNotSound};

@@ -2,7 +2,8 @@
 ghost use Rattle.std.specs.Prelude.{◌≡◌, ◌+◌, ◌*◌, ◌^◌, ◌<◌, ◌≤◌, ◌++◌, length, map, vec_len, vec_capacity, OnOk, OnErr};
 ghost use Rattle.std.specs.List.{flat_map};
 ghost use Rattle.market_snapshot.specs.Layout.{account_size};
-ghost use Rattle.market_snapshot.specs.Checkpoints.{IsCheckpoint, checkpoint_bytes, order_spelling, read_order, tickers_spelling, batches_spelling};
+ghost use Rattle.market_snapshot.specs.Checkpoints.{IsCheckpoint, checkpoint_bytes};
+ghost use Rattle.market_snapshot.specs.Spellings.{order_spelling, read_order, tickers_spelling, batches_spelling};
 ghost use Rattle.market_snapshot.specs.Fields.{fields_spelling};
 ghost use Rattle.wire_records.specs.Versions.{number_of};
 ghost use Rattle.market_rules.specs.Market.{IsConsistent};

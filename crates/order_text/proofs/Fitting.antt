@@ -13,7 +13,9 @@ use Rattle.serde_json.specs.Find.{get, get_member, as_number, as_u64, as_i64}
 use Rattle.wire_fields.specs.Numbers.{IsUnsigned, IsSigned}
 use Rattle.wire_records.specs.Records.{AreBytes}
 use Rattle.wire_records.specs.Commands.{Request, Command, AddAsset, OpenAccount, DepositMoney, DepositAsset, WithdrawMoney, WithdrawAsset, Place, CancelOrder, RunBatch, SetMoneyCredit, SetUnitCredit}
-use Rattle.wire_records.specs.CommandRecords.{IsCommand, IsRequest, IsEntry}
+use Rattle.wire_records.specs.CommandRecords.{IsCommand}
+use Rattle.wire_records.specs.Bodies.{IsRequest, IsEntry, FitsCommand}
+use Rattle.wire_records.proofs.FieldForms.{command_fits}
 use Rattle.ticker_table.specs.Tickers.{AreTickers}
 use Rattle.wire_records.specs.Versions.{IsOfVersion}
 use Rattle.wire_records.specs.declared.version.Version.{Version}
@@ -158,24 +160,28 @@ module _ (tickers : List (List ℕ)) (d : Data) (are : AreTickers tickers) (all 
         row = row_fits tickers weights.0 r.row are weights.2;
       }
 
-  -- the command that an object asks for fits its record
-  pub command_fits : (version : Version) (command : Command) → Asks version tickers d command → IsCommand command
-  command_fits version (AddAsset ticker) asks = let f = (fits_asked version tickers d (AddAsset ticker) asks).0.0.2 in ticker_fits f.0 ticker f.2
-  command_fits version OpenAccount asks = tt
-  command_fits version (DepositMoney account ticks) asks = money_fits account ticks _ (fits_asked version tickers d (DepositMoney account ticks) asks).0
-  command_fits version (DepositAsset account asset units) asks = units_fit account asset units _ (fits_asked version tickers d (DepositAsset account asset units) asks).0
-  command_fits version (WithdrawMoney account ticks) asks = money_fits account ticks _ (fits_asked version tickers d (WithdrawMoney account ticks) asks).0
-  command_fits version (WithdrawAsset account asset units) asks = units_fit account asset units _ (fits_asked version tickers d (WithdrawAsset account asset units) asks).0
-  command_fits version (Place None r) asks = request_fits r (omega (arith, row_is_short version tickers d (Place None r) are asks)) (fits_asked version tickers d (Place None r) asks).0
-  command_fits version (CancelOrder account order) asks =
+  -- the parts of the command that an object asks for fit its record
+  parts_fit : (version : Version) (command : Command) → Asks version tickers d command → FitsCommand command
+  parts_fit version (AddAsset ticker) asks = let f = (fits_asked version tickers d (AddAsset ticker) asks).0.0.2 in ticker_fits f.0 ticker f.2
+  parts_fit version OpenAccount asks = tt
+  parts_fit version (DepositMoney account ticks) asks = money_fits account ticks _ (fits_asked version tickers d (DepositMoney account ticks) asks).0
+  parts_fit version (DepositAsset account asset units) asks = units_fit account asset units _ (fits_asked version tickers d (DepositAsset account asset units) asks).0
+  parts_fit version (WithdrawMoney account ticks) asks = money_fits account ticks _ (fits_asked version tickers d (WithdrawMoney account ticks) asks).0
+  parts_fit version (WithdrawAsset account asset units) asks = units_fit account asset units _ (fits_asked version tickers d (WithdrawAsset account asset units) asks).0
+  parts_fit version (Place None r) asks = request_fits r (omega (arith, row_is_short version tickers d (Place None r) are asks)) (fits_asked version tickers d (Place None r) asks).0
+  parts_fit version (CancelOrder account order) asks =
       let f = (fits_asked version tickers d (CancelOrder account order) asks).0 in
       (f.0.2.1, number_at_fits (codes "order") order f.1.0)
-  command_fits version (RunBatch budget) asks = (fits_asked version tickers d (RunBatch budget) asks).0.0.2.1
-  command_fits version (Place (Some last) r) asks =
+  parts_fit version (RunBatch budget) asks = (fits_asked version tickers d (RunBatch budget) asks).0.0.2.1
+  parts_fit version (Place (Some last) r) asks =
       let f = (fits_asked version tickers d (Place (Some last) r) asks).0 in
       (f.0.2.1, request_fits r (omega (arith, row_is_short version tickers d (Place (Some last) r) are asks)) (rest_of tickers d (codes "last", Small last) (order_members r) f))
-  command_fits version (SetMoneyCredit account ticks) asks = money_fits account ticks _ (fits_asked version tickers d (SetMoneyCredit account ticks) asks).0
-  command_fits version (SetUnitCredit account asset units) asks = units_fit account asset units _ (fits_asked version tickers d (SetUnitCredit account asset units) asks).0
+  parts_fit version (SetMoneyCredit account ticks) asks = money_fits account ticks _ (fits_asked version tickers d (SetMoneyCredit account ticks) asks).0
+  parts_fit version (SetUnitCredit account asset units) asks = units_fit account asset units _ (fits_asked version tickers d (SetUnitCredit account asset units) asks).0
+
+  -- the command that an object asks for fits its record
+  pub command_asked_fits : (version : Version) (command : Command) → Asks version tickers d command → IsCommand command
+  command_asked_fits version command asks = command_fits command (parts_fit version command asks)
 
   -- the request of a segment
   segment_fits : (account : ℕ) (row : List Entry) (s : Segment) → IsUnsigned 4 account → length row ≤ 165 → All IsEntry row → HasOrderNumbers s → IsRequest (request_of account row s)
@@ -196,7 +202,7 @@ module _ (tickers : List (List ℕ)) (d : Data) (are : AreTickers tickers) (all 
       let place = Place None (request_of account row s) in
       let behind = map (Place None) (map (request_of account row) segments) in
       let rest = segments_fit version account row segments named few entries numbers.1 in (
-        All-cons IsCommand place behind (segment_fits account row s named few entries numbers.0) rest.0,
+        All-cons IsCommand place behind (command_fits place (segment_fits account row s named few entries numbers.0)) rest.0,
         All-cons (IsOfVersion version) place behind (of_each version place (omega arith, omega arith)) rest.1,
       )
 
@@ -213,7 +219,7 @@ pub commands_fit : (version : Version) (tickers : List (List ℕ)) (line : List 
     → All IsCommand (commands_of asked) × All (IsOfVersion version) (commands_of asked)
 commands_fit version tickers line (Alone command) are asks =
     let all = read_fits line asks.value asks.reads in (
-      All-cons IsCommand command [] (command_fits tickers asks.value are all version command asks.asks) (All-nil IsCommand),
+      All-cons IsCommand command [] (command_asked_fits tickers asks.value are all version command asks.asks) (All-nil IsCommand),
       All-cons (IsOfVersion version) command [] asks.asks.of_version (All-nil (IsOfVersion version)),
     )
 commands_fit version tickers line (OfLadder commands) are asks = ladder_fits tickers asks.value are (read_fits line asks.value asks.reads) version commands asks.asks

@@ -8,13 +8,15 @@ use borrow.Author.Differences.{le-true, le-false, true_is_le}
 use Rattle.weight_rows.specs.Rows.{price_of}
 use Rattle.single_bisect.specs.Places.{IsClosedUpwards, IsClosedDownwards, IsLeastTrue, IsGreatestTrue}
 use Rattle.flow_orders.specs.Orders.{Order, IsOrder}
-use Rattle.flow_orders.specs.Excess.{low_excess, low_excess_in, high_excess_in, steepness, is_above, is_below, is_unsettled}
+use Rattle.flow_orders.specs.Excess.{low_excess_in, high_excess_in, steepness, is_unsettled}
+use Rattle.flow_orders.specs.WholeUnits.{low_excess, is_above, is_below}
 use Rattle.flow_orders.specs.Moves.{moved}
 use Rattle.flow_orders.proofs.Book.{IsConsistent}
 use Rattle.flow_orders.proofs.BookLaws.{low_excess-falls, high_excess-falls}
 use Rattle.flow_orders.proofs.MoveFacts.{rise_to_place, fall_to_place, move_unique}
 use Rattle.flow_orders.proofs.Moving.{above_is, below_is, moved_is}
 use Rattle.flow_orders.proofs.DualWalks.{IsMove}
+use Rattle.flow_orders.proofs.WholeUnits.{unsettled_one}
 use Rattle.price_moves.specs.Ends.{has_risen, has_fallen}
 
 pub all_consistent : (orders : List Order) → All IsOrder orders → All IsConsistent orders
@@ -37,22 +39,19 @@ le_is x y h = sym (true_is_le x y (omega (arith, ints, h)))
 
 -- an asset that is above is unsettled
 unsettled_above : (orders : List Order) (prices : List ℤ) (asset : ℕ) → is_above orders prices asset ≡ true → is_unsettled orders prices asset ≡ true
-unfolding is_unsettled
-unsettled_above orders prices asset above = first_of (is_above orders prices asset) (is_below orders prices asset) above
+unsettled_above orders prices asset above = unsettled_one orders prices asset ∙ first_of (is_above orders prices asset) (is_below orders prices asset) above
 
 unsettled_below : (orders : List Order) (prices : List ℤ) (asset : ℕ) → is_below orders prices asset ≡ true → is_unsettled orders prices asset ≡ true
-unfolding is_unsettled
-unsettled_below orders prices asset below = second_of (is_above orders prices asset) (is_below orders prices asset) below
+unsettled_below orders prices asset below = unsettled_one orders prices asset ∙ second_of (is_above orders prices asset) (is_below orders prices asset) below
 
 -- an unsettled asset that isn't above is below
 pub below_unless_above : (orders : List Order) (prices : List ℤ) (asset : ℕ) (steep low : ℤ) → steep ≡ pos (steepness orders asset) → low ≡ low_excess orders prices asset
     → is_unsettled orders prices asset ≡ true → int_lt steep low ≡ false → is_below orders prices asset ≡ true
-unfolding is_unsettled
 below_unless_above orders prices asset steep low steep_is low_is unsettled near =
     ⊎_elim
     (λ above. absurd (omega (arith, ints, rw (low_is, steep_is) at near, above)))
     (λ below. below)
-    (either (is_above orders prices asset) (is_below orders prices asset) unsettled)
+    (either (is_above orders prices asset) (is_below orders prices asset) (sym (unsettled_one orders prices asset) ∙ unsettled))
 
 module _ (parts : ℕ) (orders : List Order) (prices : List ℤ) (asset : ℕ) (each : All IsOrder orders) (there : asset < length prices) where
   -- a rise that has ended at a price has ended at every later one

@@ -2,7 +2,8 @@
 ghost use Rattle.std.specs.Prelude.{◌≡◌, ◌+◌, ◌*◌, ◌^◌, ◌<◌, ◌≤◌, ◌≤ℤ◌, ◌+ℤ◌, ◌-ℤ◌, pos, neg_ℤ, true, length, slice_set, unsigned_abs, All};
 ghost use Rattle.weight_rows.specs.Rows.{IsPrice, price_of};
 ghost use Rattle.flow_orders.specs.Orders.{IsOrder};
-ghost use Rattle.flow_orders.specs.Excess.{is_above, is_below, is_unsettled, steepness};
+ghost use Rattle.flow_orders.specs.Excess.{is_unsettled, steepness};
+ghost use Rattle.flow_orders.specs.WholeUnits.{is_above, is_below};
 ghost use Rattle.flow_orders.specs.Moves.{moved};
 ghost use Rattle.flow_orders.specs.Outcomes.{step_of};
 ghost use Rattle.excess_bounds.specs.Workspace.{ArePriced};

@@ -13,7 +13,8 @@ use Rattle.wire_fields.proofs.Spelling.{IsSigned-from_fits}
 use Rattle.weight_rows.specs.declared.entries.Entry.{Entry}
 use Rattle.wire_records.specs.Records.{AreBytes}
 use Rattle.wire_records.specs.Commands.{OpenAccount, DepositMoney, Place, RunBatch}
-use Rattle.wire_records.specs.CommandRecords.{IsEntry}
+use Rattle.wire_records.specs.Bodies.{IsEntry}
+use Rattle.wire_records.proofs.FieldForms.{command_fits}
 use Rattle.sample_market.specs.Draws.{next_state, drawn, state_after}
 use Rattle.sample_market.specs.Orders.{drawn_weight, drawn_entries, drawn_count, drawn_first, drawn_row, behind_row, usual_price, drawn_middle, drawn_half, drawn_rate, drawn_turns, drawn_order, drawn_orders, behind_order}
 use Rattle.sample_market.specs.Files.{new_asset, new_assets, new_accounts, unit_deposit, unit_deposits, deposits_of, all_deposits, batches, sample}
@@ -91,7 +92,7 @@ order_lawful place x =
     let turn = mod_below place 64 (omega arith) in
     let cap : drawn_rate x * drawn_turns x ≤ 1000 * 20 = mul-le-mul (rate_small x) (turns_small x) in
     record {
-      fits = record {
+      fits = command_fits (Place None (drawn_order place x)) (record {
         account = omega (arith, turn);
         low = signed_small (drawn_middle x -ℤ pos (drawn_half x)) (omega (arith, ints, middle, half));
         high = signed_small (drawn_middle x +ℤ pos (drawn_half x)) (omega (arith, ints, middle, half));
@@ -99,7 +100,7 @@ order_lawful place x =
         cap = omega (arith, cap);
         count = omega (arith, row.1);
         row = λ k d within. entry_fits (get_or (drawn_row x) k d) (row.0 k d within);
-      };
+      });
       short = omega (arith, row.1);
       own = (omega arith, omega arith);
     }
@@ -113,7 +114,7 @@ asset_lawful asset few =
     let byte : ℕ → Type 0 = λ b. b < 256 in
     let spaces : AreBytes (codes "      ") = All-replicate byte 6 32 (omega arith) in
     let bytes : AreBytes (codes "A" ++ (48 + asset) ∷ codes "      ") = All-cons byte 65 ((48 + asset) ∷ codes "      ") (omega arith) (All-cons byte (48 + asset) (codes "      ") (omega (arith, few)) spaces) in
-    record { fits = (refl, bytes); short = tt; own = (omega arith, omega arith) }
+    record { fits = command_fits (new_asset asset) (refl, bytes); short = tt; own = (omega arith, omega arith) }
 
 -- numbers of a range are below its end
 pub range_below : (P : ℕ → Type 0) (a n : ℕ) → ((k : ℕ) → k < a + n → P k) → All P (range_with_len a n)
@@ -126,21 +127,21 @@ assets_lawful = All-map IsLawful new_asset (range_with_len 0 8) (range_below (λ
 
 accounts_lawful : All IsLawful new_accounts
 unfolding new_accounts
-accounts_lawful = All-replicate IsLawful 64 OpenAccount (record { fits = tt; short = tt; own = (omega arith, omega arith) })
+accounts_lawful = All-replicate IsLawful 64 OpenAccount (record { fits = command_fits OpenAccount tt; short = tt; own = (omega arith, omega arith) })
 
 batches_lawful : All IsLawful batches
 unfolding batches
-batches_lawful = All-replicate IsLawful 4 (RunBatch 1000) (record { fits = omega arith; short = tt; own = (omega arith, omega arith) })
+batches_lawful = All-replicate IsLawful 4 (RunBatch 1000) (record { fits = command_fits (RunBatch 1000) (omega arith); short = tt; own = (omega arith, omega arith) })
 
 units_lawful : (account : ℕ) → account < 65 → All IsLawful (unit_deposits account)
 unfolding unit_deposits
 units_lawful account few =
     All-map IsLawful (unit_deposit account) (range_with_len 0 8)
-    (range_below (λ k. IsLawful (unit_deposit account k)) 0 8 (λ k below. record { fits = (omega (arith, few), omega (arith, below), omega arith); short = tt; own = (omega arith, omega arith) }))
+    (range_below (λ k. IsLawful (unit_deposit account k)) 0 8 (λ k below. record { fits = command_fits (unit_deposit account k) (omega (arith, few), omega (arith, below), omega arith); short = tt; own = (omega arith, omega arith) }))
 
 deposits_lawful : (account : ℕ) → account < 65 → All IsLawful (deposits_of account)
 deposits_lawful account few =
-    All-cons IsLawful (DepositMoney account (2 ^ 50)) (unit_deposits account) (record { fits = (omega (arith, few), omega arith); short = tt; own = (omega arith, omega arith) }) (units_lawful account few)
+    All-cons IsLawful (DepositMoney account (2 ^ 50)) (unit_deposits account) (record { fits = command_fits (DepositMoney account (2 ^ 50)) (omega (arith, few), omega arith); short = tt; own = (omega arith, omega arith) }) (units_lawful account few)
 
 each_lawful : (a n : ℕ) → a + n ≤ 65 → All IsLawful (flat_map deposits_of (range_with_len a n))
 each_lawful a zero few = All-nil IsLawful

@@ -7,9 +7,13 @@ use Rattle.std.proofs.lemmas.List.FromFn.{length-map-range_with_len}
 use Rattle.std.proofs.lemmas.List.Elements.{All-head, All-tail, All-map, All-replicate}
 use Rattle.wire_fields.specs.Numbers.{unsigned}
 use Rattle.wire_fields.proofs.Spelling.{length-unsigned}
-use Rattle.wire_records.specs.Records.{spelling, command_magic}
+use Rattle.wire_records.specs.Records.{spelling}
+use Rattle.wire_records.specs.Formats.{command_magic_of}
+use Rattle.wire_records.specs.declared.version.Version.TheVariants.{One}
 use Rattle.wire_records.specs.Commands.{Command, OpenAccount, DepositMoney, RunBatch, Place}
-use Rattle.wire_records.specs.CommandRecords.{record_of, body_of}
+use Rattle.wire_records.specs.CommandRecords.{record_of}
+use Rattle.wire_records.specs.Bodies.{body_spelling}
+use Rattle.wire_records.proofs.FieldForms.{body_is_plain}
 use Rattle.wire_records.proofs.Spelled.{length-spelling}
 use Rattle.wire_records.proofs.Requests.{request_size}
 use Rattle.sample_market.specs.Orders.{drawn_order, drawn_orders, behind_order}
@@ -29,29 +33,29 @@ bytes_few most (c ∷ commands) few =
     omega (arith, length-append (spelling (record_of c)) (spell_commands commands), All-head P c commands few, bytes_few most commands (All-tail P c commands few))
 
 asset_size : (asset : ℕ) → size_of (new_asset asset) ≤ 13
-unfolding body_of
-asset_size asset = omega (arith, length-spelling (record_of (new_asset asset)))
+unfolding body_spelling
+asset_size asset = omega (arith, length-spelling (record_of (new_asset asset)), ap length (body_is_plain (new_asset asset)))
 
 account_size : size_of OpenAccount ≤ 5
-unfolding body_of
-account_size = omega (arith, length-spelling (record_of OpenAccount))
+unfolding body_spelling
+account_size = omega (arith, length-spelling (record_of OpenAccount), ap length (body_is_plain OpenAccount))
 
 money_size : (account ticks : ℕ) → size_of (DepositMoney account ticks) ≤ 17
-unfolding body_of
-money_size account ticks = omega (arith, length-spelling (record_of (DepositMoney account ticks)), length-append (unsigned 4 account) (unsigned 8 ticks), length-unsigned 4 account, length-unsigned 8 ticks)
+unfolding body_spelling
+money_size account ticks = omega (arith, length-spelling (record_of (DepositMoney account ticks)), ap length (body_is_plain (DepositMoney account ticks)), length-append (unsigned 4 account) (unsigned 8 ticks), length-unsigned 4 account, length-unsigned 8 ticks)
 
 units_size : (account asset : ℕ) → size_of (unit_deposit account asset) ≤ 19
-unfolding body_of
+unfolding body_spelling
 units_size account asset =
-    omega (arith, length-spelling (record_of (unit_deposit account asset)), length-append (unsigned 4 account) (unsigned 2 asset ++ unsigned 8 (2 ^ 50)), length-append (unsigned 2 asset) (unsigned 8 (2 ^ 50)), length-unsigned 4 account, length-unsigned 2 asset, length-unsigned 8 (2 ^ 50))
+    omega (arith, length-spelling (record_of (unit_deposit account asset)), ap length (body_is_plain (unit_deposit account asset)), length-append (unsigned 4 account) (unsigned 2 asset ++ unsigned 8 (2 ^ 50)), length-append (unsigned 2 asset) (unsigned 8 (2 ^ 50)), length-unsigned 4 account, length-unsigned 2 asset, length-unsigned 8 (2 ^ 50))
 
 batch_size : size_of (RunBatch 1000) ≤ 9
-unfolding body_of
-batch_size = omega (arith, length-spelling (record_of (RunBatch 1000)), length-unsigned 4 1000)
+unfolding body_spelling
+batch_size = omega (arith, length-spelling (record_of (RunBatch 1000)), ap length (body_is_plain (RunBatch 1000)), length-unsigned 4 1000)
 
 order_size : (place x : ℕ) → size_of (Place None (drawn_order place x)) ≤ 56
-unfolding body_of
-order_size place x = omega (arith, length-spelling (record_of (Place None (drawn_order place x))), request_size (drawn_order place x), (row_small x).1)
+unfolding body_spelling
+order_size place x = omega (arith, length-spelling (record_of (Place None (drawn_order place x))), ap length (body_is_plain (Place None (drawn_order place x))), request_size (drawn_order place x), (row_small x).1)
 
 -- ---- all of them
 assets_few : length (spell_commands new_assets) ≤ 104
@@ -109,7 +113,7 @@ samples_are_short number orders =
       size new_accounts (all_deposits ++ (drawn ++ batches)),
       size all_deposits (drawn ++ batches),
       size drawn batches,
-      length-append command_magic (spell_commands (new_assets ++ (new_accounts ++ (all_deposits ++ (drawn ++ batches))))),
+      length-append (command_magic_of One) (spell_commands (new_assets ++ (new_accounts ++ (all_deposits ++ (drawn ++ batches))))),
       assets_few,
       accounts_few,
       all_deposits_few,

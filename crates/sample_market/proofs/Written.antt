@@ -4,7 +4,9 @@ use Rattle.std.specs.List.{flat_map, range_with_len}
 use Rattle.std.proofs.lemmas.List.{flat_map_more, replicate_more}
 use Rattle.std.proofs.lemmas.Grind.{flat_map-append}
 use Rattle.std.proofs.lemmas.List.FromFn.{map-range_with_len_more}
-use Rattle.wire_records.specs.Records.{spelling, command_magic}
+use Rattle.wire_records.specs.Records.{spelling}
+use Rattle.wire_records.specs.Formats.{command_magic_of}
+use Rattle.wire_records.specs.declared.version.Version.TheVariants.{One}
 use Rattle.wire_records.specs.Commands.{Command, OpenAccount, DepositMoney, RunBatch, Place}
 use Rattle.wire_records.specs.CommandRecords.{record_of}
 use Rattle.sample_market.specs.Orders.{drawn_order, drawn_orders, behind_order}
@@ -86,7 +88,7 @@ pub orders_written : (file now : List ℕ) (orders number left place state : ℕ
 orders_written file now orders number left place state before none = sym (before ∙ ap (λ k. now ++ spell_commands (drawn_orders k place state)) none ∙ append-nil now)
 
 -- the complete file
-pub file_written : (magic made opened paid placed held : List ℕ) (number orders : ℕ) → magic ≡ command_magic → made ≡ magic ++ spell_commands new_assets → opened ≡ made ++ spell_commands new_accounts → paid ≡ opened ++ spell_commands all_deposits
+pub file_written : (magic made opened paid placed held : List ℕ) (number orders : ℕ) → magic ≡ command_magic_of One → made ≡ magic ++ spell_commands new_assets → opened ≡ made ++ spell_commands new_accounts → paid ≡ opened ++ spell_commands all_deposits
     → placed ≡ paid ++ spell_commands (drawn_orders orders 0 number) → held ≡ placed ++ spell_commands batches → held ≡ sample_file number orders
 unfolding sample_file sample
 file_written magic made opened paid placed held number orders begins assets accounts deposits drawn last =
@@ -100,5 +102,5 @@ file_written magic made opened paid placed held number orders begins assets acco
     let d = spell_commands (drawn_orders orders 0 number) in
     let e = spell_commands batches in
     last ∙ ap (λ xs. xs ++ e) (drawn ∙ ap (λ xs. xs ++ d) (deposits ∙ ap (λ xs. xs ++ c) (accounts ∙ ap (λ xs. xs ++ b) (assets ∙ ap (λ xs. xs ++ a) begins))))
-    ∙ append_assoc (((command_magic ++ a) ++ b) ++ c) d e ∙ append_assoc ((command_magic ++ a) ++ b) c (d ++ e) ∙ append_assoc (command_magic ++ a) b (c ++ (d ++ e)) ∙ append_assoc command_magic a (b ++ (c ++ (d ++ e)))
-    ∙ ap (λ xs. command_magic ++ xs) (sym all)
+    ∙ append_assoc (((command_magic_of One ++ a) ++ b) ++ c) d e ∙ append_assoc ((command_magic_of One ++ a) ++ b) c (d ++ e) ∙ append_assoc (command_magic_of One ++ a) b (c ++ (d ++ e)) ∙ append_assoc (command_magic_of One) a (b ++ (c ++ (d ++ e)))
+    ∙ ap (λ xs. command_magic_of One ++ xs) (sym all)

@@ -1,7 +1,9 @@
 -- The commands of a sample, and its file.
 use Rattle.std.specs.Prelude.{ℕ, ◌+◌, ◌^◌, List, ◌∷◌, ◌++◌, map, codes, replicate}
 use Rattle.std.specs.List.{flat_map, range_with_len}
-use Rattle.wire_records.specs.Records.{spelling, command_magic}
+use Rattle.wire_records.specs.Records.{spelling}
+use Rattle.wire_records.specs.Formats.{command_magic_of}
+use Rattle.wire_records.specs.declared.version.Version.TheVariants.{One}
 use Rattle.wire_records.specs.Commands.{Command, AddAsset, OpenAccount, DepositMoney, DepositAsset, RunBatch}
 use Rattle.wire_records.specs.CommandRecords.{record_of}
 use Rattle.sample_market.specs.Orders.{drawn_orders}
@@ -48,4 +50,4 @@ spell_commands commands = flat_map (λ command. spelling (record_of command)) co
 
 -- the command file of a sample, of version One
 unfoldable pub sample_file : ℕ → ℕ → List ℕ
-sample_file number orders = command_magic ++ spell_commands (sample number orders)
+sample_file number orders = command_magic_of One ++ spell_commands (sample number orders)

@@ -4,12 +4,12 @@ use Rattle.std.specs.Prelude.{All}
 use Rattle.std.proofs.lemmas.List.{take_all}
 use Rattle.std.proofs.lemmas.List.Sums.{sum_by-cons}
 use Rattle.std.proofs.lemmas.List.Elements.{All-nil, All-cons}
-use Rattle.wire_records.specs.Records.{Record, IsRecord, command_magic, most_body}
+use Rattle.wire_records.specs.Records.{Record, IsRecord, most_body}
 use Rattle.wire_records.specs.Commands.{Answer, Pair}
 use Rattle.wire_records.specs.CommandRecords.{record_of}
 use Rattle.wire_records.specs.Versions.{IsReadAs}
 use Rattle.wire_records.specs.Reading.{Ending, End, ReadsOn}
-use Rattle.wire_records.specs.Formats.{commands}
+use Rattle.wire_records.specs.Formats.{commands, command_magic_of}
 use Rattle.wire_records.specs.declared.version.Version.{Version}
 use Rattle.wire_records.specs.declared.version.Version.TheVariants.{One}
 use Rattle.wire_records.proofs.Readings.{reading_unique}
@@ -135,4 +135,4 @@ module _ (number orders : ℕ) where
 -- the file has at least the eight bytes of its magic
 pub sample_long : (number orders : ℕ) → 8 ≤ length (sample_file number orders)
 unfolding sample_file
-sample_long number orders = omega (arith, length-append command_magic (spell_commands (sample number orders)))
+sample_long number orders = omega (arith, length-append (command_magic_of One) (spell_commands (sample number orders)))

@@ -17,10 +17,7 @@ use Rattle.journal_records.specs.Formats.{journal_magic_of, journals, journal_in
 use Rattle.journal_records.specs.Pairs.{IsPair}
 use Rattle.journal_records.proofs.Files.{journals_readable, journal_is_file}
 use Rattle.market_rules.specs.Market.{Market}
-use Rattle.wire_records.specs.Versions.{number_of}
-use Rattle.market_snapshot.specs.Checkpoints.{checkpoint_magic, checkpoint_bytes, parts_spelling, read_order, tickers_spelling, accounts_spelling, totals_spelling, exchange_spelling, batches_spelling, orders_spelling, IsCheckpoint, HasCheckpointMagic}
-use Rattle.wire_fields.specs.Numbers.{unsigned}
-use Rattle.std.specs.List.{flat_map}
+use Rattle.market_snapshot.specs.Checkpoints.{checkpoint_magic, checkpoint_bytes, IsCheckpoint, HasCheckpointMagic}
 use Rattle.market_snapshot.proofs.OneMarket.{one_market}
 use Rattle.batch_audit.specs.Legal.{IsLegalJournal, AreJudged}
 use Rattle.batch_audit.proofs.LawProofs.{one_judgement}
@@ -108,11 +105,8 @@ illegal_magic bytes number first =
 
 -- a checkpoint begins with its magic
 made_magic : (market : Market) → (rest : List ℕ) × (checkpoint_bytes market ≡ checkpoint_magic ++ rest)
-unfolding checkpoint_bytes parts_spelling tickers_spelling
-made_magic market =
-    let mid = unsigned 1 (number_of market.version) ++ (unsigned 2 (length market.tickers) ++ flat_map (λ t. t) market.tickers) in
-    let more = accounts_spelling market.balances ++ (totals_spelling market.balances ++ (exchange_spelling market.exchange ++ (batches_spelling market.next_order market.batches market.last_prices ++ orders_spelling (map read_order market.orders)))) in
-    (mid ++ more, append_assoc checkpoint_magic mid more)
+unfolding checkpoint_bytes
+made_magic market = (_, refl)
 
 pub kept_magic : (bytes : List ℕ) (market : Market) (place : ℕ) (rest : List ℕ) → BeginsKept bytes market place rest → HasCheckpointMagic bytes
 kept_magic bytes market place rest first =

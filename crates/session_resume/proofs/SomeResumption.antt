@@ -18,7 +18,7 @@ use Rattle.journal_records.specs.Formats.{journal_magic_of, journals, journal_in
 use Rattle.journal_records.proofs.Files.{journals_readable}
 use Rattle.market_rules.specs.Market.{Market, IsConsistent, empty_market}
 use Rattle.market_rules.specs.Journal.{Follows}
-use Rattle.market_rules.proofs.LawProofs.{steps_keep_consistency, journals_hold_deposits}
+use Rattle.market_rules.proofs.LawProofs.{steps_keep_consistency, journals_stay_consistent}
 use Rattle.canonical_journals.proofs.CanonicalIsLegal.{canonical_follows_are_admissible}
 use Rattle.market_snapshot.specs.Checkpoints.{IsCheckpoint, HasCheckpointMagic}
 use Rattle.batch_audit.specs.Legal.{IsLegalPair, IsLegalJournal, StopsAt}
@@ -154,7 +154,7 @@ answered old (r ∷ records) consistent each =
     let step = has_step old r consistent (All-head commands.units.IsLawful r records each) readable in
     let next = step.0 in
     let one : List (Pair Record Outcome) = record { asked = r; answer = step.2.answer } ∷ [] in
-    let still = (journals_hold_deposits old one next consistent (canonical_follows_are_admissible IsReadAs read_own old one next consistent (next, step.2.step, refl))).consistent in
+    let still = (journals_stay_consistent old one next consistent (canonical_follows_are_admissible IsReadAs read_own old one next consistent (next, step.2.step, refl))) in
     follows (λ (rest : Answered next records). not_denied (rest.0, step.1 ++ rest.1, continues_more old next rest.0 r records step.1 rest.1 step.2 rest.2)) (answered next records still (All-tail commands.units.IsLawful r records each)))
     (can_be_read r)
 
@@ -193,7 +193,7 @@ some_behind origin market More place rest Other consistent is = follows (λ more
 
 -- the market of a first part is consistent
 consistent_first : (bytes : List ℕ) (origin : Origin) (market : Market) (place : ℕ) (rest : List ℕ) → IsFirst bytes (Whole origin market place rest) → IsConsistent market
-consistent_first bytes Journal market place rest first = (journals_hold_deposits (empty_market first.version) first.pairs market (steps_keep_consistency.0 first.version) first.legal.steps).consistent
+consistent_first bytes Journal market place rest first = (journals_stay_consistent (empty_market first.version) first.pairs market (steps_keep_consistency.0 first.version) first.legal.steps)
 consistent_first bytes Checkpoint market place rest first = first.is_one.consistent
 
 some_unsound : (More : Type 0) → More ⊎ (¬ More) → (ended : Ended Unfit) × EndsUnsound More ended

@@ -1,5 +1,5 @@
 -- Holdings that agree with one market give the same text.
-use Rattle.std.proofs.Common.{◌≡◌, ℕ, zero, suc, ◌+◌, ◌<◌, List, [], ◌∷◌, ◌++◌, length, refl, sym, ap, ◌∙◌, arith}
+use Rattle.std.proofs.Common.{◌≡◌, ℕ, zero, suc, ◌+◌, ◌<◌, List, [], ◌∷◌, ◌++◌, length, refl, sym, ap, ◌∙◌, arith, Some, None}
 use Rattle.std.specs.List.{flat_map, range_with_len, sum_by}
 use Rattle.std.specs.Prelude.{codes, decimal}
 use Rattle.std.specs.Fmt.{signed_decimal}
@@ -15,7 +15,7 @@ use Rattle.market_rules.specs.Market.{Market}
 use Rattle.pair_text.specs.Texts.{◌then◌, asset_name}
 use Rattle.statement_rules.specs.Views.{Event, Adds, Opens, Asks, Clears, Skips}
 use Rattle.statement_rules.specs.Holdings.{Holding, ordered, after, after_done, after_placing, after_asked, IsHeld}
-use Rattle.statement_rules.specs.Statements.{event_lines, lines_from, asset_line, asked_line, cost_line, money_reserved, units_reserved, end_lines}
+use Rattle.statement_rules.specs.Statements.{event_lines, lines_from, asset_line, asked_line, cost_line, end_lines, reserved_balance}
 use Rattle.statement_rules.specs.Laws.{HoldingsTellAlike}
 
 -- the holdings have the same assets and the same orders
@@ -66,15 +66,15 @@ same_texts f g start (suc n) same =
 
 like_asset : (h g : Holding) (asset : ℕ) → IsLike h g → h.units asset ≡ g.units asset → asset_line h asset ≡ asset_line g asset
 like_asset h g asset like units =
-    ap (λ tickers. asset_name tickers asset then codes " units " then signed_decimal (h.units asset) then codes " reserved " then decimal (units_reserved h asset) then codes "\n") like.tickers
-    ∙ ap (λ u. asset_name g.tickers asset then codes " units " then signed_decimal u then codes " reserved " then decimal (units_reserved h asset) then codes "\n") units
+    ap (λ tickers. asset_name tickers asset then codes " units " then signed_decimal (h.units asset) then codes " reserved " then decimal (reserved_balance h (Some asset)) then codes "\n") like.tickers
+    ∙ ap (λ u. asset_name g.tickers asset then codes " units " then signed_decimal u then codes " reserved " then decimal (reserved_balance h (Some asset)) then codes "\n") units
     ∙ ap (λ l. asset_name g.tickers asset then codes " units " then signed_decimal (g.units asset) then codes " reserved " then decimal (sum_by (unit_need asset) l) then codes "\n") like.orders
 
 like_end : (h g : Holding) → IsLike h g → h.money ≡ g.money → ((asset : ℕ) → asset < length h.tickers → h.units asset ≡ g.units asset) → end_lines h ≡ end_lines g
 like_end h g like money units =
-    ap (λ m. codes "money " then signed_decimal m then codes " reserved " then decimal (money_reserved h) then codes "\n" then flat_map (asset_line h) (range_with_len 0 (length h.tickers))) money
+    ap (λ m. codes "money " then signed_decimal m then codes " reserved " then decimal (reserved_balance h None) then codes "\n" then flat_map (asset_line h) (range_with_len 0 (length h.tickers))) money
     ∙ ap (λ l. codes "money " then signed_decimal g.money then codes " reserved " then decimal (sum_by money_need l) then codes "\n" then flat_map (asset_line h) (range_with_len 0 (length h.tickers))) like.orders
-    ∙ ap (λ l. codes "money " then signed_decimal g.money then codes " reserved " then decimal (money_reserved g) then codes "\n" then l) (assets ∙ ap (λ l. flat_map (asset_line g) (range_with_len 0 (length l))) like.tickers)
+    ∙ ap (λ l. codes "money " then signed_decimal g.money then codes " reserved " then decimal (reserved_balance g None) then codes "\n" then l) (assets ∙ ap (λ l. flat_map (asset_line g) (range_with_len 0 (length l))) like.tickers)
   where
     assets : flat_map (asset_line h) (range_with_len 0 (length h.tickers)) ≡ flat_map (asset_line g) (range_with_len 0 (length h.tickers))
     assets = same_texts (asset_line h) (asset_line g) 0 (length h.tickers) (λ k inside. like_asset h g k like (units k (omega (arith, inside))))

@@ -10,7 +10,7 @@ use Rattle.wire_records.specs.Commands.{Command, AddAsset, OpenAccount, DepositM
 use Rattle.wire_records.specs.declared.command.BodyFault.{BodyFault}
 use Rattle.wire_records.specs.declared.reply.Refusal.{Refusal}
 use Rattle.wire_records.specs.declared.reply.Reply.TheVariants as reply
-use Rattle.flow_accounts.specs.Balances.{Balances, IsAccount, IsAsset, account_count, asset_count, grains, money_of, units_of, open_account, add_asset, change_money, change_units}
+use Rattle.flow_accounts.specs.Balances.{Balances, IsAccount, IsAsset, account_count, asset_count, grains, money_of, units_of, open_account, add_asset, change_balance}
 use Rattle.flow_accounts.specs.Changes.{KeepsBalances, AddsAsset, ChangesUnitsOf}
 use Rattle.flow_accounts.proofs.Moves.{money_changes, units_change, opened_kept, asset_kept, assets_start_at_zero}
 use Rattle.flow_orders.specs.Orders.{Order, own_sum}
@@ -88,10 +88,10 @@ module _ (account : ℕ) (m : Market) (h : Holding) (consistent : IsConsistent m
 
   -- money of an account changes
   told_money : (named : ℕ) (amount : ℤ) (event : Event) → IsAccount m.balances named → after h event ≡ record h { money = h.money +ℤ amount }
-      → IsHeld account (record m { balances = change_money m.balances named amount }) (after_all h (event_if (is_there m account && (named == account)) event))
+      → IsHeld account (record m { balances = change_balance m.balances named None amount }) (after_all h (event_if (is_there m account && (named == account)) event))
   told_money named amount event there is =
       let changes = money_changes m.balances named amount there in
-      let n : Market = record m { balances = change_money m.balances named amount } in
+      let n : Market = record m { balances = change_balance m.balances named None amount } in
       told_if account n h (is_there m account && (named == account)) event
       (λ is_so. let same = seen_names named is_so in subst (IsHeld account n) (sym is) (record {
         tickers = held.tickers;
@@ -104,7 +104,7 @@ module _ (account : ℕ) (m : Market) (h : Holding) (consistent : IsConsistent m
 
   -- units of an account change
   told_units : (named changed : ℕ) (amount : ℤ) (event : Event) → IsAccount m.balances named → IsAsset m.balances changed → after h event ≡ record h { units = units_changed h.units changed amount }
-      → IsHeld account (record m { balances = change_units m.balances named changed amount }) (after_all h (event_if (is_there m account && (named == account)) event))
+      → IsHeld account (record m { balances = change_balance m.balances named (Some changed) amount }) (after_all h (event_if (is_there m account && (named == account)) event))
   told_units named changed amount event there is_changed is =
       told_if account n h (is_there m account && (named == account)) event
       (λ is_so. subst (IsHeld account n) (sym is) (record {
@@ -117,7 +117,7 @@ module _ (account : ℕ) (m : Market) (h : Holding) (consistent : IsConsistent m
       (λ not_so. same_balances n.balances changes.accounts changes.assets (λ here. changes.money account) (λ asset here. changes.others account asset here (λ same. unseen named there not_so (sym same))))
     where
       n : Market
-      n = record m { balances = change_units m.balances named changed amount }
+      n = record m { balances = change_balance m.balances named (Some changed) amount }
 
       changes : ChangesUnitsOf named changed amount m.balances n.balances
       changes = (units_change m.balances named changed amount (consistent_is_lawful m consistent) there is_changed).0

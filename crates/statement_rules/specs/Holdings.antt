@@ -1,11 +1,11 @@
 -- What an account has, as its view alone says.
-use Rattle.std.specs.Prelude.{◌≡◌, ℕ, ◌<◌, ◌==◌, Bool, true, false, if◌then◌else◌, ℤ, pos, neg_ℤ, ◌+ℤ◌, ◌-ℤ◌, List, [], ◌∷◌, ◌++◌, length, Option, unwrap_or}
+use Rattle.std.specs.Prelude.{◌≡◌, ℕ, ◌<◌, ◌==◌, Bool, true, false, if◌then◌else◌, ℤ, pos, neg_ℤ, ◌+ℤ◌, ◌-ℤ◌, List, [], ◌∷◌, ◌++◌, length, Option, Some, None, unwrap_or}
 use Rattle.std.specs.List.{filter}
 use Rattle.list_sums.specs.Sums.{int_sum_by}
 use Rattle.wire_records.specs.Commands.{Request, Command, AddAsset, OpenAccount, DepositMoney, DepositAsset, WithdrawMoney, WithdrawAsset, Place, CancelOrder, RunBatch, SetMoneyCredit, SetUnitCredit}
 use Rattle.wire_records.specs.declared.reply.Reply.{Reply}
 use Rattle.wire_records.specs.declared.reply.Reply.TheVariants as reply
-use Rattle.flow_accounts.specs.Balances.{IsAsset, grains, money_of, units_of}
+use Rattle.flow_accounts.specs.Balances.{IsAsset, value_of, balance_of}
 use Rattle.flow_orders.specs.Orders.{Order, price_of_ticks}
 use Rattle.flow_orders.specs.Outcomes.{trades_of}
 use Rattle.flow_orders.specs.Trades.{paid, received, staying, going_on}
@@ -45,10 +45,10 @@ ordered number last r = record {
 
 -- what the account has after a command of its own that was done
 abbrev pub after_done : Holding → Command → Holding
-after_done h (DepositMoney account ticks) = record h { money = h.money +ℤ grains ticks }
-after_done h (DepositAsset account asset units) = record h { units = units_changed h.units asset (pos units) }
-after_done h (WithdrawMoney account ticks) = record h { money = h.money +ℤ neg_ℤ (grains ticks) }
-after_done h (WithdrawAsset account asset units) = record h { units = units_changed h.units asset (neg_ℤ (pos units)) }
+after_done h (DepositMoney account ticks) = record h { money = h.money +ℤ value_of None ticks }
+after_done h (DepositAsset account asset units) = record h { units = units_changed h.units asset (value_of (Some asset) units) }
+after_done h (WithdrawMoney account ticks) = record h { money = h.money +ℤ neg_ℤ (value_of None ticks) }
+after_done h (WithdrawAsset account asset units) = record h { units = units_changed h.units asset (neg_ℤ (value_of (Some asset) units)) }
 after_done h (CancelOrder account number) = record h { orders = without h.orders number }
 after_done h (AddAsset ticker) = h
 after_done h OpenAccount = h
@@ -106,8 +106,8 @@ abbrev pub held_in : ℕ → Market → Holding
 held_in account m = record {
   tickers = m.tickers;
   is_open = is_there m account;
-  money = money_of m.balances account;
-  units = units_of m.balances account;
+  money = balance_of m.balances account None;
+  units = λ asset. balance_of m.balances account (Some asset);
   orders = own_orders account m.orders;
 }
 
@@ -115,6 +115,6 @@ held_in account m = record {
 pub record IsHeld (account : ℕ) (m : Market) (h : Holding) : Type 0 where
   pub tickers : h.tickers ≡ m.tickers
   pub opened : h.is_open ≡ is_there m account
-  pub money : 0 < account → h.money ≡ money_of m.balances account
-  pub units : 0 < account → (asset : ℕ) → IsAsset m.balances asset → h.units asset ≡ units_of m.balances account asset
+  pub money : 0 < account → h.money ≡ balance_of m.balances account None
+  pub units : 0 < account → (asset : ℕ) → IsAsset m.balances asset → h.units asset ≡ balance_of m.balances account (Some asset)
   pub orders : h.orders ≡ own_orders account m.orders

@@ -1,5 +1,5 @@
 -- Laws of views and statements.
-use Rattle.std.specs.Prelude.{◌≡◌, ℕ, ◌↔◌, true, pos, List, [], ◌++◌, map, All, Contains}
+use Rattle.std.specs.Prelude.{◌≡◌, ℕ, ◌↔◌, true, pos, List, [], ◌++◌, map, All, Contains, Some, None}
 use Rattle.wire_records.specs.Records.{Record}
 use Rattle.wire_records.specs.Commands.{Pair}
 use Rattle.wire_records.specs.declared.version.Version.{Version}
@@ -10,7 +10,7 @@ use Rattle.market_rules.specs.Market.{Market, IsConsistent, empty_market, start_
 use Rattle.market_rules.specs.Laws.{Leads}
 use Rattle.statement_rules.specs.Views.{Event, Sees, own_fills}
 use Rattle.statement_rules.specs.Holdings.{Holding, nothing, after_all, own_orders, held_in, IsHeld}
-use Rattle.statement_rules.specs.Statements.{IsStatement, lines_from, view_text, end_lines, statement, money_reserved, units_reserved, carried_lines, text_from, statement_from, IsStatementFrom}
+use Rattle.statement_rules.specs.Statements.{IsStatement, lines_from, view_text, end_lines, statement, carried_lines, text_from, statement_from, IsStatementFrom, reserved_balance}
 
 -- a view of valid steps is one of steps that lead to its market, and valid steps have exactly one view of an account
 pub record OneView : Type 0 where
@@ -43,8 +43,8 @@ pub record StatementsEndWithBalances : Type 0 where
   pub opened : (account : ℕ) (m : Market) (h : Holding) → IsHeld account m h → (h.is_open ≡ true) ↔ IsAccount m.balances account
   pub money : (account : ℕ) (m : Market) (h : Holding) → IsAccount m.balances account → IsHeld account m h → h.money ≡ money_of m.balances account
   pub units : (account : ℕ) (m : Market) (h : Holding) (asset : ℕ) → IsAccount m.balances account → IsAsset m.balances asset → IsHeld account m h → h.units asset ≡ units_of m.balances account asset
-  pub money_needed : (account : ℕ) (m : Market) (h : Holding) → IsHeld account m h → pos (money_reserved h) ≡ needed_money m.orders account
-  pub units_needed : (account : ℕ) (m : Market) (h : Holding) (asset : ℕ) → IsHeld account m h → pos (units_reserved h asset) ≡ needed_units m.orders account asset
+  pub money_needed : (account : ℕ) (m : Market) (h : Holding) → IsHeld account m h → pos (reserved_balance h None) ≡ needed_money m.orders account
+  pub units_needed : (account : ℕ) (m : Market) (h : Holding) (asset : ℕ) → IsHeld account m h → pos (reserved_balance h (Some asset)) ≡ needed_units m.orders account asset
 
 -- each account of the market after a valid journal has exactly one statement
 pub record OneStatement : Type 0 where

@@ -1,6 +1,6 @@
 -- The statement of an account: the text of its view, and its last lines. Money is in grains except where a line says
 -- ticks, limits are in ticks, all other amounts in whole units; numbers are plain decimal.
-use Rattle.std.specs.Prelude.{◌≡◌, ℕ, ℤ, List, [], ◌∷◌, ◌++◌, length, codes, decimal, if◌then◌else◌}
+use Rattle.std.specs.Prelude.{◌≡◌, ℕ, ℤ, List, [], ◌∷◌, ◌++◌, length, codes, decimal, if◌then◌else◌, Some, None, Option}
 use Rattle.std.specs.Fmt.{signed_decimal}
 use Rattle.std.specs.List.{flat_map, range_with_len, sum_by}
 use Rattle.wire_records.specs.Commands.{Request, Command, AddAsset, OpenAccount, DepositMoney, DepositAsset, WithdrawMoney, WithdrawAsset, Place, CancelOrder, RunBatch, SetMoneyCredit, SetUnitCredit, Pair}
@@ -9,7 +9,7 @@ use Rattle.wire_records.specs.declared.version.Version.{Version}
 use Rattle.wire_records.specs.Refusals.{code_of}
 use Rattle.wire_records.specs.declared.reply.Reply.{Reply}
 use Rattle.wire_records.specs.declared.reply.Reply.TheVariants as reply
-use Rattle.flow_orders.specs.Orders.{money_need, unit_need}
+use Rattle.flow_orders.specs.Orders.{need_of}
 use Rattle.flow_accounts.specs.Balances.{IsAccount}
 use Rattle.flow_orders.specs.Outcomes.{Outcome, trades_of}
 use Rattle.flow_orders.specs.Trades.{Trade, paid}
@@ -91,24 +91,20 @@ lines_from h (event ∷ view) = event_lines h event ++ lines_from (after h event
 abbrev pub view_text : List Event → List ℕ
 view_text view = lines_from nothing view
 
--- the money that the account's live orders need, in grains
-abbrev pub money_reserved : Holding → ℕ
-money_reserved h = sum_by money_need h.orders
-
--- the units of an asset that the account's live orders need
-abbrev pub units_reserved : Holding → ℕ → ℕ
-units_reserved h asset = sum_by (unit_need asset) h.orders
+-- what the account's live orders need of a kind, in grains or in units
+abbrev pub reserved_balance : Holding → Option ℕ → ℕ
+reserved_balance h kind = sum_by (need_of kind) h.orders
 
 -- the last line for an asset: the units that the account has, and those that its live orders need
 abbrev pub asset_line : Holding → ℕ → List ℕ
 asset_line h asset =
     asset_name h.tickers asset then codes " units " then signed_decimal (h.units asset)
-    then codes " reserved " then decimal (units_reserved h asset) then codes "\n"
+    then codes " reserved " then decimal (reserved_balance h (Some asset)) then codes "\n"
 
 -- the last lines: one for money, in grains, and one for each asset
 abbrev pub end_lines : Holding → List ℕ
 end_lines h =
-    codes "money " then signed_decimal h.money then codes " reserved " then decimal (money_reserved h) then codes "\n"
+    codes "money " then signed_decimal h.money then codes " reserved " then decimal (reserved_balance h None) then codes "\n"
     then flat_map (asset_line h) (range_with_len 0 (length h.tickers))
 
 -- the statement of a view: its text, and the last lines

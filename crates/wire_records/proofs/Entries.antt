@@ -9,7 +9,7 @@ use Rattle.std.proofs.lemmas.List.Elements.{All-nil, All-cons, All-drop}
 use Rattle.wire_fields.specs.Numbers.{unsigned, signed}
 use Rattle.weight_rows.specs.declared.entries.Entry.{Entry}
 use Rattle.wire_records.specs.Records.{AreBytes}
-use Rattle.wire_records.specs.CommandRecords.{entry_spelling, IsEntry}
+use Rattle.wire_records.specs.Bodies.{entry_spelling, IsEntry}
 use Rattle.wire_records.specs.Private.{entry_in, entries_in, SpellEntries}
 use Rattle.wire_records.proofs.CodeLaws.{counted_size}
 use Rattle.wire_records.proofs.Requests.{entry_size}

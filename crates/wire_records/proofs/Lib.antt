@@ -7,6 +7,7 @@ pub mod Requests
 pub mod Entries
 pub mod RequestsTold
 pub mod EntryReads
+pub mod FieldForms
 pub mod Bodies
 pub mod Codes
 pub mod OneAnswer

@@ -1,5 +1,5 @@
 -- A record of bytes has exactly one reading.
-use Rattle.std.proofs.Common.{◌≡◌, ◌≢◌, ◌≤◌, ◌↔◌, ℕ, List, ◌++◌, inl, inr, ◌⊎◌, length, length-append, refl, sym, ap, ◌∙◌, arith, None, Some}
+use Rattle.std.proofs.Common.{◌≡◌, ◌≢◌, ◌≤◌, ◌<◌, ◌↔◌, ℕ, List, ◌++◌, inl, inr, ◌⊎◌, length, length-append, refl, sym, ap, ◌∙◌, arith, None, Some}
 use Rattle.std.specs.Prelude.{Result, Ok, Err}
 use Rattle.std.proofs.lemmas.Bool.{cases_lt, cases_eq}
 use Rattle.std.proofs.lemmas.List.{nil_from_length}
@@ -9,7 +9,9 @@ use Rattle.wire_records.specs.declared.command.BodyFault.{BodyFault}
 use Rattle.wire_records.specs.declared.command.BodyFault.TheVariants.{UnknownTag, BadBody}
 use Rattle.wire_records.specs.Records.{Record, AreBytes, IsRecord, most_body}
 use Rattle.wire_records.specs.Commands.{Request, Command, AddAsset, OpenAccount, DepositMoney, DepositAsset, WithdrawMoney, WithdrawAsset, Place, CancelOrder, RunBatch, SetMoneyCredit, SetUnitCredit}
-use Rattle.wire_records.specs.CommandRecords.{tag_of, body_of, record_of, request_spelling, IsCommand, SpellsNone, HasShortRow, Spells, IsTag, IsRead}
+use Rattle.wire_records.specs.CommandRecords.{tag_of, body_of, record_of, IsCommand, SpellsNone, HasShortRow, Spells, IsTag, IsRead}
+use Rattle.wire_records.specs.Bodies.{request_spelling, body_spelling, FitsCommand}
+use Rattle.wire_records.proofs.FieldForms.{body_is_plain, command_fits, command_from}
 use Rattle.wire_records.specs.declared.version.Version.{Version}
 use Rattle.wire_records.specs.declared.version.Version.TheVariants.{One, Two, Three}
 use Rattle.wire_records.specs.Versions.{most_tag, IsTagOf, IsOfVersion, IsReadAs}
@@ -97,12 +99,12 @@ fourteen bytes len small =
     (a.0, i.0, t.0, (a.2, i.2, t.1), a.5 ∙ ap (λ xs. unsigned 4 a.0 ++ xs) (i.5 ∙ ap (λ xs. unsigned 2 i.0 ++ xs) t.2))
 
 -- a record whose body is a command's
-from_body : (c : Command) (r : Record) → IsCommand c → r.tag ≡ tag_of c → r.body ≡ body_of c → Spells c r
-from_body c r fits tag body = record { fits = fits; spelled = same_record r (tag_of c) (body_of c) tag body }
+pub from_body : (c : Command) (r : Record) → FitsCommand c → r.tag ≡ tag_of c → r.body ≡ body_spelling c → Spells c r
+from_body c r fits tag body = record { fits = command_fits c fits; spelled = same_record r (tag_of c) (body_of c) tag (body ∙ sym (body_is_plain c)) }
 
 -- the command of each tag but 7 and 10, if the body has the length of the tag
 spelled : (r : Record) → AreBytes r.body → IsTag r.tag → r.tag ≢ 7 → r.tag ≢ 10 → length r.body ≡ size_of r.tag → (c : Command) × Spells c r
-unfolding body_of
+unfolding body_spelling
 spelled r small tag order until len =
     elim (cases_eq r.tag 1) [
       | inl is ↦ (AddAsset r.body, from_body (AddAsset r.body) r (len ∙ ap size_of is, small) is refl)
@@ -146,12 +148,12 @@ spelled r small tag order until len =
 
 -- the order of the tag 7, if the body encodes a request
 pub order_spelled : (r : Record) (request : Request) → r.tag ≡ 7 → SpellsRequest r.body request → Spells (Place None request) r
-unfolding body_of
+unfolding body_spelling
 order_spelled r request is found = from_body (Place None request) r found.fits is found.spelled
 
 -- the order of the tag 10, if the body encodes a last batch and a request
 pub until_spelled : (r : Record) (last : ℕ) (request : Request) → r.tag ≡ 10 → SpellsUntil r.body last request → Spells (Place (Some last) request) r
-unfolding body_of
+unfolding body_spelling
 until_spelled r last request is found = from_body (Place (Some last) request) r found.fits is found.spelled
 
 -- whether a tag is up to a bound
@@ -236,18 +238,24 @@ money_size account ticks = simp (length-append, length-unsigned)
 units_size : (account asset units : ℕ) → length (unsigned 4 account ++ (unsigned 2 asset ++ unsigned 8 units)) ≡ 14
 units_size account asset units = simp (length-append, length-unsigned)
 
+-- the tag of a command with few enough legs is a byte, and its body is within the limit
+short_where : (c : Command) → FitsCommand c → HasShortRow c → (tag_of c < 256) × (length (body_spelling c) ≤ 1024)
+unfolding body_spelling
+short_where (AddAsset ticker) h few = (omega arith, omega (arith, h.0))
+short_where OpenAccount h few = (omega arith, omega arith)
+short_where (DepositMoney account ticks) h few = (omega arith, omega (arith, money_size account ticks))
+short_where (DepositAsset account asset units) h few = (omega arith, omega (arith, units_size account asset units))
+short_where (WithdrawMoney account ticks) h few = (omega arith, omega (arith, money_size account ticks))
+short_where (WithdrawAsset account asset units) h few = (omega arith, omega (arith, units_size account asset units))
+short_where (Place None request) h few = (omega arith, omega (arith, request_size request, few))
+short_where (CancelOrder account number) h few = (omega arith, omega (arith, money_size account number))
+short_where (RunBatch budget) h few = (omega arith, omega (arith, length-unsigned 4 budget))
+short_where (Place (Some last) request) h few = (omega arith, omega (arith, length-append (unsigned 4 last) (request_spelling request), length-unsigned 4 last, request_size request, few))
+short_where (SetMoneyCredit account ticks) h few = (omega arith, omega (arith, money_size account ticks))
+short_where (SetUnitCredit account asset units) h few = (omega arith, omega (arith, units_size account asset units))
+
 -- the record of a command with few enough legs is within the limit
 pub command_short : (c : Command) → IsCommand c → HasShortRow c → IsRecord most_body (record_of c)
-unfolding body_of
-command_short (AddAsset ticker) h few = record { tag = omega arith; body = omega (arith, h.0) }
-command_short OpenAccount h few = record { tag = omega arith; body = omega arith }
-command_short (DepositMoney account ticks) h few = record { tag = omega arith; body = omega (arith, money_size account ticks) }
-command_short (DepositAsset account asset units) h few = record { tag = omega arith; body = omega (arith, units_size account asset units) }
-command_short (WithdrawMoney account ticks) h few = record { tag = omega arith; body = omega (arith, money_size account ticks) }
-command_short (WithdrawAsset account asset units) h few = record { tag = omega arith; body = omega (arith, units_size account asset units) }
-command_short (Place None request) h few = record { tag = omega arith; body = omega (arith, request_size request, few) }
-command_short (CancelOrder account number) h few = record { tag = omega arith; body = omega (arith, money_size account number) }
-command_short (RunBatch budget) h few = record { tag = omega arith; body = omega (arith, length-unsigned 4 budget) }
-command_short (Place (Some last) request) h few = record { tag = omega arith; body = omega (arith, length-append (unsigned 4 last) (request_spelling request), length-unsigned 4 last, request_size request, few) }
-command_short (SetMoneyCredit account ticks) h few = record { tag = omega arith; body = omega (arith, money_size account ticks) }
-command_short (SetUnitCredit account asset units) h few = record { tag = omega arith; body = omega (arith, units_size account asset units) }
+command_short c h few =
+    let short = short_where c (command_from c h) few in
+    record { tag = short.0; body = omega (arith, short.1, ap length (body_is_plain c)) }

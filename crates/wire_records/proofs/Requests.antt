@@ -6,7 +6,7 @@ use Rattle.wire_fields.proofs.Spelling.{length-unsigned, length-signed, unsigned
 use Rattle.weight_rows.specs.declared.entries.Entry.{Entry}
 use Rattle.wire_records.specs.declared.place.Numbers.{Numbers}
 use Rattle.wire_records.specs.Commands.{Request}
-use Rattle.wire_records.specs.CommandRecords.{entry_spelling, request_spelling, IsEntry, IsRequest}
+use Rattle.wire_records.specs.Bodies.{entry_spelling, request_spelling, IsEntry, IsRequest}
 use Rattle.wire_records.specs.Private.{FitNumbers, numbers_and}
 use Rattle.wire_records.proofs.CodeLaws.{counted_unique, counted_size}
 

@@ -7,7 +7,7 @@ use Rattle.weight_rows.specs.declared.entries.Entry.{Entry}
 use Rattle.wire_records.specs.declared.place.Numbers.{Numbers}
 use Rattle.wire_records.specs.Records.{AreBytes}
 use Rattle.wire_records.specs.Commands.{Request}
-use Rattle.wire_records.specs.CommandRecords.{request_spelling, entry_spelling}
+use Rattle.wire_records.specs.Bodies.{request_spelling, entry_spelling}
 use Rattle.wire_records.specs.Private.{FitNumbers, numbers_and, entries_in, SpellEntries, SpellsRequest, SpellsNoRequest, SpellsUntil, SpellsNoUntil}
 use Rattle.wire_records.proofs.CodeLaws.{counted_size}
 use Rattle.wire_records.proofs.Fields.{front_number, front_signed}

@@ -1,85 +1,52 @@
 -- The record that encodes each command, and what a record is read as.
-use Rattle.std.specs.Prelude.{◌≡◌, ◌≤◌, ℕ, List, [], ◌++◌, length, All, Result, Ok, Err, None, Some}
+use Rattle.std.specs.Prelude.{◌≡◌, ◌≤◌, ℕ, List, [], ◌∷◌, length, All, Result, Ok, Err, None, Some}
 use Rattle.std.specs.List.{flat_map}
-use Rattle.wire_fields.specs.Numbers.{unsigned, signed, IsUnsigned, IsSigned}
 use Rattle.weight_rows.specs.declared.entries.Entry.{Entry}
-use Rattle.wire_records.specs.Records.{Record, AreBytes}
+use Rattle.wire_records.specs.Records.{Record}
+use Rattle.wire_records.specs.Fields.{Field, Unsigned, Signed, Bytes, field_bytes, FitsField}
 use Rattle.wire_records.specs.Commands.{Request, Command, AddAsset, OpenAccount, DepositMoney, DepositAsset, WithdrawMoney, WithdrawAsset, Place, CancelOrder, RunBatch, SetMoneyCredit, SetUnitCredit}
 use Rattle.wire_records.specs.declared.command.BodyFault.{BodyFault}
 use Rattle.wire_records.specs.declared.command.BodyFault.TheVariants.{UnknownTag, BadBody}
 
+-- the fields of a leg
+abbrev pub entry_fields : Entry → List Field
+entry_fields e = Unsigned 2 e.asset ∷ Signed 4 e.weight ∷ []
+
+-- the fields of a request: its numbers, how many legs it has, and the legs
+abbrev pub request_fields : Request → List Field
+request_fields r =
+    Unsigned 4 r.account ∷ Signed 8 r.low ∷ Signed 8 r.high ∷ Unsigned 4 r.rate ∷ Unsigned 8 r.cap ∷ Unsigned 1 (length r.row) ∷ flat_map entry_fields r.row
+
+-- the record of each command: its tag, and the fields of its body
+abbrev pub fields_of : Command → ℕ × List Field
+fields_of (AddAsset ticker) = (1, Bytes 8 ticker ∷ [])
+fields_of OpenAccount = (2, [])
+fields_of (DepositMoney account ticks) = (3, Unsigned 4 account ∷ Unsigned 8 ticks ∷ [])
+fields_of (DepositAsset account asset units) = (4, Unsigned 4 account ∷ Unsigned 2 asset ∷ Unsigned 8 units ∷ [])
+fields_of (WithdrawMoney account ticks) = (5, Unsigned 4 account ∷ Unsigned 8 ticks ∷ [])
+fields_of (WithdrawAsset account asset units) = (6, Unsigned 4 account ∷ Unsigned 2 asset ∷ Unsigned 8 units ∷ [])
+fields_of (Place None request) = (7, request_fields request)
+fields_of (CancelOrder account number) = (8, Unsigned 4 account ∷ Unsigned 8 number ∷ [])
+fields_of (RunBatch budget) = (9, Unsigned 4 budget ∷ [])
+fields_of (Place (Some last) request) = (10, Unsigned 4 last ∷ request_fields request)
+fields_of (SetMoneyCredit account ticks) = (11, Unsigned 4 account ∷ Unsigned 8 ticks ∷ [])
+fields_of (SetUnitCredit account asset units) = (12, Unsigned 4 account ∷ Unsigned 2 asset ∷ Unsigned 8 units ∷ [])
+
 -- the tag of each command
 abbrev pub tag_of : Command → ℕ
-tag_of (AddAsset ticker) = 1
-tag_of OpenAccount = 2
-tag_of (DepositMoney account ticks) = 3
-tag_of (DepositAsset account asset units) = 4
-tag_of (WithdrawMoney account ticks) = 5
-tag_of (WithdrawAsset account asset units) = 6
-tag_of (Place None request) = 7
-tag_of (CancelOrder account number) = 8
-tag_of (RunBatch budget) = 9
-tag_of (Place (Some last) request) = 10
-tag_of (SetMoneyCredit account ticks) = 11
-tag_of (SetUnitCredit account asset units) = 12
-
--- the encoding of a leg: its asset in 2 bytes, and its weight in 4
-unfoldable pub entry_spelling : Entry → List ℕ
-entry_spelling e = unsigned 2 e.asset ++ signed 4 e.weight
-
--- the encoding of a request: its numbers, how many legs it has, and the legs
-unfoldable pub request_spelling : Request → List ℕ
-request_spelling r =
-    unsigned 4 r.account ++ (signed 8 r.low ++ (signed 8 r.high ++ (unsigned 4 r.rate ++ (unsigned 8 r.cap
-    ++ (unsigned 1 (length r.row) ++ flat_map entry_spelling r.row)))))
+tag_of command = (fields_of command).0
 
 -- the body of each command's record
 unfoldable pub body_of : Command → List ℕ
-body_of (AddAsset ticker) = ticker
-body_of OpenAccount = []
-body_of (DepositMoney account ticks) = unsigned 4 account ++ unsigned 8 ticks
-body_of (DepositAsset account asset units) = unsigned 4 account ++ (unsigned 2 asset ++ unsigned 8 units)
-body_of (WithdrawMoney account ticks) = unsigned 4 account ++ unsigned 8 ticks
-body_of (WithdrawAsset account asset units) = unsigned 4 account ++ (unsigned 2 asset ++ unsigned 8 units)
-body_of (Place None request) = request_spelling request
-body_of (CancelOrder account number) = unsigned 4 account ++ unsigned 8 number
-body_of (RunBatch budget) = unsigned 4 budget
-body_of (Place (Some last) request) = unsigned 4 last ++ request_spelling request
-body_of (SetMoneyCredit account ticks) = unsigned 4 account ++ unsigned 8 ticks
-body_of (SetUnitCredit account asset units) = unsigned 4 account ++ (unsigned 2 asset ++ unsigned 8 units)
+body_of command = flat_map field_bytes (fields_of command).1
 
 -- the record that encodes each command
 abbrev pub record_of : Command → Record
 record_of command = record { tag = tag_of command; body = body_of command }
 
--- a leg whose asset and weight are in the ranges of their fields
-abbrev pub IsEntry : Entry → Type 0
-IsEntry e = IsUnsigned 2 e.asset × IsSigned 4 e.weight
-
--- a request whose numbers and legs are in the ranges of their fields
-pub record IsRequest (r : Request) : Type 0 where
-  pub account : IsUnsigned 4 r.account
-  pub low : IsSigned 8 r.low
-  pub high : IsSigned 8 r.high
-  pub rate : IsUnsigned 4 r.rate
-  pub cap : IsUnsigned 8 r.cap
-  pub count : IsUnsigned 1 (length r.row)
-  pub row : All IsEntry r.row
-
--- each field of a command is in its range
+-- the value of each field of a command fits
 abbrev pub IsCommand : Command → Type 0
-IsCommand (AddAsset ticker) = (length ticker ≡ 8) × AreBytes ticker
-IsCommand OpenAccount = Unit {0}
-IsCommand (DepositMoney account ticks) = IsUnsigned 4 account × IsUnsigned 8 ticks
-IsCommand (DepositAsset account asset units) = IsUnsigned 4 account × IsUnsigned 2 asset × IsUnsigned 8 units
-IsCommand (WithdrawMoney account ticks) = IsUnsigned 4 account × IsUnsigned 8 ticks
-IsCommand (WithdrawAsset account asset units) = IsUnsigned 4 account × IsUnsigned 2 asset × IsUnsigned 8 units
-IsCommand (Place None request) = IsRequest request
-IsCommand (CancelOrder account number) = IsUnsigned 4 account × IsUnsigned 8 number
-IsCommand (RunBatch budget) = IsUnsigned 4 budget
-IsCommand (Place (Some last) request) = IsUnsigned 4 last × IsRequest request
-IsCommand (SetMoneyCredit account ticks) = IsUnsigned 4 account × IsUnsigned 8 ticks
-IsCommand (SetUnitCredit account asset units) = IsUnsigned 4 account × IsUnsigned 2 asset × IsUnsigned 8 units
+IsCommand command = All FitsField (fields_of command).1
 
 -- the most legs of an order whose record is within the limit of command records
 abbrev pub most_row : ℕ

@@ -1,6 +1,6 @@
 -- Records as the units of a file, and command files.
-use Rattle.std.specs.Prelude.{◌<◌, ℕ, List, ◌⊎◌}
-use Rattle.wire_records.specs.Records.{Record, IsRecord, StatesLength, spelling, command_magic, command_magic_2, command_magic_3, most_body}
+use Rattle.std.specs.Prelude.{◌<◌, ℕ, List, ◌⊎◌, codes}
+use Rattle.wire_records.specs.Records.{Record, IsRecord, StatesLength, spelling, most_body}
 use Rattle.wire_records.specs.Grammars.{Grammar, BeginsWith}
 use Rattle.wire_records.specs.Reading.{Format}
 use Rattle.wire_records.specs.declared.version.Version.{Version}
@@ -25,9 +25,9 @@ EitherStatesOver limit next bytes =
 
 -- the magic of a command file of each version
 abbrev pub command_magic_of : Version → List ℕ
-command_magic_of One = command_magic
-command_magic_of Two = command_magic_2
-command_magic_of Three = command_magic_3
+command_magic_of One = codes "FLOWCMD1"
+command_magic_of Two = codes "FLOWCMD2"
+command_magic_of Three = codes "FLOWCMD3"
 
 -- the format of command files: a magic, and records whose bodies are within the limit
 abbrev pub commands : Format Version Record

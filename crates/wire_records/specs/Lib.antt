@@ -1,7 +1,9 @@
 pub mod Records
 pub mod Framing
 pub mod Commands
+pub mod Fields
 pub mod CommandRecords
+pub mod Bodies
 pub mod Private
 pub mod Views
 pub mod Refusals

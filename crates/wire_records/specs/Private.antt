@@ -6,7 +6,7 @@ use Rattle.wire_fields.specs.Numbers.{unsigned, signed, IsUnsigned, IsSigned}
 use Rattle.weight_rows.specs.declared.entries.Entry.{Entry}
 use Rattle.wire_records.specs.declared.place.Numbers.{Numbers}
 use Rattle.wire_records.specs.Commands.{Request, Command, Place}
-use Rattle.wire_records.specs.CommandRecords.{entry_spelling, request_spelling, IsEntry, IsRequest}
+use Rattle.wire_records.specs.Bodies.{entry_spelling, request_spelling, IsEntry, IsRequest}
 
 -- the leg that these six bytes encode
 abbrev pub entry_in : ℕ → ℕ → ℕ → ℕ → ℕ → ℕ → Entry

@@ -1,5 +1,5 @@
 -- What a record is, and how it is encoded in bytes.
-use Rattle.std.specs.Prelude.{◌≡◌, ◌≢◌, ◌<◌, ◌≤◌, ◌^◌, ℕ, List, ◌++◌, length, codes, All}
+use Rattle.std.specs.Prelude.{◌≡◌, ◌≢◌, ◌<◌, ◌≤◌, ◌^◌, ℕ, List, ◌++◌, length, All}
 use Rattle.wire_fields.specs.Numbers.{unsigned}
 
 -- numbers below 256, which are bytes
@@ -31,18 +31,6 @@ StatesLength n bytes = (n < 2 ^ 32) × (tag : ℕ) × (tag < 256) × (rest : Lis
 -- the bytes don't begin with a complete record
 abbrev pub HasNoFront : ℕ → List ℕ → Type 0
 HasNoFront limit bytes = (r : Record) (rest : List ℕ) → IsRecord limit r → bytes ≢ spelling r ++ rest
-
--- the magic of a command file of version One
-abbrev pub command_magic : List ℕ
-command_magic = codes "FLOWCMD1"
-
--- the magic of a command file of version Two
-abbrev pub command_magic_2 : List ℕ
-command_magic_2 = codes "FLOWCMD2"
-
--- the magic of a command file of version Three
-abbrev pub command_magic_3 : List ℕ
-command_magic_3 = codes "FLOWCMD3"
 
 -- the longest body of a command record, in bytes
 abbrev pub most_body : ℕ

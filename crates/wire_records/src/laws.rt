@@ -2,7 +2,9 @@
 //! does nothing.
 ghost use Rattle.wire_records.specs.Laws.{OneRecord, OneCommand, OneRefusal, OneFront, WrittenIsFramed, OneReading, EachIsRead, CommandIsRead, ReadInLater, ReadsItsOwn, CommandIsShort, OneFile, FirstOfFile, FileIsRead};
 ghost use Rattle.std.specs.Prelude.{◌≡◌, ◌↔◌, IsTrue};
-ghost use Rattle.wire_records.specs.Records.{command_magic, command_magic_2, command_magic_3, most_body};
+ghost use Rattle.wire_records.specs.Records.{most_body};
+ghost use Rattle.wire_records.specs.declared.version.Version.TheVariants.{One, Two, Three};
+ghost use Rattle.wire_records.specs.Formats.{command_magic_of};
 ghost use Rattle.wire_records.specs.CommandRecords.{most_row, most_row_until};
 
 use crate::{
@@ -84,9 +86,9 @@ pub fn file_is_read()
 
 /// The magic and the limits that the code names are those of the definitions.
 pub fn constants_are_named()
-    ensures magic { COMMAND_MAGIC ≡ command_magic }
-    ensures magic_2 { COMMAND_MAGIC_2 ≡ command_magic_2 }
-    ensures magic_3 { COMMAND_MAGIC_3 ≡ command_magic_3 }
+    ensures magic { COMMAND_MAGIC ≡ command_magic_of One }
+    ensures magic_2 { COMMAND_MAGIC_2 ≡ command_magic_of Two }
+    ensures magic_3 { COMMAND_MAGIC_3 ≡ command_magic_of Three }
     ensures most_body { MOST_BODY ≡ most_body }
     ensures most_row { MOST_ROW ≡ most_row }
     ensures most_row_until { MOST_ROW_UNTIL ≡ most_row_until }

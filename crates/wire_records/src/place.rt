@@ -4,7 +4,7 @@ ghost use Rattle.weight_rows.specs.declared.entries.Entry.{Entry};
 ghost use Rattle.weight_rows.specs.declared.faults.RowFault.{RowFault};
 ghost use Rattle.weight_rows.specs.Rows.{IsWeightVector, most_entries};
 ghost use Rattle.weight_rows.specs.Faults.{IsFaultOf};
-ghost use Rattle.wire_records.specs.CommandRecords.{entry_spelling, IsEntry};
+ghost use Rattle.wire_records.specs.Bodies.{entry_spelling, IsEntry};
 ghost use Rattle.wire_records.specs.Private.{FitNumbers, numbers_and, SpellsRequest, SpellsNoRequest, SpellsUntil, SpellsNoUntil};
 
 use crate::Memory;

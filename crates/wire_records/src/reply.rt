@@ -17,54 +17,54 @@ pub enum Reply {
 }
 
 /// Why a command is refused: the first of these that holds, in the order stated for its command. A refused
-/// command changes nothing.
+/// command changes nothing. The number of a refusal is its code, as a reply encodes it.
 #[derive(Clone, Copy, Debug, PartialEq, Eq)]
 pub enum Refusal {
     /// No command of the version has the tag.
-    UnknownTag,
+    UnknownTag = 1,
     /// No command of the tag has this body.
-    BadBody,
+    BadBody = 2,
     /// There are 64 assets already.
-    AssetLimit,
+    AssetLimit = 3,
     /// An asset has this ticker.
-    TickerTaken,
+    TickerTaken = 4,
     /// The ticker isn't valid.
-    BadTicker,
+    BadTicker = 5,
     /// There are 65,536 accounts already.
-    AccountLimit,
+    AccountLimit = 6,
     /// The account isn't there.
-    NoAccount,
+    NoAccount = 7,
     /// The asset isn't there.
-    NoAsset,
+    NoAsset = 8,
     /// The amount is 0.
-    ZeroAmount,
+    ZeroAmount = 9,
     /// The total after the deposit would pass its limit.
-    TotalLimit,
+    TotalLimit = 10,
     /// The amount, or what a new order needs, is above what is free.
-    NotFree,
+    NotFree = 11,
     /// A limit price is outside -2^28 to 2^28 ticks, or the low one isn't below the high one.
-    BadLimits,
+    BadLimits = 12,
     /// The rate is outside 1 to 2^24.
-    BadRate,
+    BadRate = 13,
     /// The cap is outside 1 to 2^40.
-    BadCap,
+    BadCap = 14,
     /// The legs are no weight vector: there are none or more than 16, assets don't ascend, or an absolute weight is
     /// outside 1 to 4,096.
-    BadRow,
+    BadRow = 15,
     /// 16,384 orders are live.
-    OrderLimit,
+    OrderLimit = 16,
     /// No live order has this number and this account.
-    NoOrder,
+    NoOrder = 17,
     /// The budget is outside 1 to 65,536.
-    BadBudget,
+    BadBudget = 18,
     /// 2^24 batches were held.
-    BatchLimit,
+    BatchLimit = 19,
     /// The last batch of the order was held already, or is 0.
-    BadLast,
+    BadLast = 22,
     /// The balance and the credit asked for don't cover what the account's orders need.
-    CreditInUse,
+    CreditInUse = 23,
     /// The credit is above 2^40 ticks or units.
-    CreditLimit,
+    CreditLimit = 24,
 }
 
 impl Refusal {
@@ -75,30 +75,7 @@ impl Refusal {
     pub fn code(&self) -> u8
         ensures { result ≡ code_of self.now }
     {
-        match self {
-            Refusal::UnknownTag => 1,
-            Refusal::BadBody => 2,
-            Refusal::AssetLimit => 3,
-            Refusal::TickerTaken => 4,
-            Refusal::BadTicker => 5,
-            Refusal::AccountLimit => 6,
-            Refusal::NoAccount => 7,
-            Refusal::NoAsset => 8,
-            Refusal::ZeroAmount => 9,
-            Refusal::TotalLimit => 10,
-            Refusal::NotFree => 11,
-            Refusal::BadLimits => 12,
-            Refusal::BadRate => 13,
-            Refusal::BadCap => 14,
-            Refusal::BadRow => 15,
-            Refusal::OrderLimit => 16,
-            Refusal::NoOrder => 17,
-            Refusal::BadBudget => 18,
-            Refusal::BatchLimit => 19,
-            Refusal::BadLast => 22,
-            Refusal::CreditInUse => 23,
-            Refusal::CreditLimit => 24,
-        }
+        *self as u8
     }
 
     /// Returns the refusal with this code; `None` exactly if the code is neither 1 to 19 nor 22 to 24,

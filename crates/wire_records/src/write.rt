@@ -3,7 +3,8 @@ ghost use Rattle.std.specs.Prelude.{◌≡◌, ◌+◌, ◌*◌, ◌++◌, ◌�
 ghost use Rattle.std.specs.List.{flat_map};
 ghost use Rattle.wire_fields.specs.Numbers.{unsigned};
 ghost use Rattle.wire_records.specs.Records.{AreBytes, head, spelling};
-ghost use Rattle.wire_records.specs.CommandRecords.{entry_spelling, request_spelling, record_of, IsEntry, IsRequest, IsCommand, HasShortRow, most_row, most_row_until};
+ghost use Rattle.wire_records.specs.CommandRecords.{record_of, IsCommand, HasShortRow, most_row, most_row_until};
+ghost use Rattle.wire_records.specs.Bodies.{entry_spelling, request_spelling, record_spelling, IsEntry, IsRequest, FitsCommand};
 ghost use Rattle.wire_records.specs.Private.{room_of};
 ghost use Rattle.wire_records.specs.Views.{command_in};
 
@@ -177,20 +178,14 @@ fn room_for(command: &Command) -> usize
     }
 }
 
-#[tactic(auto, unfolding(crate::specs::CommandRecords::body_of))]
-/// Appends the record of a command: at most 19 bytes, or 42 and 6 for each leg. The command has at most
-/// [`MOST_ROW`](crate::MOST_ROW) legs, if it has any, and at most [`MOST_ROW_UNTIL`](crate::MOST_ROW_UNTIL) if it
-/// names a last batch. After `Memory` the bytes are as before. The cost is that of the bytes,
-/// and of a move of `out` if it has to grow.
-pub fn write_command(command: &Command, out: &mut Vec<u8>) -> Result<(), Memory>
-    requires { HasShortRow (command_in command.now) }
-    ensures written { OnOk result (out.new.items ≡ out.old.items ++ spelling (record_of (command_in command.now))) }
-    ensures stays { OnErr result (out.new.items ≡ out.old.items) }
-
-    // So the record encodes this command, and by the laws it is framed and read as it, whatever follows it.
-    ensures fits { OnOk result (IsCommand (command_in command.now)) }
+// Appends the record of a command.
+#[tactic(auto, unfolding(crate::specs::Bodies::body_spelling))]
+fn put_command(command: &Command, out: &mut Vec<u8>)
+    requires short { HasShortRow (command_in command.now) }
+    requires room { vec_len out.old + room_of (command_in command.now) ≤ vec_capacity out.old }
+    ensures written { out.new.items ≡ out.old.items ++ spelling (record_spelling (command_in command.now)) }
+    ensures fits { FitsCommand (command_in command.now) }
 {
-    out.reserve(room_for(command))?;
     match command {
         Command::AddAsset { ticker } => put_ticker(out, 1, *ticker),
         Command::OpenAccount => put_bare(out, 2),
@@ -241,5 +236,21 @@ pub fn write_command(command: &Command, out: &mut Vec<u8>) -> Result<(), Memory>
             units,
         } => put_units(out, 12, *account, *asset, *units),
     }
+}
+
+/// Appends the record of a command: at most 19 bytes, or 42 and 6 for each leg. The command has at most
+/// [`MOST_ROW`](crate::MOST_ROW) legs, if it has any, and at most [`MOST_ROW_UNTIL`](crate::MOST_ROW_UNTIL) if it
+/// names a last batch. After `Memory` the bytes are as before. The cost is that of the bytes,
+/// and of a move of `out` if it has to grow.
+pub fn write_command(command: &Command, out: &mut Vec<u8>) -> Result<(), Memory>
+    requires { HasShortRow (command_in command.now) }
+    ensures written { OnOk result (out.new.items ≡ out.old.items ++ spelling (record_of (command_in command.now))) }
+    ensures stays { OnErr result (out.new.items ≡ out.old.items) }
+
+    // So the record encodes this command, and by the laws it is framed and read as it, whatever follows it.
+    ensures fits { OnOk result (IsCommand (command_in command.now)) }
+{
+    out.reserve(room_for(command))?;
+    put_command(command, out);
     Ok(())
 }

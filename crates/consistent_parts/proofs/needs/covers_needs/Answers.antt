@@ -1,5 +1,6 @@
-use Rattle.std.proofs.Common.{◌+◌, refl, arith}
+use Rattle.std.proofs.Common.{◌+◌, refl, arith, Some, None}
 use Rattle.flow_accounts.specs.Balances.{IsAccount}
+use Rattle.fill_caps.proofs.Needs.{covers_both}
 use Rattle.consistent_parts.specs.Tests.{CoversAccount}
 use Rattle.consistent_parts.proofs.Below.{one_more, each_account, refuted}
 use Rattle.consistent_parts.proofs.needs.covers_needs.Goals as goal
@@ -10,9 +11,9 @@ loop-place-preserved c = one_more (λ k. CoversAccount c.args.accounts.now c.arg
 pub returns-then-not-covers_account : goal.returns-then-not-covers_account
 returns-then-not-covers_account c =
     let there : IsAccount c.args.accounts.now (c.loop-place.place + 1) = (omega arith, omega (arith, c.loop-place-test.true, c.count-place-end.ensures.count)) in
-    refuted c.covers_account.ensures c.if-not-covers_account.true (λ all. record { money = all.money (c.loop-place.place + 1) there; units = λ asset is_asset. all.units (c.loop-place.place + 1) asset there is_asset })
+    refuted c.covers_account.ensures c.if-not-covers_account.true (λ all. record { money = all (c.loop-place.place + 1) None there tt; units = λ asset is_asset. all (c.loop-place.place + 1) (Some asset) there is_asset })
 
 pub returns : goal.returns
 returns c =
     let each = each_account c.args.accounts.now (λ account. CoversAccount c.args.accounts.now c.args.book.now.orders account) (λ k inside. c.loop-place.invariant k (omega (arith, inside, c.loop-place-test.false, c.count-place-end.ensures.count))) in
-    (λ _. record { money = λ account there. (each account there).money; units = λ account asset there is_asset. (each account there).units asset is_asset }, λ _. refl)
+    (λ _. covers_both c.args.accounts.now c.args.book.now.orders (λ account there. (each account there).money) (λ account asset there is_asset. (each account there).units asset is_asset), λ _. refl)

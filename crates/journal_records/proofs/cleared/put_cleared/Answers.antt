@@ -7,7 +7,8 @@ use Rattle.wire_fields.proofs.Spelling.{IsSigned-from_fits}
 use Rattle.flow_orders.specs.Outcomes.{Clearing, fill_of}
 use Rattle.flow_orders.specs.Trades.{trades}
 use Rattle.batch_outcome.specs.Published.{clearing_of}
-use Rattle.journal_records.specs.Replies.{IsFill}
+use Rattle.journal_records.specs.Bodies.{IsFill}
+use Rattle.journal_records.proofs.FieldForms.{clearing_fits}
 use Rattle.journal_records.proofs.Spelled.{put_together}
 use Rattle.journal_records.proofs.Fills.{length-fills}
 use Rattle.journal_records.proofs.cleared.put_cleared.Goals as goal
@@ -25,15 +26,14 @@ pub returns-clause-fits : goal.returns-clause-fits
 returns-clause-fits c =
     let clearing : Clearing = clearing_of c.args.orders.now c.args.cleared.now in
     let count : length clearing.fills ≡ length c.args.orders.now = length-fills c.args.orders.now c.args.cleared.now.rates c.requires.one_rate_each in
-    let gap : FitsSigned w128 c.args.cleared.now.gap = search rules in (
-      omega (arith, c.ranges.batch),
-      record {
-        count = omega (arith, c.requires.few_assets);
-        prices = subst (All (IsSigned 8)) c.as_slice-prices.ensures c.put_numbers.ensures.fit;
-        fill_count = omega (arith, count, c.requires.few_orders);
-        fills = subst (λ (rates : List ℕ). All IsFill (map fill_of (trades c.args.orders.now rates))) c.as_slice.ensures c.put_fills.ensures.fit;
-        residual_each = c.requires.one_residual_each;
-        residuals = subst (All (IsSigned 8)) c.as_slice-2.ensures c.put_numbers-2.ensures.fit;
-        gap = IsSigned-from_fits 16 w128 refl c.args.cleared.now.gap gap;
-      },
-    )
+    let gap : FitsSigned w128 c.args.cleared.now.gap = search rules in
+    clearing_fits c.args.batch clearing (omega (arith, c.ranges.batch))
+    (record {
+      count = omega (arith, c.requires.few_assets);
+      prices = subst (All (IsSigned 8)) c.as_slice-prices.ensures c.put_numbers.ensures.fit;
+      fill_count = omega (arith, count, c.requires.few_orders);
+      fills = subst (λ (rates : List ℕ). All IsFill (map fill_of (trades c.args.orders.now rates))) c.as_slice.ensures c.put_fills.ensures.fit;
+      residual_each = c.requires.one_residual_each;
+      residuals = subst (All (IsSigned 8)) c.as_slice-2.ensures c.put_numbers-2.ensures.fit;
+      gap = IsSigned-from_fits 16 w128 refl c.args.cleared.now.gap gap;
+    })

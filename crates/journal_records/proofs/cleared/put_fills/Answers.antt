@@ -6,7 +6,7 @@ use Rattle.std.proofs.lemmas.List.{length_push, append-nil}
 use Rattle.std.proofs.lemmas.List.Elements.{All-nil}
 use Rattle.wire_fields.specs.Numbers.{unsigned}
 use Rattle.flow_orders.specs.Orders.{Order}
-use Rattle.journal_records.specs.Replies.{IsFill}
+use Rattle.journal_records.specs.Bodies.{IsFill}
 use Rattle.journal_records.proofs.Fills.{one_more, all_written}
 use Rattle.journal_records.proofs.cleared.put_fills.Goals.{In-Some, In-None}
 use Rattle.journal_records.proofs.cleared.put_fills.Goals as goal

@@ -1,6 +1,6 @@
 use Rattle.std.proofs.Common.{◌≡◌, ◌*◌, ◌++◌, length, ap, sym, ◌∙◌, arith}
 use Rattle.std.specs.List.{flat_map}
-use Rattle.journal_records.specs.Replies.{fill_spelling, IsFill}
+use Rattle.journal_records.specs.Bodies.{fill_spelling, IsFill}
 use Rattle.journal_records.proofs.Batches.{fill_size}
 use Rattle.wire_records.proofs.CodeLaws.{counted_size}
 use Rattle.journal_records.specs.Private.{fill_in, fills_in}

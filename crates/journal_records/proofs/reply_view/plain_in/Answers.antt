@@ -2,7 +2,7 @@ use Rattle.std.proofs.Common.{◌≡◌, length, ap, sym, ◌∙◌, subst, arit
 use Rattle.std.proofs.lemmas.List.{nil_from_length}
 use Rattle.std.proofs.lemmas.Bool.Decides.{nat_tests}
 use Rattle.wire_fields.specs.Numbers.{unsigned}
-use Rattle.journal_records.specs.Replies.{reply_body}
+use Rattle.journal_records.specs.Bodies.{reply_body}
 use Rattle.journal_records.specs.Private.{SpellsNoReply}
 use Rattle.journal_records.proofs.Reading.{size_of, no_reply_of_size, no_reply_of_code}
 use Rattle.journal_records.proofs.reply_view.plain_in.Goals as goal

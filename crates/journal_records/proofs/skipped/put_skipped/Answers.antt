@@ -6,6 +6,7 @@ use Rattle.std.proofs.Math.Seq.{drop-append_seam}
 use Rattle.wire_records.specs.Records.{AreBytes}
 use Rattle.wire_fields.proofs.Spelling.{IsSigned-from_fits}
 use Rattle.batch_outcome.specs.Published.{skipping_of}
+use Rattle.journal_records.proofs.FieldForms.{skipping_fits}
 use Rattle.journal_records.proofs.Spelled.{put_skip_together}
 use Rattle.journal_records.proofs.skipped.put_skipped.Goals as goal
 
@@ -20,14 +21,13 @@ returns-clause-written c =
 pub returns-clause-fits : goal.returns-clause-fits
 returns-clause-fits c =
     let start : FitsSigned w128 c.args.skipped.now.start_dual = search rules in
-    let end : FitsSigned w128 c.args.skipped.now.end_dual = search rules in (
-      omega (arith, c.ranges.batch),
-      record {
-        start_dual = IsSigned-from_fits 16 w128 refl c.args.skipped.now.start_dual start;
-        end_dual = IsSigned-from_fits 16 w128 refl c.args.skipped.now.end_dual end;
-        steps = omega (arith, c.requires.few);
-        trace = subst AreBytes (drop-append_seam c.put_u32-2.new.out.items c.args.skipped.now.trace)
-            (All-drop (λ byte. byte < 256) (length c.put_u32-2.new.out.items) (c.put_u32-2.new.out.items ++ c.args.skipped.now.trace)
-            (rw (← c.as_slice-trace.ensures, ← c.put_bytes.ensures.written) c.type_inv.out));
-      },
-    )
+    let end : FitsSigned w128 c.args.skipped.now.end_dual = search rules in
+    skipping_fits c.args.batch (skipping_of c.args.skipped.now) (omega (arith, c.ranges.batch))
+    (record {
+      start_dual = IsSigned-from_fits 16 w128 refl c.args.skipped.now.start_dual start;
+      end_dual = IsSigned-from_fits 16 w128 refl c.args.skipped.now.end_dual end;
+      steps = omega (arith, c.requires.few);
+      trace = subst AreBytes (drop-append_seam c.put_u32-2.new.out.items c.args.skipped.now.trace)
+          (All-drop (λ byte. byte < 256) (length c.put_u32-2.new.out.items) (c.put_u32-2.new.out.items ++ c.args.skipped.now.trace)
+          (rw (← c.as_slice-trace.ensures, ← c.put_bytes.ensures.written) c.type_inv.out));
+    })

@@ -4,7 +4,7 @@ use Rattle.std.specs.Int.{w128}
 use Rattle.std.proofs.lemmas.Int.{to_z-of_z}
 use Rattle.wire_fields.specs.Numbers.{signed, unsigned}
 use Rattle.flow_accounts.specs.Balances.{account_of, credit_of}
-use Rattle.market_snapshot.specs.Checkpoints.{units_spelling}
+use Rattle.market_snapshot.specs.Spellings.{units_spelling}
 use Rattle.market_snapshot.proofs.Written.{value_of, account_written}
 use Rattle.market_snapshot.proofs.balances.put_account.Goals as goal
 

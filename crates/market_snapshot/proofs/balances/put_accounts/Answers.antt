@@ -4,7 +4,7 @@ use Rattle.std.proofs.Math.Nat as nat
 use Rattle.wire_fields.specs.Numbers.{unsigned}
 use Rattle.flow_accounts.specs.Balances.{account_of, credit_of, account_count, asset_count, empty_account, no_credit}
 use Rattle.market_snapshot.specs.Layout.{account_size}
-use Rattle.market_snapshot.specs.Checkpoints.{account_spelling}
+use Rattle.market_snapshot.specs.Spellings.{account_spelling}
 use Rattle.market_snapshot.proofs.Written.{none_written, one_more, all_written, accounts_at, accounts_count, accounts_written}
 use Rattle.market_snapshot.proofs.balances.put_accounts.Goals as goal
 

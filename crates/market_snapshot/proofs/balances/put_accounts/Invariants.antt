@@ -3,7 +3,7 @@ use Rattle.std.specs.List.{flat_map, zip}
 use Rattle.wire_fields.specs.Numbers.{unsigned}
 use Rattle.flow_accounts.specs.Balances.{asset_count, account_count}
 use Rattle.market_snapshot.specs.Layout.{account_size}
-use Rattle.market_snapshot.specs.Checkpoints.{account_spelling}
+use Rattle.market_snapshot.specs.Spellings.{account_spelling}
 use Rattle.market_snapshot.proofs.balances.put_accounts.Given as goal
 
 abbrev pub invariant-loop-place : goal.invariant-loop-place

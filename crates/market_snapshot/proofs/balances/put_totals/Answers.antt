@@ -10,7 +10,7 @@ loop-asset-init c =
     let fits : FitsSigned w128 c.total_money.result = search rules in
     record {
       written = c.put_i128.ensures.written ∙ ap (λ z. c.args.out.now.items ++ signed 16 z) (to_z-of_z w128 c.total_money.result fits ∙ c.total_money.ensures.total)
-          ∙ none_written (signed 8) c.args.accounts.now.total_units (c.args.out.now.items ++ signed 16 c.args.accounts.now.total_money);
+          ∙ none_written (signed 8) c.args.accounts.now.totals.units (c.args.out.now.items ++ signed 16 c.args.accounts.now.totals.money);
       len = omega (arith, c.put_i128.ensures.len);
       capacity = c.put_i128.ensures.capacity;
     }
@@ -23,7 +23,7 @@ loop-asset-preserved c =
     let units = value_of _ _ _ _ c.total_units.ensures c.unwrap.ensures in
     let put = c.put_i64.ensures.written ∙ ap (λ z. c.loop-asset.out.items ++ signed 8 z) (to_z-of_z w64 c.unwrap.result (record { sfits = c.unwrap.type_inv })) in
     record {
-      written = one_more (signed 8) b.total_units k (pos 0) c.unwrap.result (c.args.out.now.items ++ signed 16 b.total_money) c.loop-asset.out.items c.put_i64.new.out.items (omega (arith, inside, c.assets-asset-end.ensures.count)) (sym units) c.loop-asset.invariant.written put;
+      written = one_more (signed 8) b.totals.units k (pos 0) c.unwrap.result (c.args.out.now.items ++ signed 16 b.totals.money) c.loop-asset.out.items c.put_i64.new.out.items (omega (arith, inside, c.assets-asset-end.ensures.count)) (sym units) c.loop-asset.invariant.written put;
       len = omega (arith, c.loop-asset.invariant.len, c.put_i64.ensures.len);
       capacity = c.put_i64.ensures.capacity ∙ c.loop-asset.invariant.capacity;
     }
@@ -32,4 +32,4 @@ pub returns-clause-written : goal.returns-clause-written
 returns-clause-written c =
     let b = c.args.accounts.now in
     totals_written c.args.out.now.items c.loop-asset.out.items b
-    (all_written (signed 8) b.total_units c.loop-asset.asset (c.args.out.now.items ++ signed 16 b.total_money) c.loop-asset.out.items (omega (arith, c.loop-asset-test.false, c.assets-asset-end.ensures.count)) c.loop-asset.invariant.written)
+    (all_written (signed 8) b.totals.units c.loop-asset.asset (c.args.out.now.items ++ signed 16 b.totals.money) c.loop-asset.out.items (omega (arith, c.loop-asset-test.false, c.assets-asset-end.ensures.count)) c.loop-asset.invariant.written)

@@ -1,7 +1,7 @@
 use Rattle.std.proofs.Common.{◌≡◌, ◌+◌, ◌*◌, ◌++◌, take, vec_len, vec_capacity}
 use Rattle.std.specs.List.{flat_map, zip}
 use Rattle.flow_accounts.specs.Balances.{account_of, credit_of}
-use Rattle.market_snapshot.specs.Checkpoints.{units_spelling}
+use Rattle.market_snapshot.specs.Spellings.{units_spelling}
 use Rattle.market_snapshot.proofs.balances.put_units.Given as goal
 
 abbrev pub invariant-loop-asset : goal.invariant-loop-asset

@@ -1,5 +1,5 @@
 use Rattle.std.proofs.Common.{◌≡◌, length, ap, ◌∙◌, arith}
-use Rattle.market_snapshot.specs.Checkpoints.{order_spelling, read_order}
+use Rattle.market_snapshot.specs.Spellings.{order_spelling, read_order}
 use Rattle.market_snapshot.proofs.Walking.{order_length}
 use Rattle.market_snapshot.proofs.Written.{longer}
 use Rattle.market_snapshot.proofs.orders.orders_size.Goals as goal

@@ -1,6 +1,6 @@
 use Rattle.std.proofs.Common.{◌≡◌, ◌*◌, ◌≤◌, length, take}
 use Rattle.std.specs.List.{flat_map}
-use Rattle.market_snapshot.specs.Checkpoints.{order_spelling, read_order}
+use Rattle.market_snapshot.specs.Spellings.{order_spelling, read_order}
 use Rattle.market_snapshot.proofs.orders.orders_size.Given as goal
 
 abbrev pub invariant-loop-order : goal.invariant-loop-order

@@ -3,7 +3,7 @@ use Rattle.std.proofs.lemmas.Int.{to_z-of_z}
 use Rattle.std.proofs.lemmas.List.{append_assoc, take_more, flat_map_more}
 use Rattle.wire_fields.specs.Numbers.{unsigned, signed}
 use Rattle.weight_rows.specs.declared.entries.Entry.{Entry}
-use Rattle.wire_records.specs.CommandRecords.{entry_spelling}
+use Rattle.wire_records.specs.Bodies.{entry_spelling}
 use Rattle.market_snapshot.proofs.orders.put_entries.Goals as goal
 
 pub loop-entry-preserved : goal.loop-entry-preserved

@@ -1,6 +1,6 @@
 use Rattle.std.proofs.Common.{◌≡◌, ◌+◌, ◌*◌, ◌++◌, take, vec_len, vec_capacity}
 use Rattle.std.specs.List.{flat_map}
-use Rattle.wire_records.specs.CommandRecords.{entry_spelling}
+use Rattle.wire_records.specs.Bodies.{entry_spelling}
 use Rattle.market_snapshot.proofs.orders.put_entries.Given as goal
 
 abbrev pub invariant-loop-entry : goal.invariant-loop-entry

@@ -2,7 +2,7 @@ use Rattle.std.proofs.Common.{◌^◌, ◌<◌, ◌∙◌, ◌++◌, length, sym
 use Rattle.std.proofs.lemmas.List.Elements.{All-more}
 use Rattle.wire_fields.specs.Numbers.{unsigned}
 use Rattle.flow_orders.specs.Orders.{Order}
-use Rattle.market_snapshot.specs.Checkpoints.{order_spelling, read_order}
+use Rattle.market_snapshot.specs.Spellings.{order_spelling, read_order}
 use Rattle.market_snapshot.proofs.Walking.{order_length}
 use Rattle.market_snapshot.proofs.Written.{one_more, all_written, longer, room_left, orders_written}
 use Rattle.std.proofs.Common.{subst}

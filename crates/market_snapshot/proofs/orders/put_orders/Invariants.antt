@@ -3,7 +3,7 @@ use Rattle.std.specs.Prelude.{All}
 use Rattle.std.specs.List.{flat_map}
 use Rattle.wire_fields.specs.Numbers.{unsigned}
 use Rattle.flow_orders.specs.Orders.{Order}
-use Rattle.market_snapshot.specs.Checkpoints.{order_spelling, read_order}
+use Rattle.market_snapshot.specs.Spellings.{order_spelling, read_order}
 use Rattle.market_snapshot.proofs.orders.put_orders.Given as goal
 
 abbrev pub invariant-loop-order : goal.invariant-loop-order

@@ -1,6 +1,7 @@
 use Rattle.std.proofs.Common.{◌≤◌, Err, length, take, drop, ap, sym, subst}
 use Rattle.market_parts.specs.Parts.{Parts}
-use Rattle.market_snapshot.specs.Checkpoints.{parts_spelling, IsCheckpoint}
+use Rattle.market_snapshot.specs.Checkpoints.{IsCheckpoint}
+use Rattle.market_snapshot.specs.Spellings.{parts_spelling}
 use Rattle.market_snapshot.proofs.OneMarket.{no_view, unsound, found}
 use Rattle.market_snapshot.proofs.reading.read_market.Goals as goal
 

@@ -3,7 +3,7 @@ use Rattle.std.specs.Prelude.{All}
 use Rattle.std.specs.List.{flat_map}
 use Rattle.byte_places.specs.Places.{unsigned_at}
 use Rattle.market_parts.specs.Parts.{ReadOrder}
-use Rattle.market_snapshot.specs.Checkpoints.{order_spelling}
+use Rattle.market_snapshot.specs.Spellings.{order_spelling}
 use Rattle.market_snapshot.specs.Widths.{FitsOrder}
 use Rattle.market_snapshot.specs.Layout.{account_size}
 use Rattle.market_snapshot.specs.Sizes.{EndsWith}

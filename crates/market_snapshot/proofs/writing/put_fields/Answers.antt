@@ -2,7 +2,7 @@ use Rattle.std.proofs.Common.{◌≡◌, ◌*◌, ◌∙◌, ◌++◌, length, a
 use Rattle.flow_accounts.specs.Balances.{Account, Balances, asset_count, account_count}
 use Rattle.wire_records.specs.Versions.{number_of}
 use Rattle.market_snapshot.specs.Layout.{account_size}
-use Rattle.market_snapshot.specs.Checkpoints.{tickers_spelling, accounts_spelling, totals_spelling, exchange_spelling, batches_spelling}
+use Rattle.market_snapshot.specs.Spellings.{tickers_spelling, accounts_spelling, totals_spelling, exchange_spelling, batches_spelling}
 use Rattle.market_snapshot.proofs.Written.{fields_written}
 use Rattle.market_snapshot.proofs.writing.put_fields.Goals as goal
 

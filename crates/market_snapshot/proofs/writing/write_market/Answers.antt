@@ -1,6 +1,6 @@
 use Rattle.std.proofs.Common.{◌≡◌, ◌∙◌, ◌++◌, map, ap, arith}
 use Rattle.market_rules.specs.Market.{Market}
-use Rattle.market_snapshot.specs.Checkpoints.{orders_spelling, read_order}
+use Rattle.market_snapshot.specs.Spellings.{orders_spelling, read_order}
 use Rattle.market_snapshot.specs.Fields.{fields_spelling}
 use Rattle.market_snapshot.proofs.Written.{market_written}
 use Rattle.market_snapshot.proofs.writing.write_market.Goals as goal

@@ -5,7 +5,7 @@ use Rattle.wire_fields.proofs.Spelling.{FitsSigned-from_signed}
 use Rattle.wire_records.proofs.Requests.{same_entry}
 use Rattle.wire_fields.specs.Numbers.{unsigned, signed}
 use Rattle.weight_rows.specs.declared.entries.Entry.{Entry}
-use Rattle.wire_records.specs.CommandRecords.{entry_spelling}
+use Rattle.wire_records.specs.Bodies.{entry_spelling}
 use Rattle.wire_records.proofs.place.entry_of.Goals as goal
 
 -- the asset comes before the weight

@@ -5,7 +5,7 @@ use Rattle.std.proofs.lemmas.List.{append_assoc, take_more, flat_map_more}
 use Rattle.wire_fields.specs.Numbers.{unsigned, signed}
 use Rattle.wire_fields.proofs.Spelling.{IsSigned-from_fits}
 use Rattle.weight_rows.specs.declared.entries.Entry.{Entry}
-use Rattle.wire_records.specs.CommandRecords.{entry_spelling, IsEntry}
+use Rattle.wire_records.specs.Bodies.{entry_spelling, IsEntry}
 use Rattle.wire_records.proofs.write.put_entries.Goals as goal
 
 pub loop-entry-preserved : goal.loop-entry-preserved

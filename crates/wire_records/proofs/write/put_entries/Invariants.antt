@@ -1,7 +1,7 @@
 use Rattle.std.proofs.Common.{◌≡◌, ◌+◌, ◌-◌, ◌*◌, ◌≤◌, ◌++◌, length, take, vec_len, vec_capacity}
 use Rattle.std.specs.Prelude.{All}
 use Rattle.std.specs.List.{flat_map}
-use Rattle.wire_records.specs.CommandRecords.{entry_spelling, IsEntry}
+use Rattle.wire_records.specs.Bodies.{entry_spelling, IsEntry}
 use Rattle.wire_records.proofs.write.put_entries.Given as goal
 
 abbrev pub invariant-loop-entry : goal.invariant-loop-entry

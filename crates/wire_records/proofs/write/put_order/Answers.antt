@@ -1,7 +1,7 @@
 use Rattle.std.proofs.Common.{◌+◌, ◌*◌, length, w64, sym}
 use Rattle.std.proofs.lemmas.Int.{to_z-of_z}
 use Rattle.wire_records.specs.Commands.{Request}
-use Rattle.wire_records.specs.CommandRecords.{request_spelling}
+use Rattle.wire_records.specs.Bodies.{request_spelling}
 use Rattle.wire_records.proofs.Requests.{request_size}
 use Rattle.wire_records.proofs.Spelled.{head_and_body}
 use Rattle.wire_records.proofs.write.put_order.Goals as goal

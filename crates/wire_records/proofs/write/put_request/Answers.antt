@@ -1,6 +1,6 @@
 use Rattle.std.proofs.Common.{◌≡◌, ◌++◌, List, ℕ, w64, append_assoc}
 use Rattle.std.proofs.lemmas.Int.{to_z-of_z}
-use Rattle.wire_records.specs.CommandRecords.{request_spelling}
+use Rattle.wire_records.specs.Bodies.{request_spelling}
 use Rattle.wire_records.proofs.write.put_request.Goals as goal
 
 -- what is written part by part is one body

@@ -4,7 +4,7 @@ use Rattle.wire_fields.specs.Numbers.{unsigned}
 use Rattle.wire_fields.proofs.Spelling.{length-unsigned}
 use Rattle.wire_records.specs.Records.{head}
 use Rattle.wire_records.specs.Commands.{Request}
-use Rattle.wire_records.specs.CommandRecords.{request_spelling}
+use Rattle.wire_records.specs.Bodies.{request_spelling}
 use Rattle.wire_records.proofs.Requests.{request_size}
 use Rattle.wire_records.proofs.Spelled.{head_and_body}
 use Rattle.wire_records.proofs.write.put_until.Goals as goal

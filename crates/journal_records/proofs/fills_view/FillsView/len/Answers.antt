@@ -1,5 +1,5 @@
 use Rattle.std.proofs.Common.{length, ap, arith}
-use Rattle.journal_records.specs.Replies.{fill_spelling, IsFill}
+use Rattle.journal_records.specs.Bodies.{fill_spelling, IsFill}
 use Rattle.journal_records.specs.Private.{fill_in, fills_in}
 use Rattle.journal_records.proofs.Values.{length-spelled}
 use Rattle.journal_records.proofs.Digits.{fixed_fills}

@@ -4,7 +4,7 @@ use Rattle.std.specs.Option.{option_map}
 use Rattle.std.proofs.lemmas.List.{take_rest}
 use Rattle.std.proofs.lemmas.Option.{slice_get-get_or, slice_get-map}
 use Rattle.flow_orders.specs.Outcomes.{Fill}
-use Rattle.journal_records.specs.Replies.{fill_spelling, IsFill}
+use Rattle.journal_records.specs.Bodies.{fill_spelling, IsFill}
 use Rattle.journal_records.specs.Private.{fill_in, fills_in, SpellFills}
 use Rattle.journal_records.proofs.Values.{length-spelled, at_place}
 use Rattle.journal_records.proofs.Digits.{fixed_fills}

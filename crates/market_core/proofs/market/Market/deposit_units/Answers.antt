@@ -1,8 +1,8 @@
-use Rattle.std.proofs.Common.{arith}
+use Rattle.std.proofs.Common.{arith, Some}
 use Rattle.wire_records.specs.Commands.{DepositAsset, Plain}
 use Rattle.market_rules.specs.Step.{ServesPlain, NoOutcome}
 use Rattle.market_core.specs.Kept.{market_in}
-use Rattle.market_core.proofs.Answering.{serves-deposit_units}
+use Rattle.market_core.proofs.Answering.{serves-deposit}
 use Rattle.market_core.proofs.Fitting.{consistent_changes_fit, consistent-served, of_each}
 use Rattle.market_core.proofs.market.Market.deposit_units.Goals as goal
 
@@ -12,7 +12,7 @@ deposit_units-requires c = record { fits = (consistent_changes_fit (market_in c.
 served : (c : goal.After-reply_to) → ServesPlain (market_in c.self.inside) (DepositAsset c.args.account c.args.asset c.args.units) (Plain c.reply_to.result) (record (market_in c.self.inside) { balances = c.deposit_units.new.self })
 served c =
     let answers = c.deposit_units.ensures in
-    serves-deposit_units NoOutcome (market_in c.self.inside) c.deposit_units.new.self c.args.account c.args.asset c.args.units c.deposit_units.result c.reply_to.result
+    serves-deposit NoOutcome (market_in c.self.inside) c.deposit_units.new.self c.args.account (Some c.args.asset) c.args.units c.deposit_units.result c.reply_to.result
     answers.accepted answers.refused answers.ok answers.err c.reply_to.ensures
 
 pub invariant_of-self : goal.invariant_of-self

@@ -1,9 +1,10 @@
+use Rattle.std.proofs.Common.{None}
 use Rattle.market_core.specs.Kept.{market_in}
 use Rattle.market_core.proofs.Reserving.{same_number}
-use Rattle.market_core.proofs.Expecting.{expects-set_money_credit}
+use Rattle.market_core.proofs.Expecting.{expects-credit}
 use Rattle.market_core.proofs.market.Market.expected_money_credit.Goals as goal
 
 pub returns : goal.returns
 returns c =
     let answers = rw (same_number c.money_needed-reserved.result (record { sfits = c.money_needed-reserved.type_inv }), c.money_needed-reserved.ensures.value) at c.money_credit_fault.ensures in
-    rw (← c.self.view_is) (expects-set_money_credit (market_in c.self.inside) c.args.account c.args.ticks c.money_credit_fault.result c.reply_to.result answers.accepted answers.refused c.reply_to.ensures)
+    rw (← c.self.view_is) (expects-credit (market_in c.self.inside) c.args.account None c.args.ticks c.money_credit_fault.result c.reply_to.result answers.accepted answers.refused c.reply_to.ensures)

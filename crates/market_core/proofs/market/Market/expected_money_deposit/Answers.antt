@@ -1,8 +1,9 @@
+use Rattle.std.proofs.Common.{None}
 use Rattle.market_core.specs.Kept.{market_in}
-use Rattle.market_core.proofs.Expecting.{expects-deposit_money}
+use Rattle.market_core.proofs.Expecting.{expects-deposit}
 use Rattle.market_core.proofs.market.Market.expected_money_deposit.Goals as goal
 
 pub returns : goal.returns
 returns c =
     let answers = c.money_deposit.ensures in
-    rw (← c.self.view_is) (expects-deposit_money (market_in c.self.inside) c.args.account c.args.ticks c.money_deposit.result c.reply_to.result answers.accepted answers.refused c.reply_to.ensures)
+    rw (← c.self.view_is) (expects-deposit (market_in c.self.inside) c.args.account None c.args.ticks c.money_deposit.result c.reply_to.result answers.accepted answers.refused c.reply_to.ensures)

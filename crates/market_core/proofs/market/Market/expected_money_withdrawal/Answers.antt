@@ -1,9 +1,10 @@
+use Rattle.std.proofs.Common.{None}
 use Rattle.market_core.specs.Kept.{market_in}
 use Rattle.market_core.proofs.Reserving.{same_number}
-use Rattle.market_core.proofs.Expecting.{expects-withdraw_money}
+use Rattle.market_core.proofs.Expecting.{expects-withdrawal}
 use Rattle.market_core.proofs.market.Market.expected_money_withdrawal.Goals as goal
 
 pub returns : goal.returns
 returns c =
     let answers = rw (same_number c.money_needed-reserved.result (record { sfits = c.money_needed-reserved.type_inv }), c.money_needed-reserved.ensures.value) at c.money_withdrawal.ensures in
-    rw (← c.self.view_is) (expects-withdraw_money (market_in c.self.inside) c.args.account c.args.ticks c.money_withdrawal.result c.reply_to.result answers.accepted answers.refused c.reply_to.ensures)
+    rw (← c.self.view_is) (expects-withdrawal (market_in c.self.inside) c.args.account None c.args.ticks c.money_withdrawal.result c.reply_to.result answers.accepted answers.refused c.reply_to.ensures)

@@ -1,9 +1,10 @@
+use Rattle.std.proofs.Common.{Some}
 use Rattle.market_core.specs.Kept.{market_in}
 use Rattle.market_core.proofs.Reserving.{same_number}
-use Rattle.market_core.proofs.Expecting.{expects-set_unit_credit}
+use Rattle.market_core.proofs.Expecting.{expects-credit}
 use Rattle.market_core.proofs.market.Market.expected_unit_credit.Goals as goal
 
 pub returns : goal.returns
 returns c =
     let answers = rw (same_number c.units_needed-reserved.result (record { sfits = c.units_needed-reserved.type_inv }), c.units_needed-reserved.ensures.value) at c.unit_credit_fault.ensures in
-    rw (← c.self.view_is) (expects-set_unit_credit (market_in c.self.inside) c.args.account c.args.asset c.args.units c.unit_credit_fault.result c.reply_to.result answers.accepted answers.refused c.reply_to.ensures)
+    rw (← c.self.view_is) (expects-credit (market_in c.self.inside) c.args.account (Some c.args.asset) c.args.units c.unit_credit_fault.result c.reply_to.result answers.accepted answers.refused c.reply_to.ensures)

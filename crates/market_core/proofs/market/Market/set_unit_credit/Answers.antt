@@ -1,7 +1,8 @@
+use Rattle.std.proofs.Common.{Some}
 use Rattle.wire_records.specs.Commands.{SetUnitCredit, Plain}
 use Rattle.market_rules.specs.Step.{ServesPlain, NoOutcome}
 use Rattle.market_core.specs.Kept.{market_in}
-use Rattle.market_core.proofs.Answering.{serves-set_unit_credit}
+use Rattle.market_core.proofs.Answering.{serves-credit}
 use Rattle.market_core.proofs.Fitting.{consistent-served}
 use Rattle.market_core.proofs.Reserving.{same_number, needed_units_not_negative}
 use Rattle.market_core.proofs.market.Market.set_unit_credit.Goals as goal
@@ -14,12 +15,12 @@ set_unit_credit-requires-clause-not_negative c =
 pub set_unit_credit-requires-clause-covered : goal.set_unit_credit-requires-clause-covered
 set_unit_credit-requires-clause-covered c =
     rw (same_number c.units_needed-needed.result (record { sfits = c.units_needed-needed.type_inv }), c.units_needed-needed.ensures.value)
-    (c.self.invariant.covered.units c.args.account c.args.asset)
+    (c.self.invariant.covered c.args.account (Some c.args.asset))
 
 served : (c : goal.After-reply_to) → ServesPlain (market_in c.self.inside) (SetUnitCredit c.args.account c.args.asset c.args.units) (Plain c.reply_to.result) (record (market_in c.self.inside) { balances = c.set_unit_credit.new.self })
 served c =
     let answers = rw (same_number c.units_needed-needed.result (record { sfits = c.units_needed-needed.type_inv }), c.units_needed-needed.ensures.value) at c.set_unit_credit.ensures in
-    serves-set_unit_credit NoOutcome (market_in c.self.inside) c.set_unit_credit.new.self c.args.account c.args.asset c.args.units c.set_unit_credit.result c.reply_to.result
+    serves-credit NoOutcome (market_in c.self.inside) c.set_unit_credit.new.self c.args.account (Some c.args.asset) c.args.units c.set_unit_credit.result c.reply_to.result
     answers.accepted answers.refused answers.ok answers.err c.reply_to.ensures
 
 pub invariant_of-self : goal.invariant_of-self

@@ -1,4 +1,4 @@
-use Rattle.std.proofs.Common.{◌≡◌, refl, ◌-ℤ◌, FitsSigned}
+use Rattle.std.proofs.Common.{◌≡◌, refl, ◌-ℤ◌, FitsSigned, None}
 use Rattle.std.specs.Int.{w128}
 use Rattle.std.proofs.lemmas.Int.{to_z-of_z}
 use Rattle.flow_accounts.specs.Balances.{money_with_credit}
@@ -15,7 +15,7 @@ fits c =
     let small : FitsSigned w128 c.money_with_credit.result = record { sfits = c.money_with_credit.type_inv } in
     rw c.money_needed.ensures.value
     (free_fits c.money_with_credit.result (needed_money c.self.inside.book.orders c.args.account)
-    (needed_money_not_negative c.self.inside.book.orders c.args.account) (rw (held c) (c.self.invariant.covered.money c.args.account there)) small)
+    (needed_money_not_negative c.self.inside.book.orders c.args.account) (rw (held c) (c.self.invariant.covered c.args.account None there tt)) small)
 
 pub overflow_sub-result : goal.overflow_sub-result
 overflow_sub-result c = rw (same_number c.money_with_credit.result (record { sfits = c.money_with_credit.type_inv }), same_number c.money_needed.result (record { sfits = c.money_needed.type_inv })) (fits c)

@@ -1,4 +1,4 @@
-use Rattle.std.proofs.Common.{◌≡◌, refl, ◌-ℤ◌, FitsSigned}
+use Rattle.std.proofs.Common.{◌≡◌, refl, ◌-ℤ◌, FitsSigned, Some}
 use Rattle.std.specs.Int.{w128}
 use Rattle.std.proofs.lemmas.Int.{to_z-of_z}
 use Rattle.flow_accounts.specs.Balances.{units_with_credit}
@@ -15,7 +15,7 @@ fits c =
     let small : FitsSigned w128 c.units_with_credit.result = record { sfits = c.units_with_credit.type_inv } in
     rw c.units_needed.ensures.value
     (free_fits c.units_with_credit.result (needed_units c.self.inside.book.orders c.args.account c.args.asset)
-    (needed_units_not_negative c.self.inside.book.orders c.args.account c.args.asset) (rw (held c) (c.self.invariant.covered.units c.args.account c.args.asset there.account there.asset)) small)
+    (needed_units_not_negative c.self.inside.book.orders c.args.account c.args.asset) (rw (held c) (c.self.invariant.covered c.args.account (Some c.args.asset) there.account there.asset)) small)
 
 pub overflow_sub-result : goal.overflow_sub-result
 overflow_sub-result c = rw (same_number c.units_with_credit.result (record { sfits = c.units_with_credit.type_inv }), same_number c.units_needed.result (record { sfits = c.units_needed.type_inv })) (fits c)

@@ -1,7 +1,7 @@
 use Rattle.std.proofs.Common.{◌∙◌, length, ap, sym}
 use Rattle.std.proofs.lemmas.List.{length-take-le}
 use Rattle.market_parts.specs.Parts.{Parts}
-use Rattle.market_snapshot.specs.Checkpoints.{parts_spelling}
+use Rattle.market_snapshot.specs.Spellings.{parts_spelling}
 use Rattle.market_snapshot.proofs.Laid.{all_spelled}
 use Rattle.market_snapshot.proofs.view.SnapshotView.len.Goals as goal
 

@@ -3,7 +3,7 @@ use Rattle.std.specs.List.{flat_map}
 use Rattle.std.proofs.lemmas.List.{take_rest}
 use Rattle.std.proofs.lemmas.Option.{slice_get-get_or}
 use Rattle.weight_rows.specs.declared.entries.Entry.{Entry}
-use Rattle.wire_records.specs.CommandRecords.{entry_spelling}
+use Rattle.wire_records.specs.Bodies.{entry_spelling}
 use Rattle.wire_records.specs.Private.{entries_in, SpellEntries}
 use Rattle.wire_records.proofs.Entries.{length-entries, at_place}
 use Rattle.wire_records.proofs.place.RowView.entry.Goals as goal

@@ -2,9 +2,11 @@ use Rattle.std.proofs.Common.{◌≡◌, ◌≢◌, ℕ, [], length, sym, ap, �
 use Rattle.std.proofs.lemmas.List.{nil_from_length}
 use Rattle.std.proofs.lemmas.Bool.Decides.{nat_tests}
 use Rattle.wire_records.specs.Records.{Record}
-use Rattle.wire_records.specs.CommandRecords.{body_of, SpellsNone, IsTag}
-use Rattle.wire_records.proofs.Bodies.{same_record, spells_none, spells_none-from_request, spells_none-from_until, size_of}
-use Rattle.wire_records.proofs.Readings.{order_spelled, until_spelled}
+use Rattle.wire_records.specs.CommandRecords.{SpellsNone, IsTag}
+use Rattle.wire_records.specs.Bodies.{body_spelling}
+use Rattle.wire_records.specs.Commands.{AddAsset, OpenAccount}
+use Rattle.wire_records.proofs.Bodies.{spells_none, spells_none-from_request, spells_none-from_until, size_of}
+use Rattle.wire_records.proofs.Readings.{from_body, order_spelled, until_spelled}
 use Rattle.wire_records.proofs.record.RecordView.command.Goals as goal
 use Rattle.wire_records.proofs.record.RecordView.command.Goals.{in-1+else-body-eq8, in-2+else-is_empty}
 
@@ -16,45 +18,45 @@ bad r tag size is named order until size_is other = (
 )
 
 pub returns-in-1 : goal.returns-in-1
-unfolding body_of
-returns-in-1 c = record { fits = (c.if-body-eq8.true, rw c.body-body.ensures.value c.body-body.ensures.bytes); spelled = same_record c.args.self.now 1 c.body-body.result.now (omega arith) (sym c.body-body.ensures.value) }
+unfolding body_spelling
+returns-in-1 c = from_body (AddAsset c.body-body.result.now) c.args.self.now (c.if-body-eq8.true, rw c.body-body.ensures.value c.body-body.ensures.bytes) (omega arith) (sym c.body-body.ensures.value)
 
 pub returns-in-2 : goal.returns-in-2
-unfolding body_of
+unfolding body_spelling
 returns-in-2 c =
     let empty : length c.body-body.result.now ≡ 0 = grind (arith, nat_tests) in
-    record { fits = tt; spelled = same_record c.args.self.now 2 [] (omega arith) (sym c.body-body.ensures.value ∙ nil_from_length c.body-body.result.now empty) }
+    from_body OpenAccount c.args.self.now tt (omega arith) (sym c.body-body.ensures.value ∙ nil_from_length c.body-body.result.now empty)
 
 pub returns-in-Some : goal.returns-in-Some
-unfolding body_of
-returns-in-Some c = record { fits = c.in-Some.ensures.fits; spelled = same_record c.args.self.now 3 _ (omega arith) (sym c.body-body.ensures.value ∙ c.in-Some.ensures.spelled) }
+unfolding body_spelling
+returns-in-Some c = from_body _ c.args.self.now c.in-Some.ensures.fits (omega arith) (sym c.body-body.ensures.value ∙ c.in-Some.ensures.spelled)
 
 pub returns-in-None : goal.returns-in-None
 returns-in-None c = bad c.args.self.now 3 12 (omega arith) (omega arith, omega arith) (omega arith) (omega arith) refl (λ e. c.in-None.ensures.other (ap length c.body-body.ensures.value ∙ e))
 
 pub returns-in-Some-asset_fields : goal.returns-in-Some-asset_fields
-unfolding body_of
+unfolding body_spelling
 returns-in-Some-asset_fields c =
     let arm = c.in-Some-asset_fields in
-    record { fits = arm.ensures.fits; spelled = same_record c.args.self.now 4 _ (omega arith) (sym c.body-body.ensures.value ∙ arm.ensures.spelled) }
+    from_body _ c.args.self.now arm.ensures.fits (omega arith) (sym c.body-body.ensures.value ∙ arm.ensures.spelled)
 
 pub returns-in-None-asset_fields : goal.returns-in-None-asset_fields
 returns-in-None-asset_fields c = bad c.args.self.now 4 14 (omega arith) (omega arith, omega arith) (omega arith) (omega arith) refl (λ e. c.in-None-asset_fields.ensures.other (ap length c.body-body.ensures.value ∙ e))
 
 pub returns-in-Some-money_fields : goal.returns-in-Some-money_fields
-unfolding body_of
+unfolding body_spelling
 returns-in-Some-money_fields c =
     let arm = c.in-Some-money_fields in
-    record { fits = arm.ensures.fits; spelled = same_record c.args.self.now 5 _ (omega arith) (sym c.body-body.ensures.value ∙ arm.ensures.spelled) }
+    from_body _ c.args.self.now arm.ensures.fits (omega arith) (sym c.body-body.ensures.value ∙ arm.ensures.spelled)
 
 pub returns-in-None-money_fields : goal.returns-in-None-money_fields
 returns-in-None-money_fields c = bad c.args.self.now 5 12 (omega arith) (omega arith, omega arith) (omega arith) (omega arith) refl (λ e. c.in-None-money_fields.ensures.other (ap length c.body-body.ensures.value ∙ e))
 
 pub returns-in-Some-asset_fields-2 : goal.returns-in-Some-asset_fields-2
-unfolding body_of
+unfolding body_spelling
 returns-in-Some-asset_fields-2 c =
     let arm = c.in-Some-asset_fields-2 in
-    record { fits = arm.ensures.fits; spelled = same_record c.args.self.now 6 _ (omega arith) (sym c.body-body.ensures.value ∙ arm.ensures.spelled) }
+    from_body _ c.args.self.now arm.ensures.fits (omega arith) (sym c.body-body.ensures.value ∙ arm.ensures.spelled)
 
 pub returns-in-None-asset_fields-2 : goal.returns-in-None-asset_fields-2
 returns-in-None-asset_fields-2 c = bad c.args.self.now 6 14 (omega arith) (omega arith, omega arith) (omega arith) (omega arith) refl (λ e. c.in-None-asset_fields-2.ensures.other (ap length c.body-body.ensures.value ∙ e))
@@ -77,19 +79,19 @@ returns-in-None-place_in c =
     ((omega arith, omega arith), spells_none-from_request c.args.self.now (omega arith) (rw c.body-body.ensures.value at c.in-None-place_in.ensures.none))
 
 pub returns-in-Some-money_fields-2 : goal.returns-in-Some-money_fields-2
-unfolding body_of
+unfolding body_spelling
 returns-in-Some-money_fields-2 c =
     let arm = c.in-Some-money_fields-2 in
-    record { fits = arm.ensures.fits; spelled = same_record c.args.self.now 8 _ (omega arith) (sym c.body-body.ensures.value ∙ arm.ensures.spelled) }
+    from_body _ c.args.self.now arm.ensures.fits (omega arith) (sym c.body-body.ensures.value ∙ arm.ensures.spelled)
 
 pub returns-in-None-money_fields-2 : goal.returns-in-None-money_fields-2
 returns-in-None-money_fields-2 c = bad c.args.self.now 8 12 (omega arith) (omega arith, omega arith) (omega arith) (omega arith) refl (λ e. c.in-None-money_fields-2.ensures.other (ap length c.body-body.ensures.value ∙ e))
 
 pub returns-in-Some-batch_field : goal.returns-in-Some-batch_field
-unfolding body_of
+unfolding body_spelling
 returns-in-Some-batch_field c =
     let arm = c.in-Some-batch_field in
-    record { fits = arm.ensures.fits; spelled = same_record c.args.self.now 9 _ (omega arith) (sym c.body-body.ensures.value ∙ arm.ensures.spelled) }
+    from_body _ c.args.self.now arm.ensures.fits (omega arith) (sym c.body-body.ensures.value ∙ arm.ensures.spelled)
 
 pub returns-in-None-batch_field : goal.returns-in-None-batch_field
 returns-in-None-batch_field c = bad c.args.self.now 9 4 (omega arith) (omega arith, omega arith) (omega arith) (omega arith) refl (λ e. c.in-None-batch_field.ensures.other (ap length c.body-body.ensures.value ∙ e))
@@ -103,19 +105,19 @@ returns-in-None-until_in c =
     ((omega arith, omega arith), spells_none-from_until c.args.self.now (omega arith) (rw c.body-body.ensures.value at c.in-None-until_in.ensures.none))
 
 pub returns-in-Some-money_fields-3 : goal.returns-in-Some-money_fields-3
-unfolding body_of
+unfolding body_spelling
 returns-in-Some-money_fields-3 c =
     let arm = c.in-Some-money_fields-3 in
-    record { fits = arm.ensures.fits; spelled = same_record c.args.self.now 11 _ (omega arith) (sym c.body-body.ensures.value ∙ arm.ensures.spelled) }
+    from_body _ c.args.self.now arm.ensures.fits (omega arith) (sym c.body-body.ensures.value ∙ arm.ensures.spelled)
 
 pub returns-in-None-money_fields-3 : goal.returns-in-None-money_fields-3
 returns-in-None-money_fields-3 c = bad c.args.self.now 11 12 (omega arith) (omega arith, omega arith) (omega arith) (omega arith) refl (λ e. c.in-None-money_fields-3.ensures.other (ap length c.body-body.ensures.value ∙ e))
 
 pub returns-in-Some-asset_fields-3 : goal.returns-in-Some-asset_fields-3
-unfolding body_of
+unfolding body_spelling
 returns-in-Some-asset_fields-3 c =
     let arm = c.in-Some-asset_fields-3 in
-    record { fits = arm.ensures.fits; spelled = same_record c.args.self.now 12 _ (omega arith) (sym c.body-body.ensures.value ∙ arm.ensures.spelled) }
+    from_body _ c.args.self.now arm.ensures.fits (omega arith) (sym c.body-body.ensures.value ∙ arm.ensures.spelled)
 
 pub returns-in-None-asset_fields-3 : goal.returns-in-None-asset_fields-3
 returns-in-None-asset_fields-3 c = bad c.args.self.now 12 14 (omega arith) (omega arith, omega arith) (omega arith) (omega arith) refl (λ e. c.in-None-asset_fields-3.ensures.other (ap length c.body-body.ensures.value ∙ e))
